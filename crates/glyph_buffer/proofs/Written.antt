@@ -1,0 +1,22 @@
+-- A glyph that was written through the cursor.
+use Rattle.std.proofs.Common.{ℕ, ◌≡◌, ◌+◌, ◌≤◌, ◌<◌, get_or, slice_get, Some, length, drop, Bool, true, false, if◌then◌else◌, List, take, refl, arith}
+use Rattle.std.specs.Vec.{with_item}
+use Rattle.std.proofs.lemmas.List.{drop-set-add, take-set-le, get_or-drop}
+use Rattle.std.proofs.lemmas.Option.{slice_get_read}
+use Rattle.std.proofs.Math.ListN.{set}
+use Rattle.glyph_types.specs.declared.info.hb_glyph_info_t.{hb_glyph_info_t}
+use Rattle.glyph_buffer.specs.declared.buffer.hb_buffer_t.TheInside.{Inside}
+use Rattle.glyph_buffer.specs.Inside.{sides_of}
+use Rattle.glyph_buffer.specs.Lending.{with_glyph_ahead}
+
+behind_stays : (is_open : Bool) (out info : List hb_glyph_info_t) (n i : ℕ) (g : hb_glyph_info_t)
+    → (if is_open then out else take n (set info (n + i) g)) ≡ (if is_open then out else take n info)
+behind_stays true out info n i g = refl
+behind_stays false out info n i g = take-set-le n info (n + i) g (omega arith)
+
+pub glyph_written : (b : Inside) (i : ℕ) (g : hb_glyph_info_t) → sides_of (record b { info = with_item b.info (b.idx + i) g }) ≡ with_glyph_ahead i g (sides_of b)
+glyph_written b i g = rw (behind_stays, drop-set-add) refl
+
+-- the i-th glyph from the n-th on, where it was read
+pub glyph_read : (gs : List hb_glyph_info_t) (n i : ℕ) (g : hb_glyph_info_t) → i < length (drop n gs) → g ≡ get_or gs (n + i) g → slice_get (drop n gs) i ≡ Some g
+glyph_read gs n i g lt e = slice_get_read (drop n gs) (length (drop n gs)) i g refl lt (rw get_or-drop e)

@@ -1,0 +1,26 @@
+-- How the vectors of a buffer give its sides.
+use Rattle.std.specs.Prelude.{◌≤◌, ◌≡◌, if◌then◌else◌, [], length, take, drop, not}
+use Rattle.std.specs.Bool.{OnFalse}
+use Rattle.glyph_buffer.specs.declared.buffer.hb_buffer_t.TheInside.{Inside}
+use Rattle.glyph_buffer.specs.Sides.{Sides}
+
+abbrev pub sides_of : Inside → Sides
+sides_of b = record {
+  behind = if b.have_output then b.out_info.items else take b.idx b.info.items;
+  ahead = drop b.idx b.info.items;
+  places = if b.have_output then [] else b.pos.items;
+  is_open = b.have_output;
+  read = b.idx;
+  has_refused = not b.successful;
+  max_len = b.max_len;
+  level = b.cluster_level;
+  direction = b.direction;
+  script = b.script;
+}
+
+pub record IsSound (b : Inside) : Type 0 where
+  pub cursor : b.idx ≤ length b.info.items
+  pub input_within : length b.info.items ≤ b.max_len
+  pub output_within : length b.out_info.items ≤ b.max_len
+  pub closed : OnFalse b.have_output (b.out_info.items ≡ [])
+  pub placed : OnFalse b.have_output (length b.pos.items ≡ length b.info.items)

@@ -1,0 +1,23 @@
+-- What a buffer is once a glyph or a place that it lent comes back.
+use Rattle.std.specs.Prelude.{ℕ, slice_set}
+use Rattle.std.specs.Borrow.{Lends, MutBor, Fml}
+use Rattle.glyph_types.specs.declared.info.hb_glyph_info_t.{hb_glyph_info_t}
+use Rattle.glyph_types.specs.declared.position.GlyphPosition.{GlyphPosition}
+use Rattle.glyph_types.specs.contracts.info.hb_glyph_info_t.{the_row as info_row}
+use Rattle.glyph_types.specs.contracts.position.GlyphPosition.{the_row as place_row}
+use Rattle.glyph_buffer.specs.contracts.buffer.hb_buffer_t.{the_row}
+use Rattle.glyph_buffer.specs.Sides.{Sides}
+
+-- another glyph at the i-th place from the cursor on
+abbrev pub with_glyph_ahead : ℕ → hb_glyph_info_t → Sides → Sides
+with_glyph_ahead i g s = record s { ahead = slice_set s.ahead i g }
+
+-- another place for the glyph at the cursor
+abbrev pub with_current_place : GlyphPosition → Sides → Sides
+with_current_place p s = record s { places = slice_set s.places s.read p }
+
+abbrev pub LendsGlyph : ℕ → MutBor Sides → MutBor hb_glyph_info_t → Fml
+LendsGlyph i s r = Lends the_row info_row s r (λ g. with_glyph_ahead i g s.now)
+
+abbrev pub LendsPlace : MutBor Sides → MutBor GlyphPosition → Fml
+LendsPlace s r = Lends the_row place_row s r (λ p. with_current_place p s.now)

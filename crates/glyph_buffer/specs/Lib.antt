@@ -1,0 +1,7 @@
+pub mod Sides
+pub mod Inside
+pub mod Text
+pub mod Lending
+pub mod Appended
+pub mod Segment
+pub mod Wrappers

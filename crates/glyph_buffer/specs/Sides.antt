@@ -1,0 +1,107 @@
+-- A buffer as its clients see it: the glyphs behind the cursor and the glyphs ahead of it.
+use Rattle.std.specs.Prelude.{ℕ, ℤ, pos, ◌+◌, ◌-◌, Bool, true, false, nat_le, not, ◌&&◌, if◌then◌else◌, List, [], ◌∷◌, ◌++◌, length, take, drop, map, reverse, replicate, Option, Some, None}
+use Rattle.glyph_types.specs.declared.info.hb_glyph_info_t.{hb_glyph_info_t}
+use Rattle.glyph_types.specs.declared.level.BufferClusterLevel.{BufferClusterLevel}
+use Rattle.glyph_types.specs.declared.level.BufferClusterLevel.TheVariants.{MonotoneGraphemes}
+use Rattle.glyph_lists.specs.Items.{Item, Place, strip, clusters}
+use Rattle.glyph_lists.specs.Readings.{Run}
+use Rattle.shaping_text.specs.declared.direction.Direction.{Direction}
+use Rattle.shaping_text.specs.declared.direction.Direction.TheVariants.{Invalid}
+use Rattle.shaping_text.specs.declared.script.Script.{Script}
+
+pub record Sides : Type 0 where
+  -- the output while one is open, else what the cursor has passed
+  pub behind : List hb_glyph_info_t
+  pub ahead : List hb_glyph_info_t
+  -- a place for each glyph; an open output has none
+  pub places : List Place
+  pub is_open : Bool
+  -- how many glyphs were read since the output was opened, or stand behind the cursor
+  pub read : ℕ
+  pub has_refused : Bool
+  pub max_len : ℕ
+  pub level : BufferClusterLevel
+  pub direction : Direction
+  pub script : Option Script
+
+-- all glyphs, in order
+abbrev pub all_glyphs : Sides → List hb_glyph_info_t
+all_glyphs s = s.behind ++ s.ahead
+
+-- the glyphs without their clusters
+abbrev pub items_of : Sides → List Item
+items_of s = strip (all_glyphs s)
+
+-- what a stage of shaping sees
+abbrev pub run_of : Sides → Run
+run_of s = record { glyphs = all_glyphs s; places = s.places; level = s.level }
+
+abbrev pub zero_place : Place
+zero_place = record { x_advance = pos 0; y_advance = pos 0; x_offset = pos 0; y_offset = pos 0; attach_chain = pos 0; attach_type = 0 }
+
+-- so many places of nothing
+abbrev pub zero_places : ℕ → List Place
+zero_places n = replicate n zero_place
+
+-- what `new` leaves
+abbrev pub empty_buffer : Sides
+empty_buffer = record {
+  behind = [];
+  ahead = [];
+  places = [];
+  is_open = false;
+  read = 0;
+  has_refused = false;
+  max_len = 0x3FFF_FFFF;
+  level = MonotoneGraphemes;
+  direction = Invalid;
+  script = None;
+}
+
+-- more glyphs at the end, with places of nothing
+abbrev pub with_added : List hb_glyph_info_t → Sides → Sides
+with_added gs s = record s { ahead = s.ahead ++ gs; places = s.places ++ zero_places (length gs) }
+
+-- whether so many more glyphs may stand in the list
+abbrev pub has_room : ℕ → Sides → Bool
+has_room n s = nat_le (length (all_glyphs s) + n) s.max_len
+
+-- the cursor stands in front of all glyphs, and an empty output is open
+abbrev pub with_output : Sides → Sides
+with_output s = record s { behind = []; ahead = all_glyphs s; places = []; is_open = true; read = 0 }
+
+-- the first n glyphs ahead go behind the cursor
+abbrev pub moved_on : ℕ → Sides → Sides
+moved_on n s = record s { behind = s.behind ++ take n s.ahead; ahead = drop n s.ahead; read = s.read + n }
+
+-- whether the output may have so many more glyphs
+abbrev pub has_output_room : ℕ → Sides → Bool
+has_output_room n s = nat_le (length s.behind + n) s.max_len
+
+-- whether the cursor may move on over n glyphs: an open output has to hold them
+abbrev pub fits_next : ℕ → Sides → Bool
+fits_next n s = if s.is_open then has_output_room n s else true
+
+-- a side would have grown past the limit: no later `sync` succeeds
+abbrev pub refused : Sides → Sides
+refused s = record s { has_refused = true }
+
+-- whether both sides fit in one list, after no refusal
+abbrev pub fits_joined : Sides → Bool
+fits_joined s = not s.has_refused && has_room 0 s
+
+-- both sides become one list with places of nothing, and the cursor stands at its front
+abbrev pub synced : Sides → Sides
+synced s = record s { behind = []; ahead = all_glyphs s; places = zero_places (length (all_glyphs s)); is_open = false; read = 0 }
+
+-- other glyphs and places, as many as before; the cursor stays
+abbrev pub with_list : List hb_glyph_info_t → List Place → Sides → Sides
+with_list gs ps s = record s { behind = take s.read gs; ahead = drop s.read gs; places = ps }
+
+-- glyphs and places turned round
+abbrev pub reversed : Sides → Sides
+reversed s = with_list (reverse (all_glyphs s)) (reverse s.places) s
+
+-- each place nothing
+abbrev pub with_cleared_places : Sides → Sides
+with_cleared_places s = record s { places = zero_places (length s.places) }

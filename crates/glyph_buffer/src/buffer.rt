@@ -1,0 +1,82 @@
+ghost use Rattle.std.specs.Prelude.{◌≡◌};
+ghost use Rattle.glyph_buffer.specs.Sides.{empty_buffer};
+
+mod cursor;
+mod reversal;
+mod segment;
+mod storage;
+
+use glyph_types::info::hb_glyph_info_t;
+use glyph_types::level::BufferClusterLevel;
+use glyph_types::position::GlyphPosition;
+use shaping_text::direction::Direction;
+use shaping_text::script::Script;
+use std::alloc::Global;
+use std::marker::Model;
+
+/// A buffer of characters, later of glyphs: a list with a cursor, or while an output is open two lists, of which calls
+/// take glyphs from the one and put others behind the other.
+#[derive(Debug, Drop)]
+pub struct hb_buffer_t {
+    info: Vec<hb_glyph_info_t>,
+    pos: Vec<GlyphPosition>,
+    out_info: Vec<hb_glyph_info_t>,
+    idx: usize,
+    have_output: bool,
+    successful: bool,
+    max_len: usize,
+    cluster_level: BufferClusterLevel,
+    direction: Direction,
+    script: Option<Script>,
+}
+
+impl Model for hb_buffer_t {
+    ghost use Rattle.glyph_buffer.specs.Sides.{Sides};
+
+    ghost Value = { Sides };
+
+    ghost use Rattle.glyph_buffer.specs.Inside.{sides_of, IsSound};
+
+    ghost view = { sides_of };
+
+    ghost invariant = { IsSound };
+}
+
+impl hb_buffer_t {
+    /// How many glyphs a list may have where nothing else was said.
+    pub const MAX_LEN_DEFAULT: usize = 0x3FFF_FFFF;
+
+    /// An empty buffer with no direction and no script.
+    pub fn new(alloc: Global) -> hb_buffer_t
+        ensures { result ≡ empty_buffer }
+    {
+        hb_buffer_t {
+            info: Vec::new(alloc),
+            pos: Vec::new(alloc),
+            out_info: Vec::new(alloc),
+            idx: 0,
+            have_output: false,
+            successful: true,
+            max_len: Self::MAX_LEN_DEFAULT,
+            cluster_level: BufferClusterLevel::MonotoneGraphemes,
+            direction: Direction::Invalid,
+            script: None,
+        }
+    }
+
+    /// Leaves what `new` makes.
+    pub fn clear(&mut self)
+        ensures { self.new ≡ empty_buffer }
+    {
+        self.info.clear();
+        self.pos.clear();
+        self.out_info.clear();
+        self.idx = 0;
+        self.have_output = false;
+        self.successful = true;
+        self.max_len = Self::MAX_LEN_DEFAULT;
+        self.cluster_level = BufferClusterLevel::MonotoneGraphemes;
+        self.direction = Direction::Invalid;
+        self.script = None;
+    }
+}

@@ -1,0 +1,104 @@
+ghost use Rattle.std.specs.Prelude.{◌≡◌, ◌<◌, ◌+◌, length, true, false, Some, OnErr, IfOk, slice_get, slice_index_or};
+ghost use Rattle.std.specs.Borrow.{sem};
+ghost use Rattle.glyph_buffer.specs.Sides.{with_output, moved_on, fits_next, fits_joined, synced, refused};
+ghost use Rattle.glyph_buffer.specs.Lending.{LendsGlyph, LendsPlace};
+
+use super::hb_buffer_t;
+use glyph_types::info::hb_glyph_info_t;
+use glyph_types::position::GlyphPosition;
+use std::alloc::AllocError;
+use std::mem;
+
+impl hb_buffer_t {
+    /// Opens an empty output, with the cursor in front of all glyphs. It takes no memory.
+    pub fn clear_output(&mut self) -> Result<bool, AllocError>
+        requires { self.old.is_open ≡ false }
+        ensures opened { result ≡ Ok true }
+        ensures after { self.new ≡ with_output self.old }
+    {
+        self.have_output = true;
+        self.idx = 0;
+        Ok(true)
+    }
+
+    /// The i-th glyph from the cursor on.
+    pub fn cur(&self, i: usize) -> &hb_glyph_info_t
+        requires { i < length self.now.ahead }
+        ensures { slice_get self.now.ahead i ≡ Some result.now }
+    {
+        &self.info[self.idx + i]
+    }
+
+    /// The i-th glyph from the cursor on, to be written.
+    #[tactic(auto, using(crate::proofs::Written::glyph_written))]
+    pub fn cur_mut(&mut self, i: usize) -> &mut hb_glyph_info_t
+        requires { i < length self.old.ahead }
+        ensures value { slice_get self.old.ahead i ≡ Some result.now }
+        ensures* writes_back { sem 𝓛 (LendsGlyph i self.entry result) }
+    {
+        &mut self.info[self.idx + i]
+    }
+
+    /// The place of the glyph at the cursor, to be written, while no output is open.
+    pub fn cur_pos_mut(&mut self) -> &mut GlyphPosition
+        requires closed { self.old.is_open ≡ false }
+        requires there { 0 < length self.old.ahead }
+        ensures value { slice_get self.old.places self.old.read ≡ Some result.now }
+        ensures* writes_back { sem 𝓛 (LendsPlace self.entry result) }
+    {
+        &mut self.pos[self.idx]
+    }
+
+    /// Moves the cursor over a glyph, which goes behind the output where one is open; answers false, and moves nothing,
+    /// where the output has as many as it may.
+    #[tactic(auto, using(glyph_lists::specs::Lists::take_one, glyph_lists::specs::Lists::take_next, glyph_lists::specs::Lists::drop_next))]
+    pub fn next_glyph(&mut self) -> Result<bool, AllocError>
+        requires { 0 < length self.old.ahead }
+        ensures held { IfOk result (λ b. b ≡ fits_next 1 self.old) }
+        ensures moved { result ≡ Ok true → self.new ≡ moved_on 1 self.old }
+        ensures full { result ≡ Ok false → self.new ≡ refused self.old }
+        ensures err { OnErr result (self.new ≡ self.old) }
+        ensures in_place { self.old.is_open ≡ false → result ≡ Ok true }
+    {
+        if !self.have_output {
+            self.idx += 1;
+            return Ok(true);
+        }
+        if self.out_info.len() >= self.max_len {
+            self.successful = false;
+            return Ok(false);
+        }
+        self.out_info.push(self.info[self.idx])?;
+        self.idx += 1;
+        Ok(true)
+    }
+
+    /// Puts what is ahead of the cursor behind the output, which becomes the list, with places of nothing and the cursor
+    /// at its front; answers false, and joins nothing, where the list would have more than it may or a call before was
+    /// refused for length.
+    pub fn sync(&mut self) -> Result<bool, AllocError>
+        requires { self.old.is_open ≡ true }
+        ensures held { IfOk result (λ b. b ≡ fits_joined self.old) }
+        ensures joined { result ≡ Ok true → self.new ≡ synced self.old }
+        ensures full { result ≡ Ok false → self.new ≡ refused self.old }
+        ensures err { OnErr result (self.new ≡ self.old) }
+    {
+        let rest = self.info.len() - self.idx;
+        if !self.successful || self.max_len - self.out_info.len() < rest {
+            self.successful = false;
+            return Ok(false);
+        }
+        let count = self.out_info.len() + rest;
+        self.out_info.reserve(rest)?;
+        self.pos.clear();
+        self.pos.resize(count, GlyphPosition::default())?;
+        self.out_info
+            .extend_from_slice(&self.info[self.idx..])
+            .unwrap();
+        mem::swap(&mut self.info, &mut self.out_info);
+        self.out_info.clear();
+        self.have_output = false;
+        self.idx = 0;
+        Ok(true)
+    }
+}

@@ -1,0 +1,149 @@
+ghost use Rattle.std.specs.Prelude.{◌≡◌, ◌+◌, ◌≤◌, ◌<◌, ◌^◌, ◌==◌, ◌++◌, ◌∷◌, [], length, false, true, Ok, OnOk, OnErr, IfOk, IsTrue, vec_len, vec_capacity};
+ghost use Rattle.std.specs.Str.{chars};
+ghost use Rattle.glyph_buffer.specs.Sides.{all_glyphs, with_added, has_room, zero_places};
+ghost use Rattle.glyph_buffer.specs.Text.{added_glyph, added_text, fits_text, offsets_fit};
+ghost use Rattle.glyph_buffer.specs.Appended.{IsAppended};
+
+use super::hb_buffer_t;
+use glyph_types::info::hb_glyph_info_t;
+use glyph_types::position::GlyphPosition;
+use std::alloc::AllocError;
+
+impl hb_buffer_t {
+    /// How many glyphs there are while no output is open.
+    pub fn len(&self) -> usize
+        ensures count { self.now.is_open ≡ false → result ≡ length (all_glyphs self.now) }
+        ensures within { self.now.is_open ≡ false → result ≤ self.now.max_len }
+    {
+        self.info.len()
+    }
+
+    /// Whether there is no glyph while no output is open.
+    pub fn is_empty(&self) -> bool
+        ensures { self.now.is_open ≡ false → result ≡ (length (all_glyphs self.now) == 0) }
+    {
+        self.info.is_empty()
+    }
+
+    /// All glyphs while no output is open.
+    pub fn info_slice(&self) -> &[hb_glyph_info_t]
+        requires { self.now.is_open ≡ false }
+        ensures { result.now ≡ all_glyphs self.now }
+    {
+        &self.info
+    }
+
+    /// The glyphs' places while no output is open.
+    pub fn pos_slice(&self) -> &[GlyphPosition]
+        requires { self.now.is_open ≡ false }
+        ensures same { result.now ≡ self.now.places }
+        ensures len { length result.now ≡ length (all_glyphs self.now) }
+    {
+        &self.pos
+    }
+
+    /// Adds a character; answers false, and adds nothing, where the list has as many as it may.
+    pub fn add(&mut self, codepoint: char, cluster: u32) -> Result<bool, AllocError>
+        requires { self.old.is_open ≡ false }
+        ensures held { IfOk result (λ b. b ≡ has_room 1 self.old) }
+        ensures added { result ≡ Ok true → self.new ≡ with_added (added_glyph codepoint cluster ∷ []) self.old }
+        ensures full { result ≡ Ok false → self.new ≡ self.old }
+        ensures err { OnErr result (self.new ≡ self.old) }
+    {
+        if self.info.len() >= self.max_len {
+            return Ok(false);
+        }
+        self.info.reserve(1)?;
+        self.pos.push(GlyphPosition::default())?;
+        self.info.push(added(codepoint, cluster)).unwrap();
+        Ok(true)
+    }
+
+    #[tactic(auto, using(crate::proofs::Appended::appended_view, crate::proofs::Appended::appended_sound))]
+    /// Adds the characters of a text, each with the byte where it begins as its cluster; answers false, and adds
+    /// nothing, where the list would have more than it may or a character begins past byte `u32::MAX`.
+    pub fn push_str(&mut self, text: &str) -> Result<bool, AllocError>
+        requires { self.old.is_open ≡ false }
+        ensures held { IfOk result (λ b. b ≡ fits_text text.now self.old) }
+        ensures added { result ≡ Ok true → self.new ≡ with_added (added_text text.now) self.old }
+        ensures full { result ≡ Ok false → self.new ≡ self.old }
+        ensures err { OnErr result (self.new ≡ self.old) }
+    {
+        let count = count_chars(text);
+        if self.max_len - self.info.len() < count || !offsets_fit(text) {
+            return Ok(false);
+        }
+        append_text(&mut self.info, &mut self.pos, text, count)?;
+        Ok(true)
+    }
+}
+
+fn added(codepoint: char, cluster: u32) -> hb_glyph_info_t
+    ensures { result ≡ added_glyph codepoint cluster }
+{
+    hb_glyph_info_t {
+        glyph_id: codepoint as u32,
+        cluster,
+        ..hb_glyph_info_t::default()
+    }
+}
+
+#[tactic(auto, using(std::proofs::lemmas::Str::chars_from_encodes))]
+fn count_chars(text: &str) -> usize
+    ensures { result ≡ length (chars text.now) }
+{
+    text.chars().count()
+}
+
+// Whether each character begins at a byte that 32 bits can tell.
+#[tactic(auto, using(crate::proofs::Chars::offsets_fit_none, crate::proofs::Chars::offsets_fit_step, crate::proofs::Chars::utf8_step))]
+fn offsets_fit(text: &str) -> bool
+    ensures { result ≡ offsets_fit 0 (chars text.now) }
+{
+    for (at, _) in text.char_indices() {
+        if at > u32::MAX as usize {
+            return false;
+        }
+    }
+    true
+}
+
+#[tactic(auto, using(crate::proofs::Chars::length_added))]
+fn append_text(
+    glyphs: &mut Vec<hb_glyph_info_t>,
+    places: &mut Vec<GlyphPosition>,
+    text: &str,
+    count: usize,
+) -> Result<(), AllocError>
+    requires counted { count ≡ length (chars text.now) }
+    requires fit { IsTrue (offsets_fit 0 (chars text.now)) }
+    requires even { vec_len places.old ≡ vec_len glyphs.old }
+    requires small { vec_len glyphs.old + count < 2 ^ 64 }
+    ensures ok { OnOk result (IsAppended (added_text text.now) glyphs.old.items places.old.items glyphs.new.items places.new.items) }
+    ensures glyphs_err { OnErr result (glyphs.new.items ≡ glyphs.old.items) }
+    ensures places_err { OnErr result (places.new.items ≡ places.old.items) }
+{
+    glyphs.reserve(count)?;
+    extend_places(places, count)?;
+    push_chars(glyphs, text);
+    Ok(())
+}
+
+fn extend_places(places: &mut Vec<GlyphPosition>, count: usize) -> Result<(), AllocError>
+    requires { vec_len places.old + count < 2 ^ 64 }
+    ensures ok { OnOk result (places.new.items ≡ places.old.items ++ zero_places count) }
+    ensures err { OnErr result (places.new.items ≡ places.old.items) }
+{
+    places.resize(places.len() + count, GlyphPosition::default())
+}
+
+#[tactic(auto, using(crate::proofs::Chars::added_none, crate::proofs::Chars::added_step, crate::proofs::Chars::fit_step, crate::proofs::Chars::count_step, crate::proofs::Chars::utf8_step))]
+fn push_chars(glyphs: &mut Vec<hb_glyph_info_t>, text: &str)
+    requires room { vec_len glyphs.old + length (chars text.now) ≤ vec_capacity glyphs.old }
+    requires fit { IsTrue (offsets_fit 0 (chars text.now)) }
+    ensures { glyphs.new.items ≡ glyphs.old.items ++ added_text text.now }
+{
+    for (at, c) in text.char_indices() {
+        glyphs.push(added(c, at as u32)).unwrap();
+    }
+}

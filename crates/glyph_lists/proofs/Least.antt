@@ -1,0 +1,217 @@
+-- The least number of parts in order stays.
+use Rattle.std.proofs.Common.{ℕ, zero, suc, ◌≡◌, ◌≢◌, ◌≤◌, ◌<◌, ◌+◌, ◌-◌, ◌||◌, ◌⊎◌, inl, inr, Bool, true, false, min, max, if◌then◌else◌, List, [], ◌∷◌, ◌++◌, Option, Some, None, map, take, drop, replicate, arith, refl, ap, subst, sym, ◌∙◌, append_assoc}
+use Rattle.std.proofs.lemmas.Bool.Decides.{nat_tests}
+use Rattle.std.proofs.lemmas.Grind.{common_steps}
+use Rattle.std.proofs.lemmas.List.{drop-drop, take-append-drop, take-map, drop-map, map-id}
+use Rattle.glyph_lists.specs.Events.{Event, Join, Replace, Delete, Circle, Reverse, united, united_all, joined, stretch, last_from, first_of, last_of, or, copies, is_number, with_neighbour, united_if_last, left_by, without, replaced, after_event, after_events}
+use Rattle.glyph_lists.specs.Order.{IsInOrder, IsLeast, BringsNone, IsGiving, turned}
+use Rattle.glyph_lists.specs.Laws.{KeepsLeast}
+use Rattle.glyph_lists.specs.Lemmas.Deletions.{no_first, no_last, without_map}
+use Rattle.glyph_lists.specs.Lemmas.Drawn.{drawn_drop, drawn_take}
+use Rattle.glyph_lists.specs.Lemmas.Numbers.{Has, MayHave, has_here, has_cases, has_left, has_right, has_either, has_drop, has_reverse, has_map, map_has, has_first, has_last, has_last_before, has_first_from}
+use Rattle.glyph_lists.specs.Lemmas.Unions.{Unites, joined_unites}
+use Rattle.glyph_lists.specs.Lemmas.Events.{order_drawn, event_keeps_order, event_keeps_numbers, keeps_numbers}
+use Rattle.glyph_lists.specs.Lemmas.Ends.{joined_alike}
+
+-- a union leaves the least number as it is
+united_least : (k m n : ℕ) → k ≤ m → k ≤ n → united (min m n) (max m n) k ≡ k
+united_least k m n hm hn = grind (arith, nat_tests, common_steps)
+
+least_unites : (k : ℕ) (ns : List ℕ) → IsLeast k ns → Unites (λ xs. Has xs k) ns
+least_unites k ns l = record {
+  same = l.among;
+  union = λ m n hm hn. let P : ℕ → Type 0 = λ j. Has (united_all m n ns) j in subst P (united_least k m n (l.below m hm) (l.below n hn)) (map_has (united (min m n) (max m n)) k ns l.among);
+}
+
+has_at : (n at : ℕ) (ns : List ℕ) → Has ns n → Has (take at ns) n ⊎ Has (drop at ns) n
+has_at n at ns h = has_either n (take at ns) (drop at ns) (let P : List ℕ → Type 0 = λ xs. Has xs n in subst P (sym (take-append-drop at ns)) h)
+
+copies_have : (given n : ℕ) → 0 < given → Has (copies given (Some n)) n
+copies_have zero n lt = absurd (omega arith)
+copies_have (suc given) n lt = has_here n (replicate given n)
+
+-- copies of the first, in place of some that are all as the first
+has_copied : (given gone n : ℕ) (ns : List ℕ) → 0 < given → (Has (take gone ns) n → first_of ns ≡ Some n) → Has ns n → Has (copies given (first_of ns) ++ drop gone ns) n
+has_copied given gone n ns lt alike h = elim (has_at n gone ns h) [
+  | inl there ↦ has_left n (copies given (first_of ns)) (drop gone ns) (let P : Option ℕ → Type 0 = λ o. Has (copies given o) n in subst P (sym (alike there)) (copies_have given n lt))
+  | inr behind ↦ has_right n (copies given (first_of ns)) (drop gone ns) behind
+]
+
+replaced_has_at : (at gone given n : ℕ) (ns rest : List ℕ) → drop at ns ≡ rest → 0 < given → (Has (take gone rest) n → first_of rest ≡ Some n) → Has ns n
+    → Has (take at ns ++ copies given (or (first_of rest) (last_of (take at ns))) ++ drop gone rest) n
+replaced_has_at at gone given n ns [] e lt alike h = elim (has_at n at ns h) [
+  | inl front ↦ has_left n (take at ns ++ copies given (last_of (take at ns))) (drop gone []) (has_left n (take at ns) (copies given (last_of (take at ns))) front)
+  | inr behind ↦ let none = rw e at behind in cc
+]
+replaced_has_at at gone given n ns (m ∷ rest) e lt alike h = rw append_assoc (elim (has_at n at ns h) [
+  | inl front ↦ has_left n (take at ns) (replicate given m ++ drop gone (m ∷ rest)) front
+  | inr behind ↦ has_right n (take at ns) (replicate given m ++ drop gone (m ∷ rest)) (has_copied given gone n (m ∷ rest) lt alike (rw e at behind))
+])
+
+-- items that are all of one part make room for others of it: its number stays
+replaced_has : (at gone given n : ℕ) (ns : List ℕ) → 0 < given → (Has (take gone (drop at ns)) n → first_of (drop at ns) ≡ Some n) → Has ns n → Has (replaced at gone given ns) n
+replaced_has at gone given n ns lt alike h = rw (← drop-drop gone at ns) (replaced_has_at at gone given n ns (drop at ns) refl lt alike h)
+
+first_taken : (f : ℕ → ℕ) (gone x : ℕ) (ds xs : List ℕ) → take gone ds ≡ x ∷ xs → first_of (map f ds) ≡ Some (f x)
+first_taken f zero x ds xs e = cc
+first_taken f (suc gone) x [] xs e = cc
+first_taken f (suc gone) x (d ∷ ds) xs e = ap (λ ys. first_of (map f ys)) e
+
+stretch_alike : (falls : Bool) (at gone n : ℕ) (ns s : List ℕ) → take gone (drop at ns) ≡ s → IsInOrder falls s → Has (take gone (drop at (joined s ns))) n → first_of (drop at (joined s ns)) ≡ Some n
+stretch_alike falls at gone n ns [] e o h = let none = rw e at h in cc
+stretch_alike falls at gone n ns (x ∷ xs) e o h =
+    let f = united (min x (last_from x xs)) (max x (last_from x xs)) in
+    let P : List ℕ → Type 0 = λ ys. Has ys n in
+    let there : Has (map f (x ∷ xs)) n = subst P (ap (take gone) (drop-map f at ns) ∙ take-map f gone (drop at ns) ∙ ap (map f) e) h in
+    let from = has_map f n (x ∷ xs) there in
+    let same : f x ≡ n = joined_alike falls x x xs o (has_here x xs) ∙ sym (joined_alike falls x from.0 xs o from.1) ∙ from.2 in
+    ap first_of (drop-map f at ns) ∙ first_taken f gone x (drop at ns) xs e ∙ ap Some same
+
+stretch_order : (falls : Bool) (at gone : ℕ) (ns : List ℕ) → IsInOrder falls ns → IsInOrder falls (take gone (drop at ns))
+stretch_order falls at gone ns h = order_drawn falls (drawn_take gone (drop at ns)) (order_drawn falls (drawn_drop at ns) h)
+
+replace_has : (falls : Bool) (at taken given k : ℕ) (ns : List ℕ) → 0 < given → IsInOrder falls ns → IsLeast k ns → Has (after_event ns (Replace at taken given)) k
+replace_has falls at taken given k ns lt o l =
+    let wide : at + taken - at ≡ taken = omega arith in
+    let s = stretch at (at + taken) ns in
+    let mid = joined s ns in
+    let cut : take taken (drop at ns) ≡ s = ap (λ n. take n (drop at ns)) (sym wide) in
+    replaced_has at taken given k mid lt
+    (stretch_alike falls at taken k ns s cut (subst (IsInOrder falls) cut (stretch_order falls at taken ns o)))
+    (joined_unites (λ xs. Has xs k) at (at + taken) ns (least_unites k ns l))
+
+doubled_has : (at n : ℕ) (ns : List ℕ) → Has ns n → Has (take at ns ++ copies 2 (first_of (drop at ns)) ++ drop (at + 1) ns) n
+doubled_has at n ns h = rw (append_assoc, ← drop-drop 1 at ns) (elim (has_at n at ns h) [
+  | inl front ↦ has_left n (take at ns) (copies 2 (first_of (drop at ns)) ++ drop 1 (drop at ns)) front
+  | inr behind ↦ has_right n (take at ns) (copies 2 (first_of (drop at ns)) ++ drop 1 (drop at ns)) (has_copied 2 1 n (drop at ns) (omega arith) (one_alike n (drop at ns)) behind)
+])
+  where
+    one_alike : (m : ℕ) (ms : List ℕ) → Has (take 1 ms) m → first_of ms ≡ Some m
+    one_alike m [] t = cc
+    one_alike m (d ∷ ds) t = elim (has_cases d m [] t) [ inl e ↦ ap Some e | inr none ↦ cc ]
+
+-- as an item of part n is about to go, each part n becomes f n: no other is left, or some other becomes what n does
+record IsLeft (ns others left : List ℕ) (n : ℕ) : Type 0 where
+  f : ℕ → ℕ
+  is : left ≡ map f ns
+  beside : (others ≡ []) ⊎ ((p : ℕ) × Has others p × (f p ≡ f n))
+  least : (k : ℕ) → IsLeast k ns → f k ≡ k
+
+united_ends : (m n : ℕ) → united (min m n) (max m n) m ≡ united (min m n) (max m n) n
+united_ends m n = grind (arith, nat_tests, common_steps)
+
+same_left : (ns others : List ℕ) (n : ℕ) → Has others n → IsLeft ns others ns n
+same_left ns others n h = record { f = λ x. x; is = sym (map-id ns); beside = inr (n, h, refl); least = λ k l. refl }
+
+is_number_has : (o : Option ℕ) (n : ℕ) (others : List ℕ) → is_number o n ≡ true → MayHave others o → Has others n
+is_number_has None n others e h = cc
+is_number_has (Some m) n others e h = let same : m ≡ n = grind (arith, common_steps, e) in subst (Has others) same h
+
+with_left : (before after : Option ℕ) (n : ℕ) (ns others : List ℕ) → MayHave others before → MayHave others after → MayHave ns before → MayHave ns after → Has ns n → (before ≡ None → after ≡ None → others ≡ [])
+    → IsLeft ns others (with_neighbour before after n ns) n
+with_left (Some p) after n ns others b a hb ha h none = record {
+  f = united (min p n) (max p n);
+  is = refl;
+  beside = inr (p, b, united_ends p n);
+  least = λ k l. united_least k p n (l.below p hb) (l.below n h);
+}
+with_left None (Some q) n ns others b a hb ha h none = record {
+  f = united (min n q) (max n q);
+  is = refl;
+  beside = inr (q, a, sym (united_ends n q));
+  least = λ k l. united_least k n q (l.below n h) (l.below q ha);
+}
+with_left None None n ns others b a hb ha h none = record { f = λ x. x; is = sym (map-id ns); beside = inl (none refl refl); least = λ k l. refl }
+
+if_last_left : (before after : Option ℕ) (n : ℕ) (ns others : List ℕ) → MayHave others before → MayHave others after → MayHave ns before → MayHave ns after → Has ns n → (before ≡ None → after ≡ None → others ≡ [])
+    → IsLeft ns others (united_if_last before after n ns) n
+if_last_left before after n ns others b a hb ha h none = go (is_number before n) (is_number after n) refl refl
+  where
+    go : (s t : Bool) → is_number before n ≡ s → is_number after n ≡ t → IsLeft ns others (if s || t then ns else with_neighbour before after n ns) n
+    go true t e d = same_left ns others n (is_number_has before n others e b)
+    go false true e d = same_left ns others n (is_number_has after n others d a)
+    go false false e d = with_left before after n ns others b a hb ha h none
+
+may_left : (o : Option ℕ) (xs ys : List ℕ) → MayHave xs o → MayHave (xs ++ ys) o
+may_left None xs ys h = tt
+may_left (Some n) xs ys h = has_left n xs ys h
+
+may_right : (o : Option ℕ) (xs ys : List ℕ) → MayHave ys o → MayHave (xs ++ ys) o
+may_right None xs ys h = tt
+may_right (Some n) xs ys h = has_right n xs ys h
+
+none_beside : (xs ys : List ℕ) → last_of xs ≡ None → first_of ys ≡ None → xs ++ ys ≡ []
+none_beside xs ys e d = rw (no_last xs e, no_first ys d) refl
+
+left_at : (at n : ℕ) (ns rest : List ℕ) → drop at ns ≡ n ∷ rest → IsLeft ns (without at ns) (left_by at ns) n
+left_at at n ns rest e =
+    let before = last_of (take at ns) in
+    let after = first_of (drop (at + 1) ns) in
+    let here : Has ns n = has_drop n at ns (rw e (has_here n rest)) in
+    rw e (if_last_left before after n ns (without at ns)
+    (may_left before (take at ns) (drop (at + 1) ns) (has_last (take at ns)))
+    (may_right after (take at ns) (drop (at + 1) ns) (has_first (drop (at + 1) ns)))
+    (has_last_before at ns)
+    (has_first_from (at + 1) ns)
+    here
+    (none_beside (take at ns) (drop (at + 1) ns)))
+
+deleted_has : (at k : ℕ) (ns rest : List ℕ) → drop at ns ≡ rest → IsLeast k ns → without at (left_by at ns) ≢ [] → Has (without at (left_by at ns)) k
+deleted_has at k ns [] e l some =
+    let P : List ℕ → Type 0 = λ ms. Has (without at ms) k in
+    let same : left_by at ns ≡ ns = rw e refl in
+    subst P (sym same) (elim (has_at k at ns l.among) [
+      | inl front ↦ has_left k (take at ns) (drop (at + 1) ns) front
+      | inr behind ↦ let none = rw e at behind in cc
+    ])
+deleted_has at k ns (n ∷ rest) e l some =
+    let left = left_at at n ns rest e in
+    let others = without at ns in
+    let after : without at (left_by at ns) ≡ map left.f others = ap (without at) left.is ∙ without_map left.f at ns in
+    let kept : (p : ℕ) → Has others p → left.f p ≡ k → Has (without at (left_by at ns)) k =
+    λ p h same. subst (λ (ms : List ℕ). Has ms k) (sym after) (subst (Has (map left.f others)) same (map_has left.f p others h)) in
+    elim (has_at k at ns l.among) [
+      | inl front ↦ kept k (has_left k (take at ns) (drop (at + 1) ns) front) (left.least k l)
+      | inr behind ↦ elim (has_cases n k rest (rw e at behind)) [
+        | inl here ↦ elim left.beside [
+          | inl none ↦ absurd (some (after ∙ ap (map left.f) none))
+          | inr beside ↦ kept beside.0 beside.1 (beside.2 ∙ ap left.f here ∙ left.least k l)
+        ]
+        | inr later ↦ kept k (has_right k (take at ns) (drop (at + 1) ns) (let there : drop (at + 1) ns ≡ rest = sym (drop-drop 1 at ns) ∙ ap (drop 1) e in rw there later)) (left.least k l)
+      ]
+    ]
+
+-- the least number is there after one event
+event_has_least : (e : Event) (falls : Bool) (k : ℕ) (ns : List ℕ) → IsGiving (e ∷ []) → IsInOrder falls ns → IsLeast k ns → after_event ns e ≢ [] → Has (after_event ns e) k
+event_has_least (Join from to) falls k ns g o l some = joined_unites (λ xs. Has xs k) from to ns (least_unites k ns l)
+event_has_least (Replace at taken given) falls k ns g o l some = replace_has falls at taken given k ns g.0 o l
+event_has_least (Delete at) falls k ns g o l some = deleted_has at k ns (drop at ns) refl l some
+event_has_least (Circle beside) falls k ns g o l some = doubled_has beside k ns l.among
+event_has_least Reverse falls k ns g o l some = has_reverse k ns ∙ l.among
+
+giving_first : (e : Event) (es : List Event) → IsGiving (e ∷ es) → IsGiving (e ∷ [])
+giving_first (Replace at taken given) es g = (g.0, tt)
+giving_first Reverse es g = tt
+giving_first (Join from to) es g = tt
+giving_first (Delete at) es g = tt
+giving_first (Circle beside) es g = tt
+
+giving_rest : (e : Event) (es : List Event) → IsGiving (e ∷ es) → IsGiving es
+giving_rest (Replace at taken given) es g = g.1
+giving_rest Reverse es g = g
+giving_rest (Join from to) es g = g
+giving_rest (Delete at) es g = g
+giving_rest (Circle beside) es g = g
+
+no_numbers : (ns : List ℕ) → BringsNone [] ns → ns ≡ []
+no_numbers [] h = refl
+no_numbers (n ∷ ns) h = let none = h n (has_here n ns) in cc
+
+pub keeps_least : KeepsLeast
+keeps_least [] falls ns k g o l some = l
+keeps_least (e ∷ es) falls ns k g o l some =
+    let mid = after_event ns e in
+    let left : mid ≢ [] = λ none. some (ap (after_events es) none ∙ no_numbers (after_events es []) (keeps_numbers es [])) in
+    keeps_least es (turned falls (e ∷ [])) mid k (giving_rest e es g) (event_keeps_order e falls ns o)
+    (record { among = event_has_least e falls k ns (giving_first e es g) o l left; below = λ n h. l.below n (event_keeps_numbers e ns n h) })
+    some

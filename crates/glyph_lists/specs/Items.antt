@@ -1,0 +1,48 @@
+-- Glyphs without their clusters.
+use Rattle.std.specs.Prelude.{ℕ, ◌-◌, List, map}
+use Rattle.std.specs.Int.RustNames.{bit_and}
+use Rattle.glyph_types.specs.declared.info.hb_glyph_info_t.{hb_glyph_info_t}
+use Rattle.glyph_types.specs.declared.position.GlyphPosition.{GlyphPosition}
+
+-- what shaping reads of a glyph: all but its cluster and the three glyph flags
+pub record Item : Type 0 where
+  pub number : ℕ
+  pub glyph_index : ℕ
+  pub unicode_props : ℕ
+  pub class : ℕ
+  pub glyph_props : ℕ
+  pub lig_props : ℕ
+  pub syllable : ℕ
+  pub category : ℕ
+  pub auxiliary : ℕ
+  pub mask : ℕ
+
+-- the mask without the three glyph flags
+abbrev pub without_flags : ℕ → ℕ
+without_flags m = m - bit_and m 7
+
+abbrev pub item_of : hb_glyph_info_t → Item
+item_of g = record {
+  number = g.glyph_id;
+  glyph_index = g.glyph_index;
+  unicode_props = g.unicode_props.0;
+  class = g.modified_combining_class;
+  glyph_props = g.glyph_props.0;
+  lig_props = g.lig_props;
+  syllable = g.syllable;
+  category = g.category;
+  auxiliary = g.auxiliary;
+  mask = without_flags g.mask;
+}
+
+-- a list of glyphs without clusters
+abbrev pub strip : List hb_glyph_info_t → List Item
+strip gs = map item_of gs
+
+-- the cluster numbers of a list of glyphs
+abbrev pub clusters : List hb_glyph_info_t → List ℕ
+clusters gs = map (λ (g : hb_glyph_info_t). g.cluster) gs
+
+-- where a glyph stands: two advances and two offsets, and its link
+abbrev pub Place : Type 0
+Place = GlyphPosition

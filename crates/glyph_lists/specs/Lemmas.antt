@@ -1,0 +1,9 @@
+-- Lemmas behind the laws and the steps.
+pub mod Chains
+pub mod Drawn
+pub mod Numbers
+pub mod Unions
+pub mod Events
+pub mod Ends
+pub mod Merges
+pub mod Deletions

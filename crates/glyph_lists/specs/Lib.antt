@@ -1,0 +1,10 @@
+pub mod Items
+pub mod Events
+pub mod Order
+pub mod Merges
+pub mod Deletions
+pub mod Readings
+pub mod Laws
+pub mod Lists
+pub mod Lemmas
+pub mod Steps

@@ -1,0 +1,34 @@
+-- What a merge of a range does to cluster numbers.
+use Rattle.std.specs.Prelude.{ℕ, ◌≡◌, min, if◌then◌else◌, IsTrue, List, [], ◌∷◌, map, fold}
+use Rattle.glyph_types.specs.declared.level.BufferClusterLevel.{BufferClusterLevel}
+use Rattle.glyph_types.specs.declared.level.BufferClusterLevel.TheVariants.{MonotoneGraphemes, MonotoneCharacters, Characters}
+use Rattle.glyph_lists.specs.Events.{stretch}
+use Rattle.glyph_lists.specs.Order.{has_number}
+
+-- the least of the numbers, or 0 where there is none
+abbrev pub least_number : List ℕ → ℕ
+least_number [] = 0
+least_number (n ∷ ns) = fold min n ns
+
+-- a number that occurs in a range becomes the least of the range
+abbrev pub merged : List ℕ → ℕ → ℕ
+merged range n = if has_number range n then least_number range else n
+
+-- the numbers that occur in a range become the least of them, everywhere
+abbrev pub merged_numbers : List ℕ → List ℕ → List ℕ
+merged_numbers range ns = map (merged range) ns
+
+-- what a merge of the places from `from` up to before `to` leaves: only at the monotone levels do numbers change
+abbrev pub merged_at : BufferClusterLevel → ℕ → ℕ → List ℕ → List ℕ
+merged_at MonotoneGraphemes from to ns = merged_numbers (stretch from to ns) ns
+merged_at MonotoneCharacters from to ns = merged_numbers (stretch from to ns) ns
+merged_at Characters from to ns = ns
+
+-- f makes the numbers of a range one
+abbrev pub IsOneOn : List ℕ → (ℕ → ℕ) → Type 0
+IsOneOn range f = (m n : ℕ) → IsTrue (has_number range m) → IsTrue (has_number range n) → f m ≡ f n
+
+-- g makes them one, and so does whatever f that makes them one only by making what g makes one: f after g is f
+pub record IsLeastCoarsening (range : List ℕ) (g : ℕ → ℕ) : Type 0 where
+  pub unites : IsOneOn range g
+  pub least : (f : ℕ → ℕ) → IsOneOn range f → (n : ℕ) → f (g n) ≡ f n

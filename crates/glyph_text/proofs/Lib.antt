@@ -1,0 +1,4 @@
+pub mod Appending
+pub mod Numerals
+pub mod ReadBack
+pub mod Steps

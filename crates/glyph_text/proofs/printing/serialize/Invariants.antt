@@ -1,0 +1,13 @@
+use Rattle.std.proofs.Common.{◌≡◌, ◌^◌, ◌*◌, ◌++◌, take, string_bytes}
+use Rattle.glyph_text.specs.Pen.{IsWithin, pen_after}
+use Rattle.glyph_text.specs.Printed.{printed_text}
+use Rattle.glyph_text.proofs.Steps.{left_at}
+use Rattle.glyph_text.proofs.printing.serialize.Given as goal
+
+abbrev pub invariant-loop-index : goal.invariant-loop-index
+invariant-loop-index g l = record {
+  pen : l.pen ≡ pen_after l.flags (take l.index l.places);
+  near : IsWithin (2 ^ 31 * l.index) l.pen;
+  printed : string_bytes l.text ++ left_at (g.N.GlyphNames.name_of l.names) (g.N.GlyphNames.extents_of l.names) l.flags l.glyphs l.places l.index
+      ≡ printed_text (g.N.GlyphNames.name_of l.names) (g.N.GlyphNames.extents_of l.names) l.flags l.glyphs l.places;
+}

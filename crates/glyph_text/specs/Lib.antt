@@ -1,0 +1,3 @@
+pub mod Pen
+pub mod Printed
+pub mod Shown

@@ -1,0 +1,21 @@
+/// How finely cluster numbers are kept apart, and whether their order is.
+#[derive(Clone, Copy, PartialEq, Eq, Debug, Default)]
+pub enum BufferClusterLevel {
+    /// The characters of a grapheme have one number, and numbers stay in order.
+    #[default]
+    MonotoneGraphemes,
+    /// Each character begins with its own number, and numbers stay in order.
+    MonotoneCharacters,
+    /// Each character begins with its own number, and merges do nothing.
+    Characters,
+}
+
+pub type hb_buffer_cluster_level_t = u32;
+
+pub const HB_BUFFER_CLUSTER_LEVEL_MONOTONE_GRAPHEMES: hb_buffer_cluster_level_t = 0;
+
+pub const HB_BUFFER_CLUSTER_LEVEL_MONOTONE_CHARACTERS: hb_buffer_cluster_level_t = 1;
+
+pub const HB_BUFFER_CLUSTER_LEVEL_CHARACTERS: hb_buffer_cluster_level_t = 2;
+
+pub const HB_BUFFER_CLUSTER_LEVEL_DEFAULT: hb_buffer_cluster_level_t = 0;

@@ -1,0 +1,7 @@
+pub mod Stripped
+pub mod Steps
+pub mod Turned
+pub mod Whole
+pub mod Bytes
+pub mod Printing
+pub mod Faults

@@ -1,0 +1,91 @@
+-- What is printed for the bytes of tables, a font and a text, or the first fault that is found in them.
+use Rattle.std.specs.Prelude.{ℕ, ◌==◌, ◌+◌, ◌-◌, Bool, if◌then◌else◌, List, [], ◌∷◌, ◌++◌, length, take, slice_index, Option, Some, None, Result, Ok, Err}
+use Rattle.std.specs.Str.{is_utf8}
+use Rattle.serde_json.specs.Data.{Data}
+use Rattle.serde_json.specs.Read.{read}
+use Rattle.glyph_types.specs.declared.info.hb_glyph_info_t.{hb_glyph_info_t}
+use Rattle.glyph_types.specs.declared.flags.SerializeFlags.{SerializeFlags}
+use Rattle.shaping_text.specs.declared.direction.Direction.{Direction}
+use Rattle.shaping_text.specs.declared.script.Script.{Script}
+use Rattle.run_options.specs.declared.fault.JsonFault.{JsonFault}
+use Rattle.run_options.specs.declared.fault.RunFault.{RunFault}
+use Rattle.run_options.specs.declared.fault.RunFault.TheVariants.{NotJson, NotUtf8, NotYet, TooLong}
+use Rattle.run_options.specs.declared.options.Options.{Options}
+use Rattle.run_options.specs.Fault.{run_fault_of, fault_of_cause}
+use Rattle.font_json.specs.Keys.{FontKeys, face_of, tables_of}
+use Rattle.glyph_lists.specs.Items.{Place, strip, clusters}
+use Rattle.glyph_lists.specs.Events.{or, after_events}
+use Rattle.glyph_lists.specs.Readings.{Reading}
+use Rattle.glyph_text.specs.Printed.{printed_text}
+use Rattle.glyph_buffer.specs.Sides.{empty_buffer, zero_places}
+use Rattle.glyph_buffer.specs.Segment.{first_script, guessed_direction}
+use Rattle.glyph_buffer.specs.Text.{added_text, fits_text}
+use Rattle.shape_run.specs.FirstPath.{first_path}
+use Rattle.shape_run.specs.Output.{glyphs_of}
+use Rattle.shape_run.specs.Waiting.{waits}
+
+-- one step after another; the first fault ends them
+abbrev pub then_run : {A B : Type 0} → Result A RunFault → (A → Result B RunFault) → Result B RunFault
+then_run (Ok a) next = next a
+then_run (Err e) next = Err e
+
+-- ---- bytes
+
+abbrev pub json_or_fault : Option Data → Result Data RunFault
+json_or_fault None = Err NotJson
+json_or_fault (Some d) = Ok d
+
+-- the JSON value of bytes
+abbrev pub json_of : List ℕ → Result Data RunFault
+json_of bytes = if is_utf8 bytes then json_or_fault (read bytes) else Err NotJson
+
+-- a text without one line feed at its end
+abbrev pub without_line_feed : List ℕ → List ℕ
+without_line_feed text = if slice_index text (length text - 1) == 10 then take (length text - 1) text else text
+
+-- the text of bytes
+abbrev pub text_of : List ℕ → Result (List ℕ) RunFault
+text_of bytes = if is_utf8 bytes then Ok (without_line_feed bytes) else Err NotUtf8
+
+-- what a JSON value was read as, with the run's name of its fault
+abbrev pub of_json : {A : Type 0} → Result A JsonFault → Result A RunFault
+of_json (Ok a) = Ok a
+of_json (Err e) = Err (run_fault_of e)
+
+-- ---- glyphs
+
+-- the printed text of glyphs that have no names and no boxes, and a line feed
+abbrev pub printed_line : SerializeFlags → List hb_glyph_info_t → List Place → List ℕ
+printed_line flags gs ps = printed_text (λ _. None) (λ _. None) flags gs ps ++ 10 ∷ []
+
+-- the line of a reading: its printed text, with the clusters that its events make of those of the text, and a line feed
+abbrev pub line_of_reading : SerializeFlags → List ℕ → Reading → Result (List ℕ) RunFault
+line_of_reading flags ns (Ok r) = Ok (printed_line flags (glyphs_of r.items (after_events r.at_graphemes ns)) r.places)
+line_of_reading flags ns (Err e) = Err (fault_of_cause e)
+
+-- the line of characters that were added, in a direction and a script
+abbrev pub line_of_glyphs : FontKeys → SerializeFlags → Direction → Option Script → List hb_glyph_info_t → Result (List ℕ) RunFault
+line_of_glyphs font flags direction script gs = if waits script direction (strip gs) then Err NotYet
+    else line_of_reading flags (clusters gs) (first_path font script direction (strip gs) (zero_places (length gs)))
+
+-- the same, where what was not asked for is guessed
+abbrev pub line_of_guess : FontKeys → Options → Option Script → List hb_glyph_info_t → Result (List ℕ) RunFault
+line_of_guess font options script gs = line_of_glyphs font options.flags (guessed_direction options.direction script) script gs
+
+-- the line of a text
+abbrev pub line_of : Options → FontKeys → List ℕ → Result (List ℕ) RunFault
+line_of options font text = if fits_text text empty_buffer
+    then line_of_guess font options (or options.script (first_script (added_text text))) (added_text text)
+    else Err TooLong
+
+-- ---- all of it
+
+-- the line for tables, a font and a text: faults of the tables come first, then those of the font, then those of the text
+abbrev pub answer_of : Options → List ℕ → List ℕ → List ℕ → Result (List ℕ) RunFault
+answer_of options tables font text =
+    then_run (json_of tables) (λ t.
+    then_run (of_json (tables_of t)) (λ _.
+    then_run (json_of font) (λ f.
+    then_run (of_json (face_of f)) (λ face.
+    then_run (text_of text) (λ chars.
+    line_of options face chars)))))

@@ -1,0 +1,111 @@
+-- The reading of a text that needs no rules of a font: its order, its glyphs and their advances.
+use Rattle.std.specs.Prelude.{ℕ, pos, ◌==◌, ◌&&◌, ◌||◌, Bool, true, false, not, nat_le, if◌then◌else◌, List, [], ◌∷◌, map, reverse, length, Option, Some, None, unwrap_or}
+use Rattle.std.specs.List.{list_any}
+use lib.Utf8.{scalar}
+use Rattle.unicode.specs.GeneralCategory.{general_category}
+use Rattle.ucd_category.specs.declared.GeneralCategory.{GeneralCategory}
+use Rattle.ucd_category.specs.declared.GeneralCategory.TheVariants.{DecimalNumber}
+use Rattle.unicode_chars.specs.Category.{is_letter_category}
+use Rattle.shaping_text.specs.Direction.{direction_of_script, opposite, is_backward}
+use Rattle.shaping_text.specs.declared.direction.Direction.{Direction}
+use Rattle.shaping_text.specs.declared.direction.Direction.TheVariants.{Invalid, LeftToRight, RightToLeft, TopToBottom, BottomToTop}
+use Rattle.shaping_text.specs.declared.script.Script.{Script}
+use Rattle.font_json.specs.Keys.{FontKeys, glyph_of, advance_of}
+use Rattle.glyph_lists.specs.Items.{Item, Place}
+use Rattle.glyph_lists.specs.Events.{Event, Reverse}
+use Rattle.glyph_lists.specs.Readings.{Read, Stage, and_then, eventless, always}
+use Rattle.glyph_buffer.specs.Sides.{zero_place, zero_places}
+
+-- ---- native order
+
+abbrev pub is_decimal_number : GeneralCategory → Bool
+is_decimal_number DecimalNumber = true
+is_decimal_number _ = false
+
+-- two of these make the flag of a region
+abbrev pub is_regional_indicator : ℕ → Bool
+is_regional_indicator n = nat_le 0x1F1E6 n && nat_le n 0x1F1FF
+
+-- decimal numbers and regional indicators run from left to right in every script
+abbrev pub is_numeral : ℕ → Bool
+is_numeral n = scalar n && (is_regional_indicator n || is_decimal_number (general_category n))
+
+abbrev pub is_letter : ℕ → Bool
+is_letter n = scalar n && is_letter_category (general_category n)
+
+-- numerals, and no letter
+abbrev pub is_number_text : List Item → Bool
+is_number_text xs = list_any (λ x. is_numeral x.number) xs && not (list_any (λ x. is_letter x.number) xs)
+
+-- the direction that a script is written in, none where it has no one
+abbrev pub script_direction : Option Script → Direction
+script_direction None = Invalid
+script_direction (Some s) = unwrap_or (direction_of_script s) Invalid
+
+-- numbers alone are written from left to right where the text is to run so
+abbrev pub with_numbers : Bool → Direction → Direction → Direction
+with_numbers true LeftToRight RightToLeft = LeftToRight
+with_numbers _ text d = d
+
+-- the direction that a text's writing has by itself
+abbrev pub written_direction : Option Script → Direction → List Item → Direction
+written_direction script text xs = with_numbers (is_number_text xs) text (script_direction script)
+
+-- whether a line is to run against the writing; a vertical one runs down, and no writing has a vertical direction of its own
+abbrev pub runs_against : Direction → Direction → Bool
+runs_against LeftToRight RightToLeft = true
+runs_against RightToLeft LeftToRight = true
+runs_against BottomToTop _ = true
+runs_against _ _ = false
+
+abbrev pub is_turned : Option Script → Direction → List Item → Bool
+is_turned script text xs = runs_against text (written_direction script text xs)
+
+-- the direction that a text is shaped in
+abbrev pub native_direction : Option Script → Direction → List Item → Direction
+native_direction script text xs = if is_turned script text xs then opposite text else text
+
+-- items and places turned round
+abbrev pub turned_round : List Item → List Place → Read
+turned_round xs ps = record { items = reverse xs; places = reverse ps; at_graphemes = Reverse ∷ []; at_characters = Reverse ∷ [] }
+
+-- a text is shaped in the order of its writing; below U+0080 each character is a grapheme
+abbrev pub native_order : Option Script → Direction → List Item → List Place → Read
+native_order script text xs ps = if is_turned script text xs then turned_round xs ps else eventless xs ps
+
+-- ---- glyphs
+
+-- the font's glyph of a character, glyph 0 where it has none or the number is no character
+abbrev pub nominal_glyph : FontKeys → ℕ → ℕ
+nominal_glyph font n = if scalar n then unwrap_or (glyph_of font n) 0 else 0
+
+-- a character as its glyph
+abbrev pub mapped_item : FontKeys → Item → Item
+mapped_item font x = record x { number = nominal_glyph font x.number; glyph_index = nominal_glyph font x.number }
+
+-- each character becomes its glyph
+abbrev pub mapped : FontKeys → List Item → List Place → Read
+mapped font xs ps = eventless (map (mapped_item font) xs) (zero_places (length xs))
+
+-- ---- places
+
+-- a place that moves the pen by the glyph's advance
+abbrev pub advance_place : FontKeys → ℕ → Place
+advance_place font glyph = record zero_place { x_advance = pos (advance_of font glyph) }
+
+-- each glyph gets its advance
+abbrev pub advanced : FontKeys → List Item → List Place → Read
+advanced font xs ps = eventless xs (map (λ (x : Item). advance_place font x.number) xs)
+
+-- ---- order on the line
+
+-- glyphs stand as they are drawn, from left to right
+abbrev pub drawn_order : Direction → List Item → List Place → Read
+drawn_order direction xs ps = if is_backward direction then turned_round xs ps else eventless xs ps
+
+-- ---- all of it
+
+abbrev pub first_path : FontKeys → Option Script → Direction → Stage
+first_path font script text xs ps =
+    and_then (and_then (and_then (always (native_order script text) xs ps) (always (mapped font))) (always (advanced font)))
+    (always (drawn_order (native_direction script text xs)))

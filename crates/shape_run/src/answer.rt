@@ -1,0 +1,157 @@
+//! From the bytes of tables, a font and a text to the printed line.
+ghost use Rattle.std.specs.Prelude.{◌≡◌, ◌≢◌, Ok, Err, IfOk, IfErr, OnOk, MatchOption, true, false, string_bytes};
+ghost use Rattle.std.specs.Str.{is_utf8};
+ghost use Rattle.serde_json.specs.View.{view};
+ghost use Rattle.serde_json.specs.Errors.{IsMemory};
+ghost use Rattle.std.specs.List.{list_all};
+ghost use Rattle.glyph_buffer.specs.Sides.{all_glyphs, empty_buffer};
+ghost use Rattle.glyph_buffer.specs.Segment.{with_segment};
+ghost use Rattle.glyph_buffer.specs.Text.{fits_text};
+ghost use Rattle.shape_run.specs.Answer.{answer_of, json_of, line_of, printed_line, text_of, without_line_feed};
+ghost use Rattle.shape_run.specs.Run.{IsOfRun};
+ghost use Rattle.shape_run.specs.Stages.{is_glyph_number, text_buffer};
+
+use crate::first_path::shape;
+use crate::waiting::waits;
+use font_json::{FontFace, read_face, read_tables};
+use glyph_buffer::buffer::hb_buffer_t;
+use glyph_buffer::glyphs::GlyphBuffer;
+use glyph_buffer::unicode_buffer::UnicodeBuffer;
+use glyph_types::flags::SerializeFlags;
+use run_options::fault::RunFault;
+use run_options::options::Options;
+use serde_json::Value;
+use std::alloc::{AllocError, Global};
+
+// The text of the bytes, where they are UTF-8.
+#[tactic(auto, using(crate::proofs::Bytes::is_text, crate::proofs::Bytes::is_no_text))]
+fn utf8(bytes: &[u8]) -> Option<&str>
+    ensures { MatchOption result (is_utf8 bytes.now ≡ false) (λ s. (s.now ≡ bytes.now) × (is_utf8 bytes.now ≡ true)) }
+{
+    str::from_utf8(bytes).ok()
+}
+
+fn read_json(alloc: Global, bytes: &[u8]) -> Result<Value, RunFault>
+    ensures ok { IfOk result (λ v. json_of bytes.now ≡ Ok (view v)) }
+    ensures refused { IfErr result (λ e. e ≢ RunFault.OutOfMemory → json_of bytes.now ≡ Err e) }
+    ensures kind { IfErr result IsOfRun }
+{
+    let Some(text) = utf8(bytes) else {
+        return Err(RunFault::NotJson);
+    };
+    match Value::from_str(alloc, text) {
+        Ok(value) => Ok(value),
+        Err(error) => Err(json_fault(&error)),
+    }
+}
+
+fn json_fault(error: &serde_json::Error) -> RunFault
+    ensures memory { IsMemory error.now → result ≡ RunFault.OutOfMemory }
+    ensures text { ¬ IsMemory error.now → result ≡ RunFault.NotJson }
+{
+    if error.is_memory() {
+        RunFault::OutOfMemory
+    } else {
+        RunFault::NotJson
+    }
+}
+
+fn without_line_feed(text: &str) -> &str
+    ensures { result.now ≡ without_line_feed text.now }
+{
+    match text.as_bytes() {
+        [.., b'\n'] => &text[..text.len() - 1],
+        _ => text,
+    }
+}
+
+fn read_text(bytes: &[u8]) -> Result<&str, RunFault>
+    ensures ok { IfOk result (λ s. text_of bytes.now ≡ Ok s.now) }
+    ensures refused { IfErr result (λ e. text_of bytes.now ≡ Err e) }
+    ensures kind { IfErr result IsOfRun }
+{
+    match utf8(bytes) {
+        Some(text) => Ok(without_line_feed(text)),
+        None => Err(RunFault::NotUtf8),
+    }
+}
+
+fn new_text(alloc: Global, options: &Options) -> UnicodeBuffer
+    ensures { result ≡ with_segment options.now.direction options.now.script empty_buffer }
+{
+    let mut text = UnicodeBuffer::new(alloc);
+    text.set_direction(options.direction);
+    if let Some(script) = options.script {
+        text.set_script(script);
+    }
+    text
+}
+
+/// The characters of a text, with what was not asked for guessed.
+fn text_buffer(alloc: Global, options: &Options, text: &str) -> Result<hb_buffer_t, RunFault>
+    ensures fits { OnOk result (fits_text text.now empty_buffer ≡ true) }
+    ensures text { IfOk result (λ b. b ≡ text_buffer options.now text.now) }
+    ensures refused { IfErr result (λ e. e ≢ RunFault.OutOfMemory → (e ≡ RunFault.TooLong) × (fits_text text.now empty_buffer ≡ false)) }
+    ensures kind { IfErr result IsOfRun }
+{
+    let mut buffer = new_text(alloc, options);
+    if !buffer.push_str(text)? {
+        return Err(RunFault::TooLong);
+    }
+    buffer.guess_segment_properties();
+    Ok(buffer.into_buffer())
+}
+
+/// The printed text of glyphs, and a line feed.
+#[tactic(auto, using(crate::proofs::Printing::glyph_numbers))]
+fn print(
+    alloc: Global,
+    face: &FontFace,
+    flags: SerializeFlags,
+    buffer: hb_buffer_t,
+) -> Result<String, AllocError>
+    requires closed { buffer.is_open ≡ false }
+    requires numbers { list_all is_glyph_number (all_glyphs buffer) ≡ true }
+    ensures { IfOk result (λ line. string_bytes line ≡ printed_line flags (all_glyphs buffer) buffer.places) }
+{
+    let glyphs = GlyphBuffer::from_buffer(buffer);
+    let mut line = glyphs.serialize(alloc, face, flags)?;
+    line.push_str("\n")?;
+    Ok(line)
+}
+
+/// The line of a text in a font.
+fn line(alloc: Global, options: &Options, face: &FontFace, text: &str) -> Result<String, RunFault>
+    ensures ok { IfOk result (λ line. line_of options.now face.now text.now ≡ Ok (string_bytes line)) }
+    ensures refused { IfErr result (λ e. e ≢ RunFault.OutOfMemory → line_of options.now face.now text.now ≡ Err e) }
+    ensures kind { IfErr result IsOfRun }
+{
+    let mut buffer = text_buffer(alloc, options, text)?;
+    if waits(buffer.script(), buffer.direction(), buffer.info_slice()) {
+        return Err(RunFault::NotYet);
+    }
+    shape(face, &mut buffer)?;
+    let line = print(alloc, face, options.flags, buffer)?;
+    Ok(line)
+}
+
+/// The line for the bytes of tables, a font and a text.
+#[tactic(auto, unfolding(crate::specs::Answer::answer_of))]
+pub(crate) fn answer(
+    alloc: Global,
+    options: &Options,
+    tables: &[u8],
+    font: &[u8],
+    text: &[u8],
+) -> Result<String, RunFault>
+    ensures ok { IfOk result (λ line. answer_of options.now tables.now font.now text.now ≡ Ok (string_bytes line)) }
+    ensures refused { IfErr result (λ e. e ≢ RunFault.OutOfMemory → answer_of options.now tables.now font.now text.now ≡ Err e) }
+    ensures kind { IfErr result IsOfRun }
+{
+    let tables = read_json(alloc, tables)?;
+    read_tables(&tables)?;
+    let font = read_json(alloc, font)?;
+    let face = read_face(alloc, &font)?;
+    let text = read_text(text)?;
+    line(alloc, options, &face, text)
+}

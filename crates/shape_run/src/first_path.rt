@@ -1,0 +1,233 @@
+//! Shaping of a text that needs no rules of a font.
+ghost use Rattle.std.specs.Prelude.{◌≡◌, ◌≢◌, Err, ◌≤◌, ◌<◌, ◌&&◌, ◌||◌, false, true, Ok, [], length, take, map, IfOk, IfErr, OnOk};
+ghost use Rattle.glyph_lists.specs.Items.{strip};
+ghost use Rattle.glyph_lists.specs.Readings.{Follows, read_of};
+ghost use Rattle.glyph_buffer.specs.Sides.{all_glyphs, fits_next, run_of};
+ghost use Rattle.std.specs.List.{list_any, list_all};
+ghost use Rattle.unicode.specs.GeneralCategory.{general_category};
+ghost use Rattle.shape_run.specs.FirstPath.{advance_place, first_path, is_decimal_number, is_letter, is_regional_indicator, is_number_text, is_numeral, native_direction, nominal_glyph, runs_against, script_direction, with_numbers, written_direction};
+ghost use Rattle.shape_run.specs.Output.{has_no_flags};
+ghost use Rattle.shape_run.specs.Stages.{drawn, is_glyph_number, mapped_glyph, ordered, with_advances, with_mapped, with_next_advanced, with_next_mapped};
+
+use font_json::FontFace;
+use glyph_buffer::buffer::hb_buffer_t;
+use glyph_types::cause::ShapeCause;
+use glyph_types::info::hb_glyph_info_t;
+use glyph_types::position::GlyphPosition;
+use shaping_text::direction::Direction;
+use shaping_text::script::Script;
+use std::alloc::AllocError;
+use unicode::properties::GeneralCategory;
+use unicode_chars::{CharExt, GeneralCategoryExt};
+
+fn is_numeral(number: u32) -> bool
+    ensures { result ≡ is_numeral number }
+{
+    match char::from_u32(number) {
+        Some(c) => is_regional_indicator(c) || is_decimal_number(c),
+        None => false,
+    }
+}
+
+fn is_regional_indicator(c: char) -> bool
+    ensures { result ≡ is_regional_indicator c }
+{
+    matches!(c, '\u{1F1E6}'..='\u{1F1FF}')
+}
+
+fn is_decimal_number(c: char) -> bool
+    ensures { result ≡ is_decimal_number (general_category c) }
+{
+    matches!(c.general_category(), GeneralCategory::DecimalNumber)
+}
+
+fn is_letter(number: u32) -> bool
+    ensures { result ≡ is_letter number }
+{
+    match char::from_u32(number) {
+        Some(c) => c.general_category().is_letter(),
+        None => false,
+    }
+}
+
+#[tactic(auto, using(crate::proofs::Stripped::number_text_stripped))]
+fn is_number_text(glyphs: &[hb_glyph_info_t]) -> bool
+    ensures { result ≡ is_number_text (strip glyphs.now) }
+{
+    has_numeral(glyphs) && !has_letter(glyphs)
+}
+
+fn has_numeral(glyphs: &[hb_glyph_info_t]) -> bool
+    ensures { result ≡ list_any (λ g. is_numeral g.glyph_id) glyphs.now }
+{
+    glyphs.iter().any(|glyph| is_numeral(glyph.glyph_id))
+}
+
+fn has_letter(glyphs: &[hb_glyph_info_t]) -> bool
+    ensures { result ≡ list_any (λ g. is_letter g.glyph_id) glyphs.now }
+{
+    glyphs.iter().any(|glyph| is_letter(glyph.glyph_id))
+}
+
+fn script_direction(script: Option<Script>) -> Direction
+    ensures { result ≡ script_direction script }
+{
+    match script {
+        Some(script) => Direction::from_script(script).unwrap_or(Direction::Invalid),
+        None => Direction::Invalid,
+    }
+}
+
+fn with_numbers(is_number_text: bool, text: Direction, direction: Direction) -> Direction
+    ensures { result ≡ with_numbers is_number_text text direction }
+{
+    match (is_number_text, text, direction) {
+        (true, Direction::LeftToRight, Direction::RightToLeft) => Direction::LeftToRight,
+        _ => direction,
+    }
+}
+
+fn runs_against(text: Direction, written: Direction) -> bool
+    ensures { result ≡ runs_against text written }
+{
+    matches!(
+        (text, written),
+        (Direction::LeftToRight, Direction::RightToLeft)
+            | (Direction::RightToLeft, Direction::LeftToRight)
+            | (Direction::BottomToTop, _)
+    )
+}
+
+/// Turns a text round that runs against its writing, and its direction with it.
+fn ensure_native_direction(buffer: &mut hb_buffer_t)
+    requires { buffer.old.is_open ≡ false }
+    ensures { buffer.new ≡ ordered buffer.old }
+{
+    let text = buffer.direction();
+    let is_number_text = is_number_text(buffer.info_slice());
+    let written = with_numbers(is_number_text, text, script_direction(buffer.script()));
+    if runs_against(text, written) {
+        buffer.reverse();
+        buffer.set_direction(text.reverse());
+    }
+}
+
+fn nominal_glyph(face: &FontFace, number: u32) -> u16
+    ensures { result ≡ nominal_glyph face.now number }
+{
+    match char::from_u32(number) {
+        Some(c) => face.get_nominal_glyph(c).unwrap_or(0),
+        None => 0,
+    }
+}
+
+fn map_glyph(face: &FontFace, info: &mut hb_glyph_info_t)
+    ensures mapped { info.new ≡ mapped_glyph face.now info.old }
+    ensures number { info.new.glyph_id ≤ 65535 }
+{
+    let glyph = u32::from(nominal_glyph(face, info.glyph_id));
+    info.glyph_id = glyph;
+    info.glyph_index = glyph;
+}
+
+/// Puts the glyph of the character at the cursor in its place, and goes on to the next.
+#[tactic(auto, using(crate::proofs::Steps::mapped_next))]
+fn map_next(face: &FontFace, buffer: &mut hb_buffer_t) -> Result<bool, AllocError>
+    requires { 0 < length buffer.old.ahead }
+    ensures held { IfOk result (λ b. b ≡ fits_next 1 buffer.old) }
+    ensures mapped { result ≡ Ok true → buffer.new ≡ with_next_mapped face.now buffer.old }
+    ensures number { result ≡ Ok true → list_all is_glyph_number (map (mapped_glyph face.now) (take 1 buffer.old.ahead)) ≡ true }
+{
+    map_glyph(face, buffer.cur_mut(0));
+    buffer.next_glyph()
+}
+
+/// Puts each character's glyph in its place.
+#[tactic(auto, using(crate::proofs::Steps::mapped_fits, crate::proofs::Steps::mapped_joins, crate::proofs::Steps::mapped_whole))]
+fn map_glyphs(face: &FontFace, buffer: &mut hb_buffer_t) -> Result<(), ShapeCause>
+    requires closed { buffer.old.is_open ≡ false }
+    requires unrefused { buffer.old.has_refused ≡ false }
+    ensures ok { OnOk result (buffer.new ≡ with_mapped face.now buffer.old) }
+    ensures numbers { OnOk result (list_all is_glyph_number (all_glyphs buffer.new) ≡ true) }
+    ensures err { IfErr result (λ e. e ≡ ShapeCause.OutOfMemory) }
+{
+    let count = buffer.len();
+    buffer.clear_output()?;
+    for _ in 0..count {
+        if !map_next(face, buffer)? {
+            return Err(ShapeCause::TooLong);
+        }
+    }
+    if !buffer.sync()? {
+        return Err(ShapeCause::TooLong);
+    }
+    Ok(())
+}
+
+fn advance_place(face: &FontFace, glyph: u16) -> GlyphPosition
+    ensures { result ≡ advance_place face.now glyph }
+{
+    GlyphPosition {
+        x_advance: i32::from(face.glyph_h_advance(glyph)),
+        ..GlyphPosition::default()
+    }
+}
+
+/// Gives the glyph at the cursor its advance, and goes on to the next.
+#[tactic(auto)]
+fn advance_next(face: &FontFace, buffer: &mut hb_buffer_t)
+    requires closed { buffer.old.is_open ≡ false }
+    requires there { 0 < length buffer.old.ahead }
+    requires number { list_all is_glyph_number (take 1 buffer.old.ahead) ≡ true }
+    requires placed { buffer.old.read < length buffer.old.places }
+    ensures { buffer.new ≡ with_next_advanced face.now buffer.old }
+{
+    let place = advance_place(face, buffer.cur(0).as_glyph().0);
+    *buffer.cur_pos_mut() = place;
+    let _ = buffer.next_glyph();
+}
+
+/// Gives each glyph its advance.
+fn position_glyphs(face: &FontFace, buffer: &mut hb_buffer_t)
+    requires closed { buffer.old.is_open ≡ false }
+    requires front { buffer.old.behind ≡ [] }
+    requires unread { buffer.old.read ≡ 0 }
+    requires numbers { list_all is_glyph_number (all_glyphs buffer.old) ≡ true }
+    requires placed { length buffer.old.places ≡ length (all_glyphs buffer.old) }
+    ensures { buffer.new ≡ with_advances face.now buffer.old }
+{
+    let count = buffer.len();
+    buffer.clear_positions();
+    for _ in 0..count {
+        advance_next(face, buffer);
+    }
+}
+
+/// Puts glyphs in the order in which they are drawn.
+fn draw(buffer: &mut hb_buffer_t)
+    requires { buffer.old.is_open ≡ false }
+    ensures { buffer.new ≡ drawn buffer.old }
+{
+    if buffer.direction().is_backward() {
+        buffer.reverse();
+    }
+}
+
+/// Shapes a text that needs no rules of a font: puts it in native order, each character's glyph in its place with its
+/// advance, and the glyphs in the order in which they are drawn.
+pub(crate) fn shape(face: &FontFace, buffer: &mut hb_buffer_t) -> Result<(), ShapeCause>
+    requires closed { buffer.old.is_open ≡ false }
+    requires unrefused { buffer.old.has_refused ≡ false }
+    ensures ok { OnOk result (Follows (read_of (first_path face.now buffer.old.script buffer.old.direction) (run_of buffer.old)) (run_of buffer.old) (run_of buffer.new)) }
+    ensures flags { OnOk result (has_no_flags (all_glyphs buffer.old) ≡ true → has_no_flags (all_glyphs buffer.new) ≡ true) }
+    ensures numbers { OnOk result (list_all is_glyph_number (all_glyphs buffer.new) ≡ true) }
+    ensures still_closed { OnOk result (buffer.new.is_open ≡ false) }
+    ensures refused { IfErr result (λ e. e ≢ ShapeCause.OutOfMemory
+        → read_of (first_path face.now buffer.old.script buffer.old.direction) (run_of buffer.old) ≡ Err e) }
+{
+    ensure_native_direction(buffer);
+    map_glyphs(face, buffer)?;
+    position_glyphs(face, buffer);
+    draw(buffer);
+    Ok(())
+}

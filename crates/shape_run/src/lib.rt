@@ -1,0 +1,8 @@
+// Runs the shaper: from the bytes of tables, a font and a text to the printed glyphs.
+#![tactic(auto)]
+
+mod answer;
+mod first_path;
+pub mod read;
+pub mod run;
+mod waiting;

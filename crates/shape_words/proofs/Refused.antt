@@ -1,0 +1,46 @@
+-- What words ask for is refused by `Words` alone.
+use Rattle.std.proofs.Common.{◌≡◌, ℕ, List, [], ◌∷◌, Option, Some, None, Result, Ok, Err, ap, codes}
+use Rattle.std.specs.Option.{ok_or}
+use Rattle.clap.specs.Words.{Kinds, Row, Text, fault_of, first_of, matches_of}
+use Rattle.run_options.specs.declared.fault.RunFault.{RunFault}
+use Rattle.run_options.specs.declared.fault.RunFault.TheVariants.{Words}
+use Rattle.shaping_text.specs.declared.direction.Direction.TheVariants.{Invalid}
+use Rattle.shaping_text.specs.Direction.{direction_of_text}
+use Rattle.shape_words.specs.Words.{Lookup, and_then, asked, direction_in, file_in, hb_shape, options_of, or_words, read_or, script_in, settings_of, some_script}
+
+-- a result that is refused by Words alone
+abbrev RefusedByWords : {A : Type 0} → Result A RunFault → Type 0
+RefusedByWords r = (e : RunFault) → r ≡ Err e → e ≡ Words
+
+then_words : {A B : Type 0} (r : Result A RunFault) (next : A → Result B RunFault) → RefusedByWords r → ((a : A) → RefusedByWords (next a)) → RefusedByWords (and_then r next)
+then_words (Ok a) next first rest e same = rest a e same
+then_words (Err f) next first rest e same = let fault : f ≡ e = cc in first e (ap Err fault)
+
+or_words-refused : {A E : Type 0} (r : Result A E) → RefusedByWords (or_words r)
+or_words-refused (Ok a) e same = let no : ⊥ = cc in absurd no
+or_words-refused (Err f) e same = cc
+
+read_or-refused : {A E : Type 0} (missing : A) (read : List ℕ → Result A E) (o : Option (List ℕ)) → RefusedByWords (read_or missing read o)
+read_or-refused missing read None e same = let no : ⊥ = cc in absurd no
+read_or-refused missing read (Some text) e same = or_words-refused (read text) e same
+
+file-refused : (o : Option (List ℕ)) → RefusedByWords (ok_or o Words)
+file-refused None e same = cc
+file-refused (Some name) e same = let no : ⊥ = cc in absurd no
+
+settings-refused : (value : Lookup) → RefusedByWords (settings_of value)
+settings-refused value =
+    then_words (file_in (codes "tables") value) _ (file-refused (value (codes "tables"))) (λ tables.
+    then_words (file_in (codes "font") value) _ (file-refused (value (codes "font"))) (λ font.
+    then_words (file_in (codes "text") value) _ (file-refused (value (codes "text"))) (λ text.
+    then_words (direction_in value) _ (read_or-refused Invalid direction_of_text (value (codes "direction"))) (λ direction.
+    then_words (script_in value) _ (read_or-refused None some_script (value (codes "script"))) (λ script e same. let no : ⊥ = cc in absurd no)))))
+
+asked-refused : (faults : Kinds) (rows : List Row) → RefusedByWords (asked faults rows)
+asked-refused [] rows e same = settings-refused (λ id. first_of id rows) e same
+asked-refused (fault ∷ faults) rows e same = cc
+
+-- what words ask for is refused by Words alone
+pub options-refused : (words : List Text) (e : RunFault) → options_of words ≡ Err e → e ≡ Words
+unfolding options_of
+options-refused words = asked-refused (fault_of hb_shape words) (matches_of hb_shape words)

@@ -1,0 +1,12 @@
+// Tags, scripts, directions and languages of a text, and the constants of its shaping.
+#![tactic(auto)]
+
+pub mod constants;
+pub mod direction;
+pub mod language;
+pub mod language_tags;
+pub mod script;
+pub mod script_tags;
+pub mod tag;
+#[cfg(test)]
+mod tests;

@@ -1,0 +1,3 @@
+pub mod Category
+pub mod Character
+pub mod Scripts
