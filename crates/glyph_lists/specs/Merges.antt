@@ -28,7 +28,7 @@ merged_at Characters from to ns = ns
 abbrev pub IsOneOn : List ℕ → (ℕ → ℕ) → Type 0
 IsOneOn range f = (m n : ℕ) → IsTrue (has_number range m) → IsTrue (has_number range n) → f m ≡ f n
 
--- g makes them one, and so does whatever f that makes them one only by making what g makes one: f after g is f
+-- g makes them one and unites no more than it must: no f that makes them one tells a number from what g makes of it
 pub record IsLeastCoarsening (range : List ℕ) (g : ℕ → ℕ) : Type 0 where
   pub unites : IsOneOn range g
   pub least : (f : ℕ → ℕ) → IsOneOn range f → (n : ℕ) → f (g n) ≡ f n

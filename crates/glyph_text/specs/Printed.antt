@@ -34,13 +34,20 @@ asks_font flags = not (drops_names flags) || shows_extents flags
 abbrev pub HasGlyphNumbers : List hb_glyph_info_t → Type 0
 HasGlyphNumbers glyphs = All (λ glyph. glyph.glyph_id ≤ 65535) glyphs
 
+-- the names and the boxes of a font's glyphs, for those that have one
+abbrev pub Names : Type 0
+Names = ℕ → Option (List ℕ)
+
+abbrev pub Boxes : Type 0
+Boxes = ℕ → Option hb_glyph_extents_t
+
 -- the glyph's name; `gid` and its number where it has none
 abbrev pub name_or_number : Option (List ℕ) → ℕ → List ℕ
 name_or_number None number = codes "gid" ++ decimal number
 name_or_number (Some name) number = name
 
 -- the same, or the bare number where names are dropped
-unfoldable pub name_text : (ℕ → Option (List ℕ)) → SerializeFlags → ℕ → List ℕ
+unfoldable pub name_text : Names → SerializeFlags → ℕ → List ℕ
 name_text name_of flags number = if drops_names flags then decimal number else name_or_number (name_of number) number
 
 -- `=` and the cluster
@@ -77,11 +84,11 @@ abbrev pub no_box : hb_glyph_extents_t
 no_box = record { x_bearing = pos 0; y_bearing = pos 0; width = pos 0; height = pos 0 }
 
 -- the glyph's box in font units
-unfoldable pub extents_text : (ℕ → Option hb_glyph_extents_t) → SerializeFlags → ℕ → List ℕ
+unfoldable pub extents_text : Boxes → SerializeFlags → ℕ → List ℕ
 extents_text extents_of flags number = if shows_extents flags then box_text (unwrap_or (extents_of number) no_box) else []
 
 -- a glyph: its name or number, cluster, position, flags and box
-unfoldable pub glyph_text : (ℕ → Option (List ℕ)) → (ℕ → Option hb_glyph_extents_t) → SerializeFlags → Pen → hb_glyph_info_t → GlyphPosition → List ℕ
+unfoldable pub glyph_text : Names → Boxes → SerializeFlags → Pen → hb_glyph_info_t → GlyphPosition → List ℕ
 glyph_text name_of extents_of flags pen glyph place = name_text name_of flags glyph.glyph_id
     ++ (cluster_text flags glyph.cluster
     ++ (position_text flags pen place
@@ -89,7 +96,7 @@ glyph_text name_of extents_of flags pen glyph place = name_text name_of flags gl
     ++ extents_text extents_of flags glyph.glyph_id)))
 
 -- the text of each glyph, the first with these places before it
-abbrev pub glyph_texts : (ℕ → Option (List ℕ)) → (ℕ → Option hb_glyph_extents_t) → SerializeFlags → List GlyphPosition → List hb_glyph_info_t → List GlyphPosition → List (List ℕ)
+abbrev pub glyph_texts : Names → Boxes → SerializeFlags → List GlyphPosition → List hb_glyph_info_t → List GlyphPosition → List (List ℕ)
 glyph_texts name_of extents_of flags before [] places = []
 glyph_texts name_of extents_of flags before (glyph ∷ glyphs) [] = []
 glyph_texts name_of extents_of flags before (glyph ∷ glyphs) (place ∷ places) =
@@ -101,5 +108,5 @@ abbrev pub separator : ℕ → List ℕ
 separator index = if index == 0 then [] else codes "|"
 
 -- the run's text: its glyphs' texts with `|` between them
-unfoldable pub printed_text : (ℕ → Option (List ℕ)) → (ℕ → Option hb_glyph_extents_t) → SerializeFlags → List hb_glyph_info_t → List GlyphPosition → List ℕ
+unfoldable pub printed_text : Names → Boxes → SerializeFlags → List hb_glyph_info_t → List GlyphPosition → List ℕ
 printed_text name_of extents_of flags glyphs places = join_with_byte 124 (glyph_texts name_of extents_of flags [] glyphs places)

@@ -1,12 +1,11 @@
 -- What the text of a run tells of its glyphs.
-use Rattle.std.specs.Prelude.{◌≡◌, ℕ, ◌^◌, ◌<◌, List, map, ℤ, FitsSigned, Option, bit_and, All}
+use Rattle.std.specs.Prelude.{◌≡◌, ℕ, ◌^◌, ◌<◌, List, map, ℤ, FitsSigned, bit_and, All}
 use Rattle.std.specs.Int.{w32}
 use Rattle.std.specs.List.{zip}
 use Rattle.glyph_types.specs.declared.flags.SerializeFlags.{SerializeFlags}
 use Rattle.glyph_types.specs.declared.info.hb_glyph_info_t.{hb_glyph_info_t}
-use Rattle.glyph_types.specs.declared.names.hb_glyph_extents_t.{hb_glyph_extents_t}
 use Rattle.glyph_types.specs.declared.position.GlyphPosition.{GlyphPosition}
-use Rattle.glyph_text.specs.Printed.{printed_text}
+use Rattle.glyph_text.specs.Printed.{Names, Boxes, printed_text}
 
 -- NO_GLYPH_NAMES and GLYPH_FLAGS
 abbrev pub numbers_and_flags : SerializeFlags
@@ -44,7 +43,7 @@ pub record HasTypedNumbers (e : hb_glyph_info_t × GlyphPosition) : Type 0 where
 
 -- two runs with equal texts of numbers and flags have equal numbers, clusters, offsets, advances and glyph flags
 abbrev pub EqualTextsShowEqualRuns : Type 0
-EqualTextsShowEqualRuns = (name_of other_name_of : ℕ → Option (List ℕ)) (extents_of other_extents_of : ℕ → Option hb_glyph_extents_t)
+EqualTextsShowEqualRuns = (name_of other_name_of : Names) (extents_of other_extents_of : Boxes)
     (glyphs others : List hb_glyph_info_t) (places other_places : List GlyphPosition)
     → All HasTypedNumbers (zip glyphs places) → All HasTypedNumbers (zip others other_places)
     → printed_text name_of extents_of numbers_and_flags glyphs places ≡ printed_text other_name_of other_extents_of numbers_and_flags others other_places

@@ -5,4 +5,6 @@ mod answer;
 mod first_path;
 pub mod read;
 pub mod run;
+#[cfg(test)]
+mod tests;
 mod waiting;
