@@ -1,3 +1,4 @@
 pub mod Chars
 pub mod Written
 pub mod Appended
+pub mod Kept

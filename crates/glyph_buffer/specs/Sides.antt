@@ -1,5 +1,5 @@
 -- A buffer as its clients see it: the glyphs behind the cursor and the glyphs ahead of it.
-use Rattle.std.specs.Prelude.{ℕ, ℤ, pos, ◌+◌, ◌-◌, Bool, true, false, nat_le, not, ◌&&◌, if◌then◌else◌, List, [], ◌∷◌, ◌++◌, length, take, drop, map, reverse, replicate, Option, Some, None}
+use Rattle.std.specs.Prelude.{ℕ, ℤ, pos, ◌+◌, ◌-◌, Bool, true, false, nat_le, not, ◌&&◌, if◌then◌else◌, List, [], ◌∷◌, ◌++◌, length, take, drop, map, reverse, replicate, bit_and, Option, Some, None}
 use Rattle.glyph_types.specs.declared.info.hb_glyph_info_t.{hb_glyph_info_t}
 use Rattle.glyph_types.specs.declared.level.BufferClusterLevel.{BufferClusterLevel}
 use Rattle.glyph_types.specs.declared.level.BufferClusterLevel.TheVariants.{MonotoneGraphemes}
@@ -31,6 +31,10 @@ all_glyphs s = s.behind ++ s.ahead
 -- the glyphs without their clusters
 abbrev pub items_of : Sides → List Item
 items_of s = strip (all_glyphs s)
+
+-- the glyph flags of glyphs
+abbrev pub flags_of : List hb_glyph_info_t → List ℕ
+flags_of gs = map (λ (g : hb_glyph_info_t). bit_and g.mask 7) gs
 
 -- what a stage of shaping sees
 abbrev pub run_of : Sides → Run

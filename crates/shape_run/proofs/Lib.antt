@@ -5,3 +5,4 @@ pub mod Whole
 pub mod Bytes
 pub mod Printing
 pub mod Faults
+pub mod Empty

@@ -4,3 +4,4 @@ pub mod Stages
 pub mod Output
 pub mod Answer
 pub mod Run
+pub mod Laws

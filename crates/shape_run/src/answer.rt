@@ -26,7 +26,8 @@ use std::alloc::{AllocError, Global};
 // The text of the bytes, where they are UTF-8.
 #[tactic(auto, using(crate::proofs::Bytes::is_text, crate::proofs::Bytes::is_no_text))]
 fn utf8(bytes: &[u8]) -> Option<&str>
-    ensures { MatchOption result (is_utf8 bytes.now ≡ false) (λ s. (s.now ≡ bytes.now) × (is_utf8 bytes.now ≡ true)) }
+    ensures { MatchOption result (is_utf8 bytes.now ≡ false)
+        (λ s. (s.now ≡ bytes.now) × (is_utf8 bytes.now ≡ true)) }
 {
     str::from_utf8(bytes).ok()
 }
@@ -91,7 +92,8 @@ fn new_text(alloc: Global, options: &Options) -> UnicodeBuffer
 fn text_buffer(alloc: Global, options: &Options, text: &str) -> Result<hb_buffer_t, RunFault>
     ensures fits { OnOk result (fits_text text.now empty_buffer ≡ true) }
     ensures text { IfOk result (λ b. b ≡ text_buffer options.now text.now) }
-    ensures refused { IfErr result (λ e. e ≢ RunFault.OutOfMemory → (e ≡ RunFault.TooLong) × (fits_text text.now empty_buffer ≡ false)) }
+    ensures refused { IfErr result (λ e. e ≢ RunFault.OutOfMemory
+        → (e ≡ RunFault.TooLong) × (fits_text text.now empty_buffer ≡ false)) }
     ensures kind { IfErr result IsOfRun }
 {
     let mut buffer = new_text(alloc, options);
@@ -112,7 +114,8 @@ fn print(
 ) -> Result<String, AllocError>
     requires closed { buffer.is_open ≡ false }
     requires numbers { list_all is_glyph_number (all_glyphs buffer) ≡ true }
-    ensures { IfOk result (λ line. string_bytes line ≡ printed_line flags (all_glyphs buffer) buffer.places) }
+    ensures { IfOk result (λ line.
+        string_bytes line ≡ printed_line flags (all_glyphs buffer) buffer.places) }
 {
     let glyphs = GlyphBuffer::from_buffer(buffer);
     let mut line = glyphs.serialize(alloc, face, flags)?;
@@ -123,7 +126,8 @@ fn print(
 /// The line of a text in a font.
 fn line(alloc: Global, options: &Options, face: &FontFace, text: &str) -> Result<String, RunFault>
     ensures ok { IfOk result (λ line. line_of options.now face.now text.now ≡ Ok (string_bytes line)) }
-    ensures refused { IfErr result (λ e. e ≢ RunFault.OutOfMemory → line_of options.now face.now text.now ≡ Err e) }
+    ensures refused { IfErr result (λ e. e ≢ RunFault.OutOfMemory
+        → line_of options.now face.now text.now ≡ Err e) }
     ensures kind { IfErr result IsOfRun }
 {
     let mut buffer = text_buffer(alloc, options, text)?;
@@ -144,8 +148,10 @@ pub(crate) fn answer(
     font: &[u8],
     text: &[u8],
 ) -> Result<String, RunFault>
-    ensures ok { IfOk result (λ line. answer_of options.now tables.now font.now text.now ≡ Ok (string_bytes line)) }
-    ensures refused { IfErr result (λ e. e ≢ RunFault.OutOfMemory → answer_of options.now tables.now font.now text.now ≡ Err e) }
+    ensures ok { IfOk result (λ line.
+        answer_of options.now tables.now font.now text.now ≡ Ok (string_bytes line)) }
+    ensures refused { IfErr result (λ e. e ≢ RunFault.OutOfMemory
+        → answer_of options.now tables.now font.now text.now ≡ Err e) }
     ensures kind { IfErr result IsOfRun }
 {
     let tables = read_json(alloc, tables)?;

@@ -136,7 +136,8 @@ fn map_next(face: &FontFace, buffer: &mut hb_buffer_t) -> Result<bool, AllocErro
     requires { 0 < length buffer.old.ahead }
     ensures held { IfOk result (λ b. b ≡ fits_next 1 buffer.old) }
     ensures mapped { result ≡ Ok true → buffer.new ≡ with_next_mapped face.now buffer.old }
-    ensures number { result ≡ Ok true → list_all is_glyph_number (map (mapped_glyph face.now) (take 1 buffer.old.ahead)) ≡ true }
+    ensures number { result ≡ Ok true
+        → list_all is_glyph_number (map (mapped_glyph face.now) (take 1 buffer.old.ahead)) ≡ true }
 {
     map_glyph(face, buffer.cur_mut(0));
     buffer.next_glyph()
@@ -218,8 +219,11 @@ fn draw(buffer: &mut hb_buffer_t)
 pub(crate) fn shape(face: &FontFace, buffer: &mut hb_buffer_t) -> Result<(), ShapeCause>
     requires closed { buffer.old.is_open ≡ false }
     requires unrefused { buffer.old.has_refused ≡ false }
-    ensures ok { OnOk result (Follows (read_of (first_path face.now buffer.old.script buffer.old.direction) (run_of buffer.old)) (run_of buffer.old) (run_of buffer.new)) }
-    ensures flags { OnOk result (has_no_flags (all_glyphs buffer.old) ≡ true → has_no_flags (all_glyphs buffer.new) ≡ true) }
+    ensures ok { OnOk result (Follows
+        (read_of (first_path face.now buffer.old.script buffer.old.direction) (run_of buffer.old))
+        (run_of buffer.old) (run_of buffer.new)) }
+    ensures flags { OnOk result (has_no_flags (all_glyphs buffer.old) ≡ true
+        → has_no_flags (all_glyphs buffer.new) ≡ true) }
     ensures numbers { OnOk result (list_all is_glyph_number (all_glyphs buffer.new) ≡ true) }
     ensures still_closed { OnOk result (buffer.new.is_open ≡ false) }
     ensures refused { IfErr result (λ e. e ≢ ShapeCause.OutOfMemory

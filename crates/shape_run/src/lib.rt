@@ -3,6 +3,7 @@
 
 mod answer;
 mod first_path;
+pub mod laws;
 pub mod read;
 pub mod run;
 #[cfg(test)]

@@ -12,8 +12,10 @@ pub const READ_LIMIT: u32 = 1 << 26;
 pub(crate) fn read_all<R: Read>(alloc: Global, reader: &mut R) -> Result<Vec<u8>, RunFault>
     ensures bytes { IfOk result (λ v. IfSome (R.remaining reader.old) (λ bs. v.items ≡ bs)) }
     ensures ended { OnOk result (IfSome (R.remaining reader.old) (λ _. IsAtEnd (R.remaining reader.new))) }
-    ensures limit { result ≡ Err RunFault.ReadLimit → IfSome (R.remaining reader.old) (λ bs. READ_LIMIT ≤ length bs) }
-    ensures faults { IfErr result (λ e. (e ≡ RunFault.Read) ⊎ (e ≡ RunFault.ReadLimit) ⊎ (e ≡ RunFault.OutOfMemory)) }
+    ensures limit { result ≡ Err RunFault.ReadLimit
+        → IfSome (R.remaining reader.old) (λ bs. READ_LIMIT ≤ length bs) }
+    ensures faults { IfErr result (λ e.
+        (e ≡ RunFault.Read) ⊎ (e ≡ RunFault.ReadLimit) ⊎ (e ≡ RunFault.OutOfMemory)) }
 {
     let mut bytes = Vec::new(alloc);
     let mut buffer = [0u8; 4096];

@@ -4,7 +4,7 @@ ghost use Rattle.shape_run.specs.Answer.{answer_of};
 ghost use Rattle.shape_run.specs.Run.{IsOfBytes, OnKnown};
 
 use crate::answer::answer;
-use crate::read::read_all;
+use crate::read::{READ_LIMIT, read_all};
 use run_options::fault::RunFault;
 use run_options::options::Options;
 use std::alloc::Global;
@@ -21,17 +21,25 @@ pub fn run<T: Read, F: Read, X: Read, W: Write>(
     out: &mut W,
 ) -> Result<(), RunFault>
     // Of readers whose bytes are known the line is written, and the readers are at their ends.
-    ensures written { OnOk result (OnKnown (T.remaining tables.old) (F.remaining font.old) (X.remaining text.old) (λ ts fs xs.
-        IsOkAnd (answer_of options.now ts fs xs) (Appends (W.contents out.old) (W.contents out.new)))) }
+    ensures written { OnOk result
+        (OnKnown (T.remaining tables.old) (F.remaining font.old) (X.remaining text.old)
+        (λ ts fs xs. IsOkAnd (answer_of options.now ts fs xs)
+        (Appends (W.contents out.old) (W.contents out.new)))) }
     ensures tables_ended { OnOk result (IfSome (T.remaining tables.old) (λ _. IsAtEnd (T.remaining tables.new))) }
     ensures font_ended { OnOk result (IfSome (F.remaining font.old) (λ _. IsAtEnd (F.remaining font.new))) }
     ensures text_ended { OnOk result (IfSome (X.remaining text.old) (λ _. IsAtEnd (X.remaining text.new))) }
 
     // A fault of the bytes is the first that is found in them.
-    ensures refused { IfErr result (λ e. IsOfBytes e → OnKnown (T.remaining tables.old) (F.remaining font.old) (X.remaining text.old) (λ ts fs xs.
-        answer_of options.now ts fs xs ≡ Err e)) }
-    ensures write_last { result ≡ Err RunFault.Write → OnKnown (T.remaining tables.old) (F.remaining font.old) (X.remaining text.old) (λ ts fs xs.
-        IsOk (answer_of options.now ts fs xs)) }
+    ensures refused { IfErr result (λ e. IsOfBytes e
+        → OnKnown (T.remaining tables.old) (F.remaining font.old) (X.remaining text.old)
+        (λ ts fs xs. answer_of options.now ts fs xs ≡ Err e)) }
+    ensures write_last { result ≡ Err RunFault.Write
+        → OnKnown (T.remaining tables.old) (F.remaining font.old) (X.remaining text.old)
+        (λ ts fs xs. IsOk (answer_of options.now ts fs xs)) }
+    ensures read_limit { result ≡ Err RunFault.ReadLimit
+        → IfSome (T.remaining tables.old) (λ bs. READ_LIMIT ≤ length bs)
+        ⊎ IfSome (F.remaining font.old) (λ bs. READ_LIMIT ≤ length bs)
+        ⊎ IfSome (X.remaining text.old) (λ bs. READ_LIMIT ≤ length bs) }
     ensures not_words { result ≢ Err RunFault.Words }
     ensures kept { result ≢ Err RunFault.Write → OnErr result (Keeps (W.contents out.old) (W.contents out.new)) }
 {

@@ -1,6 +1,6 @@
 ghost use Rattle.std.specs.Prelude.{◌≡◌, ◌<◌, ◌+◌, length, true, false, Some, OnErr, IfOk, slice_get, slice_index_or};
 ghost use Rattle.std.specs.Borrow.{sem};
-ghost use Rattle.glyph_buffer.specs.Sides.{with_output, moved_on, fits_next, fits_joined, synced, refused};
+ghost use Rattle.glyph_buffer.specs.Sides.{all_glyphs, with_output, moved_on, fits_next, fits_joined, synced, refused};
 ghost use Rattle.glyph_buffer.specs.Lending.{LendsGlyph, LendsPlace};
 
 use super::hb_buffer_t;
@@ -15,6 +15,7 @@ impl hb_buffer_t {
         requires { self.old.is_open ≡ false }
         ensures opened { result ≡ Ok true }
         ensures after { self.new ≡ with_output self.old }
+        ensures kept { all_glyphs self.new ≡ all_glyphs self.old }
     {
         self.have_output = true;
         self.idx = 0;
@@ -51,11 +52,12 @@ impl hb_buffer_t {
 
     /// Moves the cursor over a glyph, which goes behind the output where one is open; answers false, and moves nothing,
     /// where the output has as many as it may.
-    #[tactic(auto, using(glyph_lists::specs::Lists::take_one, glyph_lists::specs::Lists::take_next, glyph_lists::specs::Lists::drop_next))]
+    #[tactic(auto, using(glyph_lists::specs::Lists::take_one, glyph_lists::specs::Lists::take_next, glyph_lists::specs::Lists::drop_next, crate::proofs::Kept::moved_all))]
     pub fn next_glyph(&mut self) -> Result<bool, AllocError>
         requires { 0 < length self.old.ahead }
         ensures held { IfOk result (λ b. b ≡ fits_next 1 self.old) }
         ensures moved { result ≡ Ok true → self.new ≡ moved_on 1 self.old }
+        ensures kept { all_glyphs self.new ≡ all_glyphs self.old }
         ensures full { result ≡ Ok false → self.new ≡ refused self.old }
         ensures err { OnErr result (self.new ≡ self.old) }
         ensures in_place { self.old.is_open ≡ false → result ≡ Ok true }
@@ -80,6 +82,7 @@ impl hb_buffer_t {
         requires { self.old.is_open ≡ true }
         ensures held { IfOk result (λ b. b ≡ fits_joined self.old) }
         ensures joined { result ≡ Ok true → self.new ≡ synced self.old }
+        ensures kept { all_glyphs self.new ≡ all_glyphs self.old }
         ensures full { result ≡ Ok false → self.new ≡ refused self.old }
         ensures err { OnErr result (self.new ≡ self.old) }
     {

@@ -1,5 +1,6 @@
-ghost use Rattle.std.specs.Prelude.{◌≡◌, false};
-ghost use Rattle.glyph_buffer.specs.Sides.{reversed, with_cleared_places};
+ghost use Rattle.std.specs.Prelude.{◌≡◌, false, reverse};
+ghost use Rattle.glyph_lists.specs.Items.{clusters};
+ghost use Rattle.glyph_buffer.specs.Sides.{all_glyphs, flags_of, items_of, reversed, with_cleared_places};
 
 use super::hb_buffer_t;
 use glyph_types::position::GlyphPosition;
@@ -8,7 +9,10 @@ impl hb_buffer_t {
     /// Turns the list of glyphs round, and their places with it.
     pub fn reverse(&mut self)
         requires { self.old.is_open ≡ false }
-        ensures { self.new ≡ reversed self.old }
+        ensures turned { self.new ≡ reversed self.old }
+        ensures items { items_of self.new ≡ reverse (items_of self.old) }
+        ensures parts { clusters (all_glyphs self.new) ≡ reverse (clusters (all_glyphs self.old)) }
+        ensures flags { flags_of (all_glyphs self.new) ≡ reverse (flags_of (all_glyphs self.old)) }
     {
         self.info.reverse();
         self.pos.reverse();

@@ -1,0 +1,21 @@
+use Rattle.std.proofs.Common.{◌≡◌, false, ap, ◌∙◌}
+use Rattle.glyph_types.specs.declared.info.hb_glyph_info_t.{hb_glyph_info_t}
+use Rattle.glyph_lists.specs.Items.{clusters}
+use Rattle.glyph_buffer.specs.Inside.{sides_of}
+use Rattle.glyph_buffer.specs.Sides.{Sides, all_glyphs, flags_of, items_of, reversed}
+use Rattle.glyph_buffer.proofs.Kept.{turned_view, reversed_items, reversed_clusters, reversed_flags}
+use Rattle.glyph_buffer.proofs.buffer.hb_buffer_t.reverse.Goals as goal
+
+turned : (c : goal.After-reverse-2) → sides_of (record c.self.inside { info = c.reverse.new.self; pos = c.reverse-2.new.self }) ≡ reversed c.args.self.now
+turned c =
+    let closed : c.self.inside.have_output ≡ false = rw (← c.self.view_is) at c.requires in
+    turned_view c.self.inside c.reverse.new.self c.reverse-2.new.self closed c.reverse.ensures.items c.reverse-2.ensures.items ∙ ap reversed c.self.view_is
+
+pub returns-clause-items : goal.returns-clause-items
+returns-clause-items c = ap items_of (turned c) ∙ reversed_items c.args.self.now
+
+pub returns-clause-parts : goal.returns-clause-parts
+returns-clause-parts c = ap (λ (s : Sides). clusters (all_glyphs s)) (turned c) ∙ reversed_clusters c.args.self.now
+
+pub returns-clause-flags : goal.returns-clause-flags
+returns-clause-flags c = ap (λ (s : Sides). flags_of (all_glyphs s)) (turned c) ∙ reversed_flags c.args.self.now
