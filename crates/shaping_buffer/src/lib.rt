@@ -1,6 +1,10 @@
 // The buffer layer under one name: glyph records, texts, characters, the buffer and its two wrappers, printing.
 #![tactic(auto)]
 
+pub use feature_text::feature::{
+    Feature, HB_FEATURE_GLOBAL_END, HB_FEATURE_GLOBAL_START, InvalidFeature,
+};
+pub use feature_text::text_parser::TextParser;
 pub use glyph_buffer::buffer::hb_buffer_t;
 pub use glyph_buffer::glyphs::GlyphBuffer;
 pub use glyph_buffer::unicode_buffer::UnicodeBuffer;
@@ -18,8 +22,13 @@ pub use glyph_types::level::{
 };
 pub use glyph_types::names::{GlyphId, GlyphNames, hb_glyph_extents_t};
 pub use glyph_types::position::GlyphPosition;
-pub use shaping_text::direction::Direction;
-pub use shaping_text::script;
-pub use shaping_text::script::Script;
-pub use shaping_text::tag::{Tag, hb_tag_t};
-pub use unicode_chars::CharExt;
+pub use shaping_text::direction::{Direction, InvalidDirection};
+pub use shaping_text::language::{Language, LanguageFault};
+pub use shaping_text::language_tags::{LanguageRow, LanguageTable, LanguageTags};
+pub use shaping_text::script::{InvalidScript, Script};
+pub use shaping_text::script_tags::tags_from_script_and_language;
+pub use shaping_text::tag::{Tag, TagExt, hb_tag_t};
+pub use shaping_text::{constants, script};
+pub use unicode_chars::{
+    CharExt, GeneralCategoryExt, category, hb_unicode_general_category_t, space,
+};

@@ -1,7 +1,7 @@
 -- Language system tags by a table of languages.
 use Rattle.std.specs.Prelude.{◌≡◌, ◌==◌, ℕ, List, [], Bool, true, Option, find, length}
 use Rattle.std.specs.List.{before_first, AllAdjacentBelow}
-use Rattle.std.specs.Option.{option_map_or, is_some}
+use Rattle.std.specs.Option.{option_map_or}
 use Rattle.std.specs.Ordering.{nat_cmp, is_lt}
 use Rattle.std.specs.Cmp.Lexicographic.{slice_cmp}
 use Rattle.std.specs.Str.{bytes_eq}

@@ -1,4 +1,4 @@
-ghost use Rattle.std.specs.Prelude.{◌≡◌, ◌==◌};
+ghost use Rattle.std.specs.Prelude.{◌≡◌};
 ghost use Rattle.shaping_text.specs.Direction.{direction_of_script, is_horizontal, is_vertical, is_forward, is_backward, opposite};
 
 use crate::script::{

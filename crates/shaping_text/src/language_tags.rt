@@ -1,11 +1,14 @@
 ghost use Rattle.std.specs.Prelude.{◌≡◌, ◌==◌, ◌≤◌, ◌↔◌, List, ℕ, IsTrue, length};
 ghost use Rattle.std.specs.List.{position_or_len};
+ghost use Rattle.std.specs.Ordering.{nat_cmp};
+ghost use Rattle.std.specs.Cmp.Lexicographic.{slice_cmp};
 ghost use Rattle.std.specs.Option.{option_copied};
 ghost use Rattle.shaping_text.specs.declared.tag.Tag.{Tag};
-ghost use Rattle.shaping_text.specs.LanguageRows.{TextsRise, is_before, row_of, primary_part, tags_in};
+ghost use Rattle.shaping_text.specs.LanguageRows.{TextsRise, row_text, is_before, row_of, primary_part, tags_in};
 
 use crate::tag::Tag;
 use arrayvec::ArrayVec;
+use std::cmp::Ordering;
 
 /// The OpenType language system tags of a language, the first wanted first.
 pub trait LanguageTags {
@@ -75,10 +78,29 @@ fn is_before(row: &LanguageRow, next: &LanguageRow) -> bool
     row.text.as_str().cmp(next.text.as_str()).is_lt()
 }
 
+fn order_of(row: &LanguageRow, text: &[u8]) -> Ordering
+    ensures { result ≡ slice_cmp nat_cmp (row_text row.now) text.now }
+{
+    Ord::cmp(&row.text.as_bytes(), &text)
+}
+
+/// The row with the text, by halves.
 fn row_at<'a>(rows: &'a [LanguageRow], text: &[u8]) -> Option<&'a LanguageRow>
+    requires { TextsRise rows.now }
     ensures { option_copied result ≡ row_of rows.now text.now }
 {
-    rows.iter().find(|row| row.text.as_bytes() == text)
+    let mut low = 0;
+    let mut high = rows.len();
+    while low < high {
+        let middle = low + (high - low) / 2;
+        let row = &rows[middle];
+        match order_of(row, text) {
+            Ordering::Less => low = middle + 1,
+            Ordering::Equal => return Some(row),
+            Ordering::Greater => high = middle,
+        }
+    }
+    None
 }
 
 fn primary_part(text: &[u8]) -> &[u8]

@@ -1,4 +1,4 @@
-ghost use Rattle.std.specs.Prelude.{◌≡◌, ◌<◌, ◌++◌, [], Some, option_to_list};
+ghost use Rattle.std.specs.Prelude.{◌≡◌, ◌<◌, ◌++◌, option_to_list};
 ghost use Rattle.std.specs.Option.{option_copied};
 ghost use Rattle.arrayvec.specs.ArrayVec.{array_vec_len};
 ghost use Rattle.shaping_text.specs.ScriptTags.{tag_of_row, newest_tag, new_tag, old_tag, wanted_tags, wanted_language_tags};

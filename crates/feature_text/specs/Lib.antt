@@ -1,0 +1,4 @@
+pub mod TextParser
+pub mod Feature
+pub mod FeatureText
+pub mod FeatureGrammar

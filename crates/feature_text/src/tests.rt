@@ -1,0 +1,123 @@
+use crate::feature::{Feature, InvalidFeature};
+use crate::text_parser::TextParser;
+use shaping_text::tag::Tag;
+use std::ops::Bound;
+
+const NO_END: u32 = u32::MAX;
+
+fn feature(tag: &[u8; 4], value: u32, start: u32, end: u32) -> Feature {
+    Feature {
+        tag: Tag::from_bytes(tag),
+        value,
+        start,
+        end,
+    }
+}
+
+#[test]
+fn requests(rt: HostRuntime) {
+    for (text, want) in [
+        ("kern", feature(b"kern", 1, 0, NO_END)),
+        ("-kern", feature(b"kern", 0, 0, NO_END)),
+        (" + kern ", feature(b"kern", 1, 0, NO_END)),
+        ("kern[3;5]=2", feature(b"kern", 2, 3, 5)),
+        ("kern=oFf", feature(b"kern", 0, 0, NO_END)),
+        ("aalt on", feature(b"aalt", 1, 0, NO_END)),
+        ("-aalt = 4294967295", feature(b"aalt", NO_END, 0, NO_END)),
+        ("'ss'2", feature(b"ss  ", 2, 0, NO_END)),
+        ("\"c_2\" [] = 07", feature(b"c_2 ", 7, 0, NO_END)),
+        ("kern[]", feature(b"kern", 1, 0, NO_END)),
+        ("kern[:]", feature(b"kern", 1, 0, NO_END)),
+        ("kern[5:]", feature(b"kern", 1, 5, NO_END)),
+        ("kern[:5]", feature(b"kern", 1, 0, 5)),
+        ("kern[+3:5]", feature(b"kern", 1, 3, 5)),
+        ("kern[3]", feature(b"kern", 1, 3, 4)),
+        ("kern[-1]", feature(b"kern", 1, NO_END, NO_END)),
+        (
+            "kern[-2:2147483647]",
+            feature(b"kern", 1, NO_END - 1, 2147483647),
+        ),
+    ] {
+        assert_eq!(rt; text.parse::<Feature>(), Ok(want), "{text}");
+    }
+}
+
+#[test]
+fn refused_texts(rt: HostRuntime) {
+    for text in [
+        "",
+        " ",
+        "-",
+        "kern1",
+        "ke-n",
+        "'kern",
+        "'kern\"",
+        "' kern'",
+        "--kern",
+        "kern=",
+        "kern= x",
+        "kern=-1",
+        "kern=4294967296",
+        "kern=1 2",
+        "kern 1x",
+        "kern==1",
+        "kern[",
+        "kern[3",
+        "kern[;]",
+        "kern[3;]",
+        "kern[;5]",
+        "kern[+:5]",
+        "kern[ 3]",
+        "kern[3:5:7]",
+        "kern[2147483648]",
+        "kern[]]",
+        "kern onx",
+        "kern,liga",
+    ] {
+        assert_eq!(rt; text.parse::<Feature>(), Err(InvalidFeature), "{text}");
+    }
+}
+
+#[test]
+fn ranges(rt: HostRuntime) {
+    let tag = Tag::from_bytes(b"liga");
+    for (start, end, want) in [
+        (Bound::Unbounded, Bound::Unbounded, (0, NO_END)),
+        (Bound::Included(3), Bound::Included(5), (3, 5)),
+        (Bound::Excluded(3), Bound::Excluded(5), (4, 4)),
+        (Bound::Excluded(usize::MAX), Bound::Excluded(0), (NO_END, 0)),
+        (
+            Bound::Included(1 << 32),
+            Bound::Included(1 << 40),
+            (NO_END, NO_END),
+        ),
+    ] {
+        let request = Feature::new(tag, 1, start, end);
+        assert_eq!(rt; (request.start, request.end), want);
+        assert_eq!(rt; request.is_global(), want == (0, NO_END));
+    }
+}
+
+#[test]
+fn parts_of_a_text(rt: HostRuntime) {
+    let mut parser = TextParser::new(" 'liga'-12 007 oN!");
+    assert_eq!(rt; parser.curr_byte(), Some(b' '));
+    parser.skip_spaces();
+    assert_eq!(rt; parser.consume_quote(), Some(b'\''));
+    assert_eq!(rt; parser.consume_quote(), None);
+    assert_eq!(rt; parser.consume_tag(), Some(Tag::from_bytes(b"liga")));
+    assert_eq!(rt; parser.consume_tag(), None);
+    assert_eq!(rt; parser.consume_byte(b'"'), None);
+    assert_eq!(rt; parser.consume_byte(b'\''), Some(()));
+    assert_eq!(rt; parser.consume_u32(), None);
+    assert_eq!(rt; parser.consume_i32(), Some(-12));
+    parser.advance(1);
+    assert_eq!(rt; parser.consume_bool(), None);
+    assert_eq!(rt; parser.consume_u32(), Some(7));
+    assert_eq!(rt; parser.consume_bool(), Some(true));
+    assert!(rt; !parser.at_end());
+    assert_eq!(rt; parser.consume_bytes(|byte| byte == b'!'), b"!".as_slice());
+    assert!(rt; parser.at_end());
+    parser.advance(5);
+    assert!(rt; parser.at_end());
+}
