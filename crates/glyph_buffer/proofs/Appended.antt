@@ -1,13 +1,12 @@
 -- What glyphs at the end of both vectors do to the sides.
 use Rattle.std.specs.Global.{Vec}
-use Rattle.std.specs.Bool.{OnFalse}
-use Rattle.std.proofs.Common.{ℕ, ◌≡◌, ◌≤◌, ◌+◌, ◌++◌, Bool, true, false, List, length, refl, arith, length-append}
+use Rattle.std.proofs.Common.{◌≡◌, ◌≤◌, ◌+◌, false, List, length, refl, arith, length-append}
 use Rattle.std.proofs.lemmas.List.{take-append-le, drop-append-le, length-replicate}
 use Rattle.glyph_types.specs.declared.info.hb_glyph_info_t.{hb_glyph_info_t}
 use Rattle.glyph_types.specs.declared.position.GlyphPosition.{GlyphPosition}
 use Rattle.glyph_buffer.specs.declared.buffer.hb_buffer_t.TheInside.{Inside}
 use Rattle.glyph_buffer.specs.Inside.{sides_of, IsSound}
-use Rattle.glyph_buffer.specs.Sides.{with_added, zero_places, zero_place}
+use Rattle.glyph_buffer.specs.Sides.{with_added}
 use Rattle.glyph_buffer.specs.Appended.{IsAppended}
 
 pub appended_view : (b : Inside) (info : Vec hb_glyph_info_t) (places : Vec GlyphPosition) (gs : List hb_glyph_info_t) → b.have_output ≡ false → IsSound b

@@ -1,6 +1,6 @@
 -- Glyphs that only change places.
 use Rattle.std.specs.Prelude.{bit_and}
-use Rattle.std.proofs.Common.{ℕ, ◌≡◌, ◌+◌, ◌++◌, false, List, [], ◌∷◌, map, take, drop, reverse, refl, ap, ◌∙◌, append_assoc}
+use Rattle.std.proofs.Common.{ℕ, ◌≡◌, ◌++◌, false, List, [], ◌∷◌, map, take, drop, reverse, refl, ap, ◌∙◌, append_assoc}
 use Rattle.std.proofs.lemmas.Grind.{reverse_onto}
 use Rattle.std.proofs.lemmas.List.{map-append, take-append-drop}
 use Rattle.glyph_types.specs.declared.info.hb_glyph_info_t.{hb_glyph_info_t}

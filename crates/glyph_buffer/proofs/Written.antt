@@ -1,5 +1,5 @@
 -- A glyph that was written through the cursor.
-use Rattle.std.proofs.Common.{ℕ, ◌≡◌, ◌+◌, ◌≤◌, ◌<◌, get_or, slice_get, Some, length, drop, Bool, true, false, if◌then◌else◌, List, take, refl, arith}
+use Rattle.std.proofs.Common.{ℕ, ◌≡◌, ◌+◌, ◌<◌, get_or, slice_get, Some, length, drop, Bool, true, false, if◌then◌else◌, List, take, refl, arith}
 use Rattle.std.specs.Vec.{with_item}
 use Rattle.std.proofs.lemmas.List.{drop-set-add, take-set-le, get_or-drop}
 use Rattle.std.proofs.lemmas.Option.{slice_get_read}

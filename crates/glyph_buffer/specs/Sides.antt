@@ -1,9 +1,9 @@
 -- A buffer as its clients see it: the glyphs behind the cursor and the glyphs ahead of it.
-use Rattle.std.specs.Prelude.{ℕ, ℤ, pos, ◌+◌, ◌-◌, Bool, true, false, nat_le, not, ◌&&◌, if◌then◌else◌, List, [], ◌∷◌, ◌++◌, length, take, drop, map, reverse, replicate, bit_and, Option, Some, None}
+use Rattle.std.specs.Prelude.{ℕ, pos, ◌+◌, Bool, true, false, nat_le, not, ◌&&◌, if◌then◌else◌, List, [], ◌++◌, length, take, drop, map, reverse, replicate, bit_and, Option, None}
 use Rattle.glyph_types.specs.declared.info.hb_glyph_info_t.{hb_glyph_info_t}
 use Rattle.glyph_types.specs.declared.level.BufferClusterLevel.{BufferClusterLevel}
 use Rattle.glyph_types.specs.declared.level.BufferClusterLevel.TheVariants.{MonotoneGraphemes}
-use Rattle.glyph_lists.specs.Items.{Item, Place, strip, clusters}
+use Rattle.glyph_lists.specs.Items.{Item, Place, strip}
 use Rattle.glyph_lists.specs.Readings.{Run}
 use Rattle.shaping_text.specs.declared.direction.Direction.{Direction}
 use Rattle.shaping_text.specs.declared.direction.Direction.TheVariants.{Invalid}

@@ -1,5 +1,5 @@
 -- What holds of a buffer that is wrapped as a text or as a result.
-use Rattle.std.specs.Prelude.{◌≡◌, Bool, false}
+use Rattle.std.specs.Prelude.{◌≡◌, false}
 use Rattle.glyph_buffer.specs.Sides.{Sides}
 
 -- no output is open

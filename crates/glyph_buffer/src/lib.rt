@@ -3,4 +3,6 @@
 
 pub mod buffer;
 pub mod glyphs;
+#[cfg(test)]
+mod tests;
 pub mod unicode_buffer;

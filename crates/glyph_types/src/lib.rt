@@ -7,3 +7,5 @@ pub mod info;
 pub mod level;
 pub mod names;
 pub mod position;
+#[cfg(test)]
+mod tests;

@@ -5,7 +5,7 @@ use glyph_types::cause::ShapeCause;
 use std::alloc::{AllocError, AllocFailed};
 use thiserror::Error;
 
-/// Why a JSON value is no value of the format, in the order in which one row's faults are found.
+/// Why a JSON value is no value of the format.
 #[derive(Clone, Copy, PartialEq, Eq, Debug, Error)]
 pub enum JsonFault {
     /// The bytes are no JSON text.

@@ -3,3 +3,5 @@
 
 pub mod fault;
 pub mod options;
+#[cfg(test)]
+mod tests;

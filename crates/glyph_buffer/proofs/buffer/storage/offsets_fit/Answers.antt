@@ -1,9 +1,6 @@
-use Rattle.std.proofs.Common.{◌≡◌, ◌&&◌, false, true, nat_le, refl, arith, rules}
-use Rattle.std.proofs.lemmas.Grind.{common_steps}
+use Rattle.std.proofs.Common.{◌≡◌, false, true, nat_le, refl, arith, rules}
 use Rattle.std.proofs.lemmas.Bool.Decides.{nat_tests}
-use Rattle.std.specs.Str.{chars}
-use Rattle.std.specs.Str.Iter.{char_indices_rest, char_indices_offset}
-use Rattle.glyph_buffer.specs.Text.{offsets_fit}
+use Rattle.std.specs.Str.Iter.{char_indices_offset}
 use Rattle.glyph_buffer.proofs.Chars.{utf8_step, offsets_fit_step}
 use Rattle.glyph_buffer.proofs.buffer.storage.offsets_fit.Goals as goal
 

@@ -1,5 +1,4 @@
-use Rattle.std.proofs.Common.{◌≡◌, ◌≤◌, ◌+◌, ◌++◌, length, refl, arith, rules, append_assoc, append-nil, vec_len}
-use Rattle.std.specs.Prelude.{vec_capacity, IsOk}
+use Rattle.std.proofs.Common.{arith, rules, append_assoc, append-nil}
 use Rattle.std.proofs.lemmas.Grind.{common_steps}
 use Rattle.glyph_buffer.proofs.Chars.{utf8_step, added_step, fit_step, count_step, added_none}
 use Rattle.glyph_buffer.proofs.buffer.storage.push_chars.Goals as goal
