@@ -32,3 +32,8 @@ pub use shaping_text::{constants, script};
 pub use unicode_chars::{
     CharExt, GeneralCategoryExt, category, hb_unicode_general_category_t, space,
 };
+pub use unicode_rows::UnicodeRows;
+pub use unicode_tables::character::CharTablesExt;
+pub use unicode_tables::{
+    LawFault, TablesFault, UnicodeTables, compose, compose_hangul, decompose, decompose_hangul,
+};

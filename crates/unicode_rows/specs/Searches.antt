@@ -1,0 +1,168 @@
+-- Searches of rows in the order of their keys.
+use Rattle.std.proofs.Common.{ℕ, suc, ◌≡◌, ◌≤◌, ◌-◌, ◌==◌, ◌&&◌, Bool, true, false, if◌then◌else◌, List, [], ◌∷◌, length, get_or, ◌++◌, take, drop, Option, Some, None, refl, ap, sym, ◌∙◌, append_assoc, inl, inr, arith}
+use Rattle.std.proofs.lemmas.List.{take-append-drop, take_all}
+use Rattle.std.proofs.lemmas.Bool.{and_parts, and_cases, and_from, cond-true, cond-false, cond_both}
+use Rattle.std.proofs.lemmas.Bool.Decides.{nat_tests}
+use Rattle.std.specs.List.{find, list_all}
+use Rattle.unicode_rows.specs.Keys.{is_below, precedes, follows, rises_after, is_rising, is_at}
+
+below_trans : (a b c d e f : ℕ) → is_below a b c d ≡ true → is_below c d e f ≡ true → is_below a b e f ≡ true
+below_trans a b c d e f p q = grind (arith, nat_tests)
+
+below_apart : (a b e f : ℕ) → is_below a b e f ≡ true → (a == e && b == f) ≡ false
+below_apart a b e f p = grind (arith, nat_tests)
+
+above_apart : (a b e f : ℕ) → is_below e f a b ≡ true → (a == e && b == f) ≡ false
+above_apart a b e f p = grind (arith, nat_tests)
+
+between_is_at : (a b c d : ℕ) → is_below a b c d ≡ false → is_below c d a b ≡ false → (a == c && b == d) ≡ true
+between_is_at a b c d p q = grind (arith, nat_tests)
+
+rises_weaker : {R : Type 0} (high low : R → ℕ) (before x : R) (xs : List R) → precedes high low before x ≡ true → rises_after high low (Some x) xs ≡ true → rises_after high low (Some before) xs ≡ true
+rises_weaker high low before x [] p r = refl
+rises_weaker high low before x (y ∷ ys) p r =
+    let parts = and_parts (precedes high low x y) (rises_after high low (Some y) ys) r in
+    and_from _ _ (below_trans (high before) (low before) (high x) (low x) (high y) (low y) p parts.0) parts.1
+
+-- what stands behind a row is above it
+rises_behind : {R : Type 0} (high low : R → ℕ) (before : R) (front : List R) (row : R) (after : List R)
+    → rises_after high low (Some before) (front ++ row ∷ after) ≡ true → precedes high low before row ≡ true
+rises_behind high low before [] row after r = (and_parts _ _ r).0
+rises_behind high low before (y ∷ ys) row after r =
+    let parts = and_parts (precedes high low before y) (rises_after high low (Some y) (ys ++ row ∷ after)) r in
+    rises_behind high low before ys row after (rises_weaker high low before y (ys ++ row ∷ after) parts.0 parts.1)
+
+pub first_rises : {R : Type 0} (high low : R → ℕ) (before : Option R) (x : R) (xs : List R) → rises_after high low before (x ∷ xs) ≡ true → rises_after high low (Some x) xs ≡ true
+first_rises high low before x xs r = (and_parts (follows high low before x) (rises_after high low (Some x) xs) r).1
+
+pub forget_first : {R : Type 0} (high low : R → ℕ) (before : Option R) (xs : List R) → rises_after high low before xs ≡ true → is_rising high low xs ≡ true
+forget_first high low before [] r = refl
+forget_first high low before (x ∷ xs) r = first_rises high low before x xs r
+
+pub rising_tail : {R : Type 0} (high low : R → ℕ) (before : Option R) (front : List R) (row : R) (after : List R)
+    → rises_after high low before (front ++ row ∷ after) ≡ true → rises_after high low (Some row) after ≡ true
+rising_tail high low before [] row after r = first_rises high low before row after r
+rising_tail high low before (y ∷ ys) row after r = rising_tail high low (Some y) ys row after (first_rises high low before y (ys ++ row ∷ after) r)
+
+pub rising_front : {R : Type 0} (high low : R → ℕ) (before : Option R) (front rest : List R)
+    → rises_after high low before (front ++ rest) ≡ true → rises_after high low before front ≡ true
+rising_front high low before [] rest r = refl
+rising_front high low before (y ∷ ys) rest r =
+    let parts = and_parts (follows high low before y) (rises_after high low (Some y) (ys ++ rest)) r in
+    and_from _ _ parts.0 (rising_front high low (Some y) ys rest parts.1)
+
+-- no row is at a key that is below the first
+none_above : {R : Type 0} (high low : R → ℕ) (h l : ℕ) (row : R) (after : List R)
+    → rises_after high low (Some row) after ≡ true → is_below h l (high row) (low row) ≡ true → find (is_at high low h l) after ≡ None
+none_above high low h l row [] r b = refl
+none_above high low h l row (y ∷ ys) r b =
+    let parts = and_parts (precedes high low row y) (rises_after high low (Some y) ys) r in
+    let further = below_trans h l (high row) (low row) (high y) (low y) b parts.0 in
+    cond-false _ _ _ (above_apart (high y) (low y) h l further) ∙ none_above high low h l y ys parts.1 further
+
+-- rows below the key can be left out
+past_front : {R : Type 0} (high low : R → ℕ) (h l : ℕ) (front : List R) (row : R) (after : List R)
+    → is_rising high low (front ++ row ∷ after) ≡ true → is_below (high row) (low row) h l ≡ true
+    → find (is_at high low h l) (front ++ row ∷ after) ≡ find (is_at high low h l) after
+past_front high low h l [] row after r b = cond-false _ _ _ (below_apart (high row) (low row) h l b)
+past_front high low h l (y ∷ ys) row after r b =
+    let under = rises_behind high low y ys row after r in
+    let further = below_trans (high y) (low y) (high row) (low row) h l under b in
+    cond-false _ _ _ (below_apart (high y) (low y) h l further) ∙ past_front high low h l ys row after (forget_first high low (Some y) (ys ++ row ∷ after) r) b
+
+-- rows above the key can be left out
+only_front : {R : Type 0} (high low : R → ℕ) (h l : ℕ) (before : Option R) (front : List R) (row : R) (after : List R)
+    → rises_after high low before (front ++ row ∷ after) ≡ true → is_below h l (high row) (low row) ≡ true
+    → find (is_at high low h l) (front ++ row ∷ after) ≡ find (is_at high low h l) front
+only_front high low h l before [] row after r b =
+    cond-false _ _ _ (above_apart (high row) (low row) h l b) ∙ none_above high low h l row after (first_rises high low before row after r) b
+only_front high low h l before (y ∷ ys) row after r b =
+    ap (λ o. if is_at high low h l y then Some y else o) (only_front high low h l (Some y) ys row after (first_rises high low before y (ys ++ row ∷ after) r) b)
+
+at_row : {R : Type 0} (high low : R → ℕ) (h l : ℕ) (front : List R) (row : R) (after : List R)
+    → is_rising high low (front ++ row ∷ after) ≡ true → is_below (high row) (low row) h l ≡ false → is_below h l (high row) (low row) ≡ false
+    → find (is_at high low h l) (front ++ row ∷ after) ≡ Some row
+at_row high low h l [] row after r p q = cond-true _ _ _ (between_is_at (high row) (low row) h l p q)
+at_row high low h l (y ∷ ys) row after r p q =
+    let under = rises_behind high low y ys row after r in
+    let apart : (high y == h && low y == l) ≡ false = grind (arith, nat_tests) in
+    cond-false _ _ _ apart ∙ at_row high low h l ys row after (forget_first high low (Some y) (ys ++ row ∷ after) r) p q
+
+cut_first : {R : Type 0} (back : List R) (row : R) → 1 ≤ length back → row ≡ get_or back 0 row → back ≡ row ∷ take (length back - 1) (drop 1 back)
+cut_first [] row h e = absurd (omega (arith, h))
+cut_first (x ∷ xs) row h e =
+    let all : take (length xs) xs ≡ xs = take_all (length xs) xs (omega arith) in
+    let size : suc (length xs) - 1 ≡ length xs = omega arith in
+    rw (e, size, all) refl
+
+-- a list is what stands before its middle, the row there, and what stands after it
+pub halved : {R : Type 0} (rest front back : List R) (row : R) (middle : ℕ) → front ≡ take middle rest → back ≡ drop middle rest → 1 ≤ length back → row ≡ get_or back 0 row
+    → rest ≡ front ++ row ∷ take (length back - 1) (drop 1 back)
+halved rest front back row middle f b h e =
+    let cut = cut_first back row h e in
+    let joined = take-append-drop middle rest in
+    cc
+
+pub after_rises : {R : Type 0} (high low : R → ℕ) (rest front : List R) (row : R) (after : List R) → rest ≡ front ++ row ∷ after → is_rising high low rest ≡ true → is_rising high low after ≡ true
+after_rises high low rest front row after e r = forget_first high low (Some row) after (rising_tail high low None front row after (rw e at r))
+
+pub after_has : {R : Type 0} (high low : R → ℕ) (h l : ℕ) (rest front : List R) (row : R) (after : List R) → rest ≡ front ++ row ∷ after → is_rising high low rest ≡ true
+    → is_below (high row) (low row) h l ≡ true → find (is_at high low h l) after ≡ find (is_at high low h l) rest
+after_has high low h l rest front row after e r b = rw e (sym (past_front high low h l front row after (rw e at r) b))
+
+pub front_rises : {R : Type 0} (high low : R → ℕ) (rest front : List R) (row : R) (after : List R) → rest ≡ front ++ row ∷ after → is_rising high low rest ≡ true → is_rising high low front ≡ true
+front_rises high low rest front row after e r = rising_front high low None front (row ∷ after) (rw e at r)
+
+pub front_has : {R : Type 0} (high low : R → ℕ) (h l : ℕ) (rest front : List R) (row : R) (after : List R) → rest ≡ front ++ row ∷ after → is_rising high low rest ≡ true
+    → is_below h l (high row) (low row) ≡ true → find (is_at high low h l) front ≡ find (is_at high low h l) rest
+front_has high low h l rest front row after e r b = rw e (sym (only_front high low h l None front row after (rw e at r) b))
+
+pub row_is_found : {R : Type 0} (high low : R → ℕ) (h l : ℕ) (rest front : List R) (row : R) (after : List R) → rest ≡ front ++ row ∷ after → is_rising high low rest ≡ true
+    → is_below (high row) (low row) h l ≡ false → is_below h l (high row) (low row) ≡ false → Some row ≡ find (is_at high low h l) rest
+row_is_found high low h l rest front row after e r p q = rw e (sym (at_row high low h l front row after (rw e at r) p q))
+
+-- what is found passes each test that all rows pass
+pub find_passes : {X : Type 0} (p q : X → Bool) (xs : List X) (x : X) → find p xs ≡ Some x → list_all q xs ≡ true → (p x ≡ true) × (q x ≡ true)
+find_passes p q [] x e h = cc
+find_passes p q (y ∷ ys) x e h =
+    let parts = and_parts (q y) (list_all q ys) h in
+    cond_both (p y) _ _ (λ o. o ≡ Some x → (p x ≡ true) × (q x ≡ true))
+    (λ passes same. let at : y ≡ x = cc in (rw at at passes, rw at at parts.0))
+    (λ _ later. find_passes p q ys x later parts.1)
+    e
+
+-- a test that every row passes
+pub all_pass : {X : Type 0} (q : X → Bool) (xs : List X) → ((x : X) → q x ≡ true) → list_all q xs ≡ true
+all_pass q [] h = refl
+all_pass q (x ∷ xs) h = and_from _ _ (h x) (all_pass q xs h)
+
+-- a row that fails a test, and is found by its key
+pub record FailingRow {R : Type 0} (high low : R → ℕ) (q : R → Bool) (rows : List R) : Type 0 where
+  pub row : R
+  pub fails : q row ≡ false
+  pub found : find (is_at high low (high row) (low row)) rows ≡ Some row
+
+not_below_itself : (h l : ℕ) → is_below h l h l ≡ false
+not_below_itself h l = grind (arith, nat_tests)
+
+failing_from : {R : Type 0} (high low : R → ℕ) (q : R → Bool) (front rest : List R) → is_rising high low (front ++ rest) ≡ true → list_all q rest ≡ false → FailingRow high low q (front ++ rest)
+failing_from high low q front [] r h = cc
+failing_from high low q front (x ∷ xs) r h =
+    elim (and_cases (q x) (list_all q xs) h) [
+      | inl here ↦ record {
+        row = x;
+        fails = here;
+        found = at_row high low (high x) (low x) front x xs r (not_below_itself (high x) (low x)) (not_below_itself (high x) (low x));
+      }
+      | inr later ↦
+          let e = append_assoc front (x ∷ []) xs in
+          rw e at (failing_from high low q (front ++ x ∷ []) xs (rw e r) later)
+    ]
+
+pub failing_row : {R : Type 0} (high low : R → ℕ) (q : R → Bool) (rows : List R) → is_rising high low rows ≡ true → list_all q rows ≡ false → FailingRow high low q rows
+failing_row high low q rows r h = failing_from high low q [] rows r h
+
+-- the first row, by any default
+pub first_itself : {R : Type 0} (back : List R) (d : R) → 1 ≤ length back → get_or back 0 d ≡ get_or back 0 (get_or back 0 d)
+first_itself [] d h = absurd (omega (arith, h))
+first_itself (x ∷ xs) d h = refl

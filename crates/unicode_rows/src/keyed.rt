@@ -1,0 +1,28 @@
+//! What a row is: a record that is read from numbers and found by its key.
+ghost use Rattle.std.specs.Prelude.{◌≡◌, ℕ, Bool, List, Some, None, if◌then◌else◌};
+
+/// A record with a key of one or two numbers, the second being the more significant.
+pub trait Keyed: Copy {
+    ghost high: { Self → ℕ };
+
+    ghost low: { Self → ℕ };
+
+    /// The more significant number of the key, 0 where the key is one number.
+    fn high(&self) -> u32
+        ensures { result ≡ high self.now };
+
+    /// The less significant number of the key.
+    fn low(&self) -> u32
+        ensures { result ≡ low self.now };
+}
+
+/// A record that is read from a row of N numbers.
+pub trait Row<const N: usize>: Keyed {
+    ghost of_numbers: { List ℕ → Self };
+
+    ghost is_in_range: { Self → Bool };
+
+    /// The record, or `None` where a number is outside its range.
+    fn read(numbers: &[u32; N]) -> Option<Self>
+        ensures { result ≡ (if is_in_range (of_numbers numbers.now) then Some (of_numbers numbers.now) else None) };
+}

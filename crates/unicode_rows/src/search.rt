@@ -1,0 +1,33 @@
+//! Finding a row by its key.
+ghost use Rattle.std.specs.Prelude.{◌≡◌, true, find};
+ghost use Rattle.unicode_rows.specs.Keys.{is_below, is_rising, is_at};
+
+use crate::keyed::Keyed;
+
+/// The row with a key, by a binary search.
+pub fn find_row<R: Keyed>(rows: &[R], high: u32, low: u32) -> Option<R>
+    requires { is_rising R.high R.low rows.now ≡ true }
+    ensures { result ≡ find (is_at R.high R.low high low) rows.now }
+{
+    let mut rest = rows;
+    'halving: loop {
+        let (front, back) = rest.split_at(rest.len() / 2);
+        let [row, after @ ..] = back else {
+            return None;
+        };
+        if is_below(row.high(), row.low(), high, low) {
+            rest = after;
+        } else if is_below(high, low, row.high(), row.low()) {
+            rest = front;
+        } else {
+            return Some(*row);
+        }
+    }
+}
+
+/// Whether one key is below another.
+pub(crate) fn is_below(high: u32, low: u32, other_high: u32, other_low: u32) -> bool
+    ensures { result ≡ is_below high low other_high other_low }
+{
+    high < other_high || (high == other_high && low < other_low)
+}
