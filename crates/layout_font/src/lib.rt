@@ -1,0 +1,12 @@
+// The parsed layout tables of a font and the look-ups in them: scripts, features and lookups.
+#![tactic(auto)]
+
+mod keyed;
+pub mod ligature;
+pub mod lookup;
+pub mod script;
+pub mod table;
+#[cfg(test)]
+mod tests;
+
+pub use keyed::{Keyed, is_rising};
