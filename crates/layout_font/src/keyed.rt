@@ -6,6 +6,7 @@ ghost use Rattle.layout_font.specs.Keyed.{is_above, is_rising};
 pub trait Keyed {
     ghost key_of: { Self → ℕ };
 
+    /// The number by which the list is ordered.
     fn key(&self) -> u32
         ensures { result ≡ key_of self.now };
 }

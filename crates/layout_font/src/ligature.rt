@@ -22,18 +22,21 @@ impl Model for Ligature {
 }
 
 impl Ligature {
+    /// Of the glyphs behind the first, and the ligature's glyph.
     pub fn new(components: Vec<u16>, glyph: u16) -> Ligature
         ensures { result ≡ record { components = components.items; glyph = glyph } }
     {
         Ligature { components, glyph }
     }
 
+    /// The glyphs that follow the first one.
     pub fn components(&self) -> &[u16]
         ensures { result.now ≡ self.now.components }
     {
         &self.components
     }
 
+    /// The glyph that takes the place of all.
     pub fn glyph(&self) -> u16
         ensures { result ≡ self.now.glyph }
     {
@@ -65,18 +68,21 @@ impl Keyed for LigatureSet {
 }
 
 impl LigatureSet {
+    /// Of the first glyph, and its ligatures by preference.
     pub fn new(first: u16, ligatures: Vec<Ligature>) -> LigatureSet
         ensures { result ≡ record { first = first; ligatures = ligatures.items } }
     {
         LigatureSet { first, ligatures }
     }
 
+    /// The first glyph of each ligature.
     pub fn first(&self) -> u16
         ensures { result ≡ self.now.first }
     {
         self.first
     }
 
+    /// The ligatures, the preferred one first.
     pub fn ligatures(&self) -> &[Ligature]
         ensures { result.now ≡ self.now.ligatures }
     {
@@ -103,6 +109,7 @@ impl Model for LigatureSubst {
 }
 
 impl LigatureSubst {
+    /// Of sets whose first glyphs rise strictly.
     pub fn new(sets: Vec<LigatureSet>) -> LigatureSubst
         requires { is_rising (λ r. r.first) None sets.items ≡ true }
         ensures { result ≡ sets.items }

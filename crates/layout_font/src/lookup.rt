@@ -34,6 +34,7 @@ impl Model for Lookup {
 }
 
 impl Lookup {
+    /// Of the lookup flag, the place of a set of marks, and the subtables in the order in which they are tried.
     pub fn new(flags: u16, mark_filtering_set: Option<u16>, subtables: Subtables) -> Lookup
         ensures { result ≡ record { flags = flags; mark_filtering_set = mark_filtering_set; subtables = subtables_of subtables } }
     {
@@ -58,6 +59,7 @@ impl Lookup {
         self.mark_filtering_set
     }
 
+    /// The subtables, in the order in which they are tried.
     pub fn subtables(&self) -> &Subtables
         ensures { subtables_of result.now ≡ self.now.subtables }
     {

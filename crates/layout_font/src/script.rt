@@ -23,6 +23,7 @@ impl Model for LangSys {
 }
 
 impl LangSys {
+    /// Of places in the list of features.
     pub fn new(required_feature: Option<u16>, features: Vec<u16>) -> LangSys
         ensures { result ≡ record { required_feature = required_feature; features = features.items } }
     {
@@ -32,12 +33,14 @@ impl LangSys {
         }
     }
 
+    /// The place of the feature that is always on, where there is one.
     pub fn required_feature(&self) -> Option<u16>
         ensures { result ≡ self.now.required_feature }
     {
         self.required_feature
     }
 
+    /// The places of the features that may be asked for.
     pub fn features(&self) -> &[u16]
         ensures { result.now ≡ self.now.features }
     {
@@ -69,18 +72,21 @@ impl Keyed for LangSysRecord {
 }
 
 impl LangSysRecord {
+    /// Of a language system's tag and the system.
     pub fn new(tag: Tag, lang_sys: LangSys) -> LangSysRecord
         ensures { result ≡ record { tag = tag; lang_sys = lang_sys } }
     {
         LangSysRecord { tag, lang_sys }
     }
 
+    /// The tag of the language system.
     pub fn tag(&self) -> Tag
         ensures { result ≡ self.now.tag }
     {
         self.tag
     }
 
+    /// The language system itself.
     pub fn lang_sys(&self) -> &LangSys
         ensures { result.now ≡ self.now.lang_sys }
     {
@@ -121,6 +127,7 @@ impl Keyed for ScriptRecord {
 }
 
 impl ScriptRecord {
+    /// Of language systems whose tags rise strictly, as numbers.
     pub fn new(
         tag: Tag,
         default_lang_sys: Option<LangSys>,
@@ -136,6 +143,7 @@ impl ScriptRecord {
         }
     }
 
+    /// The tag of the script.
     pub fn tag(&self) -> Tag
         ensures { result ≡ self.now.tag }
     {

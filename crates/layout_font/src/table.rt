@@ -25,18 +25,21 @@ impl Model for FeatureRecord {
 }
 
 impl FeatureRecord {
+    /// Of a feature's tag, and places in the list of lookups.
     pub fn new(tag: Tag, lookups: Vec<u16>) -> FeatureRecord
         ensures { result ≡ record { tag = tag; lookups = lookups.items } }
     {
         FeatureRecord { tag, lookups }
     }
 
+    /// The tag of the feature.
     pub fn tag(&self) -> Tag
         ensures { result ≡ self.now.tag }
     {
         self.tag
     }
 
+    /// The places of its lookups.
     pub fn lookups(&self) -> &[u16]
         ensures { result.now ≡ self.now.lookups }
     {
@@ -69,6 +72,7 @@ impl Model for LayoutTable {
 }
 
 impl LayoutTable {
+    /// Of scripts whose tags rise strictly, as numbers.
     pub fn new(
         scripts: Vec<ScriptRecord>,
         features: Vec<FeatureRecord>,

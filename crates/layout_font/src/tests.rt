@@ -1,3 +1,4 @@
+//! Look-ups of present and missing keys, and lists out of order.
 use crate::is_rising;
 use crate::ligature::{Ligature, LigatureSet, LigatureSubst};
 use crate::lookup::{Lookup, Subtables};
