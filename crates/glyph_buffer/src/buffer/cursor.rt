@@ -1,4 +1,4 @@
-ghost use Rattle.std.specs.Prelude.{◌≡◌, ◌<◌, ◌+◌, length, true, false, Some, OnErr, IfOk, slice_get, slice_index_or};
+ghost use Rattle.std.specs.Prelude.{◌≡◌, ◌<◌, ◌≤◌, ◌+◌, length, true, false, Some, OnErr, IfOk, slice_get, slice_index_or};
 ghost use Rattle.std.specs.Borrow.{sem};
 ghost use Rattle.glyph_buffer.specs.Sides.{all_glyphs, with_output, moved_on, fits_next, fits_joined, synced, refused};
 ghost use Rattle.glyph_buffer.specs.Lending.{LendsGlyph, LendsPlace};
@@ -20,6 +20,14 @@ impl hb_buffer_t {
         self.have_output = true;
         self.idx = 0;
         Ok(true)
+    }
+
+    /// How many glyphs were read since the output was opened, or stand behind the cursor where none is open.
+    pub fn idx(&self) -> usize
+        ensures value { result ≡ self.now.read }
+        ensures within { result ≤ self.now.max_len }
+    {
+        self.idx
     }
 
     /// The i-th glyph from the cursor on.
