@@ -7,7 +7,7 @@ use Rattle.run_options.specs.declared.fault.JsonFault.TheVariants.{OutOfOrder}
 use Rattle.font_json.specs.Cell.{and_then}
 use Rattle.font_json.specs.Rows.{behind, is_above, rows_after, is_rising}
 
-ok_cons : {R : Type 0} (r : R) (rest : Result (List R) JsonFault) (rows : List R) (P : List R → Type 0) → behind (r ∷ []) rest ≡ Ok rows → ((xs : List R) → rest ≡ Ok xs → P (r ∷ xs)) → P rows
+pub ok_cons : {R : Type 0} (r : R) (rest : Result (List R) JsonFault) (rows : List R) (P : List R → Type 0) → behind (r ∷ []) rest ≡ Ok rows → ((xs : List R) → rest ≡ Ok xs → P (r ∷ xs)) → P rows
 ok_cons r (Ok xs) rows P e have = let same : r ∷ xs ≡ rows = cc in subst P same (have xs refl)
 ok_cons r (Err f) rows P e have = let no : ⊥ = cc in absurd no
 

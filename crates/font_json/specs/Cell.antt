@@ -6,16 +6,17 @@ use Rattle.serde_json.specs.Find.{as_number, as_array, as_integer}
 use Rattle.run_options.specs.declared.fault.JsonFault.{JsonFault}
 use Rattle.run_options.specs.declared.fault.JsonFault.TheVariants.{NotJson, WrongShape, FloatNumber, UnknownName, OutOfOrder, OutOfRange, SplitDepth, OutOfMemory}
 
--- shapes come before floats, floats before names, names before ranges, ranges before the order of rows
+-- shapes come before floats, floats before names, names before ranges, ranges before the order of rows; where memory
+-- ran out nothing else is known
 abbrev pub rank_of : JsonFault → ℕ
-rank_of NotJson = 0
-rank_of WrongShape = 1
-rank_of FloatNumber = 2
-rank_of UnknownName = 3
-rank_of OutOfRange = 4
-rank_of OutOfOrder = 5
-rank_of SplitDepth = 6
-rank_of OutOfMemory = 7
+rank_of OutOfMemory = 0
+rank_of NotJson = 1
+rank_of WrongShape = 2
+rank_of FloatNumber = 3
+rank_of UnknownName = 4
+rank_of OutOfRange = 5
+rank_of OutOfOrder = 6
+rank_of SplitDepth = 7
 
 -- the one of two faults that comes first
 abbrev pub first_fault : JsonFault → JsonFault → JsonFault

@@ -1,13 +1,14 @@
 -- What the objects of tables and of a font denote, key by key in the order of the format.
-use Rattle.std.specs.Prelude.{ℕ, ℤ, pos, List, [], ◌∷◌, codes, Bool, true, false, ⊤, if◌then◌else◌, is_some, Option, Some, None, Result, Ok, Err, unwrap_or}
-use Rattle.std.specs.declared.cmp.Ordering.{Ordering}
+use Rattle.std.specs.Prelude.{ℕ, ℤ, pos, List, [], ◌∷◌, codes, ⊤, Option, Result, Ok, unwrap_or}
 use Rattle.std.specs.Ordering.{nat_cmp}
 use Rattle.serde_json.specs.Data.{Data}
-use Rattle.serde_json.specs.Find.{get, as_object, as_array}
+use Rattle.serde_json.specs.Find.{get}
 use Rattle.run_options.specs.declared.fault.JsonFault.{JsonFault}
-use Rattle.run_options.specs.declared.fault.JsonFault.TheVariants.{WrongShape}
-use Rattle.font_json.specs.Cell.{and_then, word, signed_word, character, pair_of, of_list}
-use Rattle.font_json.specs.Rows.{rows_after, row_of}
+use Rattle.layout_font.specs.Layout.{LayoutLists}
+use Rattle.font_json.specs.Cell.{and_then, word, signed_word, character}
+use Rattle.font_json.specs.Rows.{row_of}
+use Rattle.font_json.specs.Objects.{read_or, read_if_there, rows_of, without, of_object}
+use Rattle.font_json.specs.Gsub.{gsub_of}
 
 -- the keys of a font
 pub record FontKeys : Type 0 where
@@ -17,6 +18,8 @@ pub record FontKeys : Type 0 where
   pub cmap : List (ℕ × ℕ)
   -- a glyph and its horizontal advance
   pub h : List (ℕ × ℕ)
+  -- substitutions
+  pub gsub : Option LayoutLists
 
 -- the glyph of a character
 abbrev pub glyph_of : FontKeys → ℕ → Option ℕ
@@ -28,29 +31,8 @@ advance_of font g = unwrap_or (row_of font.h g) 0
 
 -- ---- keys
 
--- the value of a key as `read` reads it, or `missing` where the key is not there
-abbrev pub read_or : {A : Type 0} → A → (Data → Result A JsonFault) → Option Data → Result A JsonFault
-read_or missing read None = Ok missing
-read_or missing read (Some d) = read d
-
--- rows of a key and a value
-abbrev pub rows_of : {K V : Type 0} → (K → K → Ordering) → (Data → Result K JsonFault) → (Data → Result V JsonFault) → Data → Result (List (K × V)) JsonFault
-rows_of cmp key value d = of_list (rows_after cmp (pair_of key value) None) (as_array d)
-
--- one of the keys is there
-abbrev pub has_some : List (List ℕ) → Data → Bool
-has_some [] d = false
-has_some (k ∷ ks) d = if is_some (get k d) then true else has_some ks d
-
--- keys that are not read yet
-abbrev pub without : List (List ℕ) → Data → Result ⊤ JsonFault
-without ks d = if has_some ks d then Err WrongShape else Ok tt
-
-abbrev pub of_object : {A : Type 0} → (Data → Result A JsonFault) → Data → Result A JsonFault
-of_object read d = if is_some (as_object d) then read d else Err WrongShape
-
 abbrev pub later_font_keys : List (List ℕ)
-later_font_keys = codes "v" ∷ codes "origins" ∷ codes "extents" ∷ codes "names" ∷ codes "gdef" ∷ codes "gsub" ∷ codes "gpos" ∷ []
+later_font_keys = codes "v" ∷ codes "origins" ∷ codes "extents" ∷ codes "names" ∷ codes "gdef" ∷ []
 
 abbrev pub font_keys : Data → Result FontKeys JsonFault
 font_keys d =
@@ -60,7 +42,9 @@ font_keys d =
     and_then (without (codes "variants" ∷ []) d) (λ _.
     and_then (read_or [] (rows_of nat_cmp word word) (get (codes "h") d)) (λ h.
     and_then (without later_font_keys d) (λ _.
-    Ok (record { units_per_em = upem; ascender = ascender; cmap = cmap; h = h })))))))
+    and_then (read_if_there gsub_of (get (codes "gsub") d)) (λ table.
+    and_then (without (codes "gpos" ∷ []) d) (λ _.
+    Ok (record { units_per_em = upem; ascender = ascender; cmap = cmap; h = h; gsub = table })))))))))
 
 -- the font of a JSON value
 abbrev pub face_of : Data → Result FontKeys JsonFault

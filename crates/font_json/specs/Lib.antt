@@ -1,3 +1,6 @@
 pub mod Cell
 pub mod Rows
+pub mod Lists
+pub mod Objects
+pub mod Gsub
 pub mod Keys

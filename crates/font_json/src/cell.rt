@@ -2,7 +2,7 @@ ghost use Rattle.std.specs.Prelude.{◌≡◌, Result};
 ghost use Rattle.serde_json.specs.Data.{Data};
 ghost use Rattle.serde_json.specs.View.{view, items_view};
 ghost use Rattle.run_options.specs.declared.fault.JsonFault.{JsonFault};
-ghost use Rattle.font_json.specs.Cell.{rank_of, both, integer, word, signed_word, character, pair_of, two_of};
+ghost use Rattle.font_json.specs.Cell.{rank_of, first_fault, both, integer, word, signed_word, character, pair_of, two_of};
 
 use run_options::fault::JsonFault;
 use serde_json::Value;
@@ -82,18 +82,19 @@ fn rank(fault: JsonFault) -> u8
     ensures { result ≡ rank_of fault }
 {
     match fault {
-        JsonFault::NotJson => 0,
-        JsonFault::WrongShape => 1,
-        JsonFault::FloatNumber => 2,
-        JsonFault::UnknownName => 3,
-        JsonFault::OutOfRange => 4,
-        JsonFault::OutOfOrder => 5,
-        JsonFault::SplitDepth => 6,
-        JsonFault::OutOfMemory => 7,
+        JsonFault::OutOfMemory => 0,
+        JsonFault::NotJson => 1,
+        JsonFault::WrongShape => 2,
+        JsonFault::FloatNumber => 3,
+        JsonFault::UnknownName => 4,
+        JsonFault::OutOfRange => 5,
+        JsonFault::OutOfOrder => 6,
+        JsonFault::SplitDepth => 7,
     }
 }
 
-fn pair<A: Drop, B: Drop>(
+/// Two parts, or of their faults the one that comes first.
+pub(crate) fn pair<A: Drop, B: Drop>(
     first: Result<A, JsonFault>,
     second: Result<B, JsonFault>,
 ) -> Result<(A, B), JsonFault>
@@ -102,6 +103,13 @@ fn pair<A: Drop, B: Drop>(
     match (first, second) {
         (Ok(a), Ok(b)) => Ok((a, b)),
         (Ok(_), Err(fault)) | (Err(fault), Ok(_)) => Err(fault),
-        (Err(one), Err(other)) => Err(if rank(one) <= rank(other) { one } else { other }),
+        (Err(one), Err(other)) => Err(first_fault(one, other)),
     }
+}
+
+/// The one of two faults that comes first.
+pub(crate) fn first_fault(one: JsonFault, other: JsonFault) -> JsonFault
+    ensures { result ≡ first_fault one other }
+{
+    if rank(one) <= rank(other) { one } else { other }
 }

@@ -1,10 +1,16 @@
-ghost use Rattle.std.specs.Prelude.{◌≡◌, ◌≢◌, ℕ, Some, IfOk, IfErr, Ok, Err};
+ghost use Rattle.std.specs.Prelude.{◌≡◌, ◌≢◌, ℕ, Some, IfOk, IfErr, Ok, Err, codes};
+ghost use Rattle.std.specs.Option.{option_copied};
 ghost use Rattle.std.specs.List.{Contains};
+ghost use Rattle.serde_json.specs.Find.{get};
 ghost use Rattle.serde_json.specs.View.{view};
+ghost use Rattle.font_json.specs.Objects.{read_if_there};
+ghost use Rattle.font_json.specs.Gsub.{gsub_of};
 ghost use Rattle.font_json.specs.Keys.{glyph_of, advance_of, face_of};
 
+use crate::gsub::read_gsub;
 use crate::keys::{read_key, read_row_key, refuse_keys};
 use crate::rows::find_row;
+use layout_font::table::LayoutTable;
 use run_options::fault::JsonFault;
 use serde_json::Value;
 use std::alloc::Global;
@@ -17,6 +23,7 @@ pub struct FontFace {
     ascender: i16,
     cmap: Vec<(char, u16)>,
     h: Vec<(u16, u16)>,
+    gsub: Option<LayoutTable>,
 }
 
 impl Model for FontFace {
@@ -32,6 +39,7 @@ impl Model for FontFace {
       ascender = f.ascender;
       cmap = f.cmap.items;
       h = f.h.items;
+      gsub = f.gsub;
     } };
 
     ghost invariant = { λ f. (is_rising nat_cmp None f.cmap.items ≡ true) × (is_rising nat_cmp None f.h.items ≡ true) };
@@ -67,6 +75,13 @@ impl FontFace {
     {
         find_row(&self.h, glyph).unwrap_or(0)
     }
+
+    /// The table of substitutions, where the font has one.
+    pub fn gsub(&self) -> Option<&LayoutTable>
+        ensures { option_copied result ≡ self.now.gsub }
+    {
+        self.gsub.as_ref()
+    }
 }
 
 /// Reads a font, the keys of the format in their order. Keys that are not of the format are passed over; a key of the
@@ -84,14 +99,26 @@ pub fn read_face(alloc: Global, value: &Value) -> Result<FontFace, JsonFault>
     let cmap = read_row_key(alloc, value, "cmap")?;
     refuse_keys(value, &["variants"])?;
     let h = read_row_key(alloc, value, "h")?;
-    refuse_keys(
-        value,
-        &["v", "origins", "extents", "names", "gdef", "gsub", "gpos"],
-    )?;
+    refuse_keys(value, &["v", "origins", "extents", "names", "gdef"])?;
+    let gsub = read_gsub_key(alloc, value)?;
+    refuse_keys(value, &["gpos"])?;
     Ok(FontFace {
         units_per_em,
         ascender,
         cmap,
         h,
+        gsub,
     })
+}
+
+fn read_gsub_key(alloc: Global, value: &Value) -> Result<Option<LayoutTable>, JsonFault>
+    ensures ok { IfOk result (λ t.
+        read_if_there gsub_of (get (codes "gsub") (view value.now)) ≡ Ok t) }
+    ensures refused { IfErr result (λ e. e ≢ JsonFault.OutOfMemory
+        → read_if_there gsub_of (get (codes "gsub") (view value.now)) ≡ Err e) }
+{
+    match value.get("gsub") {
+        Some(value) => Ok(Some(read_gsub(alloc, value)?)),
+        None => Ok(None),
+    }
 }

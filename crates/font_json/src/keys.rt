@@ -2,7 +2,7 @@ ghost use Rattle.std.specs.Prelude.{◌≡◌, ◌≢◌, IfOk, IfErr, Ok, Err, 
 ghost use Rattle.serde_json.specs.Find.{get};
 ghost use Rattle.serde_json.specs.View.{view};
 ghost use Rattle.font_json.specs.Rows.{is_rising};
-ghost use Rattle.font_json.specs.Keys.{read_or, rows_of, has_some, without};
+ghost use Rattle.font_json.specs.Objects.{read_or, rows_of, has_some, without};
 
 use crate::cell::Cell;
 use crate::rows::read_rows;

@@ -3,8 +3,12 @@
 
 mod cell;
 mod face;
+mod gsub;
 mod keys;
+mod lists;
+mod lookups;
 mod names;
+mod parts;
 mod rows;
 mod tables;
 #[cfg(test)]

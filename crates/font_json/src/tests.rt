@@ -1,7 +1,11 @@
-use crate::{read_face, read_tables};
+use crate::{FontFace, read_face, read_tables};
+use layout_font::lookup::Subtables;
+use layout_font::table::LayoutTable;
 use run_options::fault::JsonFault;
-use run_options::fault::JsonFault::{FloatNumber, OutOfOrder, OutOfRange, WrongShape};
+use run_options::fault::JsonFault::{FloatNumber, OutOfOrder, OutOfRange, UnknownName, WrongShape};
 use serde_json::Value;
+use shaping_text::tag::Tag;
+use std::alloc::Global;
 use std::test::Fail;
 
 // Fonts that are refused, each with its first fault.
@@ -129,5 +133,240 @@ fn tables_have_no_key_of_the_format(rt: HostRuntime) -> Result<(), Fail> {
         let value = Value::from_str(rt.alloc(), text)?;
         assert_eq!(rt; read_tables(&value), Err(JsonFault::WrongShape), "{text}");
     }
+    Ok(())
+}
+
+// Values of the key `gsub` that are refused, each with its first fault.
+const REFUSED_TABLES: [(&str, JsonFault); 63] = [
+    ("null", WrongShape),
+    ("[]", WrongShape),
+    ("1.5", WrongShape),
+    (r#"{"scripts":3}"#, WrongShape),
+    (r#"{"scripts":[3]}"#, WrongShape),
+    (r#"{"scripts":[["DFLT",{}]]}"#, WrongShape),
+    (r#"{"scripts":[["DFLT",{},[],1]]}"#, WrongShape),
+    (r#"{"scripts":[[1,{},[]]]}"#, WrongShape),
+    (r#"{"scripts":[["",null,[]]]}"#, WrongShape),
+    (r#"{"scripts":[["DFLTX",null,[]]]}"#, WrongShape),
+    (r#"{"scripts":[["D\u00e9",null,[]]]}"#, WrongShape),
+    (r#"{"scripts":[["DF\u001f",null,[]]]}"#, WrongShape),
+    (r#"{"scripts":[["DF\u007f",null,[]]]}"#, WrongShape),
+    (r#"{"scripts":[["DFLT",3,[]]]}"#, WrongShape),
+    (r#"{"scripts":[["DFLT",null,null]]}"#, WrongShape),
+    (r#"{"scripts":[["DFLT",null,[1]]]}"#, WrongShape),
+    (r#"{"scripts":[["DFLT",null,[["x",null]]]]}"#, WrongShape),
+    (
+        r#"{"scripts":[["DFLT",{"required":0},[]]],"features":[["liga",[]]]}"#,
+        WrongShape,
+    ),
+    (r#"{"scripts":[["DFLT",{"features":{}},[]]]}"#, WrongShape),
+    (
+        r#"{"scripts":[["DFLT",{"features":[70000,1.5]},[["x",3]]]]}"#,
+        WrongShape,
+    ),
+    (
+        r#"{"scripts":[["DFLT",{"features":[70000,1.5]},[]]]}"#,
+        FloatNumber,
+    ),
+    (
+        r#"{"scripts":[["DFLT",{"features":[-0]},[]]]}"#,
+        FloatNumber,
+    ),
+    (r#"{"scripts":[["DFLT",{"features":[-1]},[]]]}"#, OutOfRange),
+    (r#"{"scripts":[["DFLT",{"features":[0]},[]]]}"#, OutOfRange),
+    (
+        r#"{"scripts":[["DFLT",{"features":[1]},[]]],"features":[["liga",[]]]}"#,
+        OutOfRange,
+    ),
+    (
+        r#"{"scripts":[["DFLT",null,[["a",{}],["a",{"features":[0]}]]]]}"#,
+        OutOfRange,
+    ),
+    (
+        r#"{"scripts":[["b",{},[]],["a",{"features":[5]},[]]]}"#,
+        OutOfRange,
+    ),
+    (r#"{"scripts":[["yi",{},[]],["yi  ",{},[]]]}"#, OutOfOrder),
+    (
+        r#"{"scripts":[["DFLT",{},[["a",{}],["a",{}]]]]}"#,
+        OutOfOrder,
+    ),
+    (
+        r#"{"scripts":[["b",{},[]],["a",{},[]]],"features":null,"lookups":[3]}"#,
+        OutOfOrder,
+    ),
+    (r#"{"features":{}}"#, WrongShape),
+    (r#"{"features":[3]}"#, WrongShape),
+    (r#"{"features":[["liga"]]}"#, WrongShape),
+    (r#"{"features":[["kern",[]]]}"#, WrongShape),
+    (r#"{"features":[["liga",3]]}"#, WrongShape),
+    (r#"{"features":[["liga",[true]]]}"#, WrongShape),
+    (r#"{"features":[["liga",[9,1.5]]]}"#, FloatNumber),
+    (r#"{"features":[["liga",[0]]],"lookups":[]}"#, OutOfRange),
+    (r#"{"features":[["liga",[1]]],"lookups":[3]}"#, OutOfRange),
+    (r#"{"lookups":null}"#, WrongShape),
+    (r#"{"lookups":[null]}"#, WrongShape),
+    (r#"{"lookups":[{}]}"#, WrongShape),
+    (r#"{"lookups":[{"type":3}]}"#, WrongShape),
+    (r#"{"lookups":[{"type":"single"}]}"#, WrongShape),
+    (r#"{"lookups":[{"type":"reverse"}]}"#, WrongShape),
+    (r#"{"lookups":[{"type":"pear"}]}"#, UnknownName),
+    (r#"{"lookups":[{"type":"pear","flags":1}]}"#, WrongShape),
+    (r#"{"lookups":[{"type":"pear","flags":1.5}]}"#, FloatNumber),
+    (r#"{"lookups":[{"type":"pear","set":0}]}"#, WrongShape),
+    (
+        r#"{"lookups":[{"type":"ligature","subtables":3}]}"#,
+        WrongShape,
+    ),
+    (
+        r#"{"lookups":[{"type":"ligature","subtables":[{}]}]}"#,
+        WrongShape,
+    ),
+    (
+        r#"{"lookups":[{"type":"ligature","subtables":[[[3,4]]]}]}"#,
+        WrongShape,
+    ),
+    (
+        r#"{"lookups":[{"type":"ligature","subtables":[[[3,[4]]]]}]}"#,
+        WrongShape,
+    ),
+    (
+        r#"{"lookups":[{"type":"ligature","subtables":[[[3,[[4]]]]]}]}"#,
+        WrongShape,
+    ),
+    (
+        r#"{"lookups":[{"type":"ligature","subtables":[[[3,[[[4],7,8]]]]]}]}"#,
+        WrongShape,
+    ),
+    (
+        r#"{"lookups":[{"type":"ligature","subtables":[[["3",[[4],7]]]]}]}"#,
+        WrongShape,
+    ),
+    (
+        r#"{"lookups":[{"type":"ligature","subtables":[[[3,[[4],7.5]]]]}]}"#,
+        FloatNumber,
+    ),
+    (
+        r#"{"lookups":[{"type":"ligature","subtables":[[[-3,[[4.0],7]]]]}]}"#,
+        FloatNumber,
+    ),
+    (
+        r#"{"lookups":[{"type":"ligature","subtables":[[[-3,[[4],7]]]]}]}"#,
+        OutOfRange,
+    ),
+    (
+        r#"{"lookups":[{"type":"ligature","subtables":[[[3,[[65536],7]]]]}]}"#,
+        OutOfRange,
+    ),
+    (
+        r#"{"lookups":[{"type":"ligature","subtables":[[[3,[]],[3,[]]]]}]}"#,
+        OutOfOrder,
+    ),
+    (
+        r#"{"lookups":[{"type":"ligature","subtables":[[[3,[]],[2,[]],[1,7]]]}]}"#,
+        OutOfOrder,
+    ),
+    (
+        r#"{"lookups":[{"type":"ligature","subtables":[[],[[3,[]],[2,[[4],70000]]]]}]}"#,
+        OutOfRange,
+    ),
+];
+
+fn font_with(alloc: Global, table: &str) -> Result<Result<FontFace, JsonFault>, Fail> {
+    let text = format!(in alloc; "{{\"gsub\":{table}}}")?;
+    Ok(read_face(alloc, &Value::from_str(alloc, text.as_str())?))
+}
+
+#[test]
+fn faulty_substitutions_are_refused(rt: HostRuntime) -> Result<(), Fail> {
+    for (table, fault) in REFUSED_TABLES {
+        let found = font_with(rt.alloc(), table)?.err();
+        assert_eq!(rt; found, Some(fault), "{table}");
+    }
+    Ok(())
+}
+
+// Values of the key `gsub`, each with the ligature of glyphs 3 and 4 by its first lookup.
+const TABLES: [(&str, Option<u16>); 10] = [
+    ("{}", None),
+    (r#"{"x":1,"lookups":[]}"#, None),
+    (r#"{"lookups":[{"type":"ligature"}]}"#, None),
+    (
+        r#"{"lookups":[{"type":"ligature","subtables":[[]]}]}"#,
+        None,
+    ),
+    (
+        r#"{"lookups":[{"flags":0,"type":"ligature","subtables":[[[3,[]]]]}]}"#,
+        None,
+    ),
+    (
+        r#"{"lookups":[{"type":"ligature","subtables":[[[3,[[4],7]]]]}]}"#,
+        Some(7),
+    ),
+    (
+        r#"{"lookups":[{"type":"ligature","subtables":[[[3,[[[4],7]]]]]}]}"#,
+        Some(7),
+    ),
+    (
+        r#"{"lookups":[{"type":"ligature","subtables":[[[2,[[4],8]],[3,[[[5],9],[[4],7]]]]]}]}"#,
+        Some(7),
+    ),
+    (
+        r#"{"lookups":[{"type":"ligature","subtables":[[[3,[[],65535]]]]}]}"#,
+        None,
+    ),
+    (
+        r#"{"lookups":[{"subtables":[[[3,[[[4],65535]]]]],"x":3,"type":"ligature"}]}"#,
+        Some(65535),
+    ),
+];
+
+fn ligature_of_3_4(table: &LayoutTable) -> Option<u16> {
+    let Subtables::Ligature(subtables) = table.lookup(0)?.subtables();
+    let set = subtables.first()?.set_of(3)?;
+    let ligature = set
+        .ligatures()
+        .iter()
+        .find(|ligature| ligature.components() == [4].as_slice())?;
+    Some(ligature.glyph())
+}
+
+#[test]
+fn substitutions_are_read(rt: HostRuntime) -> Result<(), Fail> {
+    for (text, glyph) in TABLES {
+        let face = font_with(rt.alloc(), text)??;
+        assert_eq!(rt;
+            ligature_of_3_4(face.gsub().ok_or("no table")?),
+            glyph,
+            "{text}"
+        );
+    }
+    let none = read_face(rt.alloc(), &Value::from_str(rt.alloc(), "{}")?)?;
+    assert!(rt; none.gsub().is_none());
+    Ok(())
+}
+
+#[test]
+fn systems_and_features_are_read(rt: HostRuntime) -> Result<(), Fail> {
+    let text = r#"{"lookups":[{"type":"ligature"}],"features":[["liga",[0]],["liga",[]]],
+        "scripts":[["DFLT",null,[]],["a",{"features":[1,0]},[["b",{}],["c",{"features":[1]}]]]]}"#;
+    let face = font_with(rt.alloc(), text)??;
+    let table = face.gsub().ok_or("no table")?;
+    assert_eq!(rt;
+        table.feature(0).ok_or("no feature")?.lookups(),
+        [0].as_slice()
+    );
+    assert!(rt; table.feature(2).is_none());
+    let empty = table.script(Tag::from_bytes(b"DFLT")).ok_or("no script")?;
+    assert!(rt; empty.default_lang_sys().is_none());
+    let script = table.script(Tag::from_bytes(b"a   ")).ok_or("no script")?;
+    let default = script.default_lang_sys().ok_or("no system")?;
+    assert_eq!(rt; default.features(), [1, 0].as_slice());
+    assert_eq!(rt; default.required_feature(), None);
+    let system = script
+        .lang_sys(Tag::from_bytes(b"c   "))
+        .ok_or("no system")?;
+    assert_eq!(rt; system.lang_sys().features(), [1].as_slice());
+    assert!(rt; table.script(Tag::from_bytes(b"b   ")).is_none());
     Ok(())
 }

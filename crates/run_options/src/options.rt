@@ -1,3 +1,4 @@
+use feature_text::feature::Feature;
 use glyph_types::flags::SerializeFlags;
 use shaping_text::direction::Direction;
 use shaping_text::script::Script;
@@ -15,6 +16,8 @@ pub struct Options {
     pub direction: Direction,
     /// The script of the text; none where it is to be guessed.
     pub script: Option<Script>,
+    /// The features that are asked for, in the order of the words.
+    pub features: Vec<Feature>,
     /// What is printed of each glyph.
     pub flags: SerializeFlags,
 }

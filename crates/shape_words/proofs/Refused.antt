@@ -1,12 +1,15 @@
 -- What words ask for is refused by `Words` alone.
 use Rattle.std.proofs.Common.{◌≡◌, ℕ, List, [], ◌∷◌, Option, Some, None, Result, Ok, Err, ap, codes}
 use Rattle.std.specs.Option.{ok_or}
-use Rattle.clap.specs.Words.{Kinds, Row, Text, fault_of, first_of, matches_of}
+use Rattle.std.specs.List.{flat_map}
+use Rattle.feature_text.specs.declared.feature.Feature.{Feature}
+use Rattle.feature_text.specs.FeatureText.{feature_of_text}
+use Rattle.clap.specs.Words.{Kinds, Row, Text, all_of, fault_of, first_of, matches_of}
 use Rattle.run_options.specs.declared.fault.RunFault.{RunFault}
 use Rattle.run_options.specs.declared.fault.RunFault.TheVariants.{Words}
 use Rattle.shaping_text.specs.declared.direction.Direction.TheVariants.{Invalid}
 use Rattle.shaping_text.specs.Direction.{direction_of_text}
-use Rattle.shape_words.specs.Words.{Lookup, and_then, asked, direction_in, file_in, hb_shape, options_of, or_words, read_or, script_in, settings_of, some_script}
+use Rattle.shape_words.specs.Words.{Lookup, and_then, asked, behind, features_in, features_of, parts_of, values_in, direction_in, file_in, hb_shape, options_of, or_words, read_or, script_in, settings_of, some_script}
 
 -- a result that is refused by Words alone
 abbrev RefusedByWords : {A : Type 0} → Result A RunFault → Type 0
@@ -28,16 +31,26 @@ file-refused : (o : Option (List ℕ)) → RefusedByWords (ok_or o Words)
 file-refused None e same = cc
 file-refused (Some name) e same = let no : ⊥ = cc in absurd no
 
-settings-refused : (value : Lookup) → RefusedByWords (settings_of value)
-settings-refused value =
+behind-refused : (fs : List Feature) (rest : Result (List Feature) RunFault) → RefusedByWords rest → RefusedByWords (behind fs rest)
+behind-refused fs (Ok gs) h e same = let no : ⊥ = cc in absurd no
+behind-refused fs (Err f) h e same = let fault : f ≡ e = cc in h e (ap Err fault)
+
+features-refused : (parts : List (List ℕ)) → RefusedByWords (features_of parts)
+features-refused [] e same = let no : ⊥ = cc in absurd no
+features-refused (part ∷ parts) e same =
+    then_words (or_words (feature_of_text part)) _ (or_words-refused (feature_of_text part)) (λ f. behind-refused (f ∷ []) (features_of parts) (features-refused parts)) e same
+
+settings-refused : (value : Lookup) (features : List (List ℕ)) → RefusedByWords (settings_of value features)
+settings-refused value features =
     then_words (file_in (codes "tables") value) _ (file-refused (value (codes "tables"))) (λ tables.
     then_words (file_in (codes "font") value) _ (file-refused (value (codes "font"))) (λ font.
     then_words (file_in (codes "text") value) _ (file-refused (value (codes "text"))) (λ text.
     then_words (direction_in value) _ (read_or-refused Invalid direction_of_text (value (codes "direction"))) (λ direction.
-    then_words (script_in value) _ (read_or-refused None some_script (value (codes "script"))) (λ script e same. let no : ⊥ = cc in absurd no)))))
+    then_words (script_in value) _ (read_or-refused None some_script (value (codes "script"))) (λ script.
+    then_words (features_in features) _ (features-refused (flat_map parts_of features)) (λ requests e same. let no : ⊥ = cc in absurd no))))))
 
 asked-refused : (faults : Kinds) (rows : List Row) → RefusedByWords (asked faults rows)
-asked-refused [] rows e same = settings-refused (λ id. first_of id rows) e same
+asked-refused [] rows e same = settings-refused (λ id. first_of id rows) (values_in (all_of (codes "features") rows)) e same
 asked-refused (fault ∷ faults) rows e same = cc
 
 -- what words ask for is refused by Words alone

@@ -1,10 +1,14 @@
 -- The command line of the program: hb_shape [options] TABLES FONT TEXT.
-use Rattle.std.specs.Prelude.{ℕ, Bool, true, false, List, [], ◌∷◌, codes, if◌then◌else◌, Option, Some, None, Result, Ok, Err, string_bytes}
+use Rattle.std.specs.Prelude.{ℕ, Bool, true, false, List, [], ◌∷◌, codes, if◌then◌else◌, Option, Some, None, Result, Ok, Err, string_bytes, unwrap_or, ◌++◌, ◌==◌}
+use Rattle.std.specs.List.{slice_split, flat_map}
+use Rattle.feature_text.specs.declared.feature.Feature.{Feature}
+use Rattle.feature_text.specs.FeatureText.{feature_of_text}
 use Rattle.std.specs.Str.{bytes_eq}
-use Rattle.std.specs.Option.{option_map_or, ok_or}
+use Rattle.std.specs.Option.{option_map, option_map_or, ok_or}
 use Rattle.std.specs.Result.{result_map_both}
-use Rattle.clap.specs.Words.{App, Kinds, Row, Rule, fault_of, first_of, matches_of, new_app, new_rule, with_rule}
-use Rattle.clap.specs.declared.builder.ArgAction.TheVariants.{Set, SetTrue}
+use Rattle.clap.specs.Words.{App, Kinds, Row, Rule, all_of, fault_of, first_of, matched_of, matches_of, new_app, new_rule, raw_values, with_rule}
+use Rattle.clap.specs.declared.parser.matches.Found.{Found}
+use Rattle.clap.specs.declared.builder.ArgAction.TheVariants.{Set, SetTrue, Append}
 use Rattle.clap.specs.declared.error.kind.ErrorKind.{ErrorKind}
 use Rattle.clap.specs.declared.error.kind.ErrorKind.TheVariants as kind
 use Rattle.glyph_types.specs.declared.flags.SerializeFlags.{SerializeFlags}
@@ -28,14 +32,18 @@ file_rule id = record (new_rule id) { required = true; action = Some Set }
 abbrev pub option_rule : List ℕ → Rule
 option_rule id = record (new_rule id) { long = Some id; action = Some Set }
 
+-- an option with a value that may be given several times
+abbrev pub list_rule : List ℕ → Rule
+list_rule id = record (new_rule id) { long = Some id; action = Some Append }
+
 -- an option without a value
 abbrev pub switch_rule : List ℕ → Rule
 switch_rule id = record (new_rule id) { long = Some id; action = Some SetTrue }
 
 abbrev pub hb_shape : App
 hb_shape =
-    with_rule (with_rule (with_rule (with_rule (with_rule (with_rule (new_app (codes "hb_shape"))
-    (option_rule (codes "direction"))) (option_rule (codes "script"))) (switch_rule (codes "no-glyph-names")))
+    with_rule (with_rule (with_rule (with_rule (with_rule (with_rule (with_rule (new_app (codes "hb_shape"))
+    (option_rule (codes "direction"))) (option_rule (codes "script"))) (list_rule (codes "features"))) (switch_rule (codes "no-glyph-names")))
     (file_rule (codes "tables"))) (file_rule (codes "font"))) (file_rule (codes "text"))
 
 -- ---- what it asks for
@@ -47,6 +55,7 @@ pub record Settings : Type 0 where
   pub text : List ℕ
   pub direction : Direction
   pub script : Option Script
+  pub features : List Feature
   pub flags : SerializeFlags
 
 abbrev pub settings_in : Options → Settings
@@ -56,6 +65,7 @@ settings_in o = record {
   text = string_bytes o.text;
   direction = o.direction;
   script = o.script;
+  features = o.features.items;
   flags = o.flags;
 }
 
@@ -88,6 +98,23 @@ some_script text = result_map_both Some (λ e. e) (script_of_text text)
 abbrev pub script_in : Lookup → Result (Option Script) RunFault
 script_in value = read_or None some_script (value (codes "script"))
 
+-- the parts of a text between its commas
+abbrev pub parts_of : List ℕ → List (List ℕ)
+parts_of text = slice_split (λ byte. byte == 44) text
+
+abbrev pub behind : List Feature → Result (List Feature) RunFault → Result (List Feature) RunFault
+behind features (Ok rest) = Ok (features ++ rest)
+behind features (Err e) = Err e
+
+-- the features that the parts write
+abbrev pub features_of : List (List ℕ) → Result (List Feature) RunFault
+features_of [] = Ok []
+features_of (part ∷ parts) = and_then (or_words (feature_of_text part)) (λ feature. behind (feature ∷ []) (features_of parts))
+
+-- the features of the values of an option
+abbrev pub features_in : List (List ℕ) → Result (List Feature) RunFault
+features_in values = features_of (flat_map parts_of values)
+
 -- a switch has the value "true" where it is given
 abbrev pub is_given : List ℕ → Lookup → Bool
 is_given id value = option_map_or (λ text. bytes_eq text (codes "true")) (value id) false
@@ -101,23 +128,33 @@ no_glyph_names = record { 0 = 4 }
 abbrev pub flags_in : Lookup → SerializeFlags
 flags_in value = if is_given (codes "no-glyph-names") value then no_glyph_names else default_flags
 
-abbrev pub settings_of : Lookup → Result Settings RunFault
-settings_of value =
+-- the first value of each id, and the values of `features`
+abbrev pub settings_of : Lookup → List (List ℕ) → Result Settings RunFault
+settings_of value features =
     and_then (file_in (codes "tables") value) (λ tables.
     and_then (file_in (codes "font") value) (λ font.
     and_then (file_in (codes "text") value) (λ text.
     and_then (direction_in value) (λ direction.
     and_then (script_in value) (λ script.
-    Ok (record { tables = tables; font = font; text = text; direction = direction; script = script; flags = flags_in value }))))))
+    and_then (features_in features) (λ requests.
+    Ok (record { tables = tables; font = font; text = text; direction = direction; script = script; features = requests; flags = flags_in value })))))))
 
 -- an error of the parse as a fault of the run
 abbrev pub refusal_of : ErrorKind → RunFault
 refusal_of kind.OutOfMemory = OutOfMemory
 refusal_of _ = Words
 
+-- all values of an id, where the words give some
+abbrev pub values_in : Option (List (List ℕ)) → List (List ℕ)
+values_in found = unwrap_or found []
+
+-- all values of `features` that a parse found
+abbrev pub feature_values : Found → List (List ℕ)
+feature_values found = values_in (option_map raw_values (matched_of found (codes "features")))
+
 -- what is asked for where the command has these faults and finds these values
 abbrev pub asked : Kinds → List Row → Result Settings RunFault
-asked [] rows = settings_of (λ id. first_of id rows)
+asked [] rows = settings_of (λ id. first_of id rows) (values_in (all_of (codes "features") rows))
 asked (fault ∷ faults) rows = Err Words
 
 -- what the words ask for, the first of which is the program's name: they are refused where the command has a fault at

@@ -1,6 +1,6 @@
 ghost use Rattle.std.specs.Prelude.{◌≡◌, IfOk, false};
 ghost use Rattle.clap.specs.Words.{app_of, rule_of};
-ghost use Rattle.shape_words.specs.Words.{hb_shape, file_rule, option_rule, switch_rule};
+ghost use Rattle.shape_words.specs.Words.{hb_shape, file_rule, list_rule, option_rule, switch_rule};
 
 use clap::{Arg, ArgAction, Command};
 use std::alloc::{AllocError, Global};
@@ -12,6 +12,7 @@ pub(crate) fn command<'a>(alloc: Global) -> Result<Command<'a>, AllocError>
     Command::new(alloc, "hb_shape")
         .arg(option(alloc, "direction"))?
         .arg(option(alloc, "script"))?
+        .arg(list(alloc, "features"))?
         .arg(switch(alloc, "no-glyph-names"))?
         .arg(file(alloc, "tables"))?
         .arg(file(alloc, "font"))?
@@ -23,6 +24,13 @@ fn option<'a>(alloc: Global, id: &'a str) -> Arg<'a>
     ensures own { result.global ≡ false }
 {
     Arg::new(alloc, id).long(id).action(ArgAction::Set)
+}
+
+fn list<'a>(alloc: Global, id: &'a str) -> Arg<'a>
+    ensures rule { rule_of result ≡ list_rule id.entry.now }
+    ensures own { result.global ≡ false }
+{
+    Arg::new(alloc, id).long(id).action(ArgAction::Append)
 }
 
 fn switch<'a>(alloc: Global, id: &'a str) -> Arg<'a>

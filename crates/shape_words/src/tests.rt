@@ -1,15 +1,17 @@
 use crate::parse_options;
+use feature_text::feature::Feature;
 use glyph_types::flags::SerializeFlags;
 use run_options::fault::RunFault;
 use run_options::options::Options;
 use shaping_text::direction::Direction;
 use shaping_text::direction::Direction::{Invalid, LeftToRight, RightToLeft};
 use shaping_text::script::{GREEK, INHERITED, LATIN, Script, UNKNOWN};
+use shaping_text::tag::Tag;
 use std::alloc::{AllocError, Global};
 use std::test::Fail;
 
 // Words before the three names that are refused.
-const REFUSED: [&[&str]; 25] = [
+const REFUSED: [&[&str]; 36] = [
     &["--foo"],
     &["-x"],
     &["--direction=x"],
@@ -35,6 +37,17 @@ const REFUSED: [&[&str]; 25] = [
     &["-h"],
     &["--direction=l", "--foo"],
     &["--foo=bar"],
+    &["--features"],
+    &["--features="],
+    &["--features=,"],
+    &["--features=liga,"],
+    &["--features=,liga"],
+    &["--features=liga,,kern"],
+    &["--features", "-liga"],
+    &["--features=liga,ligatures"],
+    &["--features=-liga", "--features="],
+    &["--features=liga", "--features=kern1"],
+    &["--features='liga"],
 ];
 
 fn with_names(alloc: Global, options: &[&str]) -> Result<Result<Options, RunFault>, AllocError> {
@@ -108,6 +121,52 @@ fn names_stand_anywhere(rt: HostRuntime) -> Result<(), Fail> {
     for words in [&[][..], &["hb_shape"][..], &["hb_shape", "a", "b"][..]] {
         let found = parse_options(rt.alloc(), words);
         assert_eq!(rt; found.err(), Some(RunFault::Words), "{words:?}");
+    }
+    Ok(())
+}
+
+const fn request(text: &[u8; 4], value: u32) -> Feature {
+    Feature {
+        tag: Tag::from_bytes(text),
+        value,
+        start: 0,
+        end: u32::MAX,
+    }
+}
+
+#[test]
+fn features_are_read(rt: HostRuntime) -> Result<(), Fail> {
+    let liga = request(b"liga", 1);
+    let no_liga = request(b"liga", 0);
+    let kern = request(b"kern", 2);
+    let ranged = Feature {
+        start: 3,
+        end: 5,
+        ..no_liga
+    };
+    let cases: [(&[&str], &[Feature]); 7] = [
+        (&[], &[]),
+        (&["--features=-liga"], &[no_liga]),
+        (&["--features", "liga"], &[liga]),
+        (
+            &["--features= +liga ,kern=2,liga off"],
+            &[liga, kern, no_liga],
+        ),
+        (&["--features=-liga[3:5]"], &[ranged]),
+        (&["--features=kern=2", "--features=liga"], &[kern, liga]),
+        (
+            &[
+                "--features=liga,-liga",
+                "--direction=l",
+                "--features",
+                "kern 2",
+            ],
+            &[liga, no_liga, kern],
+        ),
+    ];
+    for (words, features) in cases {
+        let options = with_names(rt.alloc(), words)??;
+        assert_eq!(rt; options.features.as_slice(), features, "{words:?}");
     }
     Ok(())
 }

@@ -1,6 +1,6 @@
 use Rattle.std.proofs.Common.{◌≡◌, drop, map}
 use Rattle.serde_json.specs.View.{view}
-use Rattle.font_json.specs.Keys.{has_some}
+use Rattle.font_json.specs.Objects.{has_some}
 use Rattle.font_json.proofs.keys.refuse_keys.Given as goal
 
 -- no key so far is there
