@@ -1,0 +1,3 @@
+pub mod Requests
+pub mod Fields
+pub mod Stage
