@@ -1,6 +1,9 @@
 ghost use Rattle.std.specs.Prelude.{◌≡◌, ℕ, find, ◌==◌, None, true};
 ghost use Rattle.std.specs.Option.{option_copied};
+ghost use Rattle.layout_font.specs.Choice.{first_found};
 ghost use Rattle.layout_font.specs.Keyed.{is_above, is_rising};
+
+use shaping_text::tag::Tag;
 
 /// A record of a list that is ordered by a number.
 pub trait Keyed {
@@ -44,4 +47,17 @@ pub(crate) fn find_keyed<R: Keyed>(records: &[R], key: u32) -> Option<&R>
         Ok(at) => Some(&records[at]),
         Err(_) => None,
     }
+}
+
+/// The record of the first tag that has one, in records whose key is their tag's number.
+pub(crate) fn find_first<'a, R: Keyed>(records: &'a [R], tags: &[Tag]) -> Option<&'a R>
+    requires { is_rising R.key_of None records.now ≡ true }
+    ensures { option_copied result ≡ first_found (λ tag. find (λ r. R.key_of r == tag.0) records.entry.now) tags.now }
+{
+    for tag in tags {
+        if let Some(record) = find_keyed(records, tag.0) {
+            return Some(record);
+        }
+    }
+    None
 }

@@ -1,10 +1,11 @@
 ghost use Rattle.std.specs.Prelude.{◌≡◌, None, true};
 ghost use Rattle.std.specs.Option.{option_copied};
+ghost use Rattle.layout_font.specs.Choice.{first_lang_sys, chosen_lang_sys};
 ghost use Rattle.layout_font.specs.Keyed.{is_rising};
 ghost use Rattle.layout_font.specs.Layout.{LangSysEntry, lang_sys_with};
 
-use crate::keyed::{Keyed, find_keyed};
-use shaping_text::tag::Tag;
+use crate::keyed::{Keyed, find_first, find_keyed};
+use shaping_text::tag::{Tag, TagExt};
 use std::marker::Model;
 
 /// A language system: the features that it has, each by its place in the table's list of features.
@@ -162,5 +163,26 @@ impl ScriptRecord {
         ensures { option_copied result ≡ lang_sys_with tag self.now.lang_systems }
     {
         find_keyed(&self.lang_systems, tag.0)
+    }
+
+    /// The system of the first wanted language that the script has, else the system tagged `dflt`, else the default
+    /// system.
+    pub fn select_script_language(&self, wanted: &[Tag]) -> Option<&LangSys>
+        ensures { option_copied result ≡ chosen_lang_sys wanted.now self.now }
+    {
+        if let Some(system) = self.first_lang_sys(wanted) {
+            return Some(system);
+        }
+        match self.first_lang_sys(&[Tag::default_language()]) {
+            Some(system) => Some(system),
+            None => self.default_lang_sys(),
+        }
+    }
+
+    fn first_lang_sys(&self, tags: &[Tag]) -> Option<&LangSys>
+        ensures { option_copied result ≡ first_lang_sys tags.now self.now }
+    {
+        let record = find_first(&self.lang_systems, tags)?;
+        Some(record.lang_sys())
     }
 }

@@ -1,12 +1,13 @@
 ghost use Rattle.std.specs.Prelude.{◌≡◌, None, true, slice_get};
-ghost use Rattle.std.specs.Option.{option_copied};
+ghost use Rattle.std.specs.Option.{option_copied, option_map};
+ghost use Rattle.layout_font.specs.Choice.{ChosenScript, first_script, default_scripts, chosen_script, has_tag_at, language_feature, required_language_feature};
 ghost use Rattle.layout_font.specs.Keyed.{is_rising};
 ghost use Rattle.layout_font.specs.Layout.{FeatureTable, LayoutLists, script_with};
 
-use crate::keyed::find_keyed;
+use crate::keyed::{find_first, find_keyed};
 use crate::lookup::Lookup;
-use crate::script::ScriptRecord;
-use shaping_text::tag::Tag;
+use crate::script::{LangSys, ScriptRecord};
+use shaping_text::tag::{Tag, TagExt};
 use std::marker::Model;
 
 /// A feature with its tag and its lookups, each by its place in the table's list of lookups.
@@ -45,6 +46,14 @@ impl FeatureRecord {
     {
         &self.lookups
     }
+}
+
+/// The script of a table that serves a text.
+#[derive(Clone, Copy, Debug)]
+pub struct SelectedScript<'a> {
+    /// The script is one of those that were wanted.
+    pub found: bool,
+    pub script: &'a ScriptRecord,
 }
 
 /// A layout table: scripts by rising tags, features and lookups in the order of their indices.
@@ -107,5 +116,69 @@ impl LayoutTable {
         ensures { option_copied result ≡ slice_get self.now.lookups index }
     {
         self.lookups.get(usize::from(index))
+    }
+
+    /// The first wanted script that the table has, else the script of the first of the tags `DFLT`, `dflt` and `latn` that
+    /// the table has.
+    pub fn select_script(&self, wanted: &[Tag]) -> Option<SelectedScript<'_>>
+        ensures { option_map (λ s. record { found = s.found; script = s.script.now }) result
+            ≡ chosen_script wanted.now self.now.scripts }
+    {
+        if let Some(script) = self.first_script(wanted) {
+            return Some(SelectedScript {
+                found: true,
+                script,
+            });
+        }
+        let script = self.default_script()?;
+        Some(SelectedScript {
+            found: false,
+            script,
+        })
+    }
+
+    fn default_script(&self) -> Option<&ScriptRecord>
+        ensures { option_copied result ≡ first_script default_scripts self.now.scripts }
+    {
+        self.first_script(&[
+            Tag::default_script(),
+            Tag::default_language(),
+            Tag::from_bytes(b"latn"),
+        ])
+    }
+
+    fn first_script(&self, tags: &[Tag]) -> Option<&ScriptRecord>
+        ensures { option_copied result ≡ first_script tags.now self.now.scripts }
+    {
+        find_first(&self.scripts, tags)
+    }
+
+    /// The place of the first feature of a tag that the language system has; its required feature is none of these.
+    pub fn find_language_feature(&self, system: &LangSys, tag: Tag) -> Option<u16>
+        ensures { result ≡ language_feature tag system.now self.now.features }
+    {
+        system
+            .features()
+            .iter()
+            .copied()
+            .find(|index| self.has_tag_at(*index, tag))
+    }
+
+    fn has_tag_at(&self, index: u16, tag: Tag) -> bool
+        ensures { result ≡ has_tag_at self.now.features tag index }
+    {
+        match self.feature(index) {
+            Some(feature) => feature.tag() == tag,
+            None => false,
+        }
+    }
+
+    /// The place and the tag of the feature that a language system always has on, where there is one.
+    pub fn get_required_language_feature(&self, system: &LangSys) -> Option<(u16, Tag)>
+        ensures { result ≡ required_language_feature system.now self.now.features }
+    {
+        let index = system.required_feature()?;
+        let feature = self.feature(index)?;
+        Some((index, feature.tag()))
     }
 }

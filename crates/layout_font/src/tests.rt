@@ -97,3 +97,149 @@ fn tables_are_asked(rt: HostRuntime) -> Result<(), Fail> {
     assert_eq!(rt; ligature.components(), [4, 5].as_slice());
     Ok(())
 }
+
+fn scripts_of(alloc: Global, tags: &[&[u8; 4]]) -> Result<Option<LayoutTable>, AllocError> {
+    let mut scripts = Vec::new(alloc);
+    for tag in tags {
+        let Some(record) = script(alloc, tag, None, &[])? else {
+            return Ok(None);
+        };
+        scripts.push(record)?;
+    }
+    if !is_rising(&scripts) {
+        return Ok(None);
+    }
+    Ok(Some(LayoutTable::new(scripts, Vec::new(alloc), Vec::new(alloc))))
+}
+
+// Scripts of a table, wanted scripts, and the script that is selected, with whether it was wanted.
+const SCRIPT_CHOICES: [(&[&[u8; 4]], &[&[u8; 4]], Option<(bool, &[u8; 4])>); 12] = [
+    (
+        &[b"DFLT", b"dev2", b"deva", b"latn"],
+        &[b"dev3", b"dev2", b"deva"],
+        Some((true, b"dev2")),
+    ),
+    (
+        &[b"DFLT", b"dev2", b"dev3"],
+        &[b"dev3", b"dev2"],
+        Some((true, b"dev3")),
+    ),
+    (
+        &[b"deva"],
+        &[b"dev3", b"dev2", b"deva"],
+        Some((true, b"deva")),
+    ),
+    (&[b"DFLT", b"latn"], &[b"latn"], Some((true, b"latn"))),
+    (&[b"DFLT"], &[b"DFLT"], Some((true, b"DFLT"))),
+    (
+        &[b"DFLT", b"dflt", b"latn"],
+        &[b"grek"],
+        Some((false, b"DFLT")),
+    ),
+    (&[b"dflt", b"latn"], &[b"grek"], Some((false, b"dflt"))),
+    (&[b"cyrl", b"latn"], &[b"grek"], Some((false, b"latn"))),
+    (&[b"DFLT", b"grek"], &[], Some((false, b"DFLT"))),
+    (&[b"cyrl", b"thai"], &[b"grek"], None),
+    (&[b"cyrl"], &[], None),
+    (&[], &[b"latn"], None),
+];
+
+#[test]
+fn scripts_are_selected(rt: HostRuntime) -> Result<(), Fail> {
+    for (tags, wanted, choice) in SCRIPT_CHOICES {
+        let table = scripts_of(rt.alloc(), tags)?.ok_or("not rising")?;
+        let wanted = tags_of(rt.alloc(), wanted)?;
+        let selected = table
+            .select_script(&wanted)
+            .map(|selected| (selected.found, selected.script.tag()));
+        let choice = choice.map(|(found, tag)| (found, Tag::from_bytes(tag)));
+        assert_eq!(rt; selected, choice, "{tags:?} {wanted:?}");
+    }
+    Ok(())
+}
+
+fn tags_of(alloc: Global, texts: &[&[u8; 4]]) -> Result<Vec<Tag>, AllocError> {
+    let mut tags = Vec::new(alloc);
+    for text in texts {
+        tags.push(Tag::from_bytes(text))?;
+    }
+    Ok(tags)
+}
+
+// Wanted languages, and the first feature of the system that is selected: with the default systems of both kinds, with
+// the untagged one alone, and with neither.
+const LANGUAGE_CHOICES: [(&[&[u8; 4]], [Option<u16>; 3]); 5] = [
+    (&[b"DEU "], [Some(1), Some(1), Some(1)]),
+    (&[b"XXX ", b"TRK "], [Some(2), Some(2), Some(2)]),
+    (&[b"TRK ", b"DEU "], [Some(2), Some(2), Some(2)]),
+    (&[b"XXX ", b"ROM "], [Some(3), Some(0), None]),
+    (&[], [Some(3), Some(0), None]),
+];
+
+fn script_of_systems(
+    alloc: Global,
+    default: Option<u16>,
+    systems: &[(&[u8; 4], u16)],
+) -> Result<Option<ScriptRecord>, AllocError> {
+    let mut records = Vec::new(alloc);
+    for (tag, feature) in systems {
+        let system = system(alloc, &[*feature])?;
+        records.push(LangSysRecord::new(Tag::from_bytes(tag), system))?;
+    }
+    if !is_rising(&records) {
+        return Ok(None);
+    }
+    let default = match default {
+        Some(feature) => Some(system(alloc, &[feature])?),
+        None => None,
+    };
+    Ok(Some(ScriptRecord::new(Tag::from_bytes(b"latn"), default, records)))
+}
+
+#[test]
+fn languages_are_selected(rt: HostRuntime) -> Result<(), Fail> {
+    let alone: [(&[u8; 4], u16); 2] = [(b"DEU ", 1), (b"TRK ", 2)];
+    let tagged: [(&[u8; 4], u16); 3] = [(b"DEU ", 1), (b"TRK ", 2), (b"dflt", 3)];
+    let scripts = [
+        script_of_systems(rt.alloc(), Some(0), &tagged)?.ok_or("not rising")?,
+        script_of_systems(rt.alloc(), Some(0), &alone)?.ok_or("not rising")?,
+        script_of_systems(rt.alloc(), None, &alone)?.ok_or("not rising")?,
+    ];
+    for (wanted, features) in LANGUAGE_CHOICES {
+        let wanted = tags_of(rt.alloc(), wanted)?;
+        for (script, feature) in scripts.iter().zip(features) {
+            let found = script
+                .select_script_language(&wanted)
+                .and_then(|system| system.features().first().copied());
+            assert_eq!(rt; found, feature, "{wanted:?}");
+        }
+    }
+    Ok(())
+}
+
+#[test]
+fn features_of_a_system_are_found(rt: HostRuntime) -> Result<(), Fail> {
+    let mut features = Vec::new(rt.alloc());
+    for tag in [b"liga", b"kern", b"liga", b"ccmp"] {
+        features.push(FeatureRecord::new(Tag::from_bytes(tag), Vec::new(rt.alloc())))?;
+    }
+    let table = LayoutTable::new(Vec::new(rt.alloc()), features, Vec::new(rt.alloc()));
+    let system = LangSys::new(Some(3), [9, 2, 1, 0].to_vec(rt.alloc())?);
+    let cases: [(&[u8; 4], Option<u16>); 4] = [
+        (b"liga", Some(2)),
+        (b"kern", Some(1)),
+        (b"ccmp", None),
+        (b"mark", None),
+    ];
+    for (tag, place) in cases {
+        let tag = Tag::from_bytes(tag);
+        assert_eq!(rt; table.find_language_feature(&system, tag), place);
+    }
+    let ccmp = Tag::from_bytes(b"ccmp");
+    let required = [(Some(3), Some((3, ccmp))), (Some(4), None), (None, None)];
+    for (place, feature) in required {
+        let system = LangSys::new(place, Vec::new(rt.alloc()));
+        assert_eq!(rt; table.get_required_language_feature(&system), feature);
+    }
+    Ok(())
+}
