@@ -111,6 +111,13 @@ impl LayoutTable {
         self.features.get(usize::from(index))
     }
 
+    /// The lookups, in the order of their indices.
+    pub fn lookups(&self) -> &[Lookup]
+        ensures { result.now ≡ self.now.lookups }
+    {
+        &self.lookups
+    }
+
     /// The lookup at a place of the list of lookups.
     pub fn lookup(&self, index: u16) -> Option<&Lookup>
         ensures { option_copied result ≡ slice_get self.now.lookups index }

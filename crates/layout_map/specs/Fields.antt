@@ -1,6 +1,7 @@
 -- The bits that a feature gets in the masks of glyphs.
 use Rattle.std.specs.Prelude.{ℕ, ◌+◌, ◌-◌, ◌*◌, ◌^◌, ◌%◌, ◌==◌, nat_lt, min, if◌then◌else◌, Option, Some, None}
 use Rattle.std.specs.Int.{leading_zeros, w32}
+use Rattle.std.specs.Int.RustNames.{bit_or}
 use Rattle.layout_map.specs.declared.field.FeatureField.{FeatureField}
 
 -- the bit that every glyph has, for features that are on for all glyphs
@@ -30,4 +31,4 @@ field_of next value =
 -- the mask that all glyphs get where a feature has a field
 abbrev pub mask_with : Option FeatureField → ℕ
 mask_with None = global_bit
-mask_with (Some f) = if f.given == global_bit then global_bit else global_bit + f.given
+mask_with (Some f) = bit_or global_bit f.given

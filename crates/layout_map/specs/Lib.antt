@@ -1,3 +1,4 @@
 pub mod Requests
 pub mod Fields
 pub mod Stage
+pub mod Map

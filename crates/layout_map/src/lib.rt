@@ -2,5 +2,6 @@
 #![tactic(auto)]
 
 pub mod field;
+pub mod map;
 pub mod request;
 pub mod stage;
