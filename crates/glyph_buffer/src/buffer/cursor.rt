@@ -22,6 +22,24 @@ impl hb_buffer_t {
         Ok(true)
     }
 
+    /// How many glyphs were read since the output was opened; with none open, how many the cursor has passed.
+    pub fn idx(&self) -> usize
+        ensures { result ≡ self.now.read }
+    {
+        self.idx
+    }
+
+    /// How many glyphs stand behind the cursor: those of the output while one is open.
+    pub fn out_len(&self) -> usize
+        ensures { result ≡ length self.now.behind }
+    {
+        if self.have_output {
+            self.out_info.len()
+        } else {
+            self.idx
+        }
+    }
+
     /// The i-th glyph from the cursor on.
     pub fn cur(&self, i: usize) -> &hb_glyph_info_t
         requires { i < length self.now.ahead }

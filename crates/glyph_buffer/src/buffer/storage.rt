@@ -10,8 +10,10 @@ use glyph_types::position::GlyphPosition;
 use std::alloc::AllocError;
 
 impl hb_buffer_t {
-    /// How many glyphs there are while no output is open.
+    /// How many glyphs there are while no output is open; while one is, how many the input has, read
+    /// ones included.
     pub fn len(&self) -> usize
+        ensures input { result ≡ self.now.read + length self.now.ahead }
         ensures count { self.now.is_open ≡ false → result ≡ length (all_glyphs self.now) }
         ensures within { self.now.is_open ≡ false → result ≤ self.now.max_len }
     {
