@@ -16,6 +16,7 @@ sides_of b = record {
   level = b.cluster_level;
   direction = b.direction;
   script = b.script;
+  scratch_flags = b.scratch_flags;
 }
 
 pub record IsSound (b : Inside) : Type 0 where

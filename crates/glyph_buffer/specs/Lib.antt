@@ -1,4 +1,7 @@
 pub mod Sides
+pub mod Merging
+pub mod Rooms
+pub mod Masks
 pub mod Inside
 pub mod Text
 pub mod Lending

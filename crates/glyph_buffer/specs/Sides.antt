@@ -1,8 +1,9 @@
 -- A buffer as its clients see it: the glyphs behind the cursor and the glyphs ahead of it.
-use Rattle.std.specs.Prelude.{ℕ, pos, ◌+◌, Bool, true, false, nat_le, not, ◌&&◌, if◌then◌else◌, List, [], ◌++◌, length, take, drop, map, reverse, replicate, bit_and, Option, None}
+use Rattle.std.specs.Prelude.{ℕ, pos, ◌+◌, Bool, true, false, nat_le, not, ◌&&◌, if◌then◌else◌, List, [], ◌++◌, length, take, drop, reverse, replicate, Option, None}
 use Rattle.glyph_types.specs.declared.info.hb_glyph_info_t.{hb_glyph_info_t}
 use Rattle.glyph_types.specs.declared.level.BufferClusterLevel.{BufferClusterLevel}
 use Rattle.glyph_types.specs.declared.level.BufferClusterLevel.TheVariants.{MonotoneGraphemes}
+pub use Rattle.glyph_lists.specs.Items.{flags_of}
 use Rattle.glyph_lists.specs.Items.{Item, Place, strip}
 use Rattle.glyph_lists.specs.Readings.{Run}
 use Rattle.shaping_text.specs.declared.direction.Direction.{Direction}
@@ -23,6 +24,8 @@ pub record Sides : Type 0 where
   pub level : BufferClusterLevel
   pub direction : Direction
   pub script : Option Script
+  -- what the stages of shaping tell each other of the glyphs
+  pub scratch_flags : ℕ
 
 -- all glyphs, in order
 abbrev pub all_glyphs : Sides → List hb_glyph_info_t
@@ -31,10 +34,6 @@ all_glyphs s = s.behind ++ s.ahead
 -- the glyphs without their clusters
 abbrev pub items_of : Sides → List Item
 items_of s = strip (all_glyphs s)
-
--- the glyph flags of glyphs
-abbrev pub flags_of : List hb_glyph_info_t → List ℕ
-flags_of gs = map (λ (g : hb_glyph_info_t). bit_and g.mask 7) gs
 
 -- what a stage of shaping sees
 abbrev pub run_of : Sides → Run
@@ -60,6 +59,7 @@ empty_buffer = record {
   level = MonotoneGraphemes;
   direction = Invalid;
   script = None;
+  scratch_flags = 0;
 }
 
 -- more glyphs at the end, with places of nothing
@@ -105,6 +105,14 @@ with_list gs ps s = record s { behind = take s.read gs; ahead = drop s.read gs; 
 -- glyphs and places turned round
 abbrev pub reversed : Sides → Sides
 reversed s = with_list (reverse (all_glyphs s)) (reverse s.places) s
+
+-- another cluster level
+abbrev pub with_level : BufferClusterLevel → Sides → Sides
+with_level l s = record s { level = l }
+
+-- other scratch flags
+abbrev pub with_scratch_flags : ℕ → Sides → Sides
+with_scratch_flags f s = record s { scratch_flags = f }
 
 -- each place nothing
 abbrev pub with_cleared_places : Sides → Sides

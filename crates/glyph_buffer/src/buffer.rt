@@ -2,13 +2,18 @@ ghost use Rattle.std.specs.Prelude.{◌≡◌};
 ghost use Rattle.glyph_buffer.specs.Sides.{empty_buffer};
 
 mod cursor;
+mod masks;
+mod merges;
+mod replacement;
 mod reversal;
 mod segment;
+mod settings;
 mod storage;
 
 use glyph_types::info::hb_glyph_info_t;
 use glyph_types::level::BufferClusterLevel;
 use glyph_types::position::GlyphPosition;
+use shaping_text::constants::{HB_BUFFER_SCRATCH_FLAG_DEFAULT, hb_buffer_scratch_flags_t};
 use shaping_text::direction::Direction;
 use shaping_text::script::Script;
 use std::alloc::Global;
@@ -28,6 +33,7 @@ pub struct hb_buffer_t {
     cluster_level: BufferClusterLevel,
     direction: Direction,
     script: Option<Script>,
+    scratch_flags: hb_buffer_scratch_flags_t,
 }
 
 impl Model for hb_buffer_t {
@@ -61,6 +67,7 @@ impl hb_buffer_t {
             cluster_level: BufferClusterLevel::MonotoneGraphemes,
             direction: Direction::Invalid,
             script: None,
+            scratch_flags: HB_BUFFER_SCRATCH_FLAG_DEFAULT,
         }
     }
 
@@ -78,5 +85,6 @@ impl hb_buffer_t {
         self.cluster_level = BufferClusterLevel::MonotoneGraphemes;
         self.direction = Direction::Invalid;
         self.script = None;
+        self.scratch_flags = HB_BUFFER_SCRATCH_FLAG_DEFAULT;
     }
 }

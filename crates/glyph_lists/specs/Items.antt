@@ -43,6 +43,13 @@ strip gs = map item_of gs
 abbrev pub clusters : List hb_glyph_info_t → List ℕ
 clusters gs = map (λ (g : hb_glyph_info_t). g.cluster) gs
 
+-- the three glyph flags of a glyph
+abbrev pub glyph_flags : hb_glyph_info_t → ℕ
+glyph_flags g = bit_and g.mask 7
+
+abbrev pub flags_of : List hb_glyph_info_t → List ℕ
+flags_of gs = map glyph_flags gs
+
 -- where a glyph stands: two advances and two offsets, and its link
 abbrev pub Place : Type 0
 Place = GlyphPosition

@@ -7,3 +7,5 @@ pub mod Events
 pub mod Ends
 pub mod Merges
 pub mod Deletions
+pub mod Glyphs
+pub mod Replacements

@@ -2,6 +2,8 @@ pub mod Items
 pub mod Events
 pub mod Order
 pub mod Merges
+pub mod Glyphs
+pub mod Replacements
 pub mod Deletions
 pub mod Readings
 pub mod Laws

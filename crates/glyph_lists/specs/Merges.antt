@@ -1,8 +1,8 @@
 -- What a merge of a range does to cluster numbers.
-use Rattle.std.specs.Prelude.{ℕ, ◌≡◌, min, if◌then◌else◌, IsTrue, List, [], ◌∷◌, map, fold}
+use Rattle.std.specs.Prelude.{ℕ, ◌≡◌, ◌+◌, min, if◌then◌else◌, IsTrue, List, [], ◌∷◌, map, fold}
 use Rattle.glyph_types.specs.declared.level.BufferClusterLevel.{BufferClusterLevel}
 use Rattle.glyph_types.specs.declared.level.BufferClusterLevel.TheVariants.{MonotoneGraphemes, MonotoneCharacters, Characters}
-use Rattle.glyph_lists.specs.Events.{stretch}
+use Rattle.glyph_lists.specs.Events.{replaced, stretch}
 use Rattle.glyph_lists.specs.Order.{has_number}
 
 -- the least of the numbers, or 0 where there is none
@@ -23,6 +23,10 @@ abbrev pub merged_at : BufferClusterLevel → ℕ → ℕ → List ℕ → List 
 merged_at MonotoneGraphemes from to ns = merged_numbers (stretch from to ns) ns
 merged_at MonotoneCharacters from to ns = merged_numbers (stretch from to ns) ns
 merged_at Characters from to ns = ns
+
+-- what is left where so many items at a place are merged and make room for others of the cluster of the first
+abbrev pub replaced_at : BufferClusterLevel → ℕ → ℕ → ℕ → List ℕ → List ℕ
+replaced_at level at taken given ns = replaced at taken given (merged_at level at (at + taken) ns)
 
 -- f makes the numbers of a range one
 abbrev pub IsOneOn : List ℕ → (ℕ → ℕ) → Type 0

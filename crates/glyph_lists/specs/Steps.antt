@@ -1,5 +1,5 @@
 -- One stage after another.
-use Rattle.std.proofs.Common.{ℕ, ◌≡◌, ◌≤◌, inl, inr, true, false, List, [], ◌∷◌, ◌++◌, length, Ok, Err, refl, sym, ap, subst, ◌∙◌, append_assoc}
+use Rattle.std.proofs.Common.{ℕ, ◌≡◌, ◌≤◌, ◌+◌, arith, inl, inr, true, false, List, [], ◌∷◌, ◌++◌, length, Ok, Err, refl, sym, ap, subst, ◌∙◌, append_assoc}
 use Rattle.std.specs.Prelude.{IsTrue}
 use Rattle.std.proofs.lemmas.List.{append-nil}
 use Rattle.std.proofs.lemmas.List.Sums.{fold-append}
@@ -7,13 +7,15 @@ use Rattle.glyph_types.specs.declared.cause.ShapeCause.{ShapeCause}
 use Rattle.glyph_types.specs.declared.level.BufferClusterLevel.{BufferClusterLevel}
 use Rattle.glyph_types.specs.declared.level.BufferClusterLevel.TheVariants.{MonotoneGraphemes, MonotoneCharacters, Characters}
 use Rattle.glyph_lists.specs.Items.{Item, Place, strip, clusters}
-use Rattle.glyph_lists.specs.Events.{Event, Delete, Join, after_event, after_events}
+use Rattle.glyph_lists.specs.Events.{Event, Delete, Join, Replace, replaced, after_event, after_events}
 use Rattle.glyph_lists.specs.Order.{IsOrdered, BringsNone, has_number}
 use Rattle.glyph_lists.specs.Deletions.{deleted}
-use Rattle.glyph_lists.specs.Merges.{merged_at}
+use Rattle.glyph_lists.specs.Merges.{merged_at, replaced_at}
 use Rattle.glyph_lists.specs.Readings.{Read, Reading, Stage, then_read, behind, and_then, eventless, with_event, as_it_is, always, Run, IsMonotone, events_at, IsFollowed, Follows, read_of}
 use Rattle.glyph_lists.specs.Lemmas.Events.{stays_ordered}
 use Rattle.glyph_lists.specs.Lemmas.Merges.{merge_joins, merged_at_brings}
+use Rattle.glyph_lists.specs.Lemmas.Drawn.{drawn_replaced}
+use Rattle.glyph_lists.specs.Lemmas.Numbers.{drawn_brings}
 use Rattle.glyph_lists.specs.Lemmas.Deletions.{deletion_is_event, deletion_brings_none}
 
 -- the events of two readings, one after the other
@@ -100,6 +102,24 @@ pub follows_merge : (from to : ℕ) (xs : List Item) (ps : List Place) (old new 
 follows_merge from to xs ps old new le items places level merged =
     let P : List ℕ → Type 0 = λ ns. BringsNone (clusters old.glyphs) ns in
     follows_event (Join from to) xs ps old new items places level (λ m o. merged ∙ merge_joins old.level from to (clusters old.glyphs) le m o) (subst P (sym merged) (merged_at_brings old.level from to (clusters old.glyphs)))
+
+replacement_parts : (level : BufferClusterLevel) (at taken given : ℕ) (ns : List ℕ) → IsMonotone level → IsOrdered ns → replaced_at level at taken given ns ≡ after_event ns (Replace at taken given)
+replacement_parts level at taken given ns m o = ap (replaced at taken given) (merge_joins level at (at + taken) ns (omega arith) m o)
+
+replacement_brings : (level : BufferClusterLevel) (at taken given : ℕ) (ns : List ℕ) → BringsNone ns (replaced_at level at taken given ns)
+replacement_brings level at taken given ns n h =
+    let mid = merged_at level at (at + taken) ns in
+    merged_at_brings level at (at + taken) ns n (drawn_brings (drawn_replaced at taken given mid) n h)
+
+-- a run in which some items were merged and made room for others follows a reading with their replacement
+pub follows_replacement : (at taken given : ℕ) (xs : List Item) (ps : List Place) (old new : Run) → strip new.glyphs ≡ xs → new.places ≡ ps → new.level ≡ old.level
+    → clusters new.glyphs ≡ replaced_at old.level at taken given (clusters old.glyphs)
+    → Follows (Ok (with_event (Replace at taken given) xs ps)) old new
+follows_replacement at taken given xs ps old new items places level are =
+    let P : List ℕ → Type 0 = λ ns. BringsNone (clusters old.glyphs) ns in
+    follows_event (Replace at taken given) xs ps old new items places level
+    (λ m o. are ∙ replacement_parts old.level at taken given (clusters old.glyphs) m o)
+    (subst P (sym are) (replacement_brings old.level at taken given (clusters old.glyphs)))
 
 deletion_parts : (level : BufferClusterLevel) (front : List ℕ) (n : ℕ) (back : List ℕ) → IsMonotone level → IsOrdered (front ++ n ∷ back) → deleted level front n back ≡ after_event (front ++ n ∷ back) (Delete (length front))
 deletion_parts level front n back m o = elim o [ inl rises ↦ deletion_is_event level false front n back m rises | inr falls ↦ deletion_is_event level true front n back m falls ]

@@ -1,4 +1,4 @@
-ghost use Rattle.std.specs.Prelude.{◌≡◌, ◌<◌, ◌≤◌, ◌+◌, length, true, false, Some, OnErr, IfOk, slice_get, slice_index_or};
+ghost use Rattle.std.specs.Prelude.{◌≡◌, ◌<◌, ◌+◌, length, true, false, Some, OnErr, IfOk, slice_get, slice_index_or};
 ghost use Rattle.std.specs.Borrow.{sem};
 ghost use Rattle.glyph_buffer.specs.Sides.{all_glyphs, with_output, moved_on, fits_next, fits_joined, synced, refused};
 ghost use Rattle.glyph_buffer.specs.Lending.{LendsGlyph, LendsPlace};
@@ -22,12 +22,22 @@ impl hb_buffer_t {
         Ok(true)
     }
 
-    /// How many glyphs were read since the output was opened, or stand behind the cursor where none is open.
+    /// How many glyphs were read since the output was opened; with none open, how many the cursor has passed.
     pub fn idx(&self) -> usize
-        ensures value { result ≡ self.now.read }
-        ensures within { result ≤ self.now.max_len }
+        ensures { result ≡ self.now.read }
     {
         self.idx
+    }
+
+    /// How many glyphs stand behind the cursor: those of the output while one is open.
+    pub fn out_len(&self) -> usize
+        ensures { result ≡ length self.now.behind }
+    {
+        if self.have_output {
+            self.out_info.len()
+        } else {
+            self.idx
+        }
     }
 
     /// The i-th glyph from the cursor on.

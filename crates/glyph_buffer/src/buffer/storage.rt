@@ -10,11 +10,12 @@ use glyph_types::position::GlyphPosition;
 use std::alloc::AllocError;
 
 impl hb_buffer_t {
-    /// How many glyphs there are while no output is open, else how many were read or are ahead of the cursor.
+    /// How many glyphs there are while no output is open; while one is, how many the input has, read
+    /// ones included.
     pub fn len(&self) -> usize
-        ensures total { result ≡ self.now.read + length self.now.ahead }
+        ensures input { result ≡ self.now.read + length self.now.ahead }
         ensures count { self.now.is_open ≡ false → result ≡ length (all_glyphs self.now) }
-        ensures within { result ≤ self.now.max_len }
+        ensures within { self.now.is_open ≡ false → result ≤ self.now.max_len }
     {
         self.info.len()
     }

@@ -1,0 +1,41 @@
+-- What merges and replacements of glyphs make of a buffer.
+use Rattle.std.specs.Prelude.{ℕ, ◌+◌, ◌-◌, ◌==◌, ◌||◌, Bool, if◌then◌else◌, List, ◌++◌, length, take, drop, Option}
+use Rattle.std.specs.Int.RustNames.{bit_or}
+use Rattle.glyph_types.specs.declared.info.hb_glyph_info_t.{hb_glyph_info_t}
+use Rattle.glyph_lists.specs.Items.{clusters}
+use Rattle.glyph_lists.specs.Events.{first_of, last_of, or}
+use Rattle.glyph_lists.specs.Glyphs.{glyphs_merged_at, is_marked_at}
+use Rattle.glyph_lists.specs.Replacements.{copied, glyph_numbered}
+use Rattle.glyph_buffer.specs.Sides.{Sides, all_glyphs, has_output_room}
+
+-- the place among all glyphs of an index of the input; with no output open the input is all glyphs
+abbrev pub place_of : ℕ → Sides → ℕ
+place_of i s = length s.behind + i - s.read
+
+-- other glyphs on both sides, as many as before
+abbrev pub with_glyphs : List hb_glyph_info_t → Sides → Sides
+with_glyphs gs s = record s { behind = take (length s.behind) gs; ahead = drop (length s.behind) gs }
+
+-- the scratch flag that a glyph has one of the three flags
+abbrev pub telling_flags : Bool → ℕ → ℕ
+telling_flags any flags = if any then bit_or flags 32 else flags
+
+-- the places from `from` up to before `to` merge; at the level that keeps characters apart they are marked
+abbrev pub with_merged : ℕ → ℕ → Sides → Sides
+with_merged from to s = record (with_glyphs (glyphs_merged_at s.level from to (all_glyphs s)) s) { scratch_flags = telling_flags (is_marked_at s.level from to (clusters (all_glyphs s))) s.scratch_flags }
+
+-- what new glyphs are copies of: the glyph at the cursor, past the end the last behind it
+abbrev pub model : Sides → Option hb_glyph_info_t
+model s = or (first_of s.ahead) (last_of s.behind)
+
+-- so many glyphs ahead make room for others behind the cursor
+abbrev pub with_copied : ℕ → List ℕ → Sides → Sides
+with_copied taken numbers s = record s { behind = s.behind ++ copied glyph_numbered (model s) numbers; ahead = drop taken s.ahead; read = s.read + taken }
+
+-- so many glyphs ahead merge, and make room for others
+abbrev pub with_replaced : ℕ → List ℕ → Sides → Sides
+with_replaced taken numbers s = with_copied taken numbers (with_merged (length s.behind) (length s.behind + taken) s)
+
+-- whether so many copies may be put behind the output; without a glyph none is made
+abbrev pub fits_copies : ℕ → Sides → Bool
+fits_copies n s = (length (all_glyphs s) == 0) || has_output_room n s

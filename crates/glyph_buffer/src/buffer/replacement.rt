@@ -1,0 +1,118 @@
+ghost use Rattle.std.specs.Prelude.{◌≡◌, ◌+◌, ◌≤◌, ◌++◌, not, length, true, false, Ok, OnErr, IfOk, drop, map, vec_len, vec_capacity};
+ghost use Rattle.glyph_lists.specs.Items.{clusters, flags_of};
+ghost use Rattle.glyph_lists.specs.Events.{first_of, last_of, or, replaced, stretch};
+ghost use Rattle.glyph_lists.specs.Merges.{replaced_at};
+ghost use Rattle.glyph_lists.specs.Glyphs.{beside_merged, flags_merged_at, glyphs_merged_at, is_marked_at};
+ghost use Rattle.glyph_lists.specs.Replacements.{copied, glyph_numbered, items_replaced};
+ghost use Rattle.glyph_buffer.specs.Sides.{all_glyphs, items_of, refused};
+ghost use Rattle.glyph_buffer.specs.Merging.{fits_copies, with_replaced};
+
+use super::hb_buffer_t;
+use super::merges::{merge_lists, telling_flags};
+use glyph_types::info::hb_glyph_info_t;
+use glyph_types::level::BufferClusterLevel;
+use std::alloc::AllocError;
+
+impl hb_buffer_t {
+    /// Merges the `num_in` glyphs at the cursor and takes them out; for each of the `num_out` numbers a copy of the first of
+    /// them, past the end of the last of the output, goes behind the output. With neither, none is made. It answers
+    /// false, and changes neither list, where the output would have more than it may.
+    pub fn replace_glyphs(
+        &mut self,
+        num_in: usize,
+        num_out: usize,
+        glyph_data: &[u32],
+    ) -> Result<bool, AllocError>
+        requires open { self.old.is_open ≡ true }
+        requires taken { num_in ≤ length self.old.ahead }
+        requires given { num_out ≡ length glyph_data.now }
+        ensures held { IfOk result (λ b. b ≡ fits_copies num_out self.old) }
+        ensures replaced { result ≡ Ok true → self.new ≡ with_replaced num_in glyph_data.now self.old }
+        ensures items { result ≡ Ok true → items_of self.new ≡ items_replaced (length self.old.behind) num_in glyph_data.now (items_of self.old) }
+        ensures clusters { result ≡ Ok true → clusters (all_glyphs self.new) ≡ replaced_at self.old.level (length self.old.behind) num_in num_out (clusters (all_glyphs self.old)) }
+        ensures flags { result ≡ Ok true → flags_of (all_glyphs self.new) ≡ replaced (length self.old.behind) num_in num_out (flags_merged_at self.old.level (length self.old.behind) (length self.old.behind + num_in) (all_glyphs self.old)) }
+        ensures full { result ≡ Ok false → self.new ≡ refused self.old }
+        ensures err { OnErr result (self.new ≡ self.old) }
+    {
+        if self.lacks_room(num_out) {
+            self.successful = false;
+            return Ok(false);
+        }
+        self.out_info.reserve(num_out)?;
+        let marked = replace_lists(
+            &mut self.info,
+            &mut self.out_info,
+            self.idx,
+            num_in,
+            glyph_data,
+            self.cluster_level,
+        );
+        self.idx += num_in;
+        self.scratch_flags = telling_flags(marked, self.scratch_flags);
+        Ok(true)
+    }
+
+    /// Whether so many copies can't be put behind the output.
+    fn lacks_room(&self, count: usize) -> bool
+        requires { self.now.is_open ≡ true }
+        ensures { result ≡ not (fits_copies count self.now) }
+    {
+        let holds_some = !self.out_info.is_empty() || self.idx < self.info.len();
+        holds_some && self.max_len - self.out_info.len() < count
+    }
+}
+
+/// Merges the glyphs taken from the input, and puts copies of the first of them behind the output; answers whether a
+/// glyph was marked.
+fn replace_lists(
+    info: &mut Vec<hb_glyph_info_t>,
+    out: &mut Vec<hb_glyph_info_t>,
+    at: usize,
+    taken: usize,
+    numbers: &[u32],
+    level: BufferClusterLevel,
+) -> bool
+    requires within { at + taken ≤ vec_len info.old }
+    requires room { vec_len out.old + length numbers.now ≤ vec_capacity out.old }
+    ensures input { info.new.items ≡ glyphs_merged_at level at (at + taken) info.old.items }
+    ensures output { out.new.items ≡ beside_merged level (stretch at (at + taken) (clusters info.old.items)) out.old.items ++ copied glyph_numbered (or (first_of (drop at info.new.items)) (last_of (beside_merged level (stretch at (at + taken) (clusters info.old.items)) out.old.items))) numbers.now }
+    ensures any { result ≡ is_marked_at level at (at + taken) (clusters info.old.items) }
+    ensures input_len { vec_len info.new ≡ vec_len info.old }
+{
+    let marked = merge_lists(info, out, at, at + taken, level);
+    let model = model_of(&info[at..], out);
+    push_copies(out, model, numbers);
+    marked
+}
+
+fn model_of(ahead: &[hb_glyph_info_t], behind: &[hb_glyph_info_t]) -> Option<hb_glyph_info_t>
+    ensures { result ≡ or (first_of ahead.now) (last_of behind.now) }
+{
+    match ahead {
+        [first, ..] => Some(*first),
+        [] => behind.last().copied(),
+    }
+}
+
+fn push_copies(glyphs: &mut Vec<hb_glyph_info_t>, model: Option<hb_glyph_info_t>, numbers: &[u32])
+    requires { vec_len glyphs.old + length numbers.now ≤ vec_capacity glyphs.old }
+    ensures { glyphs.new.items ≡ glyphs.old.items ++ copied glyph_numbered model numbers.now }
+{
+    if let Some(model) = model {
+        push_numbered(glyphs, model, numbers);
+    }
+}
+
+fn push_numbered(glyphs: &mut Vec<hb_glyph_info_t>, model: hb_glyph_info_t, numbers: &[u32])
+    requires { vec_len glyphs.old + length numbers.now ≤ vec_capacity glyphs.old }
+    ensures { glyphs.new.items ≡ glyphs.old.items ++ map (glyph_numbered model) numbers.now }
+{
+    for number in numbers {
+        glyphs
+            .push(hb_glyph_info_t {
+                glyph_id: *number,
+                ..model
+            })
+            .unwrap();
+    }
+}

@@ -1,0 +1,33 @@
+ghost use Rattle.std.specs.Prelude.{◌≡◌};
+ghost use Rattle.glyph_buffer.specs.Sides.{with_level, with_scratch_flags};
+
+use super::hb_buffer_t;
+use glyph_types::level::BufferClusterLevel;
+use shaping_text::constants::hb_buffer_scratch_flags_t;
+
+impl hb_buffer_t {
+    pub fn cluster_level(&self) -> BufferClusterLevel
+        ensures { result ≡ self.now.level }
+    {
+        self.cluster_level
+    }
+
+    pub fn set_cluster_level(&mut self, level: BufferClusterLevel)
+        ensures { self.new ≡ with_level level self.old }
+    {
+        self.cluster_level = level;
+    }
+
+    /// What the stages of shaping tell each other of the glyphs, by the bits `HB_BUFFER_SCRATCH_FLAG_`.
+    pub fn scratch_flags(&self) -> hb_buffer_scratch_flags_t
+        ensures { result ≡ self.now.scratch_flags }
+    {
+        self.scratch_flags
+    }
+
+    pub fn set_scratch_flags(&mut self, flags: hb_buffer_scratch_flags_t)
+        ensures { self.new ≡ with_scratch_flags flags self.old }
+    {
+        self.scratch_flags = flags;
+    }
+}

@@ -1,0 +1,62 @@
+ghost use Rattle.std.specs.Prelude.{◌≡◌, ◌==◌, ◌≤◌, not, length, map};
+ghost use Rattle.std.specs.List.{list_any};
+ghost use Rattle.glyph_lists.specs.Items.{clusters};
+ghost use Rattle.glyph_lists.specs.Events.{stretch};
+ghost use Rattle.glyph_lists.specs.Merges.{least_number};
+ghost use Rattle.glyph_lists.specs.Glyphs.{glyphs_marked, marked_outside, tells_apart};
+
+use crate::merges::least_cluster;
+use glyph_types::info::{hb_glyph_info_t, hb_mask_t};
+
+/// Sets flags on the glyphs from `start` up to before `end` outside the least cluster among them; answers whether there
+/// are such.
+#[tactic(auto, using(crate::proofs::Parts::marked_parts, crate::proofs::Parts::told_apart))]
+pub fn mark_within(
+    glyphs: &mut [hb_glyph_info_t],
+    start: usize,
+    end: usize,
+    flags: hb_mask_t,
+) -> bool
+    requires ordered { start ≤ end }
+    requires within { end ≤ length glyphs.old }
+    ensures marked { glyphs.new ≡ glyphs_marked flags start end glyphs.old }
+    ensures any { result ≡ tells_apart (stretch start end (clusters glyphs.old)) }
+{
+    let range = &mut glyphs[start..end];
+    let low = least_cluster(range);
+    let any = has_other_cluster(range, low);
+    mark_outside(range, low, flags);
+    any
+}
+
+/// Whether one of the glyphs is outside the cluster.
+fn has_other_cluster(glyphs: &[hb_glyph_info_t], cluster: u32) -> bool
+    ensures { result ≡ list_any (λ n. not (n == cluster)) (clusters glyphs.now) }
+{
+    glyphs
+        .iter()
+        .map(|glyph| glyph.cluster)
+        .any(|other| other != cluster)
+}
+
+#[tactic(auto, using(glyph_lists::specs::Lists::map_step))]
+fn mark_outside(glyphs: &mut [hb_glyph_info_t], cluster: u32, flags: hb_mask_t)
+    ensures { glyphs.new ≡ map (marked_outside flags cluster) glyphs.old }
+{
+    for glyph in glyphs.iter_mut() {
+        *glyph = marked(*glyph, cluster, flags);
+    }
+}
+
+fn marked(glyph: hb_glyph_info_t, cluster: u32, flags: hb_mask_t) -> hb_glyph_info_t
+    ensures { result ≡ marked_outside flags cluster glyph }
+{
+    if glyph.cluster == cluster {
+        glyph
+    } else {
+        hb_glyph_info_t {
+            mask: glyph.mask | flags,
+            ..glyph
+        }
+    }
+}

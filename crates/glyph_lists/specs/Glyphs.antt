@@ -1,0 +1,66 @@
+-- What merges and requests for flags make of glyphs.
+use Rattle.std.specs.Prelude.{ℕ, ◌==◌, not, Bool, false, if◌then◌else◌, List, ◌++◌, map, take, drop, slice_range}
+use Rattle.std.specs.List.{list_any}
+use Rattle.std.specs.Int.RustNames.{bit_or}
+use Rattle.glyph_types.specs.declared.info.hb_glyph_info_t.{hb_glyph_info_t}
+use Rattle.glyph_types.specs.declared.level.BufferClusterLevel.{BufferClusterLevel}
+use Rattle.glyph_types.specs.declared.level.BufferClusterLevel.TheVariants.{MonotoneGraphemes, MonotoneCharacters, Characters}
+use Rattle.glyph_lists.specs.Items.{clusters, without_flags, glyph_flags, flags_of}
+use Rattle.glyph_lists.specs.Events.{stretch}
+use Rattle.glyph_lists.specs.Merges.{least_number, merged}
+
+-- a glyph in a cluster: where it was in another, its three flags go
+abbrev pub in_cluster : ℕ → hb_glyph_info_t → hb_glyph_info_t
+in_cluster c g = if g.cluster == c then g else record g { cluster = c; mask = without_flags g.mask }
+
+-- the clusters that occur in a range become the least of them, everywhere
+abbrev pub glyphs_merged : List ℕ → List hb_glyph_info_t → List hb_glyph_info_t
+glyphs_merged range gs = map (λ (g : hb_glyph_info_t). in_cluster (merged range g.cluster) g) gs
+
+-- whether a range has a cluster beside its least
+abbrev pub tells_apart : List ℕ → Bool
+tells_apart range = list_any (λ n. not (n == least_number range)) range
+
+-- a glyph, with flags set where it is outside a cluster
+abbrev pub marked_outside : ℕ → ℕ → hb_glyph_info_t → hb_glyph_info_t
+marked_outside bits low g = if g.cluster == low then g else record g { mask = bit_or g.mask bits }
+
+-- the places from `from` up to before `to` have flags set outside the least cluster among them
+abbrev pub glyphs_marked : ℕ → ℕ → ℕ → List hb_glyph_info_t → List hb_glyph_info_t
+glyphs_marked bits from to gs = take from gs ++ map (marked_outside bits (least_number (stretch from to (clusters gs)))) (slice_range gs from to) ++ drop to gs
+
+-- what a merge of such places leaves: at the level that keeps characters apart they are marked as unsafe to break and to concat
+abbrev pub glyphs_merged_at : BufferClusterLevel → ℕ → ℕ → List hb_glyph_info_t → List hb_glyph_info_t
+glyphs_merged_at MonotoneGraphemes from to gs = glyphs_merged (stretch from to (clusters gs)) gs
+glyphs_merged_at MonotoneCharacters from to gs = glyphs_merged (stretch from to (clusters gs)) gs
+glyphs_merged_at Characters from to gs = glyphs_marked 3 from to gs
+
+-- what such a merge leaves of glyphs that stand in another list than the range
+abbrev pub beside_merged : BufferClusterLevel → List ℕ → List hb_glyph_info_t → List hb_glyph_info_t
+beside_merged MonotoneGraphemes range gs = glyphs_merged range gs
+beside_merged MonotoneCharacters range gs = glyphs_merged range gs
+beside_merged Characters range gs = gs
+
+-- whether a merge of such places marks a glyph
+abbrev pub is_marked_at : BufferClusterLevel → ℕ → ℕ → List ℕ → Bool
+is_marked_at MonotoneGraphemes from to ns = false
+is_marked_at MonotoneCharacters from to ns = false
+is_marked_at Characters from to ns = tells_apart (stretch from to ns)
+
+-- the glyph flags after a merge: a glyph whose cluster changes has none
+abbrev pub flags_merged : List ℕ → List hb_glyph_info_t → List ℕ
+flags_merged range gs = map (λ (g : hb_glyph_info_t). if g.cluster == merged range g.cluster then glyph_flags g else 0) gs
+
+-- the glyph flags of a glyph that is marked where it is outside a cluster
+abbrev pub flags_outside : ℕ → ℕ → hb_glyph_info_t → ℕ
+flags_outside bits low g = if g.cluster == low then glyph_flags g else bit_or (glyph_flags g) bits
+
+-- the glyph flags after some places were marked outside the least cluster among them
+abbrev pub flags_marked : ℕ → ℕ → ℕ → List hb_glyph_info_t → List ℕ
+flags_marked bits from to gs = take from (flags_of gs) ++ map (flags_outside bits (least_number (stretch from to (clusters gs)))) (slice_range gs from to) ++ drop to (flags_of gs)
+
+-- the glyph flags after a merge of such places
+abbrev pub flags_merged_at : BufferClusterLevel → ℕ → ℕ → List hb_glyph_info_t → List ℕ
+flags_merged_at MonotoneGraphemes from to gs = flags_merged (stretch from to (clusters gs)) gs
+flags_merged_at MonotoneCharacters from to gs = flags_merged (stretch from to (clusters gs)) gs
+flags_merged_at Characters from to gs = flags_marked 3 from to gs
