@@ -1,1 +1,5 @@
 pub mod Lists
+pub mod Kept
+pub mod Ligated
+pub mod Does
+pub mod First

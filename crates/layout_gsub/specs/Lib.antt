@@ -1,2 +1,3 @@
 pub mod Actions
 pub mod Ligatures
+pub mod Buffers

@@ -23,18 +23,22 @@ begins_with mask (c ∷ components) (x ∷ xs) = is_component mask c x && begins
 abbrev pub with_number : ℕ → Item → Item
 with_number n x = record x { number = n }
 
--- so many items from the cut on become one glyph, which is done
+-- so many items from the cut on became one glyph, which is done
+abbrev pub ligature_cut : ℕ → ℕ → Cut → Cut
+ligature_cut count glyph c = record { front = c.front ++ map (with_number glyph) (take 1 c.rest); rest = drop count c.rest }
+
+-- their parts of the text become one
 abbrev pub ligated : ℕ → ℕ → Cut → Outcome
-ligated count glyph c = Acts (record { front = c.front ++ map (with_number glyph) (take 1 c.rest); rest = drop count c.rest }) (Replace (length c.front) count 1 ∷ [])
+ligated count glyph c = Acts (ligature_cut count glyph c) (Replace (length c.front) count 1 ∷ [])
 
 -- a ligature takes the place of the item at the cut and its components behind it
-abbrev pub ligature : ℕ → LigatureTable → Action
-ligature mask l c = if begins_with mask l.components (drop 1 c.rest) then ligated (1 + length l.components) l.glyph c else Passes
+abbrev pub ligature_rule : ℕ → LigatureTable → Action
+ligature_rule mask l c = if begins_with mask l.components (drop 1 c.rest) then ligated (1 + length l.components) l.glyph c else Passes
 
 -- of the ligatures that begin with a glyph the first that matches
 abbrev pub ligature_set : ℕ → Option LigatureSetTable → Action
 ligature_set mask None c = Passes
-ligature_set mask (Some set) c = first_rule (ligature mask) set.ligatures c
+ligature_set mask (Some set) c = first_rule (ligature_rule mask) set.ligatures c
 
 -- a subtable's ligatures are tried at a glyph that it covers
 abbrev pub ligature_subtable : ℕ → List LigatureSetTable → Action

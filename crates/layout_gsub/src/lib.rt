@@ -2,3 +2,4 @@
 #![tactic(auto)]
 
 mod ligature;
+pub mod lookup;

@@ -1,0 +1,57 @@
+ghost use Rattle.std.specs.Prelude.{◌≡◌, ◌<◌, true, [], length, IfOk, IfErr};
+ghost use Rattle.glyph_buffer.specs.Sides.{items_of};
+ghost use Rattle.layout_gsub.specs.Actions.{first_rule};
+ghost use Rattle.layout_gsub.specs.Buffers.{Does, are_glyphs, cut_of};
+ghost use Rattle.layout_gsub.specs.Ligatures.{ligature_subtable, lookup_action};
+
+use crate::ligature::{apply_ligature_subst, shares_mask};
+use glyph_buffer::buffer::hb_buffer_t;
+use glyph_types::cause::ShapeCause;
+use layout_font::ligature::LigatureSubst;
+use layout_font::lookup::{Lookup, Subtables};
+
+#[tactic(auto, using(crate::proofs::Does::does_first, crate::proofs::Does::passed_on, crate::proofs::Does::not_done, crate::proofs::Does::rule_step, crate::proofs::Does::no_rules))]
+fn apply_subtables(
+    subtables: &[LigatureSubst],
+    mask: u32,
+    buffer: &mut hb_buffer_t,
+) -> Result<bool, ShapeCause>
+    requires open { buffer.old.is_open ≡ true }
+    requires placeless { buffer.old.places ≡ [] }
+    requires there { 0 < length buffer.old.ahead }
+    requires room { length buffer.old.behind < buffer.old.max_len }
+    requires number { are_glyphs (items_of buffer.old) ≡ true }
+    ensures ok { IfOk result (λ acted. Does (first_rule (ligature_subtable mask) subtables.now (cut_of buffer.old)) acted buffer.old buffer.new) }
+    ensures err { IfErr result (λ e. e ≡ ShapeCause.OutOfMemory) }
+{
+    for subtable in subtables {
+        if apply_ligature_subst(subtable, mask, buffer)? {
+            return Ok(true);
+        }
+    }
+    Ok(false)
+}
+
+#[tactic(auto, using(crate::proofs::First::lookup_passes, crate::proofs::First::lookup_tries))]
+/// Does what a lookup does at the glyph at the cursor, where the glyph has a bit of the mask: what the first of its
+/// subtables does that acts. It tells whether one acted, and leaves the buffer as it was where none did.
+pub fn apply_lookup(
+    lookup: &Lookup,
+    mask: u32,
+    buffer: &mut hb_buffer_t,
+) -> Result<bool, ShapeCause>
+    requires open { buffer.old.is_open ≡ true }
+    requires placeless { buffer.old.places ≡ [] }
+    requires there { 0 < length buffer.old.ahead }
+    requires room { length buffer.old.behind < buffer.old.max_len }
+    requires number { are_glyphs (items_of buffer.old) ≡ true }
+    ensures ok { IfOk result (λ acted. Does (lookup_action mask lookup.now (cut_of buffer.old)) acted buffer.old buffer.new) }
+    ensures err { IfErr result (λ e. e ≡ ShapeCause.OutOfMemory) }
+{
+    if !shares_mask(mask, buffer.cur(0)) {
+        return Ok(false);
+    }
+    let Subtables::Ligature(subtables) = lookup.subtables();
+    let acted = apply_subtables(subtables, mask, buffer)?;
+    Ok(acted)
+}

@@ -1,0 +1,4 @@
+// The lookups of a stage, each tried at all glyphs of a buffer.
+#![tactic(auto)]
+
+pub mod apply;
