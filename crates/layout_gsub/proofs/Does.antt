@@ -1,5 +1,5 @@
 -- What a call does where it does what the first of some rules does.
-use Rattle.std.proofs.Common.{ℕ, ◌≡◌, ◌<◌, ◌+◌, Bool, true, false, List, [], ◌∷◌, drop, length, refl, sym, ap, subst, ◌∙◌, arith, get_or, ◌≤◌}
+use Rattle.std.proofs.Common.{ℕ, ◌≡◌, ◌<◌, ◌+◌, true, false, List, drop, length, refl, get_or, ◌≤◌}
 use Rattle.std.proofs.lemmas.List.{drop_more, drop_all}
 use Rattle.glyph_buffer.specs.Sides.{Sides}
 use Rattle.layout_gsub.specs.Actions.{Cut, Outcome, Passes, Acts, Refuses, Action, or_else, first_rule}

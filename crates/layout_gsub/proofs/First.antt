@@ -1,6 +1,5 @@
 -- What a rule makes of the glyph at the cursor.
-use Rattle.std.proofs.Common.{ℕ, ◌≡◌, ◌≤◌, Bool, true, false, nat_le, List, [], ◌∷◌, ◌++◌, refl, sym, ap, ◌∙◌, arith, slice_get, Some, None}
-use Rattle.std.specs.Prelude.{Option}
+use Rattle.std.proofs.Common.{ℕ, ◌≡◌, ◌≤◌, true, false, nat_le, List, [], ◌∷◌, refl, sym, ap, ◌∙◌, arith, slice_get, Some, None}
 use Rattle.std.proofs.lemmas.Grind.{common_steps}
 use Rattle.std.proofs.lemmas.Bool.Decides.{nat_tests}
 use Rattle.std.proofs.lemmas.List.{map-append}
@@ -9,7 +8,7 @@ use Rattle.glyph_lists.specs.Items.{Item, item_of, strip}
 use Rattle.glyph_lists.specs.Events.{first_of}
 use Rattle.glyph_buffer.specs.Sides.{Sides, items_of}
 use Rattle.layout_font.specs.Layout.{LigatureSetTable, LookupTable, ligature_set_of}
-use Rattle.layout_gsub.specs.Actions.{Cut, Outcome, Passes, Action, at_first, first_rule}
+use Rattle.layout_gsub.specs.Actions.{Passes, at_first, first_rule}
 use Rattle.layout_gsub.specs.Ligatures.{ligature_rule, ligature_set, ligature_subtable, lookup_at, lookup_action, shares_mask, subtables}
 use Rattle.layout_gsub.specs.Buffers.{are_glyphs, cut_of}
 use Rattle.layout_gsub.proofs.Kept.{all_of_back}

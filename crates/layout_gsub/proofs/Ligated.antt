@@ -1,27 +1,25 @@
 -- What the replacement of a ligature's components does to a buffer.
-use Rattle.std.proofs.Common.{ℕ, ◌≡◌, ◌≤◌, ◌<◌, ◌+◌, ◌-◌, ◌==◌, ◌&&◌, Bool, true, false, nat_le, if◌then◌else◌, List, [], ◌∷◌, ◌++◌, length, map, take, drop, refl, sym, ap, subst, ◌∙◌, arith, Ok}
-use Rattle.std.specs.Prelude.{Option, Some, None}
+use Rattle.std.proofs.Common.{ℕ, ◌≡◌, ◌≤◌, ◌<◌, ◌+◌, ◌-◌, ◌==◌, true, List, [], ◌∷◌, ◌++◌, length, map, take, drop, refl, sym, ap, subst, ◌∙◌, arith}
+use Rattle.std.specs.Prelude.{Option}
 use Rattle.std.specs.List.{list_all}
 use Rattle.std.proofs.lemmas.List.{take-map, drop-map, map-append, length-map, length-append, length-drop, length-take-le}
-use Rattle.std.proofs.lemmas.List.Folds.{list_all-append}
 use Rattle.std.proofs.lemmas.Grind.{common_steps}
-use Rattle.std.proofs.lemmas.Bool.Decides.{nat_tests}
 use Rattle.std.proofs.Math.Seq.{take-append_seam, drop-append_seam}
 use Rattle.glyph_types.specs.declared.info.hb_glyph_info_t.{hb_glyph_info_t}
-use Rattle.glyph_lists.specs.Items.{Item, item_of, strip, clusters, glyph_flags, flags_of}
+use Rattle.glyph_lists.specs.Items.{Item, item_of, strip, clusters, flags_of}
 use Rattle.glyph_lists.specs.Events.{Replace, first_of, last_of, or, replaced}
 use Rattle.glyph_lists.specs.Merges.{replaced_at}
 use Rattle.glyph_lists.specs.Glyphs.{glyphs_merged_at, flags_merged_at}
 use Rattle.glyph_lists.specs.Replacements.{copied, glyph_numbered}
 use Rattle.glyph_lists.specs.Lemmas.Glyphs.{strip_merged_at}
-use Rattle.glyph_lists.specs.Readings.{IsFollowed, Follows, with_event}
+use Rattle.glyph_lists.specs.Readings.{IsFollowed}
 use Rattle.glyph_lists.specs.Steps.{follows_replacement}
 use Rattle.glyph_buffer.specs.Sides.{Sides, all_glyphs, items_of, run_of}
 use Rattle.glyph_buffer.specs.Merging.{with_replaced}
 use Rattle.layout_font.specs.Layout.{LigatureTable}
-use Rattle.layout_gsub.specs.Actions.{Cut, whole}
+use Rattle.layout_gsub.specs.Actions.{whole}
 use Rattle.layout_gsub.specs.Ligatures.{with_number, ligature_cut, ligature_rule, begins_with}
-use Rattle.layout_gsub.specs.Buffers.{cut_of, acted_read, are_glyphs, have_no_flags, IsOpenStill, IsRead, IsActed, Does}
+use Rattle.layout_gsub.specs.Buffers.{cut_of, acted_read, are_glyphs, IsRead, IsActed, Does}
 use Rattle.layout_gsub.proofs.Kept.{no_flags_replaced, glyphs_replaced}
 
 -- the glyphs after a merge of those ahead, seen from the cursor

@@ -1,7 +1,7 @@
 -- Ligature substitution (OpenType, GSUB lookup type 4): several glyphs become one.
 use Rattle.std.specs.Prelude.{ℕ, ◌+◌, ◌==◌, ◌&&◌, Bool, true, false, not, if◌then◌else◌, List, [], ◌∷◌, ◌++◌, map, length, take, drop, Option, Some, None, bit_and}
 use Rattle.glyph_lists.specs.Items.{Item}
-use Rattle.glyph_lists.specs.Events.{Event, Replace, first_of}
+use Rattle.glyph_lists.specs.Events.{Replace, first_of}
 use Rattle.layout_font.specs.Layout.{LigatureTable, LigatureSetTable, SubtableList, ligature_subtables, LookupTable, ligature_set_of}
 use Rattle.layout_gsub.specs.Actions.{Cut, Outcome, Passes, Acts, Action, first_rule, at_first}
 

@@ -1,5 +1,5 @@
 -- A lookup tried at each place of a list, and the lookups of a stage (OpenType, chapter 2).
-use Rattle.std.specs.Prelude.{ℕ, suc, zero, List, [], ◌∷◌, length, Option, Some, None, Result, Ok, Err, slice_get}
+use Rattle.std.specs.Prelude.{ℕ, suc, zero, List, [], ◌∷◌, length, Option, Some, None, Ok, Err, slice_get}
 use Rattle.glyph_lists.specs.Items.{Item, Place}
 use Rattle.glyph_lists.specs.Readings.{Read, Reading, Stage, behind, and_then, eventless, always, as_it_is}
 use Rattle.glyph_buffer.specs.Sides.{zero_places}

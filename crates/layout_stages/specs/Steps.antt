@@ -1,6 +1,6 @@
 -- What one step of a lookup over a buffer leaves.
-use Rattle.std.specs.Prelude.{ℕ, suc, ◌≡◌, ◌≤◌, ◌+◌, ◌-◌, true, length}
-use Rattle.glyph_lists.specs.Readings.{Run, IsMonotone, Follows}
+use Rattle.std.specs.Prelude.{ℕ, suc, ◌≡◌, ◌≤◌, ◌+◌, ◌-◌, true, false, [], length}
+use Rattle.glyph_lists.specs.Readings.{Run, IsMonotone, Follows, read_of, Stage}
 use Rattle.glyph_buffer.specs.Sides.{Sides, all_glyphs, items_of, run_of}
 use Rattle.layout_gsub.specs.Actions.{Action}
 use Rattle.layout_gsub.specs.Buffers.{cut_of, are_glyphs, have_no_flags, IsOpenStill}
@@ -20,14 +20,20 @@ pub record IsStep (act : Action) (old new : Sides) : Type 0 where
   pub sane : IsSane old new
   pub follows : (n : ℕ) (final : Run) → Follows (tried act n (cut_of new)) (run_of new) final → Follows (tried act (suc n) (cut_of old)) (run_of old) final
 
--- a call that changes a closed buffer's glyphs and places leaves all else
-pub record IsClosedStill (old new : Sides) : Type 0 where
-  pub is_open : new.is_open ≡ old.is_open
-  pub behind : new.behind ≡ []
-  pub read : new.read ≡ 0
-  pub placed : length new.places ≡ length (all_glyphs new)
+-- a buffer without an output, with the cursor in front of all glyphs and a place for each
+pub record IsReady (s : Sides) : Type 0 where
+  pub closed : s.is_open ≡ false
+  pub front : s.behind ≡ []
+  pub unread : s.read ≡ 0
+  pub placed : length s.places ≡ length (all_glyphs s)
+  pub unrefused : s.has_refused ≡ false
+
+-- a stage was done on a buffer: its glyphs, places and clusters follow what is read of them, and the rest stays
+pub record IsDone (stage : Stage) (old new : Sides) : Type 0 where
+  pub follows : Follows (read_of stage (run_of old)) (run_of old) (run_of new)
+  pub ready : IsReady new
   pub level : new.level ≡ old.level
   pub limit : new.max_len ≡ old.max_len
-  pub refused : new.has_refused ≡ old.has_refused
   pub direction : new.direction ≡ old.direction
   pub script : new.script ≡ old.script
+  pub sane : IsSane old new

@@ -1,16 +1,20 @@
-ghost use Rattle.std.specs.Prelude.{◌≡◌, ◌<◌, ◌≤◌, ◌+◌, true, false, [], length, IfErr, OnOk};
+ghost use Rattle.std.specs.Prelude.{◌≡◌, ◌<◌, ◌≤◌, ◌+◌, true, false, [], length, slice_get, IfErr, OnOk};
 ghost use Rattle.glyph_buffer.specs.Sides.{items_of};
 ghost use Rattle.layout_gsub.specs.Buffers.{are_glyphs};
 ghost use Rattle.layout_gsub.specs.Ligatures.{lookup_action};
-ghost use Rattle.layout_stages.specs.Steps.{IsStep};
+ghost use Rattle.layout_stages.specs.Lookups.{looked_up, lookup_stage, lookups_stage};
+ghost use Rattle.layout_stages.specs.Steps.{IsDone, IsReady, IsStep};
 
 use glyph_buffer::buffer::hb_buffer_t;
 use glyph_types::cause::ShapeCause;
 use layout_font::lookup::Lookup;
+use layout_font::table::LayoutTable;
 use layout_gsub::lookup::apply_lookup;
+use layout_map::map::hb_ot_map_t;
+use layout_map::stage::lookup_map_t;
 
 /// Tries a lookup at the cursor, and goes on over the glyph where it doesn't act; at the end it does nothing.
-#[tactic(auto, using(crate::proofs::Steps::step_ended, crate::proofs::Steps::step_passed, crate::proofs::Steps::step_acted))]
+#[tactic(auto, using(crate::proofs::Steps::step_ended, crate::proofs::Steps::step_passed, crate::proofs::Steps::step_acted, crate::proofs::Steps::nothing_done))]
 fn apply_next(lookup: &Lookup, mask: u32, buffer: &mut hb_buffer_t) -> Result<(), ShapeCause>
     requires open { buffer.old.is_open ≡ true }
     requires placeless { buffer.old.places ≡ [] }
@@ -28,6 +32,61 @@ fn apply_next(lookup: &Lookup, mask: u32, buffer: &mut hb_buffer_t) -> Result<()
     }
     if !buffer.next_glyph()? {
         return Err(ShapeCause::TooLong);
+    }
+    Ok(())
+}
+
+/// Tries a lookup at each glyph once, from the left.
+#[tactic(auto, using(crate::proofs::Passage::begun))]
+fn apply_forward(lookup: &Lookup, mask: u32, buffer: &mut hb_buffer_t) -> Result<(), ShapeCause>
+    requires ready { IsReady buffer.old }
+    requires numbers { are_glyphs (items_of buffer.old) ≡ true }
+    ensures ok { OnOk result (IsDone (looked_up (lookup_action mask lookup.now)) buffer.old buffer.new) }
+    ensures err { IfErr result (λ e. e ≡ ShapeCause.OutOfMemory) }
+{
+    let count = buffer.len();
+    buffer.clear_output()?;
+    for _ in 0..count {
+        apply_next(lookup, mask, buffer)?;
+    }
+    if !buffer.sync()? {
+        return Err(ShapeCause::TooLong);
+    }
+    Ok(())
+}
+
+/// Does what the lookup at a place of the table does; a place without one does nothing.
+fn apply_mapped(
+    table: &LayoutTable,
+    lookup_map: &lookup_map_t,
+    buffer: &mut hb_buffer_t,
+) -> Result<(), ShapeCause>
+    requires ready { IsReady buffer.old }
+    requires numbers { are_glyphs (items_of buffer.old) ≡ true }
+    ensures ok { OnOk result (IsDone (lookup_stage (slice_get table.now.lookups lookup_map.now.index) lookup_map.now.mask) buffer.old buffer.new) }
+    ensures err { IfErr result (λ e. e ≡ ShapeCause.OutOfMemory) }
+{
+    let Some(lookup) = table.lookup(lookup_map.index) else {
+        return Ok(());
+    };
+    apply_forward(lookup, lookup_map.mask, buffer)?;
+    Ok(())
+}
+
+/// Does the lookups of a map one after another, each at all glyphs.
+#[tactic(auto, using(crate::proofs::Stages::none_done, crate::proofs::Stages::all_done))]
+pub fn apply_lookups(
+    table: &LayoutTable,
+    map: &hb_ot_map_t,
+    buffer: &mut hb_buffer_t,
+) -> Result<(), ShapeCause>
+    requires ready { IsReady buffer.old }
+    requires numbers { are_glyphs (items_of buffer.old) ≡ true }
+    ensures ok { OnOk result (IsDone (lookups_stage table.now.lookups map.now.lookups) buffer.old buffer.new) }
+    ensures err { IfErr result (λ e. e ≡ ShapeCause.OutOfMemory) }
+{
+    for lookup_map in map.lookups() {
+        apply_mapped(table, lookup_map, buffer)?;
     }
     Ok(())
 }

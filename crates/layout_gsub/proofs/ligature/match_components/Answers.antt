@@ -1,4 +1,4 @@
-use Rattle.std.proofs.Common.{◌≡◌, ◌≤◌, ◌<◌, ◌+◌, ◌&&◌, length, drop, slice_get, Some, None, true, false, sym, ap, ◌∙◌, arith}
+use Rattle.std.proofs.Common.{◌≡◌, ◌+◌, ◌&&◌, drop, slice_get, Some, sym, ap, ◌∙◌}
 use Rattle.glyph_lists.specs.Items.{strip}
 use Rattle.layout_gsub.specs.Ligatures.{begins_with}
 use Rattle.layout_gsub.proofs.Lists.{begins_some}

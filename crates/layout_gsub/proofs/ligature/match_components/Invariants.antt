@@ -1,4 +1,4 @@
-use Rattle.std.proofs.Common.{◌≡◌, drop, ◌+◌}
+use Rattle.std.proofs.Common.{◌≡◌, drop}
 use Rattle.glyph_lists.specs.Items.{strip}
 use Rattle.layout_gsub.specs.Ligatures.{begins_with}
 use Rattle.layout_gsub.proofs.ligature.match_components.Given as goal
