@@ -3,3 +3,4 @@
 
 pub mod marks;
 pub mod merges;
+pub mod runs;

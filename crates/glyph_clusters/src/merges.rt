@@ -83,7 +83,7 @@ pub fn spread_within(glyphs: &mut [hb_glyph_info_t], start: usize, end: usize)
 }
 
 #[tactic(auto, using(glyph_lists::specs::Lists::map_step))]
-fn set_clusters(glyphs: &mut [hb_glyph_info_t], cluster: u32)
+pub(crate) fn set_clusters(glyphs: &mut [hb_glyph_info_t], cluster: u32)
     ensures { glyphs.new ≡ map (in_cluster cluster) glyphs.old }
 {
     for glyph in glyphs.iter_mut() {

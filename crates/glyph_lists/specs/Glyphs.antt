@@ -17,6 +17,10 @@ in_cluster c g = if g.cluster == c then g else record g { cluster = c; mask = wi
 abbrev pub glyphs_merged : List ℕ → List hb_glyph_info_t → List hb_glyph_info_t
 glyphs_merged range gs = map (λ (g : hb_glyph_info_t). in_cluster (merged range g.cluster) g) gs
 
+-- the glyphs of one cluster go to another
+abbrev pub renamed : ℕ → ℕ → List hb_glyph_info_t → List hb_glyph_info_t
+renamed c low gs = map (λ (g : hb_glyph_info_t). if g.cluster == c then in_cluster low g else g) gs
+
 -- whether a range has a cluster beside its least
 abbrev pub tells_apart : List ℕ → Bool
 tells_apart range = list_any (λ n. not (n == least_number range)) range

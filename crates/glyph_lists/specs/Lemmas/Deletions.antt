@@ -33,7 +33,7 @@ no_last (n ∷ ns) e =
 pub without_map : (f : ℕ → ℕ) (at : ℕ) (ns : List ℕ) → without at (map f ns) ≡ map f (without at ns)
 without_map f at ns = rw (take-map f at ns, drop-map f (at + 1) ns) (sym (map-append f (take at ns) (drop (at + 1) ns)))
 
-last_is : (x : ℕ) (xs : List ℕ) → last_of (x ∷ xs) ≡ Some (last_from x xs)
+pub last_is : (x : ℕ) (xs : List ℕ) → last_of (x ∷ xs) ≡ Some (last_from x xs)
 last_is x [] = refl
 last_is x (y ∷ ys) = last_more x y ys ∙ last_is y ys
 
