@@ -18,7 +18,7 @@ pub record FontKeys : Type 0 where
   pub cmap : List (ℕ × ℕ)
   -- a glyph and its horizontal advance
   pub h : List (ℕ × ℕ)
-  -- substitutions
+  -- the table of substitutions, where the font has one
   pub gsub : Option LayoutLists
 
 -- the glyph of a character

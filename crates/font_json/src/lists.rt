@@ -2,12 +2,12 @@ ghost use Rattle.std.specs.Prelude.{◌≡◌, ◌≢◌, ℕ, IfOk, IfErr, Ok, 
 ghost use Rattle.std.specs.Result.{result_map_both};
 ghost use Rattle.serde_json.specs.Data.{Data};
 ghost use Rattle.serde_json.specs.View.{view, items_view};
-ghost use Rattle.layout_font.specs.Keyed.{is_above, is_rising};
+ghost use Rattle.layout_font.specs.Keyed.{is_rising};
 ghost use Rattle.font_json.specs.Lists.{array_of, array_at, behind_all, parts_of, rows_in_turn, rows_by_key};
 ghost use Rattle.run_options.specs.declared.fault.JsonFault.{JsonFault};
 
 use crate::cell::first_fault;
-use layout_font::Keyed;
+use layout_font::{Keyed, is_above};
 use run_options::fault::JsonFault;
 use serde_json::Value;
 use std::alloc::Global;
@@ -121,13 +121,4 @@ pub(crate) fn read_rows_by_key<P: Part + Keyed>(
         rows.push(row)?;
     }
     Ok(rows)
-}
-
-fn is_above(before: Option<u32>, key: u32) -> bool
-    ensures { result ≡ is_above before key }
-{
-    match before {
-        Some(before) => before < key,
-        None => true,
-    }
 }

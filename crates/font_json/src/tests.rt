@@ -137,7 +137,7 @@ fn tables_have_no_key_of_the_format(rt: HostRuntime) -> Result<(), Fail> {
 }
 
 // Values of the key `gsub` that are refused, each with its first fault.
-const REFUSED_TABLES: [(&str, JsonFault); 63] = [
+const REFUSED_TABLES: [(&str, JsonFault); 77] = [
     ("null", WrongShape),
     ("[]", WrongShape),
     ("1.5", WrongShape),
@@ -157,6 +157,10 @@ const REFUSED_TABLES: [(&str, JsonFault); 63] = [
     (r#"{"scripts":[["DFLT",null,[["x",null]]]]}"#, WrongShape),
     (
         r#"{"scripts":[["DFLT",{"required":0},[]]],"features":[["liga",[]]]}"#,
+        WrongShape,
+    ),
+    (
+        r#"{"scripts":[["DFLT",{"required":null,"features":[1.5]},[]]]}"#,
         WrongShape,
     ),
     (r#"{"scripts":[["DFLT",{"features":{}},[]]]}"#, WrongShape),
@@ -204,16 +208,35 @@ const REFUSED_TABLES: [(&str, JsonFault); 63] = [
     (r#"{"features":[["liga",[9,1.5]]]}"#, FloatNumber),
     (r#"{"features":[["liga",[0]]],"lookups":[]}"#, OutOfRange),
     (r#"{"features":[["liga",[1]]],"lookups":[3]}"#, OutOfRange),
+    (r#"{"features":[["liga",[0]]],"lookups":[3]}"#, WrongShape),
+    (r#"{"features":[["liga",[0]]],"lookups":{}}"#, OutOfRange),
+    (
+        r#"{"features":[["liga",[7]],["kern",[]]],"lookups":[3]}"#,
+        OutOfRange,
+    ),
     (r#"{"lookups":null}"#, WrongShape),
     (r#"{"lookups":[null]}"#, WrongShape),
     (r#"{"lookups":[{}]}"#, WrongShape),
     (r#"{"lookups":[{"type":3}]}"#, WrongShape),
     (r#"{"lookups":[{"type":"single"}]}"#, WrongShape),
+    (r#"{"lookups":[{"type":"multiple"}]}"#, WrongShape),
+    (r#"{"lookups":[{"type":"alternate"}]}"#, WrongShape),
+    (r#"{"lookups":[{"type":"context"}]}"#, WrongShape),
+    (r#"{"lookups":[{"type":"chain"}]}"#, WrongShape),
     (r#"{"lookups":[{"type":"reverse"}]}"#, WrongShape),
+    (r#"{"lookups":[{"type":"Ligature"}]}"#, UnknownName),
+    (r#"{"lookups":[{"subtables":[]}]}"#, WrongShape),
+    (r#"{"lookups":[{"type":null}]}"#, WrongShape),
     (r#"{"lookups":[{"type":"pear"}]}"#, UnknownName),
     (r#"{"lookups":[{"type":"pear","flags":1}]}"#, WrongShape),
     (r#"{"lookups":[{"type":"pear","flags":1.5}]}"#, FloatNumber),
+    (r#"{"lookups":[{"type":"pear","flags":70000}]}"#, OutOfRange),
     (r#"{"lookups":[{"type":"pear","set":0}]}"#, WrongShape),
+    (r#"{"lookups":[{"set":0,"flags":-1}]}"#, OutOfRange),
+    (
+        r#"{"lookups":[{"type":"ligature","set":null}]}"#,
+        WrongShape,
+    ),
     (
         r#"{"lookups":[{"type":"ligature","subtables":3}]}"#,
         WrongShape,

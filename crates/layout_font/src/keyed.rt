@@ -29,7 +29,8 @@ pub fn is_rising<R: Keyed>(records: &[R]) -> bool
     true
 }
 
-fn is_above(before: Option<u32>, key: u32) -> bool
+/// A key is above the one before it, if there is one.
+pub fn is_above(before: Option<u32>, key: u32) -> bool
     ensures { result ≡ is_above before key }
 {
     match before {
