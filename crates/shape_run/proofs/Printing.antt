@@ -1,6 +1,6 @@
 -- What is printed of a buffer is what is printed of its reading.
-use Rattle.std.proofs.Common.{ℕ, ◌≡◌, ◌≤◌, ◌<◌, ◌+◌, ◌-◌, ◌==◌, ◌&&◌, Bool, true, false, nat_le, ◌⊎◌, inl, inr, List, [], ◌∷◌, ◌++◌, Ok, Err, length, get_or, refl, sym, ap, subst, ◌∙◌, arith, rules}
-use Rattle.std.specs.Prelude.{IsTrue, bit_and, All, Result}
+use Rattle.std.proofs.Common.{ℕ, ◌≡◌, ◌≤◌, ◌+◌, ◌==◌, ◌&&◌, Bool, true, false, inl, List, [], ◌∷◌, Ok, Err, refl, sym, ap, ◌∙◌, arith}
+use Rattle.std.specs.Prelude.{bit_and, All}
 use Rattle.std.specs.Char.{len_utf8}
 use Rattle.std.specs.Str.{chars}
 use Rattle.std.specs.List.{list_all}
@@ -15,10 +15,9 @@ use Rattle.glyph_lists.specs.Events.{after_events}
 use Rattle.glyph_lists.specs.Order.{AllFrom, IsRising, IsOrdered}
 use Rattle.glyph_lists.specs.Readings.{Reading, Run, Follows, read_of}
 use Rattle.glyph_buffer.specs.Text.{added_from, added_text, fits_text}
-use Rattle.run_options.specs.declared.fault.RunFault.{RunFault}
 use Rattle.shape_run.specs.Output.{has_no_flags, glyph_of, glyphs_of}
 use Rattle.shape_run.specs.Stages.{is_glyph_number, text_buffer}
-use Rattle.shape_run.specs.FirstPath.{first_path}
+use Rattle.shape_run.specs.Path.{shaping}
 use Rattle.shape_run.specs.Waiting.{waits}
 use Rattle.font_json.specs.Keys.{FontKeys}
 use Rattle.run_options.specs.declared.options.Options.{Options}
@@ -87,20 +86,20 @@ line_follows flags (Err e) old new level ordered none f = absurd f
 
 -- the line of a text that fits and does not wait
 pub line_of_text : (options : Options) (font : FontKeys) (text : List ℕ) → fits_text text empty_buffer ≡ true
-    → waits (text_buffer options text).script (text_buffer options text).direction (items_of (text_buffer options text)) ≡ false
+    → waits options.features.items (text_buffer options text).script (text_buffer options text).direction (items_of (text_buffer options text)) ≡ false
     → line_of options font text
     ≡ line_of_reading options.flags (clusters (all_glyphs (text_buffer options text)))
-    (read_of (first_path font (text_buffer options text).script (text_buffer options text).direction) (run_of (text_buffer options text)))
+    (read_of (shaping font options.features.items (text_buffer options text).script (text_buffer options text).direction) (run_of (text_buffer options text)))
 line_of_text options font text fits here = rw (fits, here) refl
 
 -- the same, once it is shaped
 pub line_shaped : (options : Options) (font : FontKeys) (text : List ℕ) (b : Sides) (line : List ℕ) → fits_text text empty_buffer ≡ true
-    → waits (text_buffer options text).script (text_buffer options text).direction (items_of (text_buffer options text)) ≡ false
-    → Follows (read_of (first_path font (text_buffer options text).script (text_buffer options text).direction) (run_of (text_buffer options text))) (run_of (text_buffer options text)) (run_of b)
+    → waits options.features.items (text_buffer options text).script (text_buffer options text).direction (items_of (text_buffer options text)) ≡ false
+    → Follows (read_of (shaping font options.features.items (text_buffer options text).script (text_buffer options text).direction) (run_of (text_buffer options text))) (run_of (text_buffer options text)) (run_of b)
     → has_no_flags (all_glyphs b) ≡ true
     → line ≡ printed_line options.flags (all_glyphs b) b.places
     → line_of options font text ≡ Ok line
 line_shaped options font text b line fits here f none e =
     let s = text_buffer options text in
-    let r = read_of (first_path font s.script s.direction) (run_of s) in
+    let r = read_of (shaping font options.features.items s.script s.direction) (run_of s) in
     line_of_text options font text fits here ∙ line_follows options.flags r (run_of s) (run_of b) refl (text_ordered text) none f ∙ ap Ok (sym e)

@@ -1,5 +1,5 @@
 -- One glyph after another.
-use Rattle.std.proofs.Common.{ℕ, ◌≡◌, ◌+◌, ◌<◌, ◌≤◌, Bool, true, false, nat_le, if◌then◌else◌, List, [], ◌∷◌, ◌++◌, map, take, drop, length, refl, arith, Some, slice_get, slice_set, append_assoc, append-nil, length-append, add_assoc, add-one, ◌&&◌}
+use Rattle.std.proofs.Common.{ℕ, ◌≡◌, ◌+◌, ◌<◌, ◌≤◌, true, false, nat_le, List, [], ◌∷◌, ◌++◌, map, take, drop, length, refl, arith, Some, slice_get, append_assoc, append-nil, length-append, add_assoc, add-one, ◌&&◌}
 use Rattle.std.proofs.lemmas.Grind.{common_steps}
 use Rattle.std.proofs.lemmas.List.{map-append, length-map, length-take-le, take_all, drop_all, set_split, length-replicate, length-drop, take-append-drop}
 use Rattle.std.proofs.lemmas.List.Folds.{list_all-append}
@@ -14,7 +14,7 @@ use Rattle.glyph_lists.specs.Items.{Place}
 use Rattle.glyph_lists.specs.Lists.{take_next, drop_next}
 use Rattle.glyph_buffer.specs.Sides.{Sides, all_glyphs, moved_on, fits_next, fits_joined, synced, with_output, with_cleared_places, zero_places}
 use Rattle.glyph_buffer.specs.Lending.{with_glyph_ahead, with_current_place}
-use Rattle.shape_run.specs.FirstPath.{advance_place}
+use Rattle.shape_run.specs.Path.{advance_place}
 use Rattle.shape_run.specs.Stages.{mapped_glyph, is_glyph_number, advance_places, with_advances, with_mapped, with_next_mapped, with_first_mapped, with_next_advanced, with_first_advanced}
 
 front_mapped : (font : FontKeys) (gs : List hb_glyph_info_t) (g : hb_glyph_info_t) → slice_get gs 0 ≡ Some g

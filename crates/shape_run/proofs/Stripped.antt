@@ -2,8 +2,8 @@
 use Rattle.std.proofs.Common.{ℕ, ◌≡◌, ◌&&◌, Bool, nat_le, not, List, [], ◌∷◌, refl}
 use Rattle.std.specs.List.{list_any}
 use Rattle.glyph_types.specs.declared.info.hb_glyph_info_t.{hb_glyph_info_t}
-use Rattle.glyph_lists.specs.Items.{Item, item_of, strip}
-use Rattle.shape_run.specs.FirstPath.{is_numeral, is_letter, is_number_text}
+use Rattle.glyph_lists.specs.Items.{Item, strip}
+use Rattle.shape_run.specs.Path.{is_numeral, is_letter, is_number_text}
 use Rattle.shape_run.specs.Waiting.{has_later_characters}
 
 -- a test of numbers, of glyphs and of their items

@@ -1,10 +1,11 @@
 -- What is printed for the bytes of tables, a font and a text, or the first fault that is found in them.
-use Rattle.std.specs.Prelude.{ℕ, ◌==◌, ◌+◌, ◌-◌, Bool, if◌then◌else◌, List, [], ◌∷◌, ◌++◌, length, take, slice_index, Option, Some, None, Result, Ok, Err}
+use Rattle.std.specs.Prelude.{ℕ, ◌==◌, ◌-◌, if◌then◌else◌, List, [], ◌∷◌, ◌++◌, length, take, slice_index, Option, Some, None, Result, Ok, Err}
 use Rattle.std.specs.Str.{is_utf8}
 use Rattle.serde_json.specs.Data.{Data}
 use Rattle.serde_json.specs.Read.{read}
 use Rattle.glyph_types.specs.declared.info.hb_glyph_info_t.{hb_glyph_info_t}
 use Rattle.glyph_types.specs.declared.flags.SerializeFlags.{SerializeFlags}
+use Rattle.feature_text.specs.declared.feature.Feature.{Feature}
 use Rattle.shaping_text.specs.declared.direction.Direction.{Direction}
 use Rattle.shaping_text.specs.declared.script.Script.{Script}
 use Rattle.run_options.specs.declared.fault.JsonFault.{JsonFault}
@@ -20,7 +21,7 @@ use Rattle.glyph_text.specs.Printed.{printed_text}
 use Rattle.glyph_buffer.specs.Sides.{empty_buffer, zero_places}
 use Rattle.glyph_buffer.specs.Segment.{first_script, guessed_direction}
 use Rattle.glyph_buffer.specs.Text.{added_text, fits_text}
-use Rattle.shape_run.specs.FirstPath.{first_path}
+use Rattle.shape_run.specs.Path.{shaping}
 use Rattle.shape_run.specs.Output.{glyphs_of}
 use Rattle.shape_run.specs.Waiting.{waits}
 
@@ -64,13 +65,13 @@ line_of_reading flags ns (Ok r) = Ok (printed_line flags (glyphs_of r.items (aft
 line_of_reading flags ns (Err e) = Err (fault_of_cause e)
 
 -- the line of characters that were added, in a direction and a script
-abbrev pub line_of_glyphs : FontKeys → SerializeFlags → Direction → Option Script → List hb_glyph_info_t → Result (List ℕ) RunFault
-line_of_glyphs font flags direction script gs = if waits script direction (strip gs) then Err NotYet
-    else line_of_reading flags (clusters gs) (first_path font script direction (strip gs) (zero_places (length gs)))
+abbrev pub line_of_glyphs : FontKeys → SerializeFlags → List Feature → Direction → Option Script → List hb_glyph_info_t → Result (List ℕ) RunFault
+line_of_glyphs font flags features direction script gs = if waits features script direction (strip gs) then Err NotYet
+    else line_of_reading flags (clusters gs) (shaping font features script direction (strip gs) (zero_places (length gs)))
 
 -- the same, where what was not asked for is guessed
 abbrev pub line_of_guess : FontKeys → Options → Option Script → List hb_glyph_info_t → Result (List ℕ) RunFault
-line_of_guess font options script gs = line_of_glyphs font options.flags (guessed_direction options.direction script) script gs
+line_of_guess font options script gs = line_of_glyphs font options.flags options.features.items (guessed_direction options.direction script) script gs
 
 -- the line of a text
 abbrev pub line_of : Options → FontKeys → List ℕ → Result (List ℕ) RunFault

@@ -1,5 +1,5 @@
 -- What holds of every run.
-use Rattle.std.specs.Prelude.{◌≡◌, Bool, false, [], ◌∷◌, Ok, None}
+use Rattle.std.specs.Prelude.{◌≡◌, false, [], ◌∷◌, Ok, None}
 use Rattle.run_options.specs.declared.options.Options.{Options}
 use Rattle.font_json.specs.Keys.{FontKeys}
 use Rattle.glyph_lists.specs.Events.{or}
@@ -10,5 +10,5 @@ use Rattle.shape_run.specs.Answer.{line_of}
 -- no glyphs and a line feed, where neither the script nor the direction waits
 abbrev pub EmptyTextGivesEmptyLine : Type 0
 EmptyTextGivesEmptyLine = (options : Options) (font : FontKeys)
-    → waits (or options.script None) (guessed_direction options.direction (or options.script None)) [] ≡ false
+    → waits options.features.items (or options.script None) (guessed_direction options.direction (or options.script None)) [] ≡ false
     → line_of options font [] ≡ Ok (10 ∷ [])

@@ -1,5 +1,5 @@
 pub mod Waiting
-pub mod FirstPath
+pub mod Path
 pub mod Stages
 pub mod Output
 pub mod Answer

@@ -8,7 +8,7 @@ use Rattle.glyph_buffer.specs.Sides.{Sides, all_glyphs, items_of, reversed, zero
 use Rattle.glyph_buffer.specs.Segment.{guessed, with_segment}
 use Rattle.glyph_buffer.specs.Text.{added_text}
 use Rattle.run_options.specs.declared.options.Options.{Options}
-use Rattle.shape_run.specs.FirstPath.{is_turned, nominal_glyph, advance_place}
+use Rattle.shape_run.specs.Path.{is_turned, nominal_glyph, advance_place}
 
 -- the buffer of a text, with what was not asked for guessed
 abbrev pub text_buffer : Options → List ℕ → Sides

@@ -1,6 +1,8 @@
 -- What is not shaped yet.
-use Rattle.std.specs.Prelude.{ℕ, ◌||◌, Bool, false, nat_le, List, [], ◌∷◌, ◌++◌, Option, Some, None}
+use Rattle.std.specs.Prelude.{◌||◌, Bool, false, not, nat_le, List, [], ◌∷◌, Option, Some, None}
 use Rattle.std.specs.List.{list_any}
+use Rattle.feature_text.specs.declared.feature.Feature.{Feature}
+use Rattle.feature_text.specs.Feature.{is_global}
 use Rattle.shaping_text.specs.Direction.{is_among, is_vertical}
 use Rattle.shaping_text.specs.declared.direction.Direction.{Direction}
 use Rattle.shaping_text.specs.declared.script.Script.{Script}
@@ -128,6 +130,10 @@ script_waits (Some s) = is_among own_shaper_scripts s || is_among universal_scri
 abbrev pub has_later_characters : List Item → Bool
 has_later_characters xs = list_any (λ x. nat_le 0x80 x.number) xs
 
--- a text waits for its characters, its direction or its script
-abbrev pub waits : Option Script → Direction → List Item → Bool
-waits s direction xs = has_later_characters xs || is_vertical direction || script_waits s
+-- whether a feature is asked for a part of the text
+abbrev pub has_ranges : List Feature → Bool
+has_ranges features = list_any (λ f. not (is_global f)) features
+
+-- a text waits for its characters, its direction, its script or the ranges of its features
+abbrev pub waits : List Feature → Option Script → Direction → List Item → Bool
+waits features s direction xs = has_later_characters xs || is_vertical direction || script_waits s || has_ranges features

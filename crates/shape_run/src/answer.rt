@@ -11,7 +11,7 @@ ghost use Rattle.shape_run.specs.Answer.{answer_of, json_of, line_of, printed_li
 ghost use Rattle.shape_run.specs.Run.{IsOfRun};
 ghost use Rattle.shape_run.specs.Stages.{is_glyph_number, text_buffer};
 
-use crate::first_path::shape;
+use crate::path::shape;
 use crate::waiting::waits;
 use font_json::{FontFace, read_face, read_tables};
 use glyph_buffer::buffer::hb_buffer_t;
@@ -131,10 +131,15 @@ fn line(alloc: Global, options: &Options, face: &FontFace, text: &str) -> Result
     ensures kind { IfErr result IsOfRun }
 {
     let mut buffer = text_buffer(alloc, options, text)?;
-    if waits(buffer.script(), buffer.direction(), buffer.info_slice()) {
+    if waits(
+        &options.features,
+        buffer.script(),
+        buffer.direction(),
+        buffer.info_slice(),
+    ) {
         return Err(RunFault::NotYet);
     }
-    shape(face, &mut buffer)?;
+    shape(alloc, face, &options.features, &mut buffer)?;
     let line = print(alloc, face, options.flags, buffer)?;
     Ok(line)
 }

@@ -2,8 +2,8 @@
 #![tactic(auto)]
 
 mod answer;
-mod first_path;
 pub mod laws;
+mod path;
 pub mod read;
 pub mod run;
 #[cfg(test)]

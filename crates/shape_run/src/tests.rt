@@ -26,6 +26,7 @@ fn options(
         text: String::new(alloc),
         direction,
         script,
+        features: Vec::new(alloc),
         flags,
     })
 }

@@ -2,8 +2,9 @@ ghost use Rattle.std.specs.Prelude.{◌≡◌, nat_le};
 ghost use Rattle.std.specs.List.{list_any};
 ghost use Rattle.glyph_lists.specs.Items.{strip};
 ghost use Rattle.shaping_text.specs.Direction.{is_among};
-ghost use Rattle.shape_run.specs.Waiting.{own_shaper_scripts, script_waits, universal_scripts, waits};
+ghost use Rattle.shape_run.specs.Waiting.{has_ranges, own_shaper_scripts, script_waits, universal_scripts, waits};
 
+use feature_text::feature::Feature;
 use glyph_types::info::hb_glyph_info_t;
 use shaping_text::direction::Direction;
 use shaping_text::script::ADLAM;
@@ -246,10 +247,25 @@ fn has_later_characters(glyphs: &[hb_glyph_info_t]) -> bool
     glyphs.iter().any(|glyph| 0x80 <= glyph.glyph_id)
 }
 
-#[tactic(auto, using(crate::proofs::Stripped::later_stripped))]
-/// Whether a text waits: for a character from U+0080 on, for a vertical direction, or for its script.
-pub fn waits(script: Option<Script>, direction: Direction, glyphs: &[hb_glyph_info_t]) -> bool
-    ensures { result ≡ waits script direction (strip glyphs.now) }
+fn has_ranges(features: &[Feature]) -> bool
+    ensures { result ≡ has_ranges features.now }
 {
-    has_later_characters(glyphs) || direction.is_vertical() || script_waits(script)
+    features.iter().any(|feature| !feature.is_global())
+}
+
+#[tactic(auto, using(crate::proofs::Stripped::later_stripped))]
+/// Whether a text waits: for a character from U+0080 on, for a vertical direction, for its script, or for a feature that
+/// is asked for a part of it.
+pub fn waits(
+    features: &[Feature],
+    script: Option<Script>,
+    direction: Direction,
+    glyphs: &[hb_glyph_info_t],
+) -> bool
+    ensures { result ≡ waits features.now script direction (strip glyphs.now) }
+{
+    has_later_characters(glyphs)
+        || direction.is_vertical()
+        || script_waits(script)
+        || has_ranges(features)
 }

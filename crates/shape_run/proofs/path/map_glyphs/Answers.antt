@@ -1,9 +1,9 @@
-use Rattle.std.proofs.Common.{◌≡◌, ◌<◌, length, drop, arith, ap, ◌∙◌, Ok, true, map, take}
+use Rattle.std.proofs.Common.{◌≡◌, arith, ap, ◌∙◌, Ok, true, map, take}
 use Rattle.std.proofs.lemmas.List.{length-drop}
 use Rattle.glyph_buffer.specs.Sides.{all_glyphs}
 use Rattle.shape_run.specs.Stages.{mapped_glyph, with_next_mapped}
 use Rattle.shape_run.proofs.Steps.{mapped_step, more_numbers}
-use Rattle.shape_run.proofs.first_path.map_glyphs.Goals as goal
+use Rattle.shape_run.proofs.path.map_glyphs.Goals as goal
 
 pub map_next-requires : goal.map_next-requires
 map_next-requires c =

@@ -1,22 +1,34 @@
-//! Shaping of a text that needs no rules of a font.
+//! Shaping of a text: its order, its glyphs, the substitutions of its font, and advances.
 ghost use Rattle.std.specs.Prelude.{◌≡◌, ◌≢◌, Err, ◌≤◌, ◌<◌, ◌&&◌, ◌||◌, false, true, Ok, [], length, take, map, IfOk, IfErr, OnOk};
 ghost use Rattle.glyph_lists.specs.Items.{strip};
-ghost use Rattle.glyph_lists.specs.Readings.{Follows, read_of};
-ghost use Rattle.glyph_buffer.specs.Sides.{all_glyphs, fits_next, run_of};
+ghost use Rattle.glyph_lists.specs.Readings.{Follows, IsMonotone, read_of};
+ghost use Rattle.glyph_buffer.specs.Sides.{all_glyphs, fits_next, items_of, run_of};
+ghost use Rattle.glyph_buffer.specs.Masks.{with_masks};
+ghost use Rattle.layout_gsub.specs.Buffers.{are_glyphs};
+ghost use Rattle.layout_stages.specs.Steps.{IsDone, IsReady};
+ghost use Rattle.std.specs.Option.{option_copied};
 ghost use Rattle.std.specs.List.{list_any, list_all};
 ghost use Rattle.unicode.specs.GeneralCategory.{general_category};
-ghost use Rattle.shape_run.specs.FirstPath.{advance_place, first_path, is_decimal_number, is_letter, is_regional_indicator, is_number_text, is_numeral, native_direction, nominal_glyph, runs_against, script_direction, with_numbers, written_direction};
+ghost use Rattle.shape_run.specs.Path.{advance_place, is_decimal_number, is_letter, is_regional_indicator, is_number_text, is_numeral, native_direction, nominal_glyph, runs_against, script_direction, shaping, substituted, substitution_map, with_numbers, written_direction};
 ghost use Rattle.shape_run.specs.Output.{has_no_flags};
 ghost use Rattle.shape_run.specs.Stages.{drawn, is_glyph_number, mapped_glyph, ordered, with_advances, with_mapped, with_next_advanced, with_next_mapped};
 
+use feature_text::feature::Feature;
 use font_json::FontFace;
 use glyph_buffer::buffer::hb_buffer_t;
 use glyph_types::cause::ShapeCause;
 use glyph_types::info::hb_glyph_info_t;
 use glyph_types::position::GlyphPosition;
+use layout_font::table::LayoutTable;
+use layout_map::map::hb_ot_map_t;
+use layout_map::request::asked_value;
+use layout_stages::apply::apply_lookups;
 use shaping_text::direction::Direction;
+use shaping_text::language_tags::LanguageTable;
 use shaping_text::script::Script;
-use std::alloc::AllocError;
+use shaping_text::script_tags::tags_from_script_and_language;
+use shaping_text::tag::Tag;
+use std::alloc::{AllocError, Global};
 use unicode::properties::GeneralCategory;
 use unicode_chars::{CharExt, GeneralCategoryExt};
 
@@ -214,24 +226,89 @@ fn draw(buffer: &mut hb_buffer_t)
     }
 }
 
-/// Shapes a text that needs no rules of a font: puts it in native order, each character's glyph in its place with its
-/// advance, and the glyphs in the order in which they are drawn.
-pub(crate) fn shape(face: &FontFace, buffer: &mut hb_buffer_t) -> Result<(), ShapeCause>
+/// Puts the characters of a text in the order of their writing, each as its glyph, with the mask.
+fn map_text(face: &FontFace, mask: u32, buffer: &mut hb_buffer_t) -> Result<(), ShapeCause>
+    requires closed { buffer.old.is_open ≡ false }
+    requires unrefused { buffer.old.has_refused ≡ false }
+    ensures ok { OnOk result (buffer.new ≡ with_mapped face.now (ordered (with_masks mask buffer.old))) }
+    ensures numbers { OnOk result (list_all is_glyph_number (all_glyphs buffer.new) ≡ true) }
+    ensures err { IfErr result (λ e. e ≡ ShapeCause.OutOfMemory) }
+{
+    buffer.reset_masks(mask);
+    ensure_native_direction(buffer);
+    map_glyphs(face, buffer)?;
+    Ok(())
+}
+
+/// What the font's substitutions do for a script and what was asked: ligatures are on unless switched off.
+fn substitution_map(
+    alloc: Global,
+    table: Option<&LayoutTable>,
+    script: Option<Script>,
+    features: &[Feature],
+) -> Result<hb_ot_map_t, AllocError>
+    ensures { IfOk result (λ map. map ≡ substitution_map (option_copied table.entry) script features.now) }
+{
+    let Some(table) = table else {
+        return Ok(hb_ot_map_t::empty(alloc));
+    };
+    let languages = LanguageTable::new(Vec::new(alloc));
+    let (scripts, _) = tags_from_script_and_language(script, None, &languages);
+    let liga = Tag::from_bytes(b"liga");
+    let value = asked_value(liga, 1, features);
+    let map = hb_ot_map_t::with_feature(alloc, table, scripts.as_slice(), &[], liga, value)?;
+    Ok(map)
+}
+
+/// Does the font's lookups, in order.
+fn substitute(
+    table: Option<&LayoutTable>,
+    map: &hb_ot_map_t,
+    buffer: &mut hb_buffer_t,
+) -> Result<(), ShapeCause>
+    requires ready { IsReady buffer.old }
+    requires numbers { are_glyphs (items_of buffer.old) ≡ true }
+    ensures ok { OnOk result (IsDone (substituted (option_copied table.entry) map.now) buffer.old buffer.new) }
+    ensures err { IfErr result (λ e. e ≡ ShapeCause.OutOfMemory) }
+{
+    let Some(table) = table else {
+        return Ok(());
+    };
+    apply_lookups(table, map, buffer)?;
+    Ok(())
+}
+
+/// Gives each glyph its advance, and puts the glyphs in the order in which they are drawn.
+fn place_glyphs(face: &FontFace, buffer: &mut hb_buffer_t)
+    requires ready { IsReady buffer.old }
+    requires numbers { list_all is_glyph_number (all_glyphs buffer.old) ≡ true }
+    ensures { buffer.new ≡ drawn (with_advances face.now buffer.old) }
+{
+    position_glyphs(face, buffer);
+    draw(buffer);
+}
+
+/// Shapes a text: puts it in native order, each character's glyph in its place, does the font's substitutions, gives each
+/// glyph its advance, and puts the glyphs in the order in which they are drawn.
+pub(crate) fn shape(
+    alloc: Global,
+    face: &FontFace,
+    features: &[Feature],
+    buffer: &mut hb_buffer_t,
+) -> Result<(), ShapeCause>
     requires closed { buffer.old.is_open ≡ false }
     requires unrefused { buffer.old.has_refused ≡ false }
     ensures ok { OnOk result (Follows
-        (read_of (first_path face.now buffer.old.script buffer.old.direction) (run_of buffer.old))
+        (read_of (shaping face.now features.now buffer.old.script buffer.old.direction) (run_of buffer.old))
         (run_of buffer.old) (run_of buffer.new)) }
-    ensures flags { OnOk result (has_no_flags (all_glyphs buffer.old) ≡ true
-        → has_no_flags (all_glyphs buffer.new) ≡ true) }
+    ensures flags { OnOk result (IsMonotone buffer.old.level → has_no_flags (all_glyphs buffer.new) ≡ true) }
     ensures numbers { OnOk result (list_all is_glyph_number (all_glyphs buffer.new) ≡ true) }
     ensures still_closed { OnOk result (buffer.new.is_open ≡ false) }
-    ensures refused { IfErr result (λ e. e ≢ ShapeCause.OutOfMemory
-        → read_of (first_path face.now buffer.old.script buffer.old.direction) (run_of buffer.old) ≡ Err e) }
+    ensures err { IfErr result (λ e. e ≡ ShapeCause.OutOfMemory) }
 {
-    ensure_native_direction(buffer);
-    map_glyphs(face, buffer)?;
-    position_glyphs(face, buffer);
-    draw(buffer);
+    let map = substitution_map(alloc, face.gsub(), buffer.script(), features)?;
+    map_text(face, map.get_global_mask(), buffer)?;
+    substitute(face.gsub(), &map, buffer)?;
+    place_glyphs(face, buffer);
     Ok(())
 }

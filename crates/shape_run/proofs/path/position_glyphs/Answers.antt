@@ -1,9 +1,8 @@
-use Rattle.std.proofs.Common.{◌≡◌, ◌<◌, ◌≤◌, length, arith, ap, ◌∙◌, ◌++◌, []}
-use Rattle.std.specs.List.{list_all}
+use Rattle.std.proofs.Common.{◌≡◌, ◌<◌, ◌≤◌, length, arith, ap, ◌∙◌}
 use Rattle.std.proofs.lemmas.List.{length-replicate, length-drop}
-use Rattle.shape_run.specs.Stages.{with_next_advanced, with_first_advanced}
+use Rattle.shape_run.specs.Stages.{with_next_advanced}
 use Rattle.shape_run.proofs.Steps.{advanced_step, advanced_whole, advanced_length, later_number}
-use Rattle.shape_run.proofs.first_path.position_glyphs.Goals as goal
+use Rattle.shape_run.proofs.path.position_glyphs.Goals as goal
 
 pub advance_next-requires-clause-closed : goal.advance_next-requires-clause-closed
 advance_next-requires-clause-closed c = rw (c.loop.invariant, c.clear_positions.ensures) c.requires.closed

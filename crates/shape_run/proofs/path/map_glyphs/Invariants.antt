@@ -1,7 +1,7 @@
 use Rattle.std.proofs.Common.{◌≡◌, true}
 use Rattle.std.specs.List.{list_all}
 use Rattle.shape_run.specs.Stages.{is_glyph_number, with_first_mapped}
-use Rattle.shape_run.proofs.first_path.map_glyphs.Given as goal
+use Rattle.shape_run.proofs.path.map_glyphs.Given as goal
 
 -- as many characters as were counted are glyphs
 abbrev pub invariant-loop : goal.invariant-loop

@@ -1,7 +1,7 @@
 use Rattle.std.proofs.Common.{◌≡◌, ◌∙◌}
-use Rattle.shape_run.specs.FirstPath.{advance_place}
+use Rattle.shape_run.specs.Path.{advance_place}
 use Rattle.shape_run.proofs.Steps.{first_number, advanced_next}
-use Rattle.shape_run.proofs.first_path.advance_next.Goals as goal
+use Rattle.shape_run.proofs.path.advance_next.Goals as goal
 
 pub as_glyph-requires : goal.as_glyph-requires
 as_glyph-requires c = first_number c.args.buffer.now.ahead c.cur.result.now c.requires.number c.cur.ensures

@@ -1,19 +1,28 @@
--- The reading of a text that needs no rules of a font: its order, its glyphs and their advances.
-use Rattle.std.specs.Prelude.{ℕ, pos, ◌==◌, ◌&&◌, ◌||◌, Bool, true, false, not, nat_le, if◌then◌else◌, List, [], ◌∷◌, map, reverse, length, Option, Some, None, unwrap_or}
+-- The reading of a text: its order, its glyphs, the substitutions of its font, and advances.
+use Rattle.std.specs.Prelude.{ℕ, pos, ◌&&◌, ◌||◌, Bool, true, false, not, nat_le, if◌then◌else◌, List, [], ◌∷◌, map, reverse, length, Option, Some, None, unwrap_or, codes}
 use Rattle.std.specs.List.{list_any}
 use lib.Utf8.{scalar}
 use Rattle.unicode.specs.GeneralCategory.{general_category}
 use Rattle.ucd_category.specs.declared.GeneralCategory.{GeneralCategory}
 use Rattle.ucd_category.specs.declared.GeneralCategory.TheVariants.{DecimalNumber}
 use Rattle.unicode_chars.specs.Category.{is_letter_category}
+use Rattle.shaping_text.specs.declared.tag.Tag.{Tag}
+use Rattle.shaping_text.specs.Tag.{tag_of}
+use Rattle.shaping_text.specs.ScriptTags.{wanted_tags}
+use Rattle.feature_text.specs.declared.feature.Feature.{Feature}
+use Rattle.layout_font.specs.Layout.{LayoutLists}
+use Rattle.layout_map.specs.Requests.{asked_value}
+use Rattle.layout_map.specs.Map.{OtMap, no_features, map_for}
+use Rattle.layout_stages.specs.Lookups.{lookups_stage}
+use Rattle.glyph_buffer.specs.Masks.{item_masked}
 use Rattle.shaping_text.specs.Direction.{direction_of_script, opposite, is_backward}
 use Rattle.shaping_text.specs.declared.direction.Direction.{Direction}
-use Rattle.shaping_text.specs.declared.direction.Direction.TheVariants.{Invalid, LeftToRight, RightToLeft, TopToBottom, BottomToTop}
+use Rattle.shaping_text.specs.declared.direction.Direction.TheVariants.{Invalid, LeftToRight, RightToLeft, BottomToTop}
 use Rattle.shaping_text.specs.declared.script.Script.{Script}
 use Rattle.font_json.specs.Keys.{FontKeys, glyph_of, advance_of}
 use Rattle.glyph_lists.specs.Items.{Item, Place}
-use Rattle.glyph_lists.specs.Events.{Event, Reverse}
-use Rattle.glyph_lists.specs.Readings.{Read, Stage, and_then, eventless, always}
+use Rattle.glyph_lists.specs.Events.{Reverse}
+use Rattle.glyph_lists.specs.Readings.{Read, Stage, and_then, eventless, always, as_it_is}
 use Rattle.glyph_buffer.specs.Sides.{zero_place, zero_places}
 
 -- ---- native order
@@ -103,9 +112,40 @@ advanced font xs ps = eventless xs (map (λ (x : Item). advance_place font x.num
 abbrev pub drawn_order : Direction → List Item → List Place → Read
 drawn_order direction xs ps = if is_backward direction then turned_round xs ps else eventless xs ps
 
+-- ---- masks and substitution
+
+-- each item has the mask
+abbrev pub masked : ℕ → List Item → List Place → Read
+masked mask xs ps = eventless (map (item_masked mask) xs) ps
+
+-- the tag of the feature for ligatures that text has where nothing else is asked
+abbrev pub liga : Tag
+liga = tag_of (codes "liga")
+
+-- what the font's substitutions do for a script and what was asked: the feature for ligatures is on unless switched off
+abbrev pub substitution_map : Option LayoutLists → Option Script → List Feature → OtMap
+substitution_map None script features = no_features
+substitution_map (Some table) script features = map_for table (wanted_tags script) [] liga (asked_value liga 1 features)
+
+-- the font's lookups, in order
+abbrev pub substituted : Option LayoutLists → OtMap → Stage
+substituted None m xs ps = as_it_is xs ps
+substituted (Some table) m xs ps = lookups_stage table.lookups m.lookups xs ps
+
 -- ---- all of it
 
-abbrev pub first_path : FontKeys → Option Script → Direction → Stage
-first_path font script text xs ps =
-    and_then (and_then (and_then (always (native_order script text) xs ps) (always (mapped font))) (always (advanced font)))
-    (always (drawn_order (native_direction script text xs)))
+-- characters in the order of their writing become glyphs
+abbrev pub before_substitution : FontKeys → ℕ → Option Script → Direction → Stage
+before_substitution font mask script text xs ps = and_then (and_then (always (masked mask) xs ps) (always (native_order script text))) (always (mapped font))
+
+-- glyphs get their advances, and stand as they are drawn
+abbrev pub after_substitution : FontKeys → Direction → Stage
+after_substitution font direction xs ps = and_then (always (advanced font) xs ps) (always (drawn_order direction))
+
+-- the stages, where the substitutions are known
+abbrev pub shaped_with : FontKeys → OtMap → Option Script → Direction → Stage
+shaped_with font m script text xs ps =
+    and_then (and_then (before_substitution font m.global_mask script text xs ps) (substituted font.gsub m)) (after_substitution font (native_direction script text xs))
+
+abbrev pub shaping : FontKeys → List Feature → Option Script → Direction → Stage
+shaping font features script text xs ps = shaped_with font (substitution_map font.gsub script features) script text xs ps
