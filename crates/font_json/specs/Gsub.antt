@@ -38,7 +38,7 @@ below limit n = if nat_lt n limit then Ok n else Err OutOfRange
 abbrev pub number_below : ℕ → Data → Result ℕ JsonFault
 number_below limit d = and_then (word d) (below limit)
 
--- ---- scripts
+-- ---- scripts, in a table with as many features as the limit says
 
 abbrev pub lang_sys_keys : ℕ → Data → Result LangSysTable JsonFault
 lang_sys_keys limit d =
@@ -66,6 +66,7 @@ lang_sys_or_null limit (object ms) = some_lang_sys (lang_sys limit (object ms))
 abbrev pub lang_sys_entry : ℕ → Data → Result LangSysEntry JsonFault
 lang_sys_entry limit d = and_then (row_of_two tag (lang_sys limit) d) (λ p. Ok (record { tag = p.0; lang_sys = p.1 }))
 
+-- the parts of a script, whose systems have to rise by their tags
 abbrev pub script_parts : Tag × (Option LangSysTable × List LangSysEntry) → Result ScriptTable JsonFault
 script_parts p =
     if is_rising (λ s. s.tag.0) None p.1.1
@@ -76,7 +77,7 @@ script_parts p =
 abbrev pub script : ℕ → Data → Result ScriptTable JsonFault
 script limit d = and_then (row_of_three tag (lang_sys_or_null limit) (part_list (lang_sys_entry limit)) d) script_parts
 
--- ---- features
+-- ---- features, in a table with as many lookups as the limit says
 
 abbrev pub liga : Tag
 liga = tag_of (codes "liga")
@@ -88,7 +89,7 @@ feature_parts p = if p.0.0 == liga.0 then Ok (record { tag = p.0; lookups = p.1 
 abbrev pub feature : ℕ → Data → Result FeatureTable JsonFault
 feature limit d = and_then (row_of_two tag (part_list (number_below limit)) d) feature_parts
 
--- ---- lookups
+-- ---- lookups, whose glyphs are below the limit
 
 -- a ligature: the glyphs behind the first, and the glyph for all
 abbrev pub ligature : ℕ → Data → Result LigatureTable JsonFault
@@ -135,6 +136,7 @@ abbrev pub ligature_type_in : Option Data → Result ⊤ JsonFault
 ligature_type_in None = Err WrongShape
 ligature_type_in (Some d) = and_then (ok_or (as_str d) WrongShape) ligature_name
 
+-- the keys of a lookup in the order in which their faults come
 abbrev pub lookup_keys : ℕ → Data → Result LookupTable JsonFault
 lookup_keys limit d =
     and_then (and_then (read_or 0 word (get (codes "flags") d)) no_flags) (λ flags.
@@ -143,7 +145,7 @@ lookup_keys limit d =
     and_then (and_then (array_at (codes "subtables") d) (rows_in_turn (ligature_subst limit))) (λ subtables.
     Ok (record { flags = flags; mark_filtering_set = None; subtables = ligature_subtables subtables })))))
 
--- a lookup: its faults come in the order of its keys
+-- a lookup
 abbrev pub lookup : ℕ → Data → Result LookupTable JsonFault
 lookup limit d = of_object (lookup_keys limit) d
 
@@ -153,6 +155,7 @@ lookup limit d = of_object (lookup_keys limit) d
 abbrev pub glyph_limit : ℕ
 glyph_limit = 65536
 
+-- the keys of a table in the order in which their faults come; an index is held against the length of the list that it is for
 abbrev pub gsub_keys : Data → Result LayoutLists JsonFault
 gsub_keys d =
     and_then (and_then (array_at (codes "scripts") d) (rows_by_key (λ s. s.tag.0) (script (count_at (codes "features") d)) None)) (λ scripts.

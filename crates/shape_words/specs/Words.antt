@@ -102,6 +102,7 @@ script_in value = read_or None some_script (value (codes "script"))
 abbrev pub parts_of : List ℕ → List (List ℕ)
 parts_of text = slice_split (λ byte. byte == 44) text
 
+-- features in front of others
 abbrev pub behind : List Feature → Result (List Feature) RunFault → Result (List Feature) RunFault
 behind features (Ok rest) = Ok (features ++ rest)
 behind features (Err e) = Err e
@@ -128,7 +129,7 @@ no_glyph_names = record { 0 = 4 }
 abbrev pub flags_in : Lookup → SerializeFlags
 flags_in value = if is_given (codes "no-glyph-names") value then no_glyph_names else default_flags
 
--- the first value of each id, and the values of `features`
+-- what the first value of each id and all values of `features` ask for
 abbrev pub settings_of : Lookup → List (List ℕ) → Result Settings RunFault
 settings_of value features =
     and_then (file_in (codes "tables") value) (λ tables.

@@ -1,5 +1,5 @@
 use Rattle.std.proofs.Common.{◌≡◌, drop, map}
-use Rattle.shape_words.specs.Words.{behind, features_of, parts_of}
+use Rattle.shape_words.specs.Words.{behind, features_of}
 use Rattle.shape_words.proofs.options.add_features.Given as goal
 
 -- the features so far, and those of what is left

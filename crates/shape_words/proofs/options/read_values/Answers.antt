@@ -1,8 +1,8 @@
-use Rattle.std.proofs.Common.{◌≡◌, ◌≢◌, ◌∙◌, ◌<◌, [], Err, length, map, ap, arith, refl}
+use Rattle.std.proofs.Common.{◌≡◌, ◌≢◌, ◌∙◌, ◌<◌, [], Err, length, map, arith}
 use Rattle.std.proofs.lemmas.Grind.{common_steps}
 use Rattle.run_options.specs.declared.fault.RunFault.TheVariants.{OutOfMemory}
-use Rattle.shape_words.specs.Words.{and_then, behind, features_in}
-use Rattle.shape_words.proofs.FeatureValues.{value_step, value_taken, value_refused}
+use Rattle.shape_words.specs.Words.{features_in}
+use Rattle.shape_words.proofs.FeatureValues.{value_taken, value_refused}
 use Rattle.shape_words.proofs.options.read_values.Goals as goal
 
 -- one value more
