@@ -18,7 +18,7 @@ moved_all n s = append_assoc s.behind (take n s.ahead) (drop n s.ahead) ∙ ap (
 all_reversed : (s : Sides) → all_glyphs (reversed s) ≡ reverse (all_glyphs s)
 all_reversed s = take-append-drop s.read (reverse (all_glyphs s))
 
-map-reverse : {X Y : Type 0} (f : X → Y) (xs : List X) → map f (reverse xs) ≡ reverse (map f xs)
+pub map-reverse : {X Y : Type 0} (f : X → Y) (xs : List X) → map f (reverse xs) ≡ reverse (map f xs)
 map-reverse f [] = refl
 map-reverse f (x ∷ xs) = rw (reverse_onto xs x [], map-append, map-reverse f xs, reverse_onto (map f xs) (f x) []) refl
 

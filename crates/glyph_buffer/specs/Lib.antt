@@ -2,6 +2,7 @@ pub mod Sides
 pub mod Merging
 pub mod Rooms
 pub mod Masks
+pub mod Known
 pub mod Inside
 pub mod Text
 pub mod Lending

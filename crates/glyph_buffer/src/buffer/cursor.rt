@@ -4,6 +4,7 @@ ghost use Rattle.glyph_buffer.specs.Sides.{all_glyphs, with_output, moved_on, fi
 ghost use Rattle.glyph_buffer.specs.Lending.{LendsGlyph, LendsPlace};
 
 use super::hb_buffer_t;
+use super::order::Lent;
 use glyph_types::info::hb_glyph_info_t;
 use glyph_types::position::GlyphPosition;
 use std::alloc::AllocError;
@@ -55,7 +56,13 @@ impl hb_buffer_t {
         ensures value { slice_get self.old.ahead i ≡ Some result.now }
         ensures* writes_back { sem 𝓛 (LendsGlyph i self.entry result) }
     {
-        &mut self.info[self.idx + i]
+        let at = self.idx + i;
+        self.order = self.order.settled(self.lent, &self.info);
+        self.lent = Some(Lent {
+            at,
+            cluster: self.info[at].cluster,
+        });
+        &mut self.info[at]
     }
 
     /// The place of the glyph at the cursor, to be written, while no output is open.
@@ -89,6 +96,8 @@ impl hb_buffer_t {
             return Ok(false);
         }
         self.out_info.push(self.info[self.idx])?;
+        self.order = self.order.settled(self.lent, &self.info);
+        self.lent = None;
         self.idx += 1;
         Ok(true)
     }
@@ -116,6 +125,8 @@ impl hb_buffer_t {
         self.out_info
             .extend_from_slice(&self.info[self.idx..])
             .unwrap();
+        self.order = self.order.settled(self.lent, &self.info);
+        self.lent = None;
         mem::swap(&mut self.info, &mut self.out_info);
         self.out_info.clear();
         self.have_output = false;
