@@ -7,3 +7,4 @@ pub mod Replaced
 pub mod Masked
 pub mod Known
 pub mod Ordered
+pub mod Marked

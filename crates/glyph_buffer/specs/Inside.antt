@@ -19,6 +19,7 @@ sides_of b = record {
   direction = b.direction;
   script = b.script;
   scratch_flags = b.scratch_flags;
+  flags = b.flags;
 }
 
 -- where in the input the glyphs ahead, or with no output open all glyphs, begin

@@ -2,6 +2,7 @@ ghost use Rattle.std.specs.Prelude.{◌≡◌};
 ghost use Rattle.glyph_buffer.specs.Sides.{empty_buffer};
 
 mod cursor;
+mod marks;
 mod masks;
 mod merges;
 mod order;
@@ -15,7 +16,7 @@ use glyph_types::info::hb_glyph_info_t;
 use glyph_types::level::BufferClusterLevel;
 use glyph_types::position::GlyphPosition;
 use order::{KnownOrder, Lent};
-use shaping_text::constants::{HB_BUFFER_SCRATCH_FLAG_DEFAULT, hb_buffer_scratch_flags_t};
+use shaping_text::constants::{BufferFlags, HB_BUFFER_SCRATCH_FLAG_DEFAULT, hb_buffer_scratch_flags_t};
 use shaping_text::direction::Direction;
 use shaping_text::script::Script;
 use std::alloc::Global;
@@ -36,6 +37,7 @@ pub struct hb_buffer_t {
     direction: Direction,
     script: Option<Script>,
     scratch_flags: hb_buffer_scratch_flags_t,
+    flags: BufferFlags,
     // Of all glyphs; of one that was lent, by the cluster that it had. So a merge need not walk the whole list.
     order: KnownOrder,
     lent: Option<Lent>,
@@ -73,6 +75,7 @@ impl hb_buffer_t {
             direction: Direction::Invalid,
             script: None,
             scratch_flags: HB_BUFFER_SCRATCH_FLAG_DEFAULT,
+            flags: BufferFlags::default(),
             order: KnownOrder::Rising,
             lent: None,
         }
@@ -93,6 +96,7 @@ impl hb_buffer_t {
         self.direction = Direction::Invalid;
         self.script = None;
         self.scratch_flags = HB_BUFFER_SCRATCH_FLAG_DEFAULT;
+        self.flags = BufferFlags::default();
         self.order = KnownOrder::Rising;
         self.lent = None;
     }

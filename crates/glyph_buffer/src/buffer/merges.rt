@@ -8,7 +8,7 @@ ghost use Rattle.glyph_buffer.specs.Sides.{all_glyphs, items_of};
 ghost use Rattle.glyph_buffer.specs.Merging.{place_of, telling_flags, with_merged};
 
 use super::hb_buffer_t;
-use glyph_clusters::marks::mark_within;
+use super::marks::mark_in;
 use glyph_clusters::runs::{merge_beside, merge_within};
 use glyph_types::info::{UNSAFE_TO_BREAK, UNSAFE_TO_CONCAT, hb_glyph_info_t};
 use glyph_types::level::BufferClusterLevel;
@@ -75,42 +75,15 @@ pub(super) fn merge_lists(
     ensures capacity { vec_capacity out.new ≡ vec_capacity out.old }
 {
     match level {
-        BufferClusterLevel::Characters => mark_in(info, from, start, end),
+        BufferClusterLevel::Characters => {
+            mark_in(info, from, start, end, UNSAFE_TO_BREAK | UNSAFE_TO_CONCAT)
+        }
         BufferClusterLevel::MonotoneGraphemes | BufferClusterLevel::MonotoneCharacters => {
             merge_out(out, &info[start..end], in_order);
             merge_in(info, from, start, end, in_order);
             false
         }
     }
-}
-
-#[tactic(auto, using(crate::proofs::Merged::put_behind))]
-fn mark_in(info: &mut Vec<hb_glyph_info_t>, from: usize, start: usize, end: usize) -> bool
-    requires begins { from ≤ start }
-    requires ordered { start ≤ end }
-    requires within { end ≤ vec_len info.old }
-    ensures items { drop from info.new.items ≡ glyphs_marked 3 (start - from) (end - from) (drop from info.old.items) }
-    ensures any { result ≡ tells_apart (stretch (start - from) (end - from) (clusters (drop from info.old.items))) }
-    ensures len { vec_len info.new ≡ vec_len info.old }
-{
-    mark_behind(info, from, start, end)
-}
-
-#[tactic(auto, using(crate::proofs::Merged::put_behind))]
-fn mark_behind(glyphs: &mut [hb_glyph_info_t], from: usize, start: usize, end: usize) -> bool
-    requires begins { from ≤ start }
-    requires ordered { start ≤ end }
-    requires within { end ≤ length glyphs.old }
-    ensures items { drop from glyphs.new ≡ glyphs_marked 3 (start - from) (end - from) (drop from glyphs.old) }
-    ensures any { result ≡ tells_apart (stretch (start - from) (end - from) (clusters (drop from glyphs.old))) }
-{
-    let (_, ahead) = glyphs.split_at_mut(from);
-    mark_within(
-        ahead,
-        start - from,
-        end - from,
-        UNSAFE_TO_BREAK | UNSAFE_TO_CONCAT,
-    )
 }
 
 fn merge_out(out: &mut Vec<hb_glyph_info_t>, range: &[hb_glyph_info_t], in_order: bool)

@@ -1,9 +1,9 @@
 ghost use Rattle.std.specs.Prelude.{◌≡◌};
-ghost use Rattle.glyph_buffer.specs.Sides.{with_level, with_scratch_flags};
+ghost use Rattle.glyph_buffer.specs.Sides.{with_flags, with_level, with_scratch_flags};
 
 use super::hb_buffer_t;
 use glyph_types::level::BufferClusterLevel;
-use shaping_text::constants::hb_buffer_scratch_flags_t;
+use shaping_text::constants::{BufferFlags, hb_buffer_scratch_flags_t};
 
 impl hb_buffer_t {
     pub fn cluster_level(&self) -> BufferClusterLevel
@@ -29,5 +29,18 @@ impl hb_buffer_t {
         ensures { self.new ≡ with_scratch_flags flags self.old }
     {
         self.scratch_flags = flags;
+    }
+
+    /// What is asked of the shaping.
+    pub fn flags(&self) -> BufferFlags
+        ensures { result ≡ self.now.flags }
+    {
+        self.flags
+    }
+
+    pub fn set_flags(&mut self, flags: BufferFlags)
+        ensures { self.new ≡ with_flags flags self.old }
+    {
+        self.flags = flags;
     }
 }
