@@ -1,6 +1,6 @@
 -- What is known of the order of clusters, after each call.
-use Rattle.std.proofs.Common.{ℕ, ◌≡◌, ◌≤◌, ◌<◌, ◌+◌, inl, inr, Bool, true, false, List, [], ◌∷◌, ◌++◌, length, map, drop, reverse, get_or, set, arith, refl, ap, sym, subst, ◌∙◌}
-use Rattle.std.proofs.lemmas.List.{map-append, drop-map, drop_more, append_assoc, map-set, set-set, set-get_or, get_or-map}
+use Rattle.std.proofs.Common.{take, ℕ, ◌≡◌, ◌≤◌, ◌<◌, ◌+◌, inl, inr, Bool, true, false, List, [], ◌∷◌, ◌++◌, length, map, drop, reverse, get_or, set, arith, refl, ap, sym, subst, ◌∙◌}
+use Rattle.std.proofs.lemmas.List.{map-append, drop-map, drop-drop, take-append-drop, drop_more, append_assoc, map-set, set-set, set-get_or, get_or-map}
 use Rattle.std.proofs.Math.Seq.{take-append_seam, drop-append_seam, drop-append-add}
 use Rattle.glyph_types.specs.declared.info.hb_glyph_info_t.{hb_glyph_info_t}
 use Rattle.glyph_types.specs.declared.level.BufferClusterLevel.{BufferClusterLevel}
@@ -11,7 +11,7 @@ use Rattle.glyph_lists.specs.Merges.{merged_at}
 use Rattle.glyph_lists.specs.Order.{IsInOrder, IsOrdered}
 use Rattle.glyph_lists.specs.Glyphs.{beside_merged, glyphs_merged_at}
 use Rattle.glyph_lists.specs.Replacements.{copied, glyph_numbered, glyphs_replaced}
-use Rattle.glyph_lists.specs.Lemmas.Drawn.{drawn_replaced}
+use Rattle.glyph_lists.specs.Lemmas.Drawn.{IsDrawn, drawn_replaced, drawn_second, drawn_drop}
 use Rattle.glyph_lists.specs.Lemmas.Events.{event_keeps_order, order_drawn}
 use Rattle.glyph_lists.specs.Lemmas.Glyphs.{merged_at_beyond, clusters_merged_at}
 use Rattle.glyph_lists.specs.Lemmas.Merges.{merge_joins}
@@ -103,3 +103,29 @@ known_ahead o out info n m e h = rw e (subst (λ ns. HasOrder o (clusters out ++
 
 pub known_back : (o : KnownOrder) (out info : List hb_glyph_info_t) (n m : ℕ) → n ≡ m → HasOrder o (clusters out ++ clusters (drop n info)) → HasOrder o (clusters out ++ drop m (clusters info))
 known_back o out info n m e h = subst (λ ns. HasOrder o (clusters out ++ ns)) (sym (drop-map (λ (g : hb_glyph_info_t). g.cluster) m info)) (rw e at h)
+
+-- a glyph of the same cluster went from the input behind the output
+pub order_renumbered : (o : KnownOrder) (out info new : List hb_glyph_info_t) (n : ℕ) (g d : hb_glyph_info_t) → n < length info → new ≡ out ++ g ∷ [] → g.cluster ≡ (get_or info n d).cluster → HasOrder o (clusters out ++ drop n (clusters info)) → HasOrder o (clusters new ++ drop (n + 1) (clusters info))
+order_renumbered o out info new n g d lt e same h =
+    let moved = order_moved o out info (out ++ get_or info n d ∷ []) n d lt refl h in
+    let f : hb_glyph_info_t → ℕ = λ k. k.cluster in
+    let seen : clusters (out ++ get_or info n d ∷ []) ≡ clusters new = map-append f out (get_or info n d ∷ []) ∙ ap (λ c. clusters out ++ c ∷ []) (sym same) ∙ sym (map-append f out (g ∷ [])) ∙ ap clusters (sym e) in
+    subst (λ ns. HasOrder o (ns ++ drop (n + 1) (clusters info))) seen moved
+
+-- some glyphs went from the input behind the output
+pub order_moved_on : (o : KnownOrder) (out info new : List hb_glyph_info_t) (n k : ℕ) → new ≡ out ++ take k (drop n info) → HasOrder o (clusters out ++ drop n (clusters info)) → HasOrder o (clusters new ++ drop (n + k) (clusters info))
+order_moved_on o out info new n k e h =
+    let f : hb_glyph_info_t → ℕ = λ g. g.cluster in
+    let cut : drop n (clusters info) ≡ clusters (take k (drop n info)) ++ drop (n + k) (clusters info) =
+    drop-map f n info ∙ ap clusters (sym (take-append-drop k (drop n info))) ∙ map-append f (take k (drop n info)) (drop k (drop n info)) ∙ ap (λ gs. clusters (take k (drop n info)) ++ clusters gs) (drop-drop k n info) ∙ ap (λ ns. clusters (take k (drop n info)) ++ ns) (sym (drop-map f (n + k) info)) in
+    let seen : clusters new ≡ clusters out ++ clusters (take k (drop n info)) = ap clusters e ∙ map-append f out (take k (drop n info)) in
+    subst (HasOrder o) (ap (λ ns. clusters out ++ ns) cut ∙ sym (append_assoc (clusters out) (clusters (take k (drop n info))) (drop (n + k) (clusters info))) ∙ ap (λ ns. ns ++ drop (n + k) (clusters info)) (sym seen)) h
+
+order_drawn_known : (o : KnownOrder) (xs ys : List ℕ) → IsDrawn xs ys → HasOrder o xs → HasOrder o ys
+order_drawn_known Unknown xs ys d h = tt
+order_drawn_known Rising xs ys d h = order_drawn false d h
+order_drawn_known Falling xs ys d h = order_drawn true d h
+
+-- a glyph of the input went
+pub order_skipped : (o : KnownOrder) (front ns : List ℕ) (n : ℕ) → HasOrder o (front ++ drop n ns) → HasOrder o (front ++ drop (n + 1) ns)
+order_skipped o front ns n h = rw (← drop-drop 1 n ns) (order_drawn_known o (front ++ drop n ns) (front ++ drop 1 (drop n ns)) (drawn_second front (drawn_drop 1 (drop n ns))) h)

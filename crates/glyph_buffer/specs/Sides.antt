@@ -122,6 +122,10 @@ with_scratch_flags f s = record s { scratch_flags = f }
 abbrev pub with_flags : BufferFlags → Sides → Sides
 with_flags f s = record s { flags = f }
 
+-- another limit of the length
+abbrev pub with_max_len : ℕ → Sides → Sides
+with_max_len n s = record s { max_len = n }
+
 -- each place nothing
 abbrev pub with_cleared_places : Sides → Sides
 with_cleared_places s = record s { places = zero_places (length s.places) }

@@ -6,6 +6,7 @@ mod marks;
 mod masks;
 mod merges;
 mod order;
+mod output;
 mod replacement;
 mod reversal;
 mod segment;

@@ -58,7 +58,7 @@ impl hb_buffer_t {
     }
 
     /// Whether so many copies can't be put behind the output.
-    fn lacks_room(&self, count: usize) -> bool
+    pub(super) fn lacks_room(&self, count: usize) -> bool
         requires { self.now.is_open ≡ true }
         ensures { result ≡ not (fits_copies count self.now) }
     {
@@ -93,7 +93,7 @@ fn replace_lists(
     marked
 }
 
-fn model_of(ahead: &[hb_glyph_info_t], behind: &[hb_glyph_info_t]) -> Option<hb_glyph_info_t>
+pub(super) fn model_of(ahead: &[hb_glyph_info_t], behind: &[hb_glyph_info_t]) -> Option<hb_glyph_info_t>
     ensures { result ≡ or (first_of ahead.now) (last_of behind.now) }
 {
     match ahead {
@@ -102,7 +102,7 @@ fn model_of(ahead: &[hb_glyph_info_t], behind: &[hb_glyph_info_t]) -> Option<hb_
     }
 }
 
-fn push_copies(glyphs: &mut Vec<hb_glyph_info_t>, model: Option<hb_glyph_info_t>, numbers: &[u32])
+pub(super) fn push_copies(glyphs: &mut Vec<hb_glyph_info_t>, model: Option<hb_glyph_info_t>, numbers: &[u32])
     requires { vec_len glyphs.old + length numbers.now ≤ vec_capacity glyphs.old }
     ensures { glyphs.new.items ≡ glyphs.old.items ++ copied glyph_numbered model numbers.now }
 {
