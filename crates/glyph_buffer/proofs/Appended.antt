@@ -1,33 +1,40 @@
 -- What glyphs at the end of both vectors do to the sides.
 use Rattle.std.specs.Global.{Vec}
-use Rattle.std.proofs.Common.{◌≡◌, ◌≤◌, ◌+◌, false, List, length, refl, arith, length-append}
-use Rattle.std.proofs.lemmas.List.{take-append-le, drop-append-le, length-replicate}
+use Rattle.std.proofs.Common.{ℕ, ◌≡◌, ◌≤◌, ◌+◌, ◌++◌, false, None, List, [], length, refl, arith, length-append}
+use Rattle.std.proofs.lemmas.List.{take-append-le, drop-append-le, length-replicate, map-append}
 use Rattle.glyph_types.specs.declared.info.hb_glyph_info_t.{hb_glyph_info_t}
 use Rattle.glyph_types.specs.declared.position.GlyphPosition.{GlyphPosition}
 use Rattle.glyph_buffer.specs.declared.buffer.hb_buffer_t.TheInside.{Inside}
+use Rattle.glyph_buffer.specs.declared.buffer.order.KnownOrder.{KnownOrder}
+use Rattle.glyph_lists.specs.Items.{clusters}
+use Rattle.glyph_buffer.specs.Known.{HasOrder}
 use Rattle.glyph_buffer.specs.Inside.{sides_of, IsSound}
 use Rattle.glyph_buffer.specs.Sides.{with_added}
 use Rattle.glyph_buffer.specs.Appended.{IsAppended}
 
-pub appended_view : (b : Inside) (info : Vec hb_glyph_info_t) (places : Vec GlyphPosition) (gs : List hb_glyph_info_t) → b.have_output ≡ false → IsSound b
+pub appended_view : (b : Inside) (info : Vec hb_glyph_info_t) (places : Vec GlyphPosition) (order : KnownOrder) (gs : List hb_glyph_info_t) → b.have_output ≡ false → IsSound b
     → IsAppended gs b.info.items b.pos.items info.items places.items
-    → sides_of (record b { info = info; pos = places }) ≡ with_added gs (sides_of b)
-appended_view b info places gs h s a =
+    → sides_of (record b { info = info; pos = places; order = order; lent = None }) ≡ with_added gs (sides_of b)
+appended_view b info places order gs h s a =
     let le : b.idx ≤ length b.info.items = s.cursor in
     rw (h, a.glyphs, a.places, take-append-le, drop-append-le) refl
 
-pub appended_sound : (b : Inside) (info : Vec hb_glyph_info_t) (places : Vec GlyphPosition) (gs : List hb_glyph_info_t) → b.have_output ≡ false → IsSound b
+pub appended_sound : (b : Inside) (info : Vec hb_glyph_info_t) (places : Vec GlyphPosition) (order : KnownOrder) (gs : List hb_glyph_info_t) → b.have_output ≡ false → IsSound b
+    → HasOrder order (clusters b.info.items ++ clusters gs)
     → length b.info.items + length gs ≤ b.max_len
     → IsAppended gs b.info.items b.pos.items info.items places.items
-    → IsSound (record b { info = info; pos = places })
-appended_sound b info places gs h s le a =
+    → IsSound (record b { info = info; pos = places; order = order; lent = None })
+appended_sound b info places order gs h s o le a =
     let even : length b.pos.items ≡ length b.info.items = rw h at s.placed in
     let grown : length info.items ≡ length b.info.items + length gs = rw a.glyphs (length-append b.info.items gs) in
     let placed : length places.items ≡ length b.pos.items + length gs = rw (a.places, length-append, length-replicate) refl in
+    let none : b.out_info.items ≡ [] = rw h at s.closed in
+    let cluster_of : hb_glyph_info_t → ℕ = λ g. g.cluster in
     record {
       cursor = omega (arith, s.cursor, grown);
       input_within = omega (arith, grown, le);
       output_within = s.output_within;
       closed = s.closed;
       placed = rw h (omega (arith, even, grown, placed));
+      ordered = rw (h, none, a.glyphs, map-append cluster_of b.info.items gs) o;
     }

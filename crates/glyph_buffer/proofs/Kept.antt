@@ -1,13 +1,17 @@
 -- Glyphs that only change places.
 use Rattle.std.specs.Prelude.{bit_and}
-use Rattle.std.proofs.Common.{ℕ, ◌≡◌, ◌++◌, false, List, [], ◌∷◌, map, take, drop, reverse, refl, ap, ◌∙◌, append_assoc}
+use Rattle.std.proofs.Common.{ℕ, zero, suc, ◌≡◌, ◌+◌, ◌++◌, arith, true, false, Option, List, [], ◌∷◌, map, take, drop, reverse, refl, ap, sym, ◌∙◌, append_assoc}
 use Rattle.std.proofs.lemmas.Grind.{reverse_onto}
-use Rattle.std.proofs.lemmas.List.{map-append, take-append-drop}
+use Rattle.std.proofs.lemmas.List.{map-append, take-append-drop, drop-drop}
 use Rattle.glyph_types.specs.declared.info.hb_glyph_info_t.{hb_glyph_info_t}
 use Rattle.glyph_lists.specs.Items.{item_of, strip, clusters}
 use Rattle.std.specs.Global.{Vec}
 use Rattle.glyph_types.specs.declared.position.GlyphPosition.{GlyphPosition}
 use Rattle.glyph_buffer.specs.declared.buffer.hb_buffer_t.TheInside.{Inside}
+use Rattle.glyph_lists.specs.Replacements.{glyph_numbered}
+use Rattle.glyph_buffer.specs.Merging.{with_renumbered}
+use Rattle.glyph_buffer.specs.declared.buffer.order.KnownOrder.{KnownOrder}
+use Rattle.glyph_buffer.specs.declared.buffer.order.Lent.{Lent}
 use Rattle.glyph_buffer.specs.Inside.{sides_of}
 use Rattle.glyph_buffer.specs.Sides.{Sides, all_glyphs, items_of, flags_of, moved_on, reversed}
 
@@ -18,7 +22,7 @@ moved_all n s = append_assoc s.behind (take n s.ahead) (drop n s.ahead) ∙ ap (
 all_reversed : (s : Sides) → all_glyphs (reversed s) ≡ reverse (all_glyphs s)
 all_reversed s = take-append-drop s.read (reverse (all_glyphs s))
 
-map-reverse : {X Y : Type 0} (f : X → Y) (xs : List X) → map f (reverse xs) ≡ reverse (map f xs)
+pub map-reverse : {X Y : Type 0} (f : X → Y) (xs : List X) → map f (reverse xs) ≡ reverse (map f xs)
 map-reverse f [] = refl
 map-reverse f (x ∷ xs) = rw (reverse_onto xs x [], map-append, map-reverse f xs, reverse_onto (map f xs) (f x) []) refl
 
@@ -35,3 +39,37 @@ reversed_flags s = ap flags_of (all_reversed s) ∙ map-reverse (λ (g : hb_glyp
 pub turned_view : (b : Inside) (info : Vec hb_glyph_info_t) (places : Vec GlyphPosition) → b.have_output ≡ false → info.items ≡ reverse b.info.items → places.items ≡ reverse b.pos.items
     → sides_of (record b { info = info; pos = places }) ≡ reversed (sides_of b)
 turned_view b info places h i p = rw (h, i, p, take-append-drop b.idx b.info.items) refl
+
+-- a glyph that goes behind the cursor under another number
+renumbered_seen : {Y : Type 0} (v : hb_glyph_info_t → Y) → ((g : hb_glyph_info_t) (n : ℕ) → v (glyph_numbered g n) ≡ v g) → (n : ℕ) (behind ahead : List hb_glyph_info_t)
+    → map v ((behind ++ map (λ (g : hb_glyph_info_t). glyph_numbered g n) (take 1 ahead)) ++ drop 1 ahead) ≡ map v (behind ++ ahead)
+renumbered_seen v same n behind [] = ap (map v) (append_assoc behind [] [])
+renumbered_seen v same n behind (g ∷ gs) =
+    ap (map v) (append_assoc behind (glyph_numbered g n ∷ []) gs) ∙ map-append v behind (glyph_numbered g n ∷ gs) ∙ ap (λ y. map v behind ++ y ∷ map v gs) (same g n) ∙ sym (map-append v behind (g ∷ gs))
+
+pub renumbered_clusters : (n : ℕ) (s : Sides) → clusters (all_glyphs (with_renumbered n s)) ≡ clusters (all_glyphs s)
+renumbered_clusters n s = renumbered_seen (λ (g : hb_glyph_info_t). g.cluster) (λ g m. refl) n s.behind s.ahead
+
+pub renumbered_flags : (n : ℕ) (s : Sides) → flags_of (all_glyphs (with_renumbered n s)) ≡ flags_of (all_glyphs s)
+renumbered_flags n s = renumbered_seen (λ (g : hb_glyph_info_t). bit_and g.mask 7) (λ g m. refl) n s.behind s.ahead
+
+no_take : (m : ℕ) (none : List hb_glyph_info_t) → none ≡ [] → take m none ≡ none
+no_take zero none e = sym e
+no_take (suc m) [] e = refl
+no_take (suc m) (x ∷ xs) e = cc
+
+take_on : (xs : List hb_glyph_info_t) (n k : ℕ) → take (n + k) xs ≡ take n xs ++ take k (drop n xs)
+take_on xs zero k = let same : 0 + k ≡ k = omega arith in ap (λ m. take m xs) same
+take_on [] (suc n) k =
+    let more : suc n + k ≡ suc (n + k) = omega arith in
+    let rest : take k [] ≡ [] = no_take k [] refl in
+    ap (λ m. take m []) more ∙ sym rest
+take_on (x ∷ xs) (suc n) k = let more : suc n + k ≡ suc (n + k) = omega arith in ap (λ m. take m (x ∷ xs)) more ∙ ap (λ gs. x ∷ gs) (take_on xs n k)
+
+-- the cursor moves on, with no output open and with one
+pub moved_closed : (b : Inside) (k : ℕ) → b.have_output ≡ false → sides_of (record b { idx = b.idx + k }) ≡ moved_on k (sides_of b)
+moved_closed b k h = rw (h, take_on b.info.items b.idx k, ← drop-drop k b.idx b.info.items) refl
+
+pub moved_open : (b : Inside) (out : Vec hb_glyph_info_t) (order : KnownOrder) (lent : Option Lent) (k : ℕ) → b.have_output ≡ true → out.items ≡ b.out_info.items ++ take k (drop b.idx b.info.items)
+    → sides_of (record b { out_info = out; idx = b.idx + k; order = order; lent = lent }) ≡ moved_on k (sides_of b)
+moved_open b out order lent k h e = rw (h, e, ← drop-drop k b.idx b.info.items) refl

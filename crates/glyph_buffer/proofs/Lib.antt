@@ -5,3 +5,6 @@ pub mod Kept
 pub mod Merged
 pub mod Replaced
 pub mod Masked
+pub mod Known
+pub mod Ordered
+pub mod Marked

@@ -1,7 +1,9 @@
 -- How the vectors of a buffer give its sides.
-use Rattle.std.specs.Prelude.{◌≤◌, ◌≡◌, if◌then◌else◌, [], length, take, drop, not}
+use Rattle.std.specs.Prelude.{ℕ, ◌≤◌, ◌≡◌, ◌++◌, if◌then◌else◌, List, [], length, take, drop, not}
 use Rattle.std.specs.Bool.{OnFalse}
 use Rattle.glyph_buffer.specs.declared.buffer.hb_buffer_t.TheInside.{Inside}
+use Rattle.glyph_lists.specs.Items.{clusters}
+use Rattle.glyph_buffer.specs.Known.{HasOrder, put_back}
 use Rattle.glyph_buffer.specs.Sides.{Sides}
 
 abbrev pub sides_of : Inside → Sides
@@ -17,7 +19,16 @@ sides_of b = record {
   direction = b.direction;
   script = b.script;
   scratch_flags = b.scratch_flags;
+  flags = b.flags;
 }
+
+-- where in the input the glyphs ahead, or with no output open all glyphs, begin
+abbrev pub start_of : Inside → ℕ
+start_of b = if b.have_output then b.idx else 0
+
+-- the clusters of all glyphs, with that of a lent glyph as it was
+abbrev pub known_clusters : Inside → List ℕ
+known_clusters b = clusters b.out_info.items ++ drop (start_of b) (put_back b.lent (clusters b.info.items))
 
 pub record IsSound (b : Inside) : Type 0 where
   pub cursor : b.idx ≤ length b.info.items
@@ -25,3 +36,4 @@ pub record IsSound (b : Inside) : Type 0 where
   pub output_within : length b.out_info.items ≤ b.max_len
   pub closed : OnFalse b.have_output (b.out_info.items ≡ [])
   pub placed : OnFalse b.have_output (length b.pos.items ≡ length b.info.items)
+  pub ordered : HasOrder b.order (known_clusters b)

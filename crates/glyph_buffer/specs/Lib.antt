@@ -1,7 +1,9 @@
 pub mod Sides
 pub mod Merging
 pub mod Rooms
+pub mod Marking
 pub mod Masks
+pub mod Known
 pub mod Inside
 pub mod Text
 pub mod Lending

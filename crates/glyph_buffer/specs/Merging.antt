@@ -1,5 +1,5 @@
 -- What merges and replacements of glyphs make of a buffer.
-use Rattle.std.specs.Prelude.{ℕ, ◌+◌, ◌-◌, ◌==◌, ◌||◌, Bool, if◌then◌else◌, List, ◌++◌, length, take, drop, Option}
+use Rattle.std.specs.Prelude.{ℕ, ◌+◌, ◌-◌, ◌==◌, ◌||◌, Bool, if◌then◌else◌, List, [], ◌∷◌, ◌++◌, map, length, take, drop, Option}
 use Rattle.std.specs.Int.RustNames.{bit_or}
 use Rattle.glyph_types.specs.declared.info.hb_glyph_info_t.{hb_glyph_info_t}
 use Rattle.glyph_lists.specs.Items.{clusters}
@@ -39,3 +39,19 @@ with_replaced taken numbers s = with_copied taken numbers (with_merged (length s
 -- whether so many copies may be put behind the output; without a glyph none is made
 abbrev pub fits_copies : ℕ → Sides → Bool
 fits_copies n s = (length (all_glyphs s) == 0) || has_output_room n s
+
+-- a glyph goes behind the cursor
+abbrev pub with_put : hb_glyph_info_t → Sides → Sides
+with_put g s = record s { behind = s.behind ++ g ∷ [] }
+
+-- a copy of the model under a number goes behind the cursor
+abbrev pub with_copy : ℕ → Sides → Sides
+with_copy n s = record s { behind = s.behind ++ copied glyph_numbered (model s) (n ∷ []) }
+
+-- the glyph at the cursor goes behind it under another number
+abbrev pub with_renumbered : ℕ → Sides → Sides
+with_renumbered n s = record s { behind = s.behind ++ map (λ (g : hb_glyph_info_t). glyph_numbered g n) (take 1 s.ahead); ahead = drop 1 s.ahead; read = s.read + 1 }
+
+-- the glyph at the cursor goes
+abbrev pub with_skipped : Sides → Sides
+with_skipped s = record s { ahead = drop 1 s.ahead; read = s.read + 1 }

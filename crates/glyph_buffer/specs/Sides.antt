@@ -6,6 +6,7 @@ use Rattle.glyph_types.specs.declared.level.BufferClusterLevel.TheVariants.{Mono
 pub use Rattle.glyph_lists.specs.Items.{flags_of}
 use Rattle.glyph_lists.specs.Items.{Item, Place, strip}
 use Rattle.glyph_lists.specs.Readings.{Run}
+use Rattle.shaping_text.specs.declared.constants.BufferFlags.{BufferFlags}
 use Rattle.shaping_text.specs.declared.direction.Direction.{Direction}
 use Rattle.shaping_text.specs.declared.direction.Direction.TheVariants.{Invalid}
 use Rattle.shaping_text.specs.declared.script.Script.{Script}
@@ -26,6 +27,8 @@ pub record Sides : Type 0 where
   pub script : Option Script
   -- what the stages of shaping tell each other of the glyphs
   pub scratch_flags : ℕ
+  -- what is asked of the shaping
+  pub flags : BufferFlags
 
 -- all glyphs, in order
 abbrev pub all_glyphs : Sides → List hb_glyph_info_t
@@ -60,6 +63,7 @@ empty_buffer = record {
   direction = Invalid;
   script = None;
   scratch_flags = 0;
+  flags = record { 0 = 0 };
 }
 
 -- more glyphs at the end, with places of nothing
@@ -113,6 +117,14 @@ with_level l s = record s { level = l }
 -- other scratch flags
 abbrev pub with_scratch_flags : ℕ → Sides → Sides
 with_scratch_flags f s = record s { scratch_flags = f }
+
+-- other requests
+abbrev pub with_flags : BufferFlags → Sides → Sides
+with_flags f s = record s { flags = f }
+
+-- another limit of the length
+abbrev pub with_max_len : ℕ → Sides → Sides
+with_max_len n s = record s { max_len = n }
 
 -- each place nothing
 abbrev pub with_cleared_places : Sides → Sides

@@ -2,8 +2,11 @@ ghost use Rattle.std.specs.Prelude.{◌≡◌};
 ghost use Rattle.glyph_buffer.specs.Sides.{empty_buffer};
 
 mod cursor;
+mod marks;
 mod masks;
 mod merges;
+mod order;
+mod output;
 mod replacement;
 mod reversal;
 mod segment;
@@ -13,7 +16,8 @@ mod storage;
 use glyph_types::info::hb_glyph_info_t;
 use glyph_types::level::BufferClusterLevel;
 use glyph_types::position::GlyphPosition;
-use shaping_text::constants::{HB_BUFFER_SCRATCH_FLAG_DEFAULT, hb_buffer_scratch_flags_t};
+use order::{KnownOrder, Lent};
+use shaping_text::constants::{BufferFlags, HB_BUFFER_SCRATCH_FLAG_DEFAULT, hb_buffer_scratch_flags_t};
 use shaping_text::direction::Direction;
 use shaping_text::script::Script;
 use std::alloc::Global;
@@ -34,6 +38,10 @@ pub struct hb_buffer_t {
     direction: Direction,
     script: Option<Script>,
     scratch_flags: hb_buffer_scratch_flags_t,
+    flags: BufferFlags,
+    // Of all glyphs; of one that was lent, by the cluster that it had. So a merge need not walk the whole list.
+    order: KnownOrder,
+    lent: Option<Lent>,
 }
 
 impl Model for hb_buffer_t {
@@ -68,6 +76,9 @@ impl hb_buffer_t {
             direction: Direction::Invalid,
             script: None,
             scratch_flags: HB_BUFFER_SCRATCH_FLAG_DEFAULT,
+            flags: BufferFlags::default(),
+            order: KnownOrder::Rising,
+            lent: None,
         }
     }
 
@@ -86,5 +97,8 @@ impl hb_buffer_t {
         self.direction = Direction::Invalid;
         self.script = None;
         self.scratch_flags = HB_BUFFER_SCRATCH_FLAG_DEFAULT;
+        self.flags = BufferFlags::default();
+        self.order = KnownOrder::Rising;
+        self.lent = None;
     }
 }

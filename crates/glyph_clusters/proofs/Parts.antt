@@ -9,7 +9,7 @@ use Rattle.glyph_lists.specs.Items.{clusters}
 use Rattle.glyph_lists.specs.Events.{stretch}
 use Rattle.glyph_lists.specs.Order.{has_number}
 use Rattle.glyph_lists.specs.Merges.{least_number, merged}
-use Rattle.glyph_lists.specs.Glyphs.{in_cluster, glyphs_merged, marked_outside, glyphs_marked, tells_apart}
+use Rattle.glyph_lists.specs.Glyphs.{in_cluster, glyphs_merged, marked_outside, glyphs_marked, tells_apart, flagged, glyphs_flagged}
 use Rattle.glyph_lists.specs.Lemmas.Glyphs.{stretch_is}
 use Rattle.glyph_lists.specs.Lemmas.Numbers.{Has, has_right, has_here}
 
@@ -47,3 +47,9 @@ marked_parts bits low xs range i j le is e =
 
 pub told_apart : (xs : List hb_glyph_info_t) (i j : ℕ) → list_any (λ n. not (n == least_number (clusters (slice_range xs i j)))) (clusters (slice_range xs i j)) ≡ tells_apart (stretch i j (clusters xs))
 told_apart xs i j = rw (stretch_is xs i j) refl
+
+pub flagged_parts : (bits : ℕ) (xs range : List hb_glyph_info_t) (i j : ℕ) → i ≤ j → range ≡ map (flagged bits) (slice_range xs i j) → put_mid i (j - i) xs range ≡ glyphs_flagged bits i j xs
+flagged_parts bits xs range i j le e =
+    let there : i + (j - i) ≡ j = omega arith in
+    let behind : drop (j - i) (drop i xs) ≡ drop j xs = drop-drop (j - i) i xs ∙ ap (λ n. drop n xs) there in
+    rw (e, behind) (sym (append_assoc (take i xs) (map (flagged bits) (slice_range xs i j)) (drop j xs)))

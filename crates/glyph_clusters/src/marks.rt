@@ -3,7 +3,7 @@ ghost use Rattle.std.specs.List.{list_any};
 ghost use Rattle.glyph_lists.specs.Items.{clusters};
 ghost use Rattle.glyph_lists.specs.Events.{stretch};
 ghost use Rattle.glyph_lists.specs.Merges.{least_number};
-ghost use Rattle.glyph_lists.specs.Glyphs.{glyphs_marked, marked_outside, tells_apart};
+ghost use Rattle.glyph_lists.specs.Glyphs.{flagged, glyphs_flagged, glyphs_marked, marked_outside, tells_apart};
 
 use crate::merges::least_cluster;
 use glyph_types::info::{hb_glyph_info_t, hb_mask_t};
@@ -58,5 +58,24 @@ fn marked(glyph: hb_glyph_info_t, cluster: u32, flags: hb_mask_t) -> hb_glyph_in
             mask: glyph.mask | flags,
             ..glyph
         }
+    }
+}
+
+/// Sets flags on the glyphs from `start` up to before `end`.
+#[tactic(auto, using(crate::proofs::Parts::flagged_parts))]
+pub fn flag_within(glyphs: &mut [hb_glyph_info_t], start: usize, end: usize, flags: hb_mask_t)
+    requires ordered { start ≤ end }
+    requires within { end ≤ length glyphs.old }
+    ensures { glyphs.new ≡ glyphs_flagged flags start end glyphs.old }
+{
+    flag_all(&mut glyphs[start..end], flags);
+}
+
+#[tactic(auto, using(glyph_lists::specs::Lists::map_step))]
+fn flag_all(glyphs: &mut [hb_glyph_info_t], flags: hb_mask_t)
+    ensures { glyphs.new ≡ map (flagged flags) glyphs.old }
+{
+    for glyph in glyphs.iter_mut() {
+        glyph.mask |= flags;
     }
 }

@@ -68,3 +68,15 @@ abbrev pub flags_merged_at : BufferClusterLevel → ℕ → ℕ → List hb_glyp
 flags_merged_at MonotoneGraphemes from to gs = flags_merged (stretch from to (clusters gs)) gs
 flags_merged_at MonotoneCharacters from to gs = flags_merged (stretch from to (clusters gs)) gs
 flags_merged_at Characters from to gs = flags_marked 3 from to gs
+
+-- a glyph with flags set
+abbrev pub flagged : ℕ → hb_glyph_info_t → hb_glyph_info_t
+flagged bits g = record g { mask = bit_or g.mask bits }
+
+-- the places from `from` up to before `to` have flags set
+abbrev pub glyphs_flagged : ℕ → ℕ → ℕ → List hb_glyph_info_t → List hb_glyph_info_t
+glyphs_flagged bits from to gs = take from gs ++ map (flagged bits) (slice_range gs from to) ++ drop to gs
+
+-- their glyph flags
+abbrev pub flags_flagged : ℕ → ℕ → ℕ → List hb_glyph_info_t → List ℕ
+flags_flagged bits from to gs = take from (flags_of gs) ++ map (λ (g : hb_glyph_info_t). bit_or (glyph_flags g) bits) (slice_range gs from to) ++ drop to (flags_of gs)

@@ -1,9 +1,11 @@
-ghost use Rattle.std.specs.Prelude.{◌≡◌, ◌<◌, ◌+◌, length, true, false, Some, OnErr, IfOk, slice_get, slice_index_or};
+ghost use Rattle.std.specs.Prelude.{◌≡◌, ◌<◌, ◌≤◌, ◌+◌, ◌-◌, length, true, false, Some, OnErr, IfOk, slice_get, slice_index_or};
 ghost use Rattle.std.specs.Borrow.{sem};
 ghost use Rattle.glyph_buffer.specs.Sides.{all_glyphs, with_output, moved_on, fits_next, fits_joined, synced, refused};
+ghost use Rattle.glyph_buffer.specs.Merging.{with_skipped};
 ghost use Rattle.glyph_buffer.specs.Lending.{LendsGlyph, LendsPlace};
 
 use super::hb_buffer_t;
+use super::order::Lent;
 use glyph_types::info::hb_glyph_info_t;
 use glyph_types::position::GlyphPosition;
 use std::alloc::AllocError;
@@ -40,6 +42,23 @@ impl hb_buffer_t {
         }
     }
 
+    /// The last glyph of the output.
+    pub fn prev(&self) -> &hb_glyph_info_t
+        requires open { self.now.is_open ≡ true }
+        requires there { 0 < length self.now.behind }
+        ensures { slice_get self.now.behind (length self.now.behind - 1) ≡ Some result.now }
+    {
+        &self.out_info[self.out_info.len() - 1]
+    }
+
+    /// The glyphs of the output.
+    pub fn out_info(&self) -> &[hb_glyph_info_t]
+        requires { self.now.is_open ≡ true }
+        ensures { result.now ≡ self.now.behind }
+    {
+        &self.out_info
+    }
+
     /// The i-th glyph from the cursor on.
     pub fn cur(&self, i: usize) -> &hb_glyph_info_t
         requires { i < length self.now.ahead }
@@ -55,7 +74,13 @@ impl hb_buffer_t {
         ensures value { slice_get self.old.ahead i ≡ Some result.now }
         ensures* writes_back { sem 𝓛 (LendsGlyph i self.entry result) }
     {
-        &mut self.info[self.idx + i]
+        let at = self.idx + i;
+        self.order = self.order.settled(self.lent, &self.info);
+        self.lent = Some(Lent {
+            at,
+            cluster: self.info[at].cluster,
+        });
+        &mut self.info[at]
     }
 
     /// The place of the glyph at the cursor, to be written, while no output is open.
@@ -89,8 +114,50 @@ impl hb_buffer_t {
             return Ok(false);
         }
         self.out_info.push(self.info[self.idx])?;
+        self.order = self.order.settled(self.lent, &self.info);
+        self.lent = None;
         self.idx += 1;
         Ok(true)
+    }
+
+    /// Moves the cursor over so many glyphs, which go behind the output where one is open; answers false, and moves nothing,
+    /// where the output would have more than it may.
+    #[tactic(auto, using(crate::proofs::Kept::moved_all))]
+    pub fn next_glyphs(&mut self, count: usize) -> Result<bool, AllocError>
+        requires { count ≤ length self.old.ahead }
+        ensures held { IfOk result (λ b. b ≡ fits_next count self.old) }
+        ensures moved { result ≡ Ok true → self.new ≡ moved_on count self.old }
+        ensures kept { all_glyphs self.new ≡ all_glyphs self.old }
+        ensures full { result ≡ Ok false → self.new ≡ refused self.old }
+        ensures err { OnErr result (self.new ≡ self.old) }
+        ensures in_place { self.old.is_open ≡ false → result ≡ Ok true }
+    {
+        if !self.have_output {
+            self.idx += count;
+            return Ok(true);
+        }
+        if self.max_len - self.out_info.len() < count {
+            self.successful = false;
+            return Ok(false);
+        }
+        self.out_info
+            .extend_from_slice(&self.info[self.idx..self.idx + count])?;
+        self.order = self.order.settled(self.lent, &self.info);
+        self.lent = None;
+        self.idx += count;
+        Ok(true)
+    }
+
+    /// The glyph at the cursor goes. It takes no memory.
+    #[tactic(auto, using(glyph_lists::specs::Lists::drop_next))]
+    pub fn skip_glyph(&mut self)
+        requires open { self.old.is_open ≡ true }
+        requires there { 0 < length self.old.ahead }
+        ensures { self.new ≡ with_skipped self.old }
+    {
+        self.order = self.order.settled(self.lent, &self.info);
+        self.lent = None;
+        self.idx += 1;
     }
 
     /// Puts what is ahead of the cursor behind the output, which becomes the list, with places of nothing and the cursor
@@ -116,6 +183,8 @@ impl hb_buffer_t {
         self.out_info
             .extend_from_slice(&self.info[self.idx..])
             .unwrap();
+        self.order = self.order.settled(self.lent, &self.info);
+        self.lent = None;
         mem::swap(&mut self.info, &mut self.out_info);
         self.out_info.clear();
         self.have_output = false;

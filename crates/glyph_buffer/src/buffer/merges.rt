@@ -1,14 +1,15 @@
-ghost use Rattle.std.specs.Prelude.{◌≡◌, ◌+◌, ◌≤◌, true, length, vec_len, vec_capacity};
+ghost use Rattle.std.specs.Prelude.{◌≡◌, ◌+◌, ◌-◌, ◌≤◌, ◌++◌, if◌then◌else◌, true, drop, length, vec_len, vec_capacity};
 ghost use Rattle.glyph_lists.specs.Items.{clusters, flags_of};
 ghost use Rattle.glyph_lists.specs.Events.{stretch};
-ghost use Rattle.glyph_lists.specs.Merges.{least_number, merged_at};
+ghost use Rattle.glyph_lists.specs.Merges.{merged_at};
+ghost use Rattle.glyph_lists.specs.Order.{IsOrdered};
 ghost use Rattle.glyph_lists.specs.Glyphs.{beside_merged, flags_merged_at, glyphs_marked, glyphs_merged, glyphs_merged_at, is_marked_at, tells_apart};
 ghost use Rattle.glyph_buffer.specs.Sides.{all_glyphs, items_of};
 ghost use Rattle.glyph_buffer.specs.Merging.{place_of, telling_flags, with_merged};
 
 use super::hb_buffer_t;
-use glyph_clusters::marks::mark_within;
-use glyph_clusters::merges::{least_cluster, spread, spread_within};
+use super::marks::mark_in;
+use glyph_clusters::runs::{merge_beside, merge_within};
 use glyph_types::info::{UNSAFE_TO_BREAK, UNSAFE_TO_CONCAT, hb_glyph_info_t};
 use glyph_types::level::BufferClusterLevel;
 use shaping_text::constants::{HB_BUFFER_SCRATCH_FLAG_HAS_GLYPH_FLAGS, hb_buffer_scratch_flags_t};
@@ -27,72 +28,100 @@ impl hb_buffer_t {
         ensures clusters { clusters (all_glyphs self.new) ≡ merged_at self.old.level (place_of start self.old) (place_of end self.old) (clusters (all_glyphs self.old)) }
         ensures flags { flags_of (all_glyphs self.new) ≡ flags_merged_at self.old.level (place_of start self.old) (place_of end self.old) (all_glyphs self.old) }
     {
+        let order = self.order.settled(self.lent, &self.info);
+        let from = self.first_of_input();
         let marked = merge_lists(
             &mut self.info,
             &mut self.out_info,
+            from,
             start,
             end,
             self.cluster_level,
+            order.is_known(),
         );
+        self.order = order.walked(&self.out_info, &self.info, from);
+        self.lent = None;
         self.scratch_flags = telling_flags(marked, self.scratch_flags);
+    }
+
+    /// Where in the input the glyphs ahead, or with no output open all glyphs, begin.
+    pub(super) fn first_of_input(&self) -> usize
+        ensures { result ≡ (if self.now.is_open then self.now.read else 0) }
+    {
+        if self.have_output { self.idx } else { 0 }
     }
 }
 
-/// Merges a range of the input on both lists; answers whether a glyph was marked.
-#[tactic(auto, using(glyph_lists::specs::Lemmas::Glyphs::stretch_is))]
+/// Merges a range of the input, whose glyphs begin at `from`, on both lists; answers whether a glyph was marked.
+#[tactic(auto, using(crate::proofs::Merged::range_behind, crate::proofs::Merged::range_known, crate::proofs::Merged::ahead_known))]
 pub(super) fn merge_lists(
     info: &mut Vec<hb_glyph_info_t>,
     out: &mut Vec<hb_glyph_info_t>,
+    from: usize,
     start: usize,
     end: usize,
     level: BufferClusterLevel,
+    in_order: bool,
 ) -> bool
+    requires begins { from ≤ start }
     requires ordered { start ≤ end }
     requires within { end ≤ vec_len info.old }
-    ensures input { info.new.items ≡ glyphs_merged_at level start end info.old.items }
-    ensures output { out.new.items ≡ beside_merged level (stretch start end (clusters info.old.items)) out.old.items }
-    ensures any { result ≡ is_marked_at level start end (clusters info.old.items) }
+    requires known { in_order ≡ true → IsOrdered (clusters out.old.items ++ clusters (drop from info.old.items)) }
+    ensures input { drop from info.new.items ≡ glyphs_merged_at level (start - from) (end - from) (drop from info.old.items) }
+    ensures output { out.new.items ≡ beside_merged level (stretch (start - from) (end - from) (clusters (drop from info.old.items))) out.old.items }
+    ensures any { result ≡ is_marked_at level (start - from) (end - from) (clusters (drop from info.old.items)) }
     ensures input_len { vec_len info.new ≡ vec_len info.old }
     ensures output_len { vec_len out.new ≡ vec_len out.old }
     ensures capacity { vec_capacity out.new ≡ vec_capacity out.old }
 {
     match level {
-        BufferClusterLevel::Characters => mark_in(info, start, end),
+        BufferClusterLevel::Characters => {
+            mark_in(info, from, start, end, UNSAFE_TO_BREAK | UNSAFE_TO_CONCAT)
+        }
         BufferClusterLevel::MonotoneGraphemes | BufferClusterLevel::MonotoneCharacters => {
-            let low = least_cluster(&info[start..end]);
-            spread_out(out, &info[start..end], low);
-            spread_in(info, start, end);
+            merge_out(out, &info[start..end], in_order);
+            merge_in(info, from, start, end, in_order);
             false
         }
     }
 }
 
-fn mark_in(info: &mut Vec<hb_glyph_info_t>, start: usize, end: usize) -> bool
-    requires ordered { start ≤ end }
-    requires within { end ≤ vec_len info.old }
-    ensures items { info.new.items ≡ glyphs_marked 3 start end info.old.items }
-    ensures any { result ≡ tells_apart (stretch start end (clusters info.old.items)) }
-    ensures len { vec_len info.new ≡ vec_len info.old }
-{
-    mark_within(info, start, end, UNSAFE_TO_BREAK | UNSAFE_TO_CONCAT)
-}
-
-fn spread_out(out: &mut Vec<hb_glyph_info_t>, range: &[hb_glyph_info_t], low: u32)
-    requires { low ≡ least_number (clusters range.now) }
+fn merge_out(out: &mut Vec<hb_glyph_info_t>, range: &[hb_glyph_info_t], in_order: bool)
+    requires { in_order ≡ true → IsOrdered (clusters out.old.items ++ clusters range.now) }
     ensures items { out.new.items ≡ glyphs_merged (clusters range.now) out.old.items }
     ensures len { vec_len out.new ≡ vec_len out.old }
     ensures capacity { vec_capacity out.new ≡ vec_capacity out.old }
 {
-    spread(out, range, low);
+    merge_beside(out, range, in_order);
 }
 
-fn spread_in(info: &mut Vec<hb_glyph_info_t>, start: usize, end: usize)
+fn merge_in(info: &mut Vec<hb_glyph_info_t>, from: usize, start: usize, end: usize, in_order: bool)
+    requires begins { from ≤ start }
     requires ordered { start ≤ end }
     requires within { end ≤ vec_len info.old }
-    ensures items { info.new.items ≡ glyphs_merged (stretch start end (clusters info.old.items)) info.old.items }
+    requires known { in_order ≡ true → IsOrdered (clusters (drop from info.old.items)) }
+    ensures items { drop from info.new.items ≡ glyphs_merged (stretch (start - from) (end - from) (clusters (drop from info.old.items))) (drop from info.old.items) }
     ensures len { vec_len info.new ≡ vec_len info.old }
 {
-    spread_within(info, start, end);
+    merge_behind(info, from, start, end, in_order);
+}
+
+#[tactic(auto, using(crate::proofs::Merged::put_behind))]
+fn merge_behind(
+    glyphs: &mut [hb_glyph_info_t],
+    from: usize,
+    start: usize,
+    end: usize,
+    in_order: bool,
+)
+    requires begins { from ≤ start }
+    requires ordered { start ≤ end }
+    requires within { end ≤ length glyphs.old }
+    requires known { in_order ≡ true → IsOrdered (clusters (drop from glyphs.old)) }
+    ensures { drop from glyphs.new ≡ glyphs_merged (stretch (start - from) (end - from) (clusters (drop from glyphs.old))) (drop from glyphs.old) }
+{
+    let (_, ahead) = glyphs.split_at_mut(from);
+    merge_within(ahead, start - from, end - from, in_order);
 }
 
 pub(super) fn telling_flags(

@@ -2,6 +2,7 @@ ghost use Rattle.std.specs.Prelude.{◌≡◌, ◌+◌, ◌≤◌, ◌++◌, not
 ghost use Rattle.glyph_lists.specs.Items.{clusters, flags_of};
 ghost use Rattle.glyph_lists.specs.Events.{first_of, last_of, or, replaced, stretch};
 ghost use Rattle.glyph_lists.specs.Merges.{replaced_at};
+ghost use Rattle.glyph_lists.specs.Order.{IsOrdered};
 ghost use Rattle.glyph_lists.specs.Glyphs.{beside_merged, flags_merged_at, glyphs_merged_at, is_marked_at};
 ghost use Rattle.glyph_lists.specs.Replacements.{copied, glyph_numbered, items_replaced};
 ghost use Rattle.glyph_buffer.specs.Sides.{all_glyphs, items_of, refused};
@@ -39,6 +40,7 @@ impl hb_buffer_t {
             return Ok(false);
         }
         self.out_info.reserve(num_out)?;
+        let order = self.order.settled(self.lent, &self.info);
         let marked = replace_lists(
             &mut self.info,
             &mut self.out_info,
@@ -46,14 +48,17 @@ impl hb_buffer_t {
             num_in,
             glyph_data,
             self.cluster_level,
+            order.is_known(),
         );
         self.idx += num_in;
+        self.order = order.walked(&self.out_info, &self.info, self.idx);
+        self.lent = None;
         self.scratch_flags = telling_flags(marked, self.scratch_flags);
         Ok(true)
     }
 
     /// Whether so many copies can't be put behind the output.
-    fn lacks_room(&self, count: usize) -> bool
+    pub(super) fn lacks_room(&self, count: usize) -> bool
         requires { self.now.is_open ≡ true }
         ensures { result ≡ not (fits_copies count self.now) }
     {
@@ -64,6 +69,7 @@ impl hb_buffer_t {
 
 /// Merges the glyphs taken from the input, and puts copies of the first of them behind the output; answers whether a
 /// glyph was marked.
+#[tactic(auto, using(crate::proofs::Replaced::no_way, crate::proofs::Replaced::way_on))]
 fn replace_lists(
     info: &mut Vec<hb_glyph_info_t>,
     out: &mut Vec<hb_glyph_info_t>,
@@ -71,21 +77,23 @@ fn replace_lists(
     taken: usize,
     numbers: &[u32],
     level: BufferClusterLevel,
+    in_order: bool,
 ) -> bool
     requires within { at + taken ≤ vec_len info.old }
     requires room { vec_len out.old + length numbers.now ≤ vec_capacity out.old }
-    ensures input { info.new.items ≡ glyphs_merged_at level at (at + taken) info.old.items }
-    ensures output { out.new.items ≡ beside_merged level (stretch at (at + taken) (clusters info.old.items)) out.old.items ++ copied glyph_numbered (or (first_of (drop at info.new.items)) (last_of (beside_merged level (stretch at (at + taken) (clusters info.old.items)) out.old.items))) numbers.now }
-    ensures any { result ≡ is_marked_at level at (at + taken) (clusters info.old.items) }
+    requires known { in_order ≡ true → IsOrdered (clusters out.old.items ++ clusters (drop at info.old.items)) }
+    ensures input { drop at info.new.items ≡ glyphs_merged_at level 0 taken (drop at info.old.items) }
+    ensures output { out.new.items ≡ beside_merged level (stretch 0 taken (clusters (drop at info.old.items))) out.old.items ++ copied glyph_numbered (or (first_of (drop at info.new.items)) (last_of (beside_merged level (stretch 0 taken (clusters (drop at info.old.items))) out.old.items))) numbers.now }
+    ensures any { result ≡ is_marked_at level 0 taken (clusters (drop at info.old.items)) }
     ensures input_len { vec_len info.new ≡ vec_len info.old }
 {
-    let marked = merge_lists(info, out, at, at + taken, level);
+    let marked = merge_lists(info, out, at, at, at + taken, level, in_order);
     let model = model_of(&info[at..], out);
     push_copies(out, model, numbers);
     marked
 }
 
-fn model_of(ahead: &[hb_glyph_info_t], behind: &[hb_glyph_info_t]) -> Option<hb_glyph_info_t>
+pub(super) fn model_of(ahead: &[hb_glyph_info_t], behind: &[hb_glyph_info_t]) -> Option<hb_glyph_info_t>
     ensures { result ≡ or (first_of ahead.now) (last_of behind.now) }
 {
     match ahead {
@@ -94,7 +102,7 @@ fn model_of(ahead: &[hb_glyph_info_t], behind: &[hb_glyph_info_t]) -> Option<hb_
     }
 }
 
-fn push_copies(glyphs: &mut Vec<hb_glyph_info_t>, model: Option<hb_glyph_info_t>, numbers: &[u32])
+pub(super) fn push_copies(glyphs: &mut Vec<hb_glyph_info_t>, model: Option<hb_glyph_info_t>, numbers: &[u32])
     requires { vec_len glyphs.old + length numbers.now ≤ vec_capacity glyphs.old }
     ensures { glyphs.new.items ≡ glyphs.old.items ++ copied glyph_numbered model numbers.now }
 {

@@ -5,6 +5,7 @@ ghost use Rattle.glyph_buffer.specs.Text.{added_glyph, added_text, fits_text, of
 ghost use Rattle.glyph_buffer.specs.Appended.{IsAppended};
 
 use super::hb_buffer_t;
+use super::order::KnownOrder;
 use glyph_types::info::hb_glyph_info_t;
 use glyph_types::position::GlyphPosition;
 use std::alloc::AllocError;
@@ -57,6 +58,11 @@ impl hb_buffer_t {
         }
         self.info.reserve(1)?;
         self.pos.push(GlyphPosition::default())?;
+        self.order = self
+            .order
+            .settled(self.lent, &self.info)
+            .with_last(&self.info, cluster);
+        self.lent = None;
         self.info.push(added(codepoint, cluster)).unwrap();
         Ok(true)
     }
@@ -75,7 +81,10 @@ impl hb_buffer_t {
         if self.max_len - self.info.len() < count || !offsets_fit(text) {
             return Ok(false);
         }
+        let order = KnownOrder::of_text(&self.info, text);
         append_text(&mut self.info, &mut self.pos, text, count)?;
+        self.order = order;
+        self.lent = None;
         Ok(true)
     }
 }

@@ -36,6 +36,11 @@ drawn_behind zero xs ys d = d
 drawn_behind (suc at) [] ys d = d
 drawn_behind (suc at) (x ∷ xs) ys d = kept x xs (take at xs ++ ys) (past x xs (take at xs ++ ys) (drawn_behind at xs ys d))
 
+-- what is drawn from the second of two lists
+pub drawn_second : (xs : List ℕ) {ys zs : List ℕ} → IsDrawn ys zs → IsDrawn (xs ++ ys) (xs ++ zs)
+drawn_second [] d = d
+drawn_second (x ∷ xs) d = kept x _ _ (past x _ _ (drawn_second xs d))
+
 pub drawn_take : (n : ℕ) (xs : List ℕ) → IsDrawn xs (take n xs)
 drawn_take n xs = let front = drawn_behind n xs [] (nothing (drop n xs)) in rw append-nil at front
 

@@ -13,7 +13,7 @@ use Rattle.glyph_types.specs.declared.level.BufferClusterLevel.TheVariants.{Mono
 use Rattle.glyph_lists.specs.Items.{item_of, strip, clusters, without_flags, glyph_flags, flags_of}
 use Rattle.glyph_lists.specs.Events.{stretch}
 use Rattle.glyph_lists.specs.Merges.{least_number, merged, merged_numbers, merged_at}
-use Rattle.glyph_lists.specs.Glyphs.{in_cluster, glyphs_merged, marked_outside, glyphs_marked, glyphs_merged_at, beside_merged, flags_merged, flags_outside, flags_marked, flags_merged_at}
+use Rattle.glyph_lists.specs.Glyphs.{in_cluster, glyphs_merged, marked_outside, glyphs_marked, glyphs_merged_at, beside_merged, flags_merged, flags_outside, flags_marked, flags_merged_at, flagged, glyphs_flagged, flags_flagged}
 
 -- the three flags are gone once
 pub without_flags_again : (m : ℕ) → without_flags (without_flags m) ≡ without_flags m
@@ -161,7 +161,7 @@ stretch_beyond xs ys i j =
     let long : length (clusters xs) ≡ length xs = length-map xs cluster_of in
     rw (map-append cluster_of xs ys) (rw long at cut)
 
-marked_beyond : (bits : ℕ) (xs ys : List hb_glyph_info_t) (i j : ℕ) → glyphs_marked bits (length xs + i) (length xs + j) (xs ++ ys) ≡ xs ++ glyphs_marked bits i j ys
+pub marked_beyond : (bits : ℕ) (xs ys : List hb_glyph_info_t) (i j : ℕ) → glyphs_marked bits (length xs + i) (length xs + j) (xs ++ ys) ≡ xs ++ glyphs_marked bits i j ys
 marked_beyond bits xs ys i j =
     let low = least_number (stretch i j (clusters ys)) in
     rw (stretch_beyond xs ys i j, slice_beyond xs ys i j, take-append-add xs ys i, drop-append-add xs ys j)
@@ -177,3 +177,45 @@ pub merged_at_beyond : (level : BufferClusterLevel) (xs ys : List hb_glyph_info_
 merged_at_beyond MonotoneGraphemes xs ys i j = merged_beyond xs ys i j
 merged_at_beyond MonotoneCharacters xs ys i j = merged_beyond xs ys i j
 merged_at_beyond Characters xs ys i j = marked_beyond 3 xs ys i j
+
+pub length_marked : (bits from to : ℕ) (gs : List hb_glyph_info_t) → from ≤ to → length (glyphs_marked bits from to gs) ≡ length gs
+length_marked bits from to gs le =
+    let cluster_of : hb_glyph_info_t → ℕ = λ g. g.cluster in
+    sym (length-map (glyphs_marked bits from to gs) cluster_of) ∙ ap length (stays_marked cluster_of bits from to gs le (λ low g. cluster_marked bits low g)) ∙ length-map gs cluster_of
+
+pub strip_marked : (bits from to : ℕ) (gs : List hb_glyph_info_t) → bits < 8 → from ≤ to → strip (glyphs_marked bits from to gs) ≡ strip gs
+strip_marked bits from to gs lt le = stays_marked item_of bits from to gs le (λ low g. item_marked bits low g lt)
+
+pub clusters_marked : (bits from to : ℕ) (gs : List hb_glyph_info_t) → from ≤ to → clusters (glyphs_marked bits from to gs) ≡ clusters gs
+clusters_marked bits from to gs le = stays_marked (λ (g : hb_glyph_info_t). g.cluster) bits from to gs le (λ low g. cluster_marked bits low g)
+
+seen_flagged : {Y : Type 0} (v : hb_glyph_info_t → Y) (bits : ℕ) (gs : List hb_glyph_info_t) → ((g : hb_glyph_info_t) → v (flagged bits g) ≡ v g) → map v (map (flagged bits) gs) ≡ map v gs
+seen_flagged v bits [] same = refl
+seen_flagged v bits (g ∷ gs) same = rw (same g, seen_flagged v bits gs same) refl
+
+stays_flagged : {Y : Type 0} (v : hb_glyph_info_t → Y) (bits from to : ℕ) (gs : List hb_glyph_info_t) → from ≤ to → ((g : hb_glyph_info_t) → v (flagged bits g) ≡ v g) → map v (glyphs_flagged bits from to gs) ≡ map v gs
+stays_flagged v bits from to gs le same =
+    let range = slice_range gs from to in
+    let kept = seen_flagged v bits range same in
+    rw (map-append v (take from gs ++ map (flagged bits) range) (drop to gs), map-append v (take from gs) (map (flagged bits) range), kept, ← map-append v (take from gs) range, ← map-append v (take from gs ++ range) (drop to gs), cut_out from to gs le) refl
+
+pub strip_flagged : (bits from to : ℕ) (gs : List hb_glyph_info_t) → bits < 8 → from ≤ to → strip (glyphs_flagged bits from to gs) ≡ strip gs
+strip_flagged bits from to gs lt le = stays_flagged item_of bits from to gs le (λ g. rw (without_flags_set g.mask bits lt) refl)
+
+pub clusters_flagged : (bits from to : ℕ) (gs : List hb_glyph_info_t) → from ≤ to → clusters (glyphs_flagged bits from to gs) ≡ clusters gs
+clusters_flagged bits from to gs le = stays_flagged (λ (g : hb_glyph_info_t). g.cluster) bits from to gs le (λ g. refl)
+
+flags_of_range : (bits : ℕ) (gs : List hb_glyph_info_t) → bits < 8 → flags_of (map (flagged bits) gs) ≡ map (λ (g : hb_glyph_info_t). bit_or (glyph_flags g) bits) gs
+flags_of_range bits [] lt = refl
+flags_of_range bits (g ∷ gs) lt = rw (flags_set g.mask bits lt, flags_of_range bits gs lt) refl
+
+pub flags_of_flagged : (bits from to : ℕ) (gs : List hb_glyph_info_t) → bits < 8 → flags_of (glyphs_flagged bits from to gs) ≡ flags_flagged bits from to gs
+flags_of_flagged bits from to gs lt =
+    let range = slice_range gs from to in
+    rw (map-append glyph_flags (take from gs ++ map (flagged bits) range) (drop to gs), map-append glyph_flags (take from gs) (map (flagged bits) range), flags_of_range bits range lt, take-map glyph_flags from gs, drop-map glyph_flags to gs) refl
+
+pub flagged_beyond : (bits : ℕ) (xs ys : List hb_glyph_info_t) (i j : ℕ) → glyphs_flagged bits (length xs + i) (length xs + j) (xs ++ ys) ≡ xs ++ glyphs_flagged bits i j ys
+flagged_beyond bits xs ys i j =
+    rw (slice_beyond xs ys i j, take-append-add xs ys i, drop-append-add xs ys j)
+    (append_assoc (xs ++ take i ys) (map (flagged bits) (slice_range ys i j)) (drop j ys) ∙ append_assoc xs (take i ys) (map (flagged bits) (slice_range ys i j) ++ drop j ys)
+    ∙ ap (λ zs. xs ++ zs) (sym (append_assoc (take i ys) (map (flagged bits) (slice_range ys i j)) (drop j ys))))

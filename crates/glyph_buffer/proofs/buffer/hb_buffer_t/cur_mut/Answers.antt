@@ -1,4 +1,8 @@
-use Rattle.std.proofs.Common.{◌<◌, length, drop, refl}
+use Rattle.std.proofs.Common.{rules, arith, ◌+◌, ◌<◌, length, drop, refl}
+use Rattle.std.proofs.lemmas.Grind.{common_steps}
+use Rattle.glyph_lists.specs.Items.{clusters}
+use Rattle.glyph_buffer.specs.Inside.{start_of}
+use Rattle.glyph_buffer.proofs.Ordered.{clusters_back}
 use Rattle.glyph_buffer.proofs.Written.{glyph_written, glyph_read}
 use Rattle.glyph_buffer.proofs.buffer.hb_buffer_t.cur_mut.Goals as goal
 
@@ -8,3 +12,17 @@ returns c =
       (refl, λ w. rw (← c.self.view_is) (glyph_written c.self.inside c.args.i w)),
       record { value = rw (← c.self.view_is) (glyph_read c.self.inside.info.items c.self.inside.idx c.args.i _ within c.index_mut.ensures.value); writes_back = tt },
     )
+
+pub invariant_of-self-lent : goal.invariant_of-self-lent
+invariant_of-self-lent c w =
+    let lt : c.self.inside.idx + c.args.i < length c.self.inside.info.items = grind (arith, common_steps) in
+    let known = (rw c.deref.ensures.value at (c.settled-self-inside.ensures (clusters c.self.inside.out_info.items) (start_of c.self.inside))) c.self.invariant.ordered in
+    let back = clusters_back c.self.inside.info.items (c.self.inside.idx + c.args.i) w c.index.result.now lt in
+    record {
+      cursor = first_of (search rules, grind (arith, common_steps));
+      input_within = first_of (search rules, grind (arith, common_steps));
+      output_within = first_of (search rules, grind (arith, common_steps));
+      closed = first_of (search rules, grind (arith, common_steps));
+      placed = first_of (search rules, grind (arith, common_steps));
+      ordered = rw c.index.ensures (rw back at known);
+    }

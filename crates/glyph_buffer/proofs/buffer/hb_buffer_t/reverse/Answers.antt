@@ -1,5 +1,7 @@
-use Rattle.std.proofs.Common.{◌≡◌, false, ap, ◌∙◌}
+use Rattle.std.proofs.Common.{rules, arith, [], ◌≡◌, false, ap, ◌∙◌}
+use Rattle.std.proofs.lemmas.Grind.{common_steps}
 use Rattle.glyph_lists.specs.Items.{clusters}
+use Rattle.glyph_buffer.proofs.Ordered.{clusters_reversed}
 use Rattle.glyph_buffer.specs.Inside.{sides_of}
 use Rattle.glyph_buffer.specs.Sides.{Sides, all_glyphs, flags_of, items_of, reversed}
 use Rattle.glyph_buffer.proofs.Kept.{turned_view, reversed_items, reversed_clusters, reversed_flags}
@@ -18,3 +20,18 @@ returns-clause-parts c = ap (λ (s : Sides). clusters (all_glyphs s)) (turned c)
 
 pub returns-clause-flags : goal.returns-clause-flags
 returns-clause-flags c = ap (λ (s : Sides). flags_of (all_glyphs s)) (turned c) ∙ reversed_flags c.args.self.now
+
+pub invariant_of-self : goal.invariant_of-self
+invariant_of-self c =
+    let closed : c.self.inside.have_output ≡ false = rw (← c.self.view_is) at c.requires in
+    let none : c.self.inside.out_info.items ≡ [] = rw closed at c.self.invariant.closed in
+    let before = rw (closed, none) at c.self.invariant.ordered in
+    let known = c.turned-self-inside.ensures (clusters c.self.inside.info.items) ((rw c.deref.ensures.value at (c.settled.ensures [] 0)) before) in
+    record {
+      cursor = first_of (search rules, grind (arith, common_steps));
+      input_within = first_of (search rules, grind (arith, common_steps));
+      output_within = first_of (search rules, grind (arith, common_steps));
+      closed = first_of (search rules, grind (arith, common_steps));
+      placed = first_of (search rules, grind (arith, common_steps));
+      ordered = rw (closed, none, c.reverse.ensures.items, ← clusters_reversed c.self.inside.info.items) known;
+    }

@@ -1,0 +1,103 @@
+-- What is known of the order of clusters, and stays known.
+use Rattle.std.proofs.Common.{ℕ, suc, ◌≡◌, ◌≤◌, ◌<◌, ◌+◌, ◌-◌, true, false, List, [], ◌∷◌, ◌++◌, Some, length, take, reverse, get_or, set, arith, refl, ap, sym, subst, ◌∙◌}
+use Rattle.std.proofs.lemmas.List.{set-get_or, get_or-map, take_more, map-append}
+use Rattle.std.specs.Char.{len_utf8}
+use Rattle.std.specs.Str.{chars}
+use Rattle.glyph_types.specs.declared.info.hb_glyph_info_t.{hb_glyph_info_t}
+use Rattle.glyph_lists.specs.Items.{clusters}
+use Rattle.glyph_lists.specs.Events.{Reverse, last_from}
+use Rattle.glyph_lists.specs.Order.{AllFrom, IsInOrder, IsRising}
+use Rattle.glyph_lists.specs.Lemmas.Events.{event_keeps_order}
+use Rattle.glyph_buffer.specs.declared.buffer.order.Lent.{Lent}
+use Rattle.glyph_buffer.specs.Known.{IsRisingTo, put_back}
+use Rattle.glyph_buffer.specs.Text.{added_from, added_text}
+
+-- a lent glyph with the cluster that it had
+pub back_in_place : (l : Lent) (gs : List hb_glyph_info_t) (d : hb_glyph_info_t) → l.at < length gs → (get_or gs l.at d).cluster ≡ l.cluster → put_back (Some l) (clusters gs) ≡ clusters gs
+back_in_place l gs d lt e =
+    let cluster_of : hb_glyph_info_t → ℕ = λ g. g.cluster in
+    let seen : get_or (clusters gs) l.at l.cluster ≡ l.cluster = get_or-map cluster_of gs l.at d l.cluster lt ∙ e in
+    ap (set (clusters gs) l.at) (sym seen) ∙ set-get_or (clusters gs) l.at l.cluster
+
+pub rises_turned : (ns : List ℕ) → IsInOrder false ns → IsInOrder true (reverse ns)
+rises_turned ns h = event_keeps_order Reverse false ns h
+
+pub falls_turned : (ns : List ℕ) → IsInOrder true ns → IsInOrder false (reverse ns)
+falls_turned ns h = event_keeps_order Reverse true ns h
+
+all_least : (m n : ℕ) (ns : List ℕ) → m ≤ n → AllFrom (λ x y. x ≤ y) m ns → AllFrom (λ x y. x ≤ y) m (ns ++ n ∷ [])
+all_least m n [] le h = (le, tt)
+all_least m n (k ∷ ks) le h = (h.0, all_least m n ks le h.1)
+
+-- a number behind others that is not below the last
+pub rising_push : (x n : ℕ) (xs : List ℕ) → IsRising (x ∷ xs) → last_from x xs ≤ n → IsRising ((x ∷ xs) ++ n ∷ [])
+rising_push x n [] h le = ((le, tt), (tt, tt))
+rising_push x n (y ∷ ys) h le =
+    let rest = rising_push y n ys h.1 le in
+    let first : x ≤ y = h.0.0 in
+    let last : y ≤ last_from y ys = up_to y ys h.1 in
+    (all_least x n (y ∷ ys) (omega (arith, first, last, le)) h.0, rest)
+  where
+    up_to : (z : ℕ) (zs : List ℕ) → IsRising (z ∷ zs) → z ≤ last_from z zs
+    up_to z [] k = omega arith
+    up_to z (w ∷ ws) k = let there = up_to w ws k.1 in omega (arith, k.0.0, there)
+
+-- the characters of a text, each where it begins
+from_least : (m at : ℕ) (cs : List ℕ) → m ≤ at → AllFrom (λ x y. x ≤ y) m (clusters (added_from at cs))
+from_least m at [] le = tt
+from_least m at (c ∷ cs) le = (le, from_least m (at + len_utf8 c) cs (omega arith))
+
+rises_from : (at : ℕ) (cs : List ℕ) → IsRising (clusters (added_from at cs))
+rises_from at [] = tt
+rises_from at (c ∷ cs) = (from_least at (at + len_utf8 c) cs (omega arith), rises_from (at + len_utf8 c) cs)
+
+pub text_rises : (gs : List hb_glyph_info_t) (text : List ℕ) → length gs ≡ 0 → IsInOrder false (clusters gs ++ clusters (added_text text))
+text_rises [] text e = rises_from 0 (chars text)
+text_rises (g ∷ gs) text e = cc
+
+last_got : (g : hb_glyph_info_t) (gs : List hb_glyph_info_t) (d : hb_glyph_info_t) → (get_or (g ∷ gs) (length gs) d).cluster ≡ last_from g.cluster (clusters gs)
+last_got g [] d = refl
+last_got g (h ∷ hs) d = last_got h hs d
+
+pub rises_alone : (gs : List hb_glyph_info_t) (c : ℕ) → length gs < 1 → IsRising (clusters gs ++ c ∷ [])
+rises_alone [] c lt = (tt, tt)
+rises_alone (g ∷ gs) c lt = absurd (omega arith)
+
+pub rises_behind : (gs : List hb_glyph_info_t) (d : hb_glyph_info_t) (c : ℕ) → 1 ≤ length gs → (get_or gs (length gs - 1) d).cluster ≤ c → IsRising (clusters gs) → IsRising (clusters gs ++ c ∷ [])
+rises_behind [] d c le last h = absurd (omega arith)
+rises_behind (g ∷ gs) d c le last h =
+    let less : suc (length gs) - 1 ≡ length gs = omega arith in
+    let seen : last_from g.cluster (clusters gs) ≤ c = subst (λ (n : ℕ). n ≤ c) (last_got g gs d) (subst (λ (n : ℕ). (get_or (g ∷ gs) n d).cluster ≤ c) less last) in
+    rising_push g.cluster c (clusters gs) h seen
+
+last_append : (x n : ℕ) (xs : List ℕ) → last_from x (xs ++ n ∷ []) ≡ n
+last_append x n [] = refl
+last_append x n (y ∷ ys) = last_append y n ys
+
+-- one number more
+pub rising_to_more : (start m n : ℕ) (xs : List ℕ) → IsRisingTo start xs m → m ≤ n → IsRisingTo start (xs ++ n ∷ []) n
+rising_to_more start m n xs h le = record { rises = rising_push start n xs h.rises (omega (arith, h.last, le)); last = last_append start n xs }
+
+pub rising_to_next : (start m : ℕ) (gs : List hb_glyph_info_t) (i : ℕ) (d : hb_glyph_info_t) → i < length gs → IsRisingTo start (clusters (take i gs)) m → m ≤ (get_or gs i d).cluster
+    → IsRisingTo start (clusters (take (i + 1) gs)) (get_or gs i d).cluster
+rising_to_next start m gs i d lt h le =
+    let cluster_of : hb_glyph_info_t → ℕ = λ g. g.cluster in
+    let cut : clusters (take (i + 1) gs) ≡ clusters (take i gs) ++ (get_or gs i d).cluster ∷ [] = ap clusters (take_more gs i d lt) ∙ map-append cluster_of (take i gs) (get_or gs i d ∷ []) in
+    rw cut (rising_to_more start m (get_or gs i d).cluster (clusters (take i gs)) h le)
+
+-- two lists, one behind the other
+pub rises_on : (start m n : ℕ) (xs ys : List ℕ) → IsRisingTo start xs m → IsRisingTo m ys n → IsRising (xs ++ ys)
+rises_on start m n xs ys h k = (chain start xs h.rises (rw (← h.last) at k.rises)).1
+  where
+    all : (x y : ℕ) (fs ks : List ℕ) → x ≤ y → AllFrom (λ p q. p ≤ q) y ks → AllFrom (λ p q. p ≤ q) x fs → AllFrom (λ p q. p ≤ q) x (fs ++ ks)
+    all x y [] [] le a b = tt
+    all x y [] (z ∷ ks) le a b = (omega (arith, a.0), all x y [] ks le a.1 b)
+    all x y (z ∷ fs) ks le a b = (b.0, all x y fs ks le a b.1)
+
+    up_to : (z : ℕ) (zs : List ℕ) → IsRising (z ∷ zs) → z ≤ last_from z zs
+    up_to z [] a = omega arith
+    up_to z (w ∷ ws) a = let there = up_to w ws a.1 in omega (arith, a.0.0, there)
+
+    chain : (s : ℕ) (fs : List ℕ) → IsRising (s ∷ fs) → IsRising (last_from s fs ∷ ys) → IsRising (s ∷ (fs ++ ys))
+    chain s [] a b = b
+    chain s (z ∷ fs) a b = (all s (last_from z fs) (z ∷ fs) ys (let up = up_to z fs a.1 in omega (arith, a.0.0, up)) b.0 a.0, chain z fs a.1 b)

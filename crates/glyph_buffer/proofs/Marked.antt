@@ -1,0 +1,114 @@
+-- What flags set on a range of the input do to the sides.
+use Rattle.std.specs.Global.{Vec}
+use Rattle.std.proofs.Common.{ℕ, ◌≡◌, ◌≤◌, ◌<◌, ◌+◌, ◌-◌, Bool, true, false, nat_lt, Option, List, [], ◌++◌, length, take, drop, refl, arith, ap, sym, subst, ◌∙◌}
+use Rattle.std.proofs.lemmas.Bool.Decides.{nat_tests}
+use Rattle.std.proofs.lemmas.Grind.{common_steps}
+use Rattle.std.proofs.lemmas.List.{take-append-drop, length-take-le, take_at, drop_at}
+use Rattle.std.proofs.Math.Seq.{take-append_seam, drop-append_seam}
+use Rattle.glyph_types.specs.declared.info.hb_glyph_info_t.{hb_glyph_info_t}
+use Rattle.glyph_lists.specs.Items.{strip, clusters, flags_of}
+use Rattle.glyph_lists.specs.Events.{stretch}
+use Rattle.glyph_lists.specs.Glyphs.{glyphs_marked, glyphs_flagged, flags_marked, flags_flagged, tells_apart}
+use Rattle.glyph_lists.specs.Lemmas.Glyphs.{marked_beyond, flagged_beyond, stretch_beyond, strip_marked, strip_flagged, clusters_marked, clusters_flagged, flags_of_marked, flags_of_flagged}
+use Rattle.glyph_buffer.specs.declared.buffer.hb_buffer_t.TheInside.{Inside}
+use Rattle.glyph_buffer.specs.declared.buffer.order.KnownOrder.{KnownOrder}
+use Rattle.glyph_buffer.specs.declared.buffer.order.Lent.{Lent}
+use Rattle.glyph_buffer.specs.Inside.{sides_of, start_of}
+use Rattle.glyph_buffer.specs.Known.{HasOrder}
+use Rattle.glyph_buffer.specs.Sides.{Sides, all_glyphs, items_of}
+use Rattle.glyph_buffer.specs.Merging.{place_of, telling_flags}
+use Rattle.glyph_buffer.specs.Marking.{with_marked, with_flagged}
+
+pub marked_view : (b : Inside) (info : Vec hb_glyph_info_t) (order : KnownOrder) (lent : Option Lent) (bits from start end flags : ℕ) → b.idx ≤ length b.info.items → start ≤ end → (b.have_output ≡ true → b.idx ≤ start)
+    → from ≡ start_of b
+    → drop from info.items ≡ glyphs_marked bits (start - from) (end - from) (drop from b.info.items)
+    → flags ≡ telling_flags (tells_apart (stretch (start - from) (end - from) (clusters (drop from b.info.items)))) b.scratch_flags
+    → sides_of (record b { info = info; scratch_flags = flags; order = order; lent = lent }) ≡ with_marked bits (place_of start (sides_of b)) (place_of end (sides_of b)) (sides_of b)
+marked_view b info order lent bits from start end flags le before unread begins i f = by_test b.have_output refl
+  where
+    by_test : (t : Bool) → b.have_output ≡ t → sides_of (record b { info = info; scratch_flags = flags; order = order; lent = lent }) ≡ with_marked bits (place_of start (sides_of b)) (place_of end (sides_of b)) (sides_of b)
+    by_test true e =
+        let here : from ≡ b.idx = rw e at begins in
+        let first = unread e in
+        let out = b.out_info.items in
+        let ahead = drop b.idx b.info.items in
+        let at : length out + start - b.idx ≡ length out + (start - b.idx) = omega arith in
+        let to : length out + end - b.idx ≡ length out + (end - b.idx) = omega arith in
+        let input = rw here at i in
+        let marks = rw here at f in
+        rw (e, input, marks, at, to, marked_beyond bits out ahead (start - b.idx) (end - b.idx), stretch_beyond out ahead (start - b.idx) (end - b.idx), take-append_seam out (glyphs_marked bits (start - b.idx) (end - b.idx) ahead), drop-append_seam out (glyphs_marked bits (start - b.idx) (end - b.idx) ahead)) refl
+    by_test false e =
+        let here : from ≡ 0 = rw e at begins in
+        let long : length (take b.idx b.info.items) ≡ b.idx = length-take-le b.idx b.info.items le in
+        let one : start - 0 ≡ start = omega arith in
+        let two : end - 0 ≡ end = omega arith in
+        let at : b.idx + start - b.idx ≡ start = omega arith in
+        let to : b.idx + end - b.idx ≡ end = omega arith in
+        let input : info.items ≡ glyphs_marked bits start end b.info.items = rw (here, one, two) at i in
+        let marks = rw (here, one, two) at f in
+        rw (e, input, long, at, to, take-append-drop b.idx b.info.items, marks) refl
+
+same_lengths : (p q i j : ℕ) → p ≤ q → i ≤ j → q - p ≡ j - i → nat_lt i j ≡ nat_lt p q
+same_lengths p q i j le lt e = grind (arith, nat_tests, common_steps, e)
+
+pub flagged_view : (b : Inside) (info : Vec hb_glyph_info_t) (order : KnownOrder) (lent : Option Lent) (bits from start end flags : ℕ) → b.idx ≤ length b.info.items → start ≤ end → (b.have_output ≡ true → b.idx ≤ start)
+    → from ≡ start_of b
+    → drop from info.items ≡ glyphs_flagged bits (start - from) (end - from) (drop from b.info.items)
+    → flags ≡ telling_flags (nat_lt start end) b.scratch_flags
+    → sides_of (record b { info = info; scratch_flags = flags; order = order; lent = lent }) ≡ with_flagged bits (place_of start (sides_of b)) (place_of end (sides_of b)) (sides_of b)
+flagged_view b info order lent bits from start end flags le before unread begins i f = by_test b.have_output refl
+  where
+    by_test : (t : Bool) → b.have_output ≡ t → sides_of (record b { info = info; scratch_flags = flags; order = order; lent = lent }) ≡ with_flagged bits (place_of start (sides_of b)) (place_of end (sides_of b)) (sides_of b)
+    by_test true e =
+        let here : from ≡ b.idx = rw e at begins in
+        let first = unread e in
+        let out = b.out_info.items in
+        let ahead = drop b.idx b.info.items in
+        let at : length out + start - b.idx ≡ length out + (start - b.idx) = omega arith in
+        let to : length out + end - b.idx ≡ length out + (end - b.idx) = omega arith in
+        let input = rw here at i in
+        let less : nat_lt start end ≡ nat_lt (length out + (start - b.idx)) (length out + (end - b.idx)) = same_lengths (length out + (start - b.idx)) (length out + (end - b.idx)) start end (omega arith) before (omega arith) in
+        rw (e, input, f, at, to, flagged_beyond bits out ahead (start - b.idx) (end - b.idx), less, take-append_seam out (glyphs_flagged bits (start - b.idx) (end - b.idx) ahead), drop-append_seam out (glyphs_flagged bits (start - b.idx) (end - b.idx) ahead)) refl
+    by_test false e =
+        let here : from ≡ 0 = rw e at begins in
+        let long : length (take b.idx b.info.items) ≡ b.idx = length-take-le b.idx b.info.items le in
+        let one : start - 0 ≡ start = omega arith in
+        let two : end - 0 ≡ end = omega arith in
+        let at : b.idx + start - b.idx ≡ start = omega arith in
+        let to : b.idx + end - b.idx ≡ end = omega arith in
+        let input : info.items ≡ glyphs_flagged bits start end b.info.items = rw (here, one, two) at i in
+        rw (e, input, long, at, to, take-append-drop b.idx b.info.items, f) refl
+
+-- marks leave the clusters
+pub order_marked : (o : KnownOrder) (bits i j : ℕ) (ns : List ℕ) (gs hs : List hb_glyph_info_t) → i ≤ j → hs ≡ glyphs_marked bits i j gs → HasOrder o (ns ++ clusters gs) → HasOrder o (ns ++ clusters hs)
+order_marked o bits i j ns gs hs le e h = rw (e, clusters_marked bits i j gs le) h
+
+pub order_flagged : (o : KnownOrder) (bits i j : ℕ) (ns : List ℕ) (gs hs : List hb_glyph_info_t) → i ≤ j → hs ≡ glyphs_flagged bits i j gs → HasOrder o (ns ++ clusters gs) → HasOrder o (ns ++ clusters hs)
+order_flagged o bits i j ns gs hs le e h = rw (e, clusters_flagged bits i j gs le) h
+
+all_marked : (bits from to : ℕ) (s : Sides) → all_glyphs (with_marked bits from to s) ≡ glyphs_marked bits from to (all_glyphs s)
+all_marked bits from to s = take-append-drop (length s.behind) (glyphs_marked bits from to (all_glyphs s))
+
+all_flagged : (bits from to : ℕ) (s : Sides) → all_glyphs (with_flagged bits from to s) ≡ glyphs_flagged bits from to (all_glyphs s)
+all_flagged bits from to s = take-append-drop (length s.behind) (glyphs_flagged bits from to (all_glyphs s))
+
+pub places_order : (start end : ℕ) (s : Sides) → start ≤ end → place_of start s ≤ place_of end s
+places_order start end s le = omega arith
+
+pub marked_items : (bits from to : ℕ) (s : Sides) → bits < 8 → from ≤ to → items_of (with_marked bits from to s) ≡ items_of s
+marked_items bits from to s lt le = ap strip (all_marked bits from to s) ∙ strip_marked bits from to (all_glyphs s) lt le
+
+pub marked_clusters : (bits from to : ℕ) (s : Sides) → from ≤ to → clusters (all_glyphs (with_marked bits from to s)) ≡ clusters (all_glyphs s)
+marked_clusters bits from to s le = ap clusters (all_marked bits from to s) ∙ clusters_marked bits from to (all_glyphs s) le
+
+pub marked_flags : (bits from to : ℕ) (s : Sides) → bits < 8 → flags_of (all_glyphs (with_marked bits from to s)) ≡ flags_marked bits from to (all_glyphs s)
+marked_flags bits from to s lt = ap flags_of (all_marked bits from to s) ∙ flags_of_marked bits from to (all_glyphs s) lt
+
+pub flagged_items : (bits from to : ℕ) (s : Sides) → bits < 8 → from ≤ to → items_of (with_flagged bits from to s) ≡ items_of s
+flagged_items bits from to s lt le = ap strip (all_flagged bits from to s) ∙ strip_flagged bits from to (all_glyphs s) lt le
+
+pub flagged_clusters : (bits from to : ℕ) (s : Sides) → from ≤ to → clusters (all_glyphs (with_flagged bits from to s)) ≡ clusters (all_glyphs s)
+flagged_clusters bits from to s le = ap clusters (all_flagged bits from to s) ∙ clusters_flagged bits from to (all_glyphs s) le
+
+pub flagged_flags : (bits from to : ℕ) (s : Sides) → bits < 8 → flags_of (all_glyphs (with_flagged bits from to s)) ≡ flags_flagged bits from to (all_glyphs s)
+flagged_flags bits from to s lt = ap flags_of (all_flagged bits from to s) ∙ flags_of_flagged bits from to (all_glyphs s) lt

@@ -1,0 +1,131 @@
+-- What is known of the order of clusters, after each call.
+use Rattle.std.proofs.Common.{take, ℕ, ◌≡◌, ◌≤◌, ◌<◌, ◌+◌, inl, inr, Bool, true, false, List, [], ◌∷◌, ◌++◌, length, map, drop, reverse, get_or, set, arith, refl, ap, sym, subst, ◌∙◌}
+use Rattle.std.proofs.lemmas.List.{map-append, drop-map, drop-drop, take-append-drop, drop_more, append_assoc, map-set, set-set, set-get_or, get_or-map}
+use Rattle.std.proofs.Math.Seq.{take-append_seam, drop-append_seam, drop-append-add}
+use Rattle.glyph_types.specs.declared.info.hb_glyph_info_t.{hb_glyph_info_t}
+use Rattle.glyph_types.specs.declared.level.BufferClusterLevel.{BufferClusterLevel}
+use Rattle.glyph_types.specs.declared.level.BufferClusterLevel.TheVariants.{MonotoneGraphemes, MonotoneCharacters, Characters}
+use Rattle.glyph_lists.specs.Items.{clusters}
+use Rattle.glyph_lists.specs.Events.{Join, first_of, last_of, or, replaced, stretch}
+use Rattle.glyph_lists.specs.Merges.{merged_at}
+use Rattle.glyph_lists.specs.Order.{IsInOrder, IsOrdered}
+use Rattle.glyph_lists.specs.Glyphs.{beside_merged, glyphs_merged_at}
+use Rattle.glyph_lists.specs.Replacements.{copied, glyph_numbered, glyphs_replaced}
+use Rattle.glyph_lists.specs.Lemmas.Drawn.{IsDrawn, drawn_replaced, drawn_second, drawn_drop}
+use Rattle.glyph_lists.specs.Lemmas.Events.{event_keeps_order, order_drawn}
+use Rattle.glyph_lists.specs.Lemmas.Glyphs.{merged_at_beyond, clusters_merged_at}
+use Rattle.glyph_lists.specs.Lemmas.Merges.{merge_joins}
+use Rattle.glyph_lists.specs.Lemmas.Replacements.{clusters_replaced}
+use Rattle.glyph_buffer.specs.declared.buffer.order.KnownOrder.{KnownOrder}
+use Rattle.glyph_buffer.specs.declared.buffer.order.KnownOrder.TheVariants.{Unknown, Rising, Falling}
+use Rattle.glyph_buffer.specs.Known.{HasOrder, is_known}
+use Rattle.glyph_buffer.specs.Masks.{glyph_masked}
+use Rattle.glyph_buffer.proofs.Kept.{map-reverse}
+
+ordered_from : (falls : Bool) (ns : List ℕ) → IsInOrder falls ns → IsOrdered ns
+ordered_from false ns h = inl h
+ordered_from true ns h = inr h
+
+pub known_ordered : (o : KnownOrder) (ns : List ℕ) → HasOrder o ns → is_known o ≡ true → IsOrdered ns
+known_ordered Unknown ns h e = cc
+known_ordered Rising ns h e = inl h
+known_ordered Falling ns h e = inr h
+
+cluster_of : hb_glyph_info_t → ℕ
+cluster_of g = g.cluster
+
+-- a glyph went from the input behind the output
+pub order_moved : (o : KnownOrder) (out info new : List hb_glyph_info_t) (n : ℕ) (d : hb_glyph_info_t) → n < length info → new ≡ out ++ get_or info n d ∷ [] → HasOrder o (clusters out ++ drop n (clusters info)) → HasOrder o (clusters new ++ drop (n + 1) (clusters info))
+order_moved o out info new n d lt e h =
+    let first : drop n (clusters info) ≡ (get_or info n d).cluster ∷ drop (n + 1) (clusters info) =
+    drop-map (λ (g : hb_glyph_info_t). g.cluster) n info ∙ ap clusters (drop_more info n d lt) ∙ ap (λ ns. (get_or info n d).cluster ∷ ns) (sym (drop-map (λ (g : hb_glyph_info_t). g.cluster) (n + 1) info)) in
+    let seen : clusters new ≡ clusters out ++ (get_or info n d).cluster ∷ [] = ap clusters e ∙ map-append (λ (g : hb_glyph_info_t). g.cluster) out (get_or info n d ∷ []) in
+    subst (HasOrder o) (ap (λ ns. clusters out ++ ns) first ∙ sym (append_assoc (clusters out) ((get_or info n d).cluster ∷ []) (drop (n + 1) (clusters info))) ∙ ap (λ ns. ns ++ drop (n + 1) (clusters info)) (sym seen)) h
+
+-- both sides became one list
+pub order_joined : (o : KnownOrder) (out info new : List hb_glyph_info_t) (n : ℕ) → new ≡ out ++ drop n info → HasOrder o (clusters out ++ drop n (clusters info)) → HasOrder o (clusters new)
+order_joined o out info new n e h =
+    subst (HasOrder o) (ap (λ ns. clusters out ++ ns) (drop-map (λ (g : hb_glyph_info_t). g.cluster) n info) ∙ sym (map-append (λ (g : hb_glyph_info_t). g.cluster) out (drop n info)) ∙ ap clusters (sym e)) h
+
+pub clusters_reversed : (gs : List hb_glyph_info_t) → reverse (clusters gs) ≡ clusters (reverse gs)
+clusters_reversed gs = sym (map-reverse (λ (g : hb_glyph_info_t). g.cluster) gs)
+
+pub clusters_masked : (m : ℕ) (gs : List hb_glyph_info_t) → clusters (map (glyph_masked m) gs) ≡ clusters gs
+clusters_masked m [] = refl
+clusters_masked m (g ∷ gs) = ap (λ ns. g.cluster ∷ ns) (clusters_masked m gs)
+
+-- a glyph that was lent and came back, and then its cluster put back
+pub clusters_back : (gs : List hb_glyph_info_t) (i : ℕ) (g d : hb_glyph_info_t) → i < length gs → clusters gs ≡ set (clusters (set gs i g)) i (get_or gs i d).cluster
+clusters_back gs i g d lt =
+    let f : hb_glyph_info_t → ℕ = λ h. h.cluster in
+    let seen : get_or (clusters gs) i (f d) ≡ (get_or gs i d).cluster = get_or-map f gs i d (f d) lt in
+    sym (ap (λ ns. set ns i (get_or gs i d).cluster) (map-set f gs i g) ∙ set-set (clusters gs) i (f g) (get_or gs i d).cluster ∙ ap (set (clusters gs) i) (sym seen) ∙ set-get_or (clusters gs) i (f d))
+
+merge_order : (falls : Bool) (level : BufferClusterLevel) (from to : ℕ) (ns : List ℕ) → from ≤ to → IsInOrder falls ns → IsInOrder falls (merged_at level from to ns)
+merge_order falls MonotoneGraphemes from to ns le h = subst (IsInOrder falls) (sym (merge_joins MonotoneGraphemes from to ns le tt (ordered_from falls ns h))) (event_keeps_order (Join from to) falls ns h)
+merge_order falls MonotoneCharacters from to ns le h = subst (IsInOrder falls) (sym (merge_joins MonotoneCharacters from to ns le tt (ordered_from falls ns h))) (event_keeps_order (Join from to) falls ns h)
+merge_order falls Characters from to ns le h = h
+
+order_merged_at : (o : KnownOrder) (level : BufferClusterLevel) (from to : ℕ) (ns : List ℕ) → from ≤ to → HasOrder o ns → HasOrder o (merged_at level from to ns)
+order_merged_at Unknown level from to ns le h = tt
+order_merged_at Rising level from to ns le h = merge_order false level from to ns le h
+order_merged_at Falling level from to ns le h = merge_order true level from to ns le h
+
+-- a range of the second of two sides was merged
+pub order_merged : (o : KnownOrder) (level : BufferClusterLevel) (i j : ℕ) (behind ahead new_behind new_ahead : List hb_glyph_info_t) → i ≤ j → new_behind ≡ beside_merged level (stretch i j (clusters ahead)) behind → new_ahead ≡ glyphs_merged_at level i j ahead
+    → HasOrder o (clusters behind ++ clusters ahead) → HasOrder o (clusters new_behind ++ clusters new_ahead)
+order_merged o level i j behind ahead new_behind new_ahead le b a h =
+    let f : hb_glyph_info_t → ℕ = λ g. g.cluster in
+    let n = length behind in
+    let before : HasOrder o (clusters (behind ++ ahead)) = rw (map-append f behind ahead) h in
+    let after = order_merged_at o level (n + i) (n + j) (clusters (behind ++ ahead)) (omega arith) before in
+    subst (HasOrder o) (sym (clusters_merged_at level (n + i) (n + j) (behind ++ ahead) (omega arith)) ∙ ap clusters (merged_at_beyond level behind ahead i j)
+    ∙ map-append f (beside_merged level (stretch i j (clusters ahead)) behind) (glyphs_merged_at level i j ahead) ∙ ap (λ gs. clusters gs ++ clusters (glyphs_merged_at level i j ahead)) (sym b) ∙ ap (λ gs. clusters new_behind ++ clusters gs) (sym a)) after
+
+order_replaced_at : (o : KnownOrder) (at taken given : ℕ) (ns : List ℕ) → HasOrder o ns → HasOrder o (replaced at taken given ns)
+order_replaced_at Unknown at taken given ns h = tt
+order_replaced_at Rising at taken given ns h = order_drawn false (drawn_replaced at taken given ns) h
+order_replaced_at Falling at taken given ns h = order_drawn true (drawn_replaced at taken given ns) h
+
+-- glyphs ahead made room for copies behind
+pub order_copied : (o : KnownOrder) (taken : ℕ) (numbers : List ℕ) (behind ahead new_behind : List hb_glyph_info_t) → new_behind ≡ behind ++ copied glyph_numbered (or (first_of ahead) (last_of behind)) numbers
+    → HasOrder o (clusters behind ++ clusters ahead) → HasOrder o (clusters new_behind ++ clusters (drop taken ahead))
+order_copied o taken numbers behind ahead new_behind b h =
+    let f : hb_glyph_info_t → ℕ = λ g. g.cluster in
+    let whole : HasOrder o (clusters (behind ++ ahead)) = rw (map-append f behind ahead) h in
+    let after = order_replaced_at o (length behind) taken (length numbers) (clusters (behind ++ ahead)) whole in
+    let all : glyphs_replaced (length behind) taken numbers (behind ++ ahead) ≡ new_behind ++ drop taken ahead = rw (take-append_seam behind ahead, drop-append_seam behind ahead, drop-append-add behind ahead taken, b) refl in
+    subst (HasOrder o) (sym (clusters_replaced (length behind) taken numbers (behind ++ ahead)) ∙ ap clusters all ∙ map-append f new_behind (drop taken ahead)) after
+
+-- the clusters of what is left, and what is left of the clusters
+pub known_ahead : (o : KnownOrder) (out info : List hb_glyph_info_t) (n m : ℕ) → n ≡ m → HasOrder o (clusters out ++ drop m (clusters info)) → HasOrder o (clusters out ++ clusters (drop n info))
+known_ahead o out info n m e h = rw e (subst (λ ns. HasOrder o (clusters out ++ ns)) (drop-map (λ (g : hb_glyph_info_t). g.cluster) m info) h)
+
+pub known_back : (o : KnownOrder) (out info : List hb_glyph_info_t) (n m : ℕ) → n ≡ m → HasOrder o (clusters out ++ clusters (drop n info)) → HasOrder o (clusters out ++ drop m (clusters info))
+known_back o out info n m e h = subst (λ ns. HasOrder o (clusters out ++ ns)) (sym (drop-map (λ (g : hb_glyph_info_t). g.cluster) m info)) (rw e at h)
+
+-- a glyph of the same cluster went from the input behind the output
+pub order_renumbered : (o : KnownOrder) (out info new : List hb_glyph_info_t) (n : ℕ) (g d : hb_glyph_info_t) → n < length info → new ≡ out ++ g ∷ [] → g.cluster ≡ (get_or info n d).cluster → HasOrder o (clusters out ++ drop n (clusters info)) → HasOrder o (clusters new ++ drop (n + 1) (clusters info))
+order_renumbered o out info new n g d lt e same h =
+    let moved = order_moved o out info (out ++ get_or info n d ∷ []) n d lt refl h in
+    let f : hb_glyph_info_t → ℕ = λ k. k.cluster in
+    let seen : clusters (out ++ get_or info n d ∷ []) ≡ clusters new = map-append f out (get_or info n d ∷ []) ∙ ap (λ c. clusters out ++ c ∷ []) (sym same) ∙ sym (map-append f out (g ∷ [])) ∙ ap clusters (sym e) in
+    subst (λ ns. HasOrder o (ns ++ drop (n + 1) (clusters info))) seen moved
+
+-- some glyphs went from the input behind the output
+pub order_moved_on : (o : KnownOrder) (out info new : List hb_glyph_info_t) (n k : ℕ) → new ≡ out ++ take k (drop n info) → HasOrder o (clusters out ++ drop n (clusters info)) → HasOrder o (clusters new ++ drop (n + k) (clusters info))
+order_moved_on o out info new n k e h =
+    let f : hb_glyph_info_t → ℕ = λ g. g.cluster in
+    let cut : drop n (clusters info) ≡ clusters (take k (drop n info)) ++ drop (n + k) (clusters info) =
+    drop-map f n info ∙ ap clusters (sym (take-append-drop k (drop n info))) ∙ map-append f (take k (drop n info)) (drop k (drop n info)) ∙ ap (λ gs. clusters (take k (drop n info)) ++ clusters gs) (drop-drop k n info) ∙ ap (λ ns. clusters (take k (drop n info)) ++ ns) (sym (drop-map f (n + k) info)) in
+    let seen : clusters new ≡ clusters out ++ clusters (take k (drop n info)) = ap clusters e ∙ map-append f out (take k (drop n info)) in
+    subst (HasOrder o) (ap (λ ns. clusters out ++ ns) cut ∙ sym (append_assoc (clusters out) (clusters (take k (drop n info))) (drop (n + k) (clusters info))) ∙ ap (λ ns. ns ++ drop (n + k) (clusters info)) (sym seen)) h
+
+order_drawn_known : (o : KnownOrder) (xs ys : List ℕ) → IsDrawn xs ys → HasOrder o xs → HasOrder o ys
+order_drawn_known Unknown xs ys d h = tt
+order_drawn_known Rising xs ys d h = order_drawn false d h
+order_drawn_known Falling xs ys d h = order_drawn true d h
+
+-- a glyph of the input went
+pub order_skipped : (o : KnownOrder) (front ns : List ℕ) (n : ℕ) → HasOrder o (front ++ drop n ns) → HasOrder o (front ++ drop (n + 1) ns)
+order_skipped o front ns n h = rw (← drop-drop 1 n ns) (order_drawn_known o (front ++ drop n ns) (front ++ drop 1 (drop n ns)) (drawn_second front (drawn_drop 1 (drop n ns))) h)

@@ -1,0 +1,90 @@
+ghost use Rattle.std.specs.Prelude.{◌≡◌, ◌<◌, ◌≤◌, ◌+◌, ◌++◌, ◌∷◌, [], drop, vec_len, vec_capacity, length, true, false, Ok, OnErr, IfOk};
+ghost use Rattle.glyph_lists.specs.Items.{clusters, flags_of};
+ghost use Rattle.glyph_lists.specs.Events.{first_of, last_of, or};
+ghost use Rattle.glyph_lists.specs.Replacements.{copied, glyph_numbered};
+ghost use Rattle.glyph_buffer.specs.Sides.{all_glyphs, has_output_room, refused};
+ghost use Rattle.glyph_buffer.specs.Merging.{fits_copies, with_copy, with_put, with_renumbered};
+
+use super::hb_buffer_t;
+use super::order::KnownOrder;
+use super::replacement::{model_of, push_copies};
+use glyph_types::info::hb_glyph_info_t;
+use std::alloc::AllocError;
+
+impl hb_buffer_t {
+    /// Puts a copy of the glyph at the cursor, past the end of the last of the output, behind the output under another number;
+    /// with neither, none is made. It answers false, and puts none, where the output would have more than it may.
+    pub fn output_glyph(&mut self, glyph_index: u32) -> Result<bool, AllocError>
+        requires { self.old.is_open ≡ true }
+        ensures held { IfOk result (λ b. b ≡ fits_copies 1 self.old) }
+        ensures put { result ≡ Ok true → self.new ≡ with_copy glyph_index self.old }
+        ensures full { result ≡ Ok false → self.new ≡ refused self.old }
+        ensures err { OnErr result (self.new ≡ self.old) }
+    {
+        if self.lacks_room(1) {
+            self.successful = false;
+            return Ok(false);
+        }
+        self.out_info.reserve(1)?;
+        self.order = self.order.settled(self.lent, &self.info);
+        self.lent = None;
+        push_copy(&mut self.out_info, &self.info, self.idx, glyph_index);
+        Ok(true)
+    }
+
+    /// Puts a glyph behind the output; answers false, and puts none, where the output has as many as it may.
+    pub fn output_info(&mut self, glyph_info: hb_glyph_info_t) -> Result<bool, AllocError>
+        requires { self.old.is_open ≡ true }
+        ensures held { IfOk result (λ b. b ≡ has_output_room 1 self.old) }
+        ensures put { result ≡ Ok true → self.new ≡ with_put glyph_info self.old }
+        ensures full { result ≡ Ok false → self.new ≡ refused self.old }
+        ensures err { OnErr result (self.new ≡ self.old) }
+    {
+        if self.out_info.len() >= self.max_len {
+            self.successful = false;
+            return Ok(false);
+        }
+        self.out_info.push(glyph_info)?;
+        self.order = KnownOrder::Unknown;
+        self.lent = None;
+        Ok(true)
+    }
+
+    /// Puts the glyph at the cursor behind the output under another number; answers false, and moves nothing, where the
+    /// output has as many as it may.
+    #[tactic(auto, using(glyph_lists::specs::Lists::take_one, glyph_lists::specs::Lists::drop_next, crate::proofs::Kept::renumbered_clusters, crate::proofs::Kept::renumbered_flags))]
+    pub fn replace_glyph(&mut self, glyph_index: u32) -> Result<bool, AllocError>
+        requires open { self.old.is_open ≡ true }
+        requires there { 0 < length self.old.ahead }
+        ensures held { IfOk result (λ b. b ≡ has_output_room 1 self.old) }
+        ensures replaced { result ≡ Ok true → self.new ≡ with_renumbered glyph_index self.old }
+        ensures full { result ≡ Ok false → self.new ≡ refused self.old }
+        ensures err { OnErr result (self.new ≡ self.old) }
+        ensures clusters { clusters (all_glyphs self.new) ≡ clusters (all_glyphs self.old) }
+        ensures flags { flags_of (all_glyphs self.new) ≡ flags_of (all_glyphs self.old) }
+    {
+        if self.out_info.len() >= self.max_len {
+            self.successful = false;
+            return Ok(false);
+        }
+        self.out_info.push(hb_glyph_info_t {
+            glyph_id: glyph_index,
+            ..self.info[self.idx]
+        })?;
+        self.order = self.order.settled(self.lent, &self.info);
+        self.lent = None;
+        self.idx += 1;
+        Ok(true)
+    }
+}
+
+// Puts a copy of the glyph at a place of the input, past its end of the last of the output, behind the output.
+#[tactic(auto, using(std::proofs::lemmas::List::take_rest))]
+fn push_copy(out: &mut Vec<hb_glyph_info_t>, info: &[hb_glyph_info_t], at: usize, number: u32)
+    requires within { at ≤ length info.now }
+    requires room { vec_len out.old + 1 ≤ vec_capacity out.old }
+    ensures { out.new.items ≡ out.old.items ++ copied glyph_numbered (or (first_of (drop at info.now)) (last_of out.old.items)) (number ∷ []) }
+{
+    let model = model_of(&info[at..], out);
+    push_copies(out, model, &[number]);
+}
