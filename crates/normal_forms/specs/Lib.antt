@@ -6,3 +6,5 @@ pub mod Expanding
 pub mod Ordering
 pub mod Composing
 pub mod NormalizedList
+pub mod Premises
+pub mod Laws

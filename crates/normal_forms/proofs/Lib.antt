@@ -1,0 +1,5 @@
+pub mod Supported
+pub mod Expanded
+pub mod Runs
+pub mod Classes
+pub mod Alike
