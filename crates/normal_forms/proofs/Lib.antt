@@ -3,3 +3,4 @@ pub mod Expanded
 pub mod Runs
 pub mod Classes
 pub mod Alike
+pub mod Equivalence
