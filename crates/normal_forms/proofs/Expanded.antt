@@ -25,7 +25,7 @@ pub items_in_turn : (stretches : List Arranged) → (in_turn stretches).items �
 items_in_turn [] = refl
 items_in_turn (a ∷ rest) = ap (λ ys. a.items ++ ys) (items_in_turn rest)
 
-items_of_expanded : (c : Normalizer) (r : Reach) (xs : List Item) → flat_map items (map (expanded c r) xs) ≡ flat_map (expanded_item c r) xs
+pub items_of_expanded : (c : Normalizer) (r : Reach) (xs : List Item) → flat_map items (map (expanded c r) xs) ≡ flat_map (expanded_item c r) xs
 items_of_expanded c r [] = refl
 items_of_expanded c r (x ∷ xs) = ap (λ ys. expanded_item c r x ++ ys) (items_of_expanded c r xs)
 

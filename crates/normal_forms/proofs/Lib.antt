@@ -4,3 +4,4 @@ pub mod Runs
 pub mod Classes
 pub mod Alike
 pub mod Equivalence
+pub mod Kept

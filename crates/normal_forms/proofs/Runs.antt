@@ -115,7 +115,7 @@ runs_of_order class f run (x ∷ xs) r =
     ]
 
 -- what the shaper makes of a sorted run, if there is one
-abbrev after : (List Item → Arranged) → List Item → List Item
+abbrev pub after : (List Item → Arranged) → List Item → List Item
 after reorders [] = []
 after reorders (x ∷ xs) = (reorders (x ∷ xs)).items
 
@@ -150,11 +150,28 @@ items_of_runs reorders run (x ∷ xs) h =
           ∙ sym (cond-false _ _ _ off))
     ]
 
+-- where runs are short, the order is the class order with what the shaper makes of each run
+pub ordered_by_runs : (reorders : List Item → Arranged) (xs : List Item) → HasShortRuns mark_class 0 xs → (ordered_list reorders xs).items ≡ by_runs mark_class (after reorders) [] (class_order mark_class xs)
+ordered_by_runs reorders xs short = items_in_turn (arranged_runs reorders [] xs) ∙ (items_of_runs reorders [] xs short ∙ sym (runs_of_order mark_class (after reorders) [] xs tt))
+
 -- lists of short runs that have one class order are put in one order, whatever the shaper makes of their runs
 pub ordered_alike : (reorders : List Item → Arranged) (xs ys : List Item) → HasShortRuns mark_class 0 xs → HasShortRuns mark_class 0 ys → class_order mark_class xs ≡ class_order mark_class ys
     → (ordered_list reorders xs).items ≡ (ordered_list reorders ys).items
 ordered_alike reorders xs ys short_xs short_ys same =
-    let f = after reorders in
-    let first = items_in_turn (arranged_runs reorders [] xs) ∙ (items_of_runs reorders [] xs short_xs ∙ sym (runs_of_order mark_class (after reorders) [] xs tt)) in
-    let second = items_in_turn (arranged_runs reorders [] ys) ∙ (items_of_runs reorders [] ys short_ys ∙ sym (runs_of_order mark_class (after reorders) [] ys tt)) in
-    first ∙ (ap (by_runs mark_class (after reorders) []) same ∙ sym second)
+    ordered_by_runs reorders xs short_xs ∙ (ap (by_runs mark_class (after reorders) []) same ∙ sym (ordered_by_runs reorders ys short_ys))
+
+runs_same : {X : Type 0} (class : X → ℕ) (f : List X → List X) (run xs : List X) → ((zs : List X) → f zs ≡ zs) → by_runs class f run xs ≡ run ++ xs
+runs_same class f run [] h = h run ∙ sym (append-nil run)
+runs_same class f run (x ∷ xs) h =
+    elim (cases_Bool (class x == 0)) [
+      | inl at ↦ cond-true _ _ _ at ∙ ap₂ (λ a b. a ++ x ∷ b) (h run) (runs_same class f [] xs h)
+      | inr off ↦ cond-false _ _ _ off ∙ (runs_same class f (run ++ x ∷ []) xs h ∙ append_assoc run (x ∷ []) xs)
+    ]
+
+after_none : (reorders : List Item → Arranged) → ((run : List Item) → reorders run ≡ kept run) → (zs : List Item) → after reorders zs ≡ zs
+after_none reorders h [] = refl
+after_none reorders h (z ∷ zs) = ap items (h (z ∷ zs))
+
+-- where no run is long and none is reordered, the order is the class order
+pub ordered_by_class : (reorders : List Item → Arranged) (xs : List Item) → ((run : List Item) → reorders run ≡ kept run) → HasShortRuns mark_class 0 xs → (ordered_list reorders xs).items ≡ class_order mark_class xs
+ordered_by_class reorders xs none short = ordered_by_runs reorders xs short ∙ runs_same mark_class (after reorders) [] (class_order mark_class xs) (after_none reorders none)
