@@ -5,3 +5,4 @@ pub mod Classes
 pub mod Alike
 pub mod Equivalence
 pub mod Kept
+pub mod Sorted
