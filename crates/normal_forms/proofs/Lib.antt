@@ -6,3 +6,5 @@ pub mod Alike
 pub mod Equivalence
 pub mod Kept
 pub mod Sorted
+pub mod Composed
+pub mod Preserved
