@@ -50,7 +50,7 @@ mark_numbers LineSeparator = refl
 mark_numbers ParagraphSeparator = refl
 mark_numbers SpaceSeparator = refl
 
-number_fits : (g : GeneralCategory) → category_number g % 32 ≡ category_number g
+pub number_fits : (g : GeneralCategory) → category_number g % 32 ≡ category_number g
 number_fits Control = refl
 number_fits Format = refl
 number_fits Unassigned = refl

@@ -2,11 +2,8 @@
 use Rattle.std.specs.Prelude.{ℕ, zero, suc, ◌==◌, ◌||◌, Bool, if◌then◌else◌, List, [], ◌∷◌, Option, Some, None, option_map}
 use Rattle.std.specs.Option.{option_or}
 use Rattle.unicode_tables.specs.Expansion.{Splits, followed_by}
-
--- how far characters are split: where the font lacks them, or wherever it has their parts
-pub data Reach : Type 0 where
-  Least : Reach
-  Greatest : Reach
+pub use Rattle.normal_forms.specs.declared.mode.Reach.{Reach}
+pub use Rattle.normal_forms.specs.declared.mode.Reach.TheVariants.{Least, Greatest}
 
 -- a character as it is, where the font has it
 abbrev pub alone : (ℕ → Bool) → ℕ → Option (List ℕ)

@@ -4,4 +4,4 @@
 pub mod laws;
 pub mod mode;
 
-pub use mode::{MAX_COMBINING_MARKS, NormalizationMode};
+pub use mode::{MAX_COMBINING_MARKS, NormalizationMode, Reach};

@@ -18,3 +18,12 @@ pub enum NormalizationMode {
     #[default]
     Auto,
 }
+
+/// How far characters are split.
+#[derive(Clone, Copy, PartialEq, Eq, Debug)]
+pub enum Reach {
+    /// Only where the font lacks them.
+    Least,
+    /// Wherever the font has their parts.
+    Greatest,
+}

@@ -1,0 +1,8 @@
+// A plain program that computes normalised lists: small texts, one list after another.
+#![tactic(auto)]
+
+pub mod item;
+pub mod normalizing;
+
+pub use item::PlainItem;
+pub use normalizing::Normalizing;
