@@ -1,6 +1,7 @@
 // A plain program that computes normalised lists: small texts, one list after another.
 #![tactic(auto)]
 
+mod expanding;
 pub mod item;
 pub mod normalizing;
 
