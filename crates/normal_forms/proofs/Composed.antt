@@ -7,13 +7,12 @@ use Rattle.unicode_tables.specs.Lawful.{IsLawful}
 use Rattle.unicode_tables.specs.Tables.{Tables, pair_of, class_of}
 use Rattle.unicode_tables.specs.Texts.{AreEquivalent, same}
 use Rattle.glyph_lists.specs.Items.{Item}
-use Rattle.normal_forms.specs.Arranged.{Arranged}
+use Rattle.normal_forms.specs.Arranged.{items, Arranged}
 use Rattle.normal_forms.specs.Characters.{is_mark, mark_class, characters_of, standing_for, with_glyph}
 use Rattle.normal_forms.specs.Composing.{last_class, is_reaching, becoming, composite, with_composition, composed_from, composed_list}
 use Rattle.normal_forms.specs.Normalizer.{Normalizer}
 use Rattle.normal_forms.specs.Premises.{ComposesWithinUnicode}
 use Rattle.normal_forms.proofs.Equivalence.{then_all, turned_round, around, behind, AreApart, passes, pair_is_equivalent}
-use Rattle.normal_forms.proofs.Expanded.{items}
 use Rattle.normal_forms.proofs.Kept.{AreOfTables, of_tables_append}
 use Rattle.normal_forms.proofs.Sorted.{IsRisingAfter, last_append}
 

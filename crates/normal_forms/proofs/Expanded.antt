@@ -10,16 +10,13 @@ use Rattle.unicode_tables.specs.Tables.{Tables, split_of}
 use Rattle.unicode_tables.specs.Texts.{full_expansion, full_text}
 use Rattle.unicode_tables.proofs.Expansions.{expansion_alone}
 use Rattle.glyph_lists.specs.Items.{Item}
-use Rattle.normal_forms.specs.Arranged.{Arranged, in_turn}
+use Rattle.normal_forms.specs.Arranged.{Arranged, items, in_turn}
 use Rattle.normal_forms.specs.Characters.{is_mark, is_selector, standing_for, items_of_text, with_glyph}
 use Rattle.normal_forms.specs.Expanding.{with_found_glyph, items_for, part_of, expanded_item, expanded, expanded_group, expanded_groups}
 use Rattle.normal_forms.specs.Normalizer.{Normalizer, has_character, reach_alone, reach_with_marks}
 use Rattle.normal_forms.specs.Premises.{SplitsAsUnicode}
 use Rattle.normal_forms.specs.SupportedExpansion.{Reach, Greatest, in_parts}
 use Rattle.normal_forms.proofs.Supported.{greatest_parts, no_parts, parts_agree}
-
-abbrev pub items : Arranged → List Item
-items a = a.items
 
 pub items_in_turn : (stretches : List Arranged) → (in_turn stretches).items ≡ flat_map items stretches
 items_in_turn [] = refl

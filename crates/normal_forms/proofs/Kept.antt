@@ -11,7 +11,7 @@ use Rattle.unicode_tables.specs.Lawful.{ClassesAreOfMarks}
 use Rattle.unicode_tables.specs.Tables.{Tables, split_of, class_of}
 use Rattle.unicode_tables.specs.Texts.{text_order, AreEquivalent, same}
 use Rattle.glyph_lists.specs.Items.{Item}
-use Rattle.normal_forms.specs.Arranged.{Arranged}
+use Rattle.normal_forms.specs.Arranged.{items, Arranged}
 use Rattle.normal_forms.specs.Characters.{category_of, is_mark, is_mark_number, is_space, is_selector, mark_class, characters_of, standing_for}
 use Rattle.normal_forms.specs.Expanding.{is_typed_space, space_glyph, with_glyph_of_space, with_found_glyph, whole_item, items_for, part_of, expanded_item, expanded, expanded_group, expanded_groups}
 use Rattle.normal_forms.specs.Normalizer.{Normalizer, has_character, reach_alone, reach_with_marks}
@@ -19,7 +19,7 @@ use Rattle.normal_forms.specs.Premises.{SplitsAsUnicode}
 use Rattle.normal_forms.specs.SupportedExpansion.{Reach, Least, Greatest, alone, preferred, by_supported, supported, in_parts, expansion}
 use Rattle.normal_forms.proofs.Classes.{class_of_part}
 use Rattle.normal_forms.proofs.Equivalence.{then_all, side_by_side, split_is_equivalent, followed_alike, order_is_equivalent}
-use Rattle.normal_forms.proofs.Expanded.{items, items_of_expanded}
+use Rattle.normal_forms.proofs.Expanded.{items_of_expanded}
 
 -- supported expansions are equivalent to their characters
 alone_is : (has : ℕ → Bool) (u : ℕ) (ws : List ℕ) → alone has u ≡ Some ws → u ∷ [] ≡ ws

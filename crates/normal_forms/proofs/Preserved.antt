@@ -9,7 +9,7 @@ use Rattle.unicode_tables.specs.Tables.{Tables, split_of, class_of}
 use Rattle.unicode_tables.specs.Texts.{AreEquivalent, same}
 use Rattle.unicode_tables.proofs.Steps.{equivalents_have_one_order}
 use Rattle.glyph_lists.specs.Items.{Item}
-use Rattle.normal_forms.specs.Arranged.{Arranged}
+use Rattle.normal_forms.specs.Arranged.{items, Arranged}
 use Rattle.normal_forms.specs.Characters.{mark_class, characters_of, standing_for, items_of_text}
 use Rattle.normal_forms.specs.Expanding.{expanded_list, expanded_groups}
 use Rattle.normal_forms.specs.Ordering.{ordered_list, joiners_shown}
@@ -22,7 +22,7 @@ use Rattle.normal_forms.proofs.Alike.{no_selector_in_text}
 use Rattle.normal_forms.proofs.Classes.{class_of_character}
 use Rattle.normal_forms.proofs.Composed.{composed_equivalent}
 use Rattle.normal_forms.proofs.Equivalence.{then_all, one_order_is_equivalent}
-use Rattle.normal_forms.proofs.Expanded.{items, items_in_turn}
+use Rattle.normal_forms.proofs.Expanded.{items_in_turn}
 use Rattle.normal_forms.proofs.Kept.{AreOfTables, Keeps, keeps_then, groups_keep}
 use Rattle.normal_forms.proofs.Runs.{ordered_by_class}
 use Rattle.normal_forms.proofs.Sorted.{IsRisingAfter, order_keeps, rising_order, joiners_keep, joiners_rise}

@@ -7,11 +7,11 @@ use Rattle.std.specs.List.{flat_map}
 use Rattle.unicode_tables.specs.ClassOrder.{of_class, by_class, class_bound, run_order, order_after, class_order}
 use Rattle.unicode_tables.specs.Orders.{IsRun}
 use Rattle.glyph_lists.specs.Items.{Item}
-use Rattle.normal_forms.specs.Arranged.{Arranged, kept}
+use Rattle.normal_forms.specs.Arranged.{items, Arranged, kept}
 use Rattle.normal_forms.specs.Characters.{mark_class}
 use Rattle.normal_forms.specs.Ordering.{sorted_run, arranged_run, arranged_runs, ordered_list}
 use Rattle.normal_forms.specs.Premises.{HasShortRuns}
-use Rattle.normal_forms.proofs.Expanded.{items, items_in_turn}
+use Rattle.normal_forms.proofs.Expanded.{items_in_turn}
 
 -- how many elements have a class below n
 abbrev count_below : {X : Type 0} → (X → ℕ) → ℕ → List X → ℕ

@@ -7,6 +7,9 @@ pub record Arranged : Type 0 where
   pub items : List Item
   pub events : List Event
 
+abbrev pub items : Arranged → List Item
+items a = a.items
+
 -- items that stay as they are
 abbrev pub kept : List Item → Arranged
 kept xs = record { items = xs; events = [] }

@@ -1,12 +1,12 @@
 //! The first round: characters are split, and selectors join what they select.
-ghost use Rattle.std.specs.Prelude.{◌≡◌, ◌++◌, ◌∷◌, List, Some, IfOk, OnOk, map, option_map};
-ghost use Rattle.std.specs.List.{flat_map};
+ghost use Rattle.std.specs.Prelude.{◌≡◌, ◌++◌, [], ◌∷◌, List, Some, IfOk, OnOk, map, option_map};
+ghost use Rattle.std.specs.List.{flat_map, list_any};
 ghost use Rattle.glyph_lists.specs.Items.{Item};
-ghost use Rattle.normal_forms.specs.Arranged.{Arranged};
+ghost use Rattle.normal_forms.specs.Arranged.{items};
 ghost use Rattle.normal_forms.specs.Normalizer.{has_character, reach_alone, reach_with_marks};
 ghost use Rattle.normal_forms.specs.SupportedExpansion.{alone, by_supported, supported, expansion};
-ghost use Rattle.normal_forms.specs.Characters.{standing_for};
-ghost use Rattle.normal_forms.specs.Expanding.{with_own_glyph, space_glyph, hyphen_glyph, whole_item, part_of, expanded_item};
+ghost use Rattle.normal_forms.specs.Characters.{standing_for, is_selector};
+ghost use Rattle.normal_forms.specs.Expanding.{with_own_glyph, space_glyph, hyphen_glyph, whole_item, part_of, expanded_item, selected, waiting, selected_after, expanded_group, expanded_groups, expanded_list};
 ghost use Rattle.plain_normalizer.specs.PlainItems.{seen, seen_all};
 
 use crate::item::{PlainItem, properties_of};
@@ -181,4 +181,241 @@ fn whole_item<N: Normalizing>(by: &N, x: &PlainItem) -> PlainItem
     }
     let glyph = hyphen_glyph(by, x).unwrap_or(0);
     PlainItem { glyph, ..*x }
+}
+
+/// Adds the items of the parts of a character.
+fn push_parts<N: Normalizing>(
+    by: &N,
+    x: &PlainItem,
+    characters: &[char],
+    out: &mut Vec<PlainItem>,
+) -> Result<(), AllocError>
+    ensures { OnOk result (seen_all out.new.items ≡ seen_all out.old.items ++ map (part_of (N.normalizer by.now) (seen x.now)) characters.now) }
+{
+    for u in characters {
+        out.push(part_of(by, x, *u))?;
+    }
+    Ok(())
+}
+
+/// Adds the items that take the place of an item.
+#[tactic(auto, unfolding(normal_forms::specs::Expanding::expanded_item))]
+fn expand_item<N: Normalizing>(
+    alloc: Global,
+    by: &N,
+    reach: Reach,
+    x: &PlainItem,
+    out: &mut Vec<PlainItem>,
+) -> Result<(), AllocError>
+    ensures { OnOk result (seen_all out.new.items ≡ seen_all out.old.items ++ expanded_item (N.normalizer by.now) reach (seen x.now)) }
+{
+    match expansion(alloc, by, reach, x.character)? {
+        None => out.push(whole_item(by, x))?,
+        Some(characters) => push_parts(by, x, &characters, out)?,
+    }
+    Ok(())
+}
+
+fn expand_items<N: Normalizing>(
+    alloc: Global,
+    by: &N,
+    reach: Reach,
+    xs: &[PlainItem],
+    out: &mut Vec<PlainItem>,
+) -> Result<(), AllocError>
+    ensures { OnOk result (seen_all out.new.items ≡ seen_all out.old.items ++ flat_map (expanded_item (N.normalizer by.now) reach) (seen_all xs.now)) }
+{
+    for x in xs {
+        expand_item(alloc, by, reach, x, out)?;
+    }
+    Ok(())
+}
+
+/// Adds an item and the selector behind it: one item where the font has the pair.
+fn push_selected<N: Normalizing>(
+    by: &N,
+    x: &PlainItem,
+    selector: &PlainItem,
+    out: &mut Vec<PlainItem>,
+) -> Result<(), AllocError>
+    ensures { OnOk result (seen_all out.new.items ≡ seen_all out.old.items ++ flat_map items (selected (N.normalizer by.now) (seen x.now) (seen selector.now) ((N.normalizer by.now).variant_of x.now.character selector.now.character))) }
+{
+    if let Some(glyph) = by.variant(x.character, selector.character) {
+        out.push(PlainItem { glyph, ..*x })?;
+        return Ok(());
+    }
+    let unjoined = selector.unjoined(by.unjoined_glyph().is_some());
+    out.push(with_own_glyph(by, x))?;
+    out.push(with_own_glyph(by, &unjoined))?;
+    Ok(())
+}
+
+/// Adds the item that waits to see whether a selector follows.
+fn push_waiting<N: Normalizing>(
+    by: &N,
+    before: Option<PlainItem>,
+    out: &mut Vec<PlainItem>,
+) -> Result<(), AllocError>
+    ensures { OnOk result (seen_all out.new.items ≡ seen_all out.old.items ++ flat_map items (waiting (N.normalizer by.now) (option_map seen before))) }
+{
+    if let Some(x) = before {
+        out.push(with_own_glyph(by, &x))?;
+    }
+    Ok(())
+}
+
+/// Adds what the next item decides, and gives the item that waits then.
+fn select_next<N: Normalizing>(
+    by: &N,
+    before: Option<PlainItem>,
+    x: &PlainItem,
+    out: &mut Vec<PlainItem>,
+) -> Result<Option<PlainItem>, AllocError>
+    ensures { IfOk result (λ o. (xs : List Item) → seen_all out.new.items ++ flat_map items (selected_after (N.normalizer by.now) (option_map seen o) xs) ≡ seen_all out.old.items ++ flat_map items (selected_after (N.normalizer by.now) (option_map seen before) (seen x.now ∷ xs))) }
+{
+    if !x.is_selector() {
+        push_waiting(by, before, out)?;
+        return Ok(Some(*x));
+    }
+    match before {
+        None => out.push(with_own_glyph(by, x))?,
+        Some(waits) => push_selected(by, &waits, x, out)?,
+    }
+    Ok(None)
+}
+
+/// Adds an item and its marks, with selectors among them, without expanding them.
+fn push_with_selectors<N: Normalizing>(
+    by: &N,
+    first: &PlainItem,
+    marks: &[PlainItem],
+    out: &mut Vec<PlainItem>,
+) -> Result<(), AllocError>
+    ensures { OnOk result (seen_all out.new.items ≡ seen_all out.old.items ++ flat_map items (selected_after (N.normalizer by.now) (Some (seen first.now)) (seen_all marks.now))) }
+{
+    let mut before = Some(*first);
+    for x in marks {
+        before = select_next(by, before, x, out)?;
+    }
+    push_waiting(by, before, out)
+}
+
+/// How far a character without marks is split.
+fn reach_alone(mode: NormalizationMode) -> Reach
+    ensures { result ≡ reach_alone mode }
+{
+    match mode {
+        NormalizationMode::None
+        | NormalizationMode::ComposedDiacritics
+        | NormalizationMode::Auto => Reach::Least,
+        NormalizationMode::Decomposed | NormalizationMode::ComposedDiacriticsNoShortCircuit => {
+            Reach::Greatest
+        }
+    }
+}
+
+/// How far a character with marks, and each of its marks, is split.
+fn reach_with_marks(mode: NormalizationMode) -> Reach
+    ensures { result ≡ reach_with_marks mode }
+{
+    match mode {
+        NormalizationMode::None => Reach::Least,
+        _ => Reach::Greatest,
+    }
+}
+
+fn has_selector(xs: &[PlainItem]) -> bool
+    ensures { result ≡ list_any (λ (x : PlainItem). is_selector (seen x)) xs.now }
+{
+    xs.iter().any(|x| x.is_selector())
+}
+
+#[tactic(auto, using(crate::proofs::Groups::selector_first, crate::proofs::Groups::selector_later))]
+fn has_selector_among(first: &PlainItem, marks: &[PlainItem]) -> bool
+    ensures { result ≡ list_any is_selector (seen first.now ∷ seen_all marks.now) }
+{
+    if first.is_selector() {
+        return true;
+    }
+    has_selector(marks)
+}
+
+/// Adds the items that take the place of an item and its marks.
+fn expand_each<N: Normalizing>(
+    alloc: Global,
+    by: &N,
+    first: &PlainItem,
+    marks: &[PlainItem],
+    out: &mut Vec<PlainItem>,
+) -> Result<(), AllocError>
+    ensures { OnOk result (seen_all out.new.items ≡ seen_all out.old.items ++ (expanded_item (N.normalizer by.now) (reach_with_marks (N.normalizer by.now).mode) (seen first.now) ++ flat_map (expanded_item (N.normalizer by.now) (reach_with_marks (N.normalizer by.now).mode)) (seen_all marks.now))) }
+{
+    let reach = reach_with_marks(by.mode());
+    expand_item(alloc, by, reach, first, out)?;
+    expand_items(alloc, by, reach, marks, out)?;
+    Ok(())
+}
+
+/// Adds what takes the place of an item alone, or of an item and the marks behind it.
+#[tactic(auto, using(crate::proofs::Groups::group_alone, crate::proofs::Groups::group_selects, crate::proofs::Groups::group_expands))]
+fn expand_group<N: Normalizing>(
+    alloc: Global,
+    by: &N,
+    first: &PlainItem,
+    marks: &[PlainItem],
+    out: &mut Vec<PlainItem>,
+) -> Result<(), AllocError>
+    ensures { OnOk result (seen_all out.new.items ≡ seen_all out.old.items ++ flat_map items (expanded_group (N.normalizer by.now) (seen first.now) (seen_all marks.now))) }
+{
+    if marks.is_empty() {
+        expand_item(alloc, by, reach_alone(by.mode()), first, out)?;
+        return Ok(());
+    }
+    if has_selector_among(first, marks) {
+        push_with_selectors(by, first, marks, out)?;
+        return Ok(());
+    }
+    expand_each(alloc, by, first, marks, out)?;
+    Ok(())
+}
+
+/// A first item and those behind it, with their characters split.
+fn expanded_from<N: Normalizing>(
+    alloc: Global,
+    by: &N,
+    first: PlainItem,
+    rest: &[PlainItem],
+) -> Result<Vec<PlainItem>, AllocError>
+    ensures { IfOk result (λ v. seen_all v.items ≡ flat_map items (expanded_groups (N.normalizer by.now) (seen first) [] (seen_all rest.now))) }
+{
+    let mut first = first;
+    let mut marks = Vec::new(alloc);
+    let mut out = Vec::new(alloc);
+    for y in rest {
+        if y.is_mark() {
+            marks.push(*y)?;
+        } else {
+            expand_group(alloc, by, &first, &marks, &mut out)?;
+            first = *y;
+            marks.clear();
+        }
+    }
+    expand_group(alloc, by, &first, &marks, &mut out)?;
+    Ok(out)
+}
+
+/// The list with its characters split.
+#[tactic(auto, using(crate::proofs::Groups::list_of_groups))]
+pub fn expanded_list<N: Normalizing>(
+    alloc: Global,
+    by: &N,
+    xs: &[PlainItem],
+) -> Result<Vec<PlainItem>, AllocError>
+    ensures { IfOk result (λ v. seen_all v.items ≡ (expanded_list (N.normalizer by.now) (seen_all xs.now)).items) }
+{
+    let Some((first, rest)) = xs.split_first() else {
+        return Ok(Vec::new(alloc));
+    };
+    let list = expanded_from(alloc, by, *first, rest)?;
+    Ok(list)
 }
