@@ -1,3 +1,5 @@
 pub mod Bits
 pub mod Supported
 pub mod Groups
+pub mod Runs
+pub mod StableSort

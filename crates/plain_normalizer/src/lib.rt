@@ -2,6 +2,7 @@
 #![tactic(auto)]
 
 mod expanding;
+mod ordering;
 pub mod item;
 pub mod normalizing;
 

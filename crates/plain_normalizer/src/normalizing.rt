@@ -44,6 +44,6 @@ pub trait Normalizing {
         ensures { result ≡ (normalizer self.now).composes a b };
 
     /// Rewrites a sorted run of marks.
-    fn reorder_marks(&self, run: &mut [PlainItem])
-        ensures { seen_all run.new ≡ ((normalizer self.now).reorders (seen_all run.old)).items };
+    fn reorder_marks(&self, run: &mut Vec<PlainItem>)
+        ensures { seen_all run.new.items ≡ ((normalizer self.now).reorders (seen_all run.old.items)).items };
 }
