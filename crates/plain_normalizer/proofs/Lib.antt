@@ -3,3 +3,4 @@ pub mod Supported
 pub mod Groups
 pub mod Runs
 pub mod StableSort
+pub mod Between

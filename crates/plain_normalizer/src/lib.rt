@@ -1,10 +1,14 @@
 // A plain program that computes normalised lists: small texts, one list after another.
 #![tactic(auto)]
 
-mod expanding;
-mod ordering;
+pub mod composing;
+pub mod expanding;
 pub mod item;
+pub mod normalized;
 pub mod normalizing;
+pub mod ordering;
+pub mod rows;
 
 pub use item::PlainItem;
 pub use normalizing::Normalizing;
+pub use rows::RowNormalizer;
