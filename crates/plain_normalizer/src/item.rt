@@ -31,6 +31,14 @@ pub struct PlainItem {
     pub class: u8,
 }
 
+/// An item that stands for nothing yet.
+pub(crate) const BLANK: PlainItem = PlainItem {
+    character: '\0',
+    glyph: 0,
+    props: 0,
+    class: 0,
+};
+
 impl PlainItem {
     fn category(&self) -> u32
         ensures { result ≡ category_of (seen self.now) }

@@ -9,6 +9,9 @@ pub mod normalizing;
 pub mod ordering;
 pub mod rows;
 
+#[cfg(test)]
+mod tests;
+
 pub use item::PlainItem;
 pub use normalizing::Normalizing;
 pub use rows::RowNormalizer;

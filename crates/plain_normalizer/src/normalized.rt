@@ -1,14 +1,14 @@
 //! The normalised list.
 ghost use Rattle.std.specs.Prelude.{◌≡◌, IfOk};
 ghost use Rattle.std.specs.List.{list_any};
-ghost use Rattle.normal_forms.specs.Characters.{is_mark};
+ghost use Rattle.normal_forms.specs.Characters.{is_mark, items_of_text};
 ghost use Rattle.normal_forms.specs.Normalizer.{is_composing};
 ghost use Rattle.normal_forms.specs.NormalizedList.{has_later_mark, composed_if, arranged_marks, normalized};
 ghost use Rattle.plain_normalizer.specs.PlainItems.{seen, seen_all};
 
 use crate::composing::composed_list;
-use crate::expanding::expanded_list;
-use crate::item::PlainItem;
+use crate::expanding::{expanded_list, standing_for};
+use crate::item::{BLANK, PlainItem};
 use crate::normalizing::Normalizing;
 use crate::ordering::{joiners_shown, ordered_list};
 use normal_forms::NormalizationMode;
@@ -75,6 +75,21 @@ fn arranged_marks<N: Normalizing>(
     let shown = joiners_shown(alloc, &ordered)?;
     let list = composed_if_wanted(alloc, by, shown)?;
     Ok(list)
+}
+
+/// The items of a text, each with the properties of its character.
+pub fn items_of_text<N: Normalizing>(
+    alloc: Global,
+    by: &N,
+    text: &[char],
+) -> Result<Vec<PlainItem>, AllocError>
+    ensures { IfOk result (λ v. seen_all v.items ≡ items_of_text (N.normalizer by.now).tables (seen BLANK) text.now) }
+{
+    let mut items = Vec::new(alloc);
+    for u in text {
+        items.push(standing_for(by, *u, &BLANK))?;
+    }
+    Ok(items)
 }
 
 /// The normalised list of a text's items: characters split as far as the mode and the font want it, marks in the
