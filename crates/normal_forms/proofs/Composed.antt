@@ -114,9 +114,9 @@ AreComposedAlike c xs = (k : ℕ) (done : List Item) (starter : Item) (between :
 at_composite : (c : Normalizer) (k : ℕ) (done : List Item) (starter : Item) (between : List Item) (x : Item) (xs : List Item) (o : Option Item) → IsLawful c.tables → ComposesWithinUnicode c → AreComposedAlike c xs
     → AreOfTables c.tables (x ∷ xs) → IsBetween c.tables k between (x ∷ xs) → composite c starter between x ≡ o
     → AreEquivalent c.tables (characters_of (done ++ starter ∷ (between ++ x ∷ xs)))
-      (characters_of
-      (option_map_or (λ composed. with_composition (length done) (length done + 1 + length between) (composed_from c done composed between xs)) o
-      (if mark_class x == 0 then composed_from c (done ++ starter ∷ between) x [] xs else composed_from c done starter (between ++ x ∷ []) xs)).items)
+    (characters_of
+    (option_map_or (λ composed. with_composition (length done) (length done + 1 + length between) (composed_from c done composed between xs)) o
+    (if mark_class x == 0 then composed_from c (done ++ starter ∷ between) x [] xs else composed_from c done starter (between ++ x ∷ []) xs)).items)
 at_composite c k done starter between x xs (Some composed) lawful within later o h e =
     let found = composite_is c starter between x composed e in
     let still = still_between c.tables k between x xs found.reaches h in

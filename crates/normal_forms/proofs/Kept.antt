@@ -22,20 +22,20 @@ use Rattle.normal_forms.proofs.Equivalence.{then_all, side_by_side, split_is_equ
 use Rattle.normal_forms.proofs.Expanded.{items_of_expanded}
 
 -- supported expansions are equivalent to their characters
-alone_is : (has : ℕ → Bool) (u : ℕ) (ws : List ℕ) → alone has u ≡ Some ws → u ∷ [] ≡ ws
+pub alone_is : (has : ℕ → Bool) (u : ℕ) (ws : List ℕ) → alone has u ≡ Some ws → u ∷ [] ≡ ws
 alone_is has u ws e =
     elim (cases_Bool (has u)) [
       | inl found ↦ let whole : Some (u ∷ []) ≡ Some ws = sym (cond-true _ _ _ found) ∙ e in cc
       | inr lacks ↦ let none : None ≡ Some ws = sym (cond-false _ _ _ lacks) ∙ e in cc
     ]
 
-preferred_is : (reach : Reach) (whole parts : Option (List ℕ)) (ws : List ℕ) → preferred reach whole parts ≡ Some ws → (whole ≡ Some ws) ⊎ (parts ≡ Some ws)
+pub preferred_is : (reach : Reach) (whole parts : Option (List ℕ)) (ws : List ℕ) → preferred reach whole parts ≡ Some ws → (whole ≡ Some ws) ⊎ (parts ≡ Some ws)
 preferred_is Least None parts ws e = inr e
 preferred_is Least (Some w) parts ws e = inl e
 preferred_is Greatest whole None ws e = inl e
 preferred_is Greatest whole (Some w) ws e = inr e
 
-mapped_is : (f : List ℕ → List ℕ) (o : Option (List ℕ)) (ws : List ℕ) → option_map f o ≡ Some ws → (vs : List ℕ) × ((o ≡ Some vs) × (f vs ≡ ws))
+pub mapped_is : (f : List ℕ → List ℕ) (o : Option (List ℕ)) (ws : List ℕ) → option_map f o ≡ Some ws → (vs : List ℕ) × ((o ≡ Some vs) × (f vs ≡ ws))
 mapped_is f None ws e = cc
 mapped_is f (Some vs) ws e = (vs, (refl, cc))
 
@@ -110,7 +110,7 @@ number_with_space : (c : Normalizer) (x : Item) (o : Option ℕ) → (with_glyph
 number_with_space c x None = refl
 number_with_space c x (Some g) = refl
 
-number_found : (c : Normalizer) (x : Item) (o : Option ℕ) → (with_found_glyph c x o).number ≡ x.number
+pub number_found : (c : Normalizer) (x : Item) (o : Option ℕ) → (with_found_glyph c x o).number ≡ x.number
 number_found c x None = number_with_space c x (space_glyph c x)
 number_found c x (Some g) = refl
 
@@ -132,7 +132,7 @@ class_found : (c : Normalizer) (x : Item) (o : Option ℕ) → mark_class (with_
 class_found c x None = class_with_space c x (space_glyph c x) refl
 class_found c x (Some g) = refl
 
-characters_of_parts : (c : Normalizer) (x : Item) (us : List ℕ) → characters_of (map (part_of c x) us) ≡ us
+pub characters_of_parts : (c : Normalizer) (x : Item) (us : List ℕ) → characters_of (map (part_of c x) us) ≡ us
 unfolding part_of
 characters_of_parts c x [] = refl
 characters_of_parts c x (u ∷ us) = ap (λ vs. u ∷ vs) (characters_of_parts c x us)
@@ -163,30 +163,37 @@ each_keeps : (c : Normalizer) (r : Reach) (xs : List Item) → ClassesAreOfMarks
 each_keeps c r [] marks unicode = record { equivalent = same; of_tables = λ o. o }
 each_keeps c r (x ∷ xs) marks unicode = keeps_both c.tables (x ∷ []) (expanded_item c r x) xs (flat_map (expanded_item c r) xs) (item_keeps c r x marks unicode) (each_keeps c r xs marks unicode)
 
--- the groups of a list without selectors
-group_keeps : (c : Normalizer) (x : Item) (ms : List Item) → ClassesAreOfMarks c.tables → SplitsAsUnicode c → list_any is_selector (x ∷ ms) ≡ false → Keeps c.tables (x ∷ ms) (flat_map items (expanded_group c x ms))
-group_keeps c x [] marks unicode none = each_keeps c (reach_alone c.mode) (x ∷ []) marks unicode
-group_keeps c x (m ∷ ms) marks unicode none =
-    let K : List Item → Type 0 = Keeps c.tables (x ∷ m ∷ ms) in
-    let whole = ap (flat_map items) (cond-false _ _ _ none) ∙ items_of_expanded c (reach_with_marks c.mode) (x ∷ m ∷ ms) in
-    subst K (sym whole) (each_keeps c (reach_with_marks c.mode) (x ∷ m ∷ ms) marks unicode)
+-- what holds between lists and their expansions, and between lists of such lists
+pub record IsKept (c : Normalizer) (R : List Item → List Item → Type 0) : Type 0 where
+  pub each : (r : Reach) (xs : List Item) → R xs (flat_map (expanded_item c r) xs)
+  pub both : (ws xs ys zs : List Item) → R ws xs → R ys zs → R (ws ++ ys) (xs ++ zs)
 
-pub groups_keep : (c : Normalizer) (x : Item) (ms ys : List Item) → ClassesAreOfMarks c.tables → SplitsAsUnicode c → list_any is_selector (x ∷ (ms ++ ys)) ≡ false
-    → Keeps c.tables (x ∷ (ms ++ ys)) (flat_map items (expanded_groups c x ms ys))
-groups_keep c x ms [] marks unicode none =
+group_keeps : (c : Normalizer) (R : List Item → List Item → Type 0) (x : Item) (ms : List Item) → IsKept c R → list_any is_selector (x ∷ ms) ≡ false → R (x ∷ ms) (flat_map items (expanded_group c x ms))
+group_keeps c R x [] kept none = kept.each (reach_alone c.mode) (x ∷ [])
+group_keeps c R x (m ∷ ms) kept none =
+    let whole = ap (flat_map items) (cond-false _ _ _ none) ∙ items_of_expanded c (reach_with_marks c.mode) (x ∷ m ∷ ms) in
+    subst (R (x ∷ m ∷ ms)) (sym whole) (kept.each (reach_with_marks c.mode) (x ∷ m ∷ ms))
+
+-- so it holds between a list without selectors and its groups, expanded
+pub groups_keep : (c : Normalizer) (R : List Item → List Item → Type 0) (x : Item) (ms ys : List Item) → IsKept c R → list_any is_selector (x ∷ (ms ++ ys)) ≡ false
+    → R (x ∷ (ms ++ ys)) (flat_map items (expanded_groups c x ms ys))
+groups_keep c R x ms [] kept none =
     let end : ms ++ [] ≡ ms = append-nil ms in
-    let K : List Item → Type 0 = λ zs. Keeps c.tables (x ∷ zs) (flat_map items (expanded_group c x ms)) in
-    subst K (sym end) (group_keeps c x ms marks unicode (ap (λ zs. list_any is_selector (x ∷ zs)) (sym end) ∙ none))
-groups_keep c x ms (y ∷ ys) marks unicode none =
+    let K : List Item → Type 0 = λ zs. R (x ∷ zs) (flat_map items (expanded_group c x ms)) in
+    subst K (sym end) (group_keeps c R x ms kept (ap (λ zs. list_any is_selector (x ∷ zs)) (sym end) ∙ none))
+groups_keep c R x ms (y ∷ ys) kept none =
     elim (cases_Bool (is_mark y)) [
       | inl mark ↦
           let joined : (ms ++ y ∷ []) ++ ys ≡ ms ++ y ∷ ys = append_assoc ms (y ∷ []) ys in
-          let K : List Item → List Arranged → Type 0 = λ zs as'. Keeps c.tables (x ∷ zs) (flat_map items as') in
+          let K : List Item → List Arranged → Type 0 = λ zs stretches. R (x ∷ zs) (flat_map items stretches) in
           subst (λ (zs : List Item). K zs (expanded_groups c x ms (y ∷ ys))) joined
-          (subst (K ((ms ++ y ∷ []) ++ ys)) (sym (cond-true _ _ _ mark)) (groups_keep c x (ms ++ y ∷ []) ys marks unicode (ap (λ zs. list_any is_selector (x ∷ zs)) joined ∙ none)))
+          (subst (K ((ms ++ y ∷ []) ++ ys)) (sym (cond-true _ _ _ mark)) (groups_keep c R x (ms ++ y ∷ []) ys kept (ap (λ zs. list_any is_selector (x ∷ zs)) joined ∙ none)))
       | inr other ↦
           let parts = or_parts (list_any is_selector (x ∷ ms)) (list_any is_selector (y ∷ ys)) (sym (list_any-append is_selector (x ∷ ms) (y ∷ ys)) ∙ none) in
-          let K : List Item → Type 0 = Keeps c.tables (x ∷ (ms ++ y ∷ ys)) in
+          let K : List Item → Type 0 = R (x ∷ (ms ++ y ∷ ys)) in
           let whole = ap (flat_map items) (cond-false _ _ _ other) ∙ flat_map-append items (expanded_group c x ms) (expanded_groups c y [] ys) in
-          subst K (sym whole) (keeps_both c.tables (x ∷ ms) (flat_map items (expanded_group c x ms)) (y ∷ ys) (flat_map items (expanded_groups c y [] ys)) (group_keeps c x ms marks unicode parts.0) (groups_keep c y [] ys marks unicode parts.1))
+          subst K (sym whole) (kept.both (x ∷ ms) (flat_map items (expanded_group c x ms)) (y ∷ ys) (flat_map items (expanded_groups c y [] ys)) (group_keeps c R x ms kept parts.0) (groups_keep c R y [] ys kept parts.1))
     ]
+
+pub expansion_keeps : (c : Normalizer) → ClassesAreOfMarks c.tables → SplitsAsUnicode c → IsKept c (Keeps c.tables)
+expansion_keeps c marks unicode = record { each = λ r xs. each_keeps c r xs marks unicode; both = keeps_both c.tables }

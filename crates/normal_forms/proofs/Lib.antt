@@ -8,3 +8,4 @@ pub mod Kept
 pub mod Sorted
 pub mod Composed
 pub mod Preserved
+pub mod Short

@@ -23,27 +23,27 @@ use Rattle.normal_forms.proofs.Classes.{class_of_character}
 use Rattle.normal_forms.proofs.Composed.{composed_equivalent}
 use Rattle.normal_forms.proofs.Equivalence.{then_all, one_order_is_equivalent}
 use Rattle.normal_forms.proofs.Expanded.{items_in_turn}
-use Rattle.normal_forms.proofs.Kept.{AreOfTables, Keeps, keeps_then, groups_keep}
+use Rattle.normal_forms.proofs.Kept.{AreOfTables, Keeps, keeps_then, groups_keep, expansion_keeps}
 use Rattle.normal_forms.proofs.Runs.{ordered_by_class}
 use Rattle.normal_forms.proofs.Sorted.{IsRisingAfter, order_keeps, rising_order, joiners_keep, joiners_rise}
 
 pub equivalence_is_one_order : EquivalenceIsOneOrder
 equivalence_is_one_order t ends lawful us vs = (equivalents_have_one_order t ends lawful us vs, one_order_is_equivalent t us vs)
 
-text_of_tables : (t : Tables) (x : Item) (us : List ℕ) → ClassesAreOfMarks t → AreOfTables t (items_of_text t x us)
+pub text_of_tables : (t : Tables) (x : Item) (us : List ℕ) → ClassesAreOfMarks t → AreOfTables t (items_of_text t x us)
 text_of_tables t x [] marks = tt
 text_of_tables t x (u ∷ us) marks = (class_of_character t u x marks, text_of_tables t x us marks)
 
-characters_of_text : (t : Tables) (x : Item) (us : List ℕ) → characters_of (items_of_text t x us) ≡ us
+pub characters_of_text : (t : Tables) (x : Item) (us : List ℕ) → characters_of (items_of_text t x us) ≡ us
 characters_of_text t x [] = refl
 characters_of_text t x (u ∷ us) = ap (λ vs. u ∷ vs) (characters_of_text t x us)
 
-expanded_keeps : (c : Normalizer) (x : Item) (us : List ℕ) → ClassesAreOfMarks c.tables → SplitsAsUnicode c → HasNoSelector us → Keeps c.tables (items_of_text c.tables x us) (expanded_list c (items_of_text c.tables x us)).items
+pub expanded_keeps : (c : Normalizer) (x : Item) (us : List ℕ) → ClassesAreOfMarks c.tables → SplitsAsUnicode c → HasNoSelector us → Keeps c.tables (items_of_text c.tables x us) (expanded_list c (items_of_text c.tables x us)).items
 expanded_keeps c x [] marks unicode none = record { equivalent = same; of_tables = λ o. o }
 expanded_keeps c x (u ∷ us) marks unicode none =
     let first = standing_for c.tables u x in
     subst (Keeps c.tables (items_of_text c.tables x (u ∷ us))) (sym (items_in_turn (expanded_groups c (standing_for c.tables u x) [] (items_of_text c.tables x us))))
-    (groups_keep c (standing_for c.tables u x) [] (items_of_text c.tables x us) marks unicode (no_selector_in_text c.tables x (u ∷ us) none))
+    (groups_keep c (Keeps c.tables) (standing_for c.tables u x) [] (items_of_text c.tables x us) (expansion_keeps c marks unicode) (no_selector_in_text c.tables x (u ∷ us) none))
 
 composed_or_not : (c : Normalizer) (b : Bool) (xs : List Item) → IsLawful c.tables → ComposesWithinUnicode c → AreOfTables c.tables xs → (b ≡ true → IsRisingAfter 0 xs) → AreEquivalent c.tables (characters_of xs) (characters_of (composed_if b c xs).items)
 composed_or_not c true xs lawful within o h = composed_equivalent c xs lawful within o (h refl)

@@ -2,7 +2,7 @@
 use Rattle.std.specs.Prelude.{ℕ, ◌≡◌, ◌↔◌, List}
 use Rattle.unicode_tables.specs.Expansion.{EndWithin}
 use Rattle.unicode_tables.specs.Lawful.{IsLawful}
-use Rattle.unicode_tables.specs.Tables.{Tables, split_of}
+use Rattle.unicode_tables.specs.Tables.{Tables, split_of, class_of}
 use Rattle.unicode_tables.specs.Texts.{full_text, text_order, AreEquivalent}
 use Rattle.glyph_lists.specs.Items.{Item}
 use Rattle.normal_forms.specs.Characters.{mark_class, characters_of, items_of_text}
@@ -26,3 +26,8 @@ abbrev pub NormalizingKeepsEquivalence : Type 0
 NormalizingKeepsEquivalence = (c : Normalizer) (x : Item) (us : List ℕ) → IsLawful c.tables → SplitsAsUnicode c → ComposesWithinUnicode c → ReordersNothing c
     → HasNoSelector us → HasShortRuns mark_class 0 (expanded_list c (items_of_text c.tables x us)).items
     → AreEquivalent c.tables us (characters_of (normalized c (items_of_text c.tables x us)).items)
+
+-- runs that are short in the full expansion are short in each expansion that a font supports
+abbrev pub ExpansionKeepsRunsShort : Type 0
+ExpansionKeepsRunsShort = (c : Normalizer) (x : Item) (us : List ℕ) → EndWithin (split_of c.tables) 8 → IsLawful c.tables → SplitsAsUnicode c → HasNoSelector us
+    → HasShortRuns (class_of c.tables) 0 (full_text c.tables us) → HasShortRuns mark_class 0 (expanded_list c (items_of_text c.tables x us)).items

@@ -1,5 +1,5 @@
 //! Laws of equivalent texts and of the normalised list.
-ghost use Rattle.normal_forms.specs.Laws.{EquivalenceIsOneOrder, EquivalentsNormalizeAlike, NormalizingKeepsEquivalence};
+ghost use Rattle.normal_forms.specs.Laws.{EquivalenceIsOneOrder, EquivalentsNormalizeAlike, ExpansionKeepsRunsShort, NormalizingKeepsEquivalence};
 
 /// Under lawful tables, texts are equivalent exactly where their full expansions have one class order.
 #[tactic(auto, using(crate::proofs::Preserved::equivalence_is_one_order))]
@@ -20,4 +20,10 @@ pub fn equivalents_normalize_alike()
 #[tactic(auto, using(crate::proofs::Preserved::normalizing_keeps_equivalence))]
 pub fn normalizing_keeps_equivalence()
     ensures { NormalizingKeepsEquivalence }
+{}
+
+/// Under lawful tables, runs of marks that are short in the full expansion are short in what the font supports of it.
+#[tactic(auto, using(crate::proofs::Short::expansion_keeps_runs_short))]
+pub fn expansion_keeps_runs_short()
+    ensures { ExpansionKeepsRunsShort }
 {}

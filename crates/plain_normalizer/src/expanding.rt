@@ -305,9 +305,8 @@ fn reach_alone(mode: NormalizationMode) -> Reach
     ensures { result ≡ reach_alone mode }
 {
     match mode {
-        NormalizationMode::None
-        | NormalizationMode::ComposedDiacritics
-        | NormalizationMode::Auto => Reach::Least,
+        NormalizationMode::None | NormalizationMode::ComposedDiacritics | NormalizationMode::Auto =>
+            Reach::Least,
         NormalizationMode::Decomposed | NormalizationMode::ComposedDiacriticsNoShortCircuit => {
             Reach::Greatest
         }

@@ -13,10 +13,15 @@ use unicode_chars::category::{
 use unicode_chars::character::CharExt;
 
 const CATEGORY: u32 = 0x1F;
+
 const IGNORABLE: u32 = 0x20;
+
 const HIDDEN: u32 = 0x40;
+
 const JOINER: u32 = 0x100;
+
 const NON_JOINER: u32 = 0x200;
+
 const UNJOINED_SELECTOR: u32 = 0x400;
 
 /// An item of a text.
@@ -91,14 +96,21 @@ impl PlainItem {
     {
         let kept = self.props - (self.props & CATEGORY);
         let props = (kept + RB_UNICODE_GENERAL_CATEGORY_FORMAT) | UNJOINED_SELECTOR;
-        PlainItem { props: without_ignorable_if(has_glyph, props), ..*self }
+        PlainItem {
+            props: without_ignorable_if(has_glyph, props),
+            ..*self
+        }
     }
 }
 
 fn without_ignorable_if(b: bool, props: u32) -> u32
     ensures { result ≡ (if b then without_bits 0x20 props else props) }
 {
-    if b { props - (props & IGNORABLE) } else { props }
+    if b {
+        props - (props & IGNORABLE)
+    } else {
+        props
+    }
 }
 
 /// Whether a character is one of those that are hidden.

@@ -8,7 +8,6 @@ pub mod normalized;
 pub mod normalizing;
 pub mod ordering;
 pub mod rows;
-
 #[cfg(test)]
 mod tests;
 

@@ -31,19 +31,17 @@ pub struct RowNormalizer<'a> {
 }
 
 impl Normalizing for RowNormalizer<'_> {
-    ghost normalizer = {
-        λ n. record {
-            tables = n.tables.now;
-            mode = n.mode;
-            glyph_of = glyph_in n.glyphs.now;
-            variant_of = variant_in n.variants.now;
-            invisible = n.invisible;
-            unjoined_glyph = n.unjoined_glyph;
-            splits = λ u. unwrap_or (parts_in n.splits.now u) (split_of n.tables.now u);
-            composes = λ a b. composed_by n.composes_on_marks a (pair_of n.tables.now a b);
-            reorders = λ run. kept run;
-        }
-    };
+    ghost normalizer = { λ n. record {
+      tables = n.tables.now;
+      mode = n.mode;
+      glyph_of = glyph_in n.glyphs.now;
+      variant_of = variant_in n.variants.now;
+      invisible = n.invisible;
+      unjoined_glyph = n.unjoined_glyph;
+      splits = λ u. unwrap_or (parts_in n.splits.now u) (split_of n.tables.now u);
+      composes = λ a b. composed_by n.composes_on_marks a (pair_of n.tables.now a b);
+      reorders = λ run. kept run;
+    } };
 
     fn mode(&self) -> NormalizationMode {
         self.mode

@@ -79,7 +79,13 @@ fn becomes<N: Normalizing>(
 fn three_marks(rt: HostRuntime) -> Result<(), Fail> {
     let alloc = rt.alloc();
     let tables = tables(alloc)?;
-    let glyphs = [('a', 1), ('\u{301}', 2), ('\u{323}', 3), ('\u{E1}', 4), ('\u{1EA1}', 5)];
+    let glyphs = [
+        ('a', 1),
+        ('\u{301}', 2),
+        ('\u{323}', 3),
+        ('\u{E1}', 4),
+        ('\u{1EA1}', 5),
+    ];
     let by = shaper(&tables, NormalizationMode::Decomposed, &glyphs);
     let want = [('a', 1), ('\u{323}', 3), ('\u{301}', 2)];
     becomes(&rt, alloc, &by, &['a', '\u{301}', '\u{323}'], &want)?;
@@ -99,7 +105,13 @@ fn composed_or_not(rt: HostRuntime) -> Result<(), Fail> {
     let parts = [('a', 1), ('\u{301}', 9)];
     let by = shaper(&tables, NormalizationMode::Auto, &parts);
     becomes(&rt, alloc, &by, &['\u{E1}'], &[('a', 1), ('\u{301}', 9)])?;
-    becomes(&rt, alloc, &by, &['a', '\u{301}'], &[('a', 1), ('\u{301}', 9)])
+    becomes(
+        &rt,
+        alloc,
+        &by,
+        &['a', '\u{301}'],
+        &[('a', 1), ('\u{301}', 9)],
+    )
 }
 
 // Behind a mark of the same class the acute doesn't reach the letter; behind one of a lesser class it does.
@@ -107,7 +119,13 @@ fn composed_or_not(rt: HostRuntime) -> Result<(), Fail> {
 fn blocked_marks(rt: HostRuntime) -> Result<(), Fail> {
     let alloc = rt.alloc();
     let tables = tables(alloc)?;
-    let glyphs = [('a', 1), ('\u{300}', 2), ('\u{301}', 3), ('\u{E1}', 4), ('\u{316}', 5)];
+    let glyphs = [
+        ('a', 1),
+        ('\u{300}', 2),
+        ('\u{301}', 3),
+        ('\u{E1}', 4),
+        ('\u{316}', 5),
+    ];
     let by = shaper(&tables, NormalizationMode::ComposedDiacritics, &glyphs);
     let blocked = [('a', 1), ('\u{300}', 2), ('\u{301}', 3)];
     becomes(&rt, alloc, &by, &['a', '\u{300}', '\u{301}'], &blocked)?;
@@ -121,7 +139,13 @@ fn blocked_marks(rt: HostRuntime) -> Result<(), Fail> {
 fn balinese(rt: HostRuntime) -> Result<(), Fail> {
     let alloc = rt.alloc();
     let tables = tables(alloc)?;
-    let glyphs = [('\u{1B05}', 1), ('\u{1B35}', 2), ('\u{1B36}', 3), ('\u{1B34}', 4), ('\u{1B44}', 5)];
+    let glyphs = [
+        ('\u{1B05}', 1),
+        ('\u{1B35}', 2),
+        ('\u{1B36}', 3),
+        ('\u{1B34}', 4),
+        ('\u{1B44}', 5),
+    ];
     let mode = NormalizationMode::ComposedDiacriticsNoShortCircuit;
     let by = RowNormalizer {
         composes_on_marks: false,
@@ -129,10 +153,28 @@ fn balinese(rt: HostRuntime) -> Result<(), Fail> {
     };
     let pair = [('\u{1B05}', 1), ('\u{1B35}', 2), ('\u{1B36}', 3)];
     becomes(&rt, alloc, &by, &['\u{1B06}', '\u{1B36}'], &pair)?;
-    becomes(&rt, alloc, &by, &['\u{1B05}', '\u{1B35}', '\u{1B36}'], &pair)?;
+    becomes(
+        &rt,
+        alloc,
+        &by,
+        &['\u{1B05}', '\u{1B35}', '\u{1B36}'],
+        &pair,
+    )?;
     let swapped = [('\u{1B05}', 1), ('\u{1B34}', 4), ('\u{1B44}', 5)];
-    becomes(&rt, alloc, &by, &['\u{1B05}', '\u{1B34}', '\u{1B44}'], &swapped)?;
-    becomes(&rt, alloc, &by, &['\u{1B05}', '\u{1B44}', '\u{1B34}'], &swapped)
+    becomes(
+        &rt,
+        alloc,
+        &by,
+        &['\u{1B05}', '\u{1B34}', '\u{1B44}'],
+        &swapped,
+    )?;
+    becomes(
+        &rt,
+        alloc,
+        &by,
+        &['\u{1B05}', '\u{1B44}', '\u{1B34}'],
+        &swapped,
+    )
 }
 
 #[test]
@@ -144,7 +186,13 @@ fn myanmar(rt: HostRuntime) -> Result<(), Fail> {
     let by = shaper(&tables, mode, &glyphs);
     let want = [('\u{1025}', 1), ('\u{102E}', 2), ('\u{1036}', 3)];
     becomes(&rt, alloc, &by, &['\u{1026}', '\u{1036}'], &want)?;
-    becomes(&rt, alloc, &by, &['\u{1025}', '\u{102E}', '\u{1036}'], &want)
+    becomes(
+        &rt,
+        alloc,
+        &by,
+        &['\u{1025}', '\u{102E}', '\u{1036}'],
+        &want,
+    )
 }
 
 // The left part of a Khmer vowel isn't split, whatever the tables say.
@@ -163,7 +211,13 @@ fn khmer(rt: HostRuntime) -> Result<(), Fail> {
         composes_on_marks: false,
         ..shaper(&tables, mode, &glyphs)
     };
-    becomes(&rt, alloc, &by, &['\u{17BE}'], &[('\u{17C1}', 3), ('\u{17BE}', 2)])
+    becomes(
+        &rt,
+        alloc,
+        &by,
+        &['\u{17BE}'],
+        &[('\u{17C1}', 3), ('\u{17BE}', 2)],
+    )
 }
 
 fn marks(alloc: Global, count: usize) -> Result<Vec<char>, Fail> {
@@ -248,7 +302,13 @@ fn missing_characters(rt: HostRuntime) -> Result<(), Fail> {
     let tables = tables(alloc)?;
     let glyphs = [(' ', 5), ('\u{2010}', 6)];
     let by = shaper(&tables, NormalizationMode::Auto, &glyphs);
-    becomes(&rt, alloc, &by, &['\u{2003}', '\u{2011}', 'b'], &[('\u{2003}', 5), ('\u{2011}', 6), ('b', 0)])?;
+    becomes(
+        &rt,
+        alloc,
+        &by,
+        &['\u{2003}', '\u{2011}', 'b'],
+        &[('\u{2003}', 5), ('\u{2011}', 6), ('b', 0)],
+    )?;
     let items = items_of_text(alloc, &by, &['\u{2003}'])?;
     let list = normalized(alloc, &by, &items)?;
     // The type of an em space.
@@ -257,7 +317,13 @@ fn missing_characters(rt: HostRuntime) -> Result<(), Fail> {
         invisible: Some(7),
         ..shaper(&tables, NormalizationMode::None, &[])
     };
-    becomes(&rt, alloc, &bare, &['\u{2003}', '\u{2011}'], &[('\u{2003}', 7), ('\u{2011}', 0)])
+    becomes(
+        &rt,
+        alloc,
+        &bare,
+        &['\u{2003}', '\u{2011}'],
+        &[('\u{2003}', 7), ('\u{2011}', 0)],
+    )
 }
 
 // What each mode does with a letter with an acute that the font has whole and in parts.
@@ -272,7 +338,11 @@ fn modes(rt: HostRuntime) -> Result<(), Fail> {
         (NormalizationMode::None, &whole, &parts),
         (NormalizationMode::Decomposed, &parts, &parts),
         (NormalizationMode::ComposedDiacritics, &whole, &whole),
-        (NormalizationMode::ComposedDiacriticsNoShortCircuit, &parts, &whole),
+        (
+            NormalizationMode::ComposedDiacriticsNoShortCircuit,
+            &parts,
+            &whole,
+        ),
         (NormalizationMode::Auto, &whole, &whole),
     ];
     for (mode, alone, composed) in rows {
