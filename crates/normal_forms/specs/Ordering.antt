@@ -1,0 +1,64 @@
+-- The second round: marks are put in the order of their classes (UAX 15, canonical ordering), and grapheme joiners are
+-- shown where they keep nothing apart.
+use Rattle.std.specs.Prelude.{ℕ, ◌+◌, ◌≤◌, ◌==◌, ◌&&◌, ◌||◌, Bool, nat_le, if◌then◌else◌, List, [], ◌∷◌, ◌++◌, length, max, map}
+use Rattle.std.specs.List.{list_all}
+use Rattle.glyph_lists.specs.Items.{Item}
+use Rattle.glyph_lists.specs.Events.{Event, Join}
+use Rattle.unicode_tables.specs.ClassOrder.{run_order}
+use Rattle.normal_forms.specs.Arranged.{Arranged, kept, in_turn}
+use Rattle.normal_forms.specs.Characters.{mark_class, shown}
+use Rattle.normal_forms.specs.declared.mode.TheConstants.{MAX_COMBINING_MARKS}
+
+-- a stretch of more than one place
+abbrev pub join_of : ℕ → ℕ → List Event
+join_of from count = if nat_le count 1 then [] else Join from (from + count) ∷ []
+
+-- the smallest spans that a sort by class permutes: a span ends where no class behind it is less than one in it. So many
+-- places from `from` on belong to the span met last, whose greatest class is `high`
+abbrev pub joins_from : ℕ → ℕ → ℕ → List ℕ → List Event
+joins_from from count high [] = join_of from count
+joins_from from count high (k ∷ ks) =
+    if list_all (λ l. nat_le high l) (k ∷ ks) then join_of from count ++ joins_from (from + count) 1 k ks
+    else joins_from from (count + 1) (max high k) ks
+
+abbrev pub sort_joins : List ℕ → List Event
+sort_joins [] = []
+sort_joins (k ∷ ks) = joins_from 0 1 k ks
+
+-- a run put in the order of its classes, and what the shaper makes of it
+abbrev pub sorted_run : (List Item → Arranged) → List Item → Arranged
+sorted_run reorders run =
+    let sorted = run_order mark_class run in
+    record { items = (reorders sorted).items; events = sort_joins (map mark_class run) ++ (reorders sorted).events }
+
+-- a run of more than 32 items stays
+unfoldable pub arranged_run : (List Item → Arranged) → List Item → Arranged
+arranged_run reorders [] = kept []
+arranged_run reorders (x ∷ xs) = if nat_le (length (x ∷ xs)) MAX_COMBINING_MARKS then sorted_run reorders (x ∷ xs) else kept (x ∷ xs)
+
+-- the maximal runs of nonzero class, and the starters between them; `run` is the run met last
+abbrev pub arranged_runs : (List Item → Arranged) → List Item → List Item → List Arranged
+arranged_runs reorders run [] = arranged_run reorders run ∷ []
+arranged_runs reorders run (x ∷ xs) =
+    if mark_class x == 0 then arranged_run reorders run ∷ kept (x ∷ []) ∷ arranged_runs reorders [] xs
+    else arranged_runs reorders (run ++ x ∷ []) xs
+
+abbrev pub ordered_list : (List Item → Arranged) → List Item → Arranged
+ordered_list reorders xs = in_turn (arranged_runs reorders [] xs)
+
+-- a grapheme joiner keeps two marks apart where the class behind it is less than the one before it, and not 0
+abbrev pub keeps_nothing_apart : Item → Item → Bool
+keeps_nothing_apart before after = mark_class after == 0 || nat_le (mark_class before) (mark_class after)
+
+abbrev pub joiner_between : Item → Item → Item → Item
+joiner_between before x after = if x.number == 0x034F && keeps_nothing_apart before after then shown x else x
+
+abbrev pub with_joiners_shown : Item → List Item → List Item
+with_joiners_shown before [] = []
+with_joiners_shown before (x ∷ []) = x ∷ []
+with_joiners_shown before (x ∷ y ∷ ys) = joiner_between before x y ∷ with_joiners_shown x (y ∷ ys)
+
+-- each grapheme joiner between two items that keeps nothing apart is shown
+abbrev pub joiners_shown : List Item → List Item
+joiners_shown [] = []
+joiners_shown (x ∷ xs) = x ∷ with_joiners_shown x xs

@@ -1,0 +1,6 @@
+pub mod Bits
+pub mod Supported
+pub mod Groups
+pub mod Runs
+pub mod StableSort
+pub mod Between

@@ -1,0 +1,2 @@
+pub mod PlainItems
+pub mod Rows
