@@ -5,3 +5,5 @@ pub mod field;
 pub mod map;
 pub mod request;
 pub mod stage;
+#[cfg(test)]
+mod tests;

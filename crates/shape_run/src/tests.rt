@@ -1,4 +1,5 @@
 use crate::run::run;
+use feature_text::feature::Feature;
 use glyph_types::flags::SerializeFlags;
 use run_options::fault::RunFault;
 use run_options::options::Options;
@@ -7,6 +8,7 @@ use shaping_text::script::{ARABIC, GREEK, HEBREW, LATIN, Script, THAANA};
 use std::alloc::{AllocError, Global};
 use std::io;
 use std::io::{ErrorKind, Read, Write};
+use std::str::FromStr;
 use std::test::Fail;
 
 const FONT: &str =
@@ -326,5 +328,67 @@ fn tells_a_read_that_fails(rt: HostRuntime) -> Result<(), Fail> {
     );
     assert_eq!(rt; got, Err(RunFault::Read));
     assert_eq!(rt; out.len(), 0);
+    Ok(())
+}
+
+const LIGATURES: &str = "{\"upem\":1000,\"ascender\":800,\"cmap\":[[97,1],[98,2],[102,3],[105,4]],\
+    \"h\":[[1,500],[2,600],[3,300],[4,250],[7,520],[8,530],[9,540]],\
+    \"gsub\":{\"scripts\":[[\"DFLT\",{\"features\":[0]},[]],[\"grek\",null,[]]],\
+    \"features\":[[\"liga\",[1,0]]],\"lookups\":[\
+    {\"type\":\"ligature\",\"subtables\":[[[3,[[[3,4],9],[[4],7]]]]]},\
+    {\"type\":\"ligature\",\"subtables\":[[[2,[[[7],8]]]],[[2,[[[2],1]]]]]}]}}";
+
+fn featured(alloc: Global, features: &[&str], script: Option<Script>) -> Result<Options, Fail> {
+    let mut options = options(alloc, Direction::Invalid, script, NUMBERS)?;
+    for feature in features {
+        options.features.push(Feature::from_str(feature)?)?;
+    }
+    Ok(options)
+}
+
+#[test]
+fn ligatures_are_made(rt: HostRuntime) -> Result<(), Fail> {
+    for (features, script, text, line) in [
+        ([].as_slice(), None, "afi", "1=0+500|7=1+520\n"),
+        (["-liga"].as_slice(), None, "fi", "3=0+300|4=1+250\n"),
+        // The first of the list that matches, and what it made is not tried again.
+        ([].as_slice(), None, "ffifi", "9=0+540|7=3+520\n"),
+        ([].as_slice(), None, "fif", "7=0+520|3=2+300\n"),
+        // The second lookup sees what the first made; its first subtable is asked before its second.
+        ([].as_slice(), None, "bfib", "8=0+530|2=3+600\n"),
+        ([].as_slice(), None, "bba", "1=0+500|1=2+500\n"),
+        // The last request for a feature counts.
+        (["liga=0", "liga=2"].as_slice(), None, "fi", "7=0+520\n"),
+        (["liga", "kern=0"].as_slice(), None, "fi", "7=0+520\n"),
+        // Of 256 no bit fits into a field of eight.
+        (["liga=256"].as_slice(), None, "fi", "3=0+300|4=1+250\n"),
+        // A script that the font knows has no features but its own.
+        ([].as_slice(), Some(GREEK), "fi", "3=0+300|4=1+250\n"),
+        ([].as_slice(), Some(LATIN), "fi", "7=0+520\n"),
+    ] {
+        let options = featured(rt.alloc(), features, script)?;
+        let (answer, out) = ran(rt.alloc(), &options, "{}", LIGATURES, text.as_bytes());
+        assert_eq!(rt; answer, Ok(()), "{text:?}");
+        assert_eq!(rt; out.as_slice(), line.as_bytes(), "{text:?}");
+    }
+    Ok(())
+}
+
+#[test]
+fn ranges_wait(rt: HostRuntime) -> Result<(), Fail> {
+    let options = featured(rt.alloc(), &["liga[0:1]"], None)?;
+    let (answer, out) = ran(rt.alloc(), &options, "{}", LIGATURES, b"fi");
+    assert_eq!(rt; answer, Err(RunFault::NotYet));
+    assert!(rt; out.is_empty());
+    Ok(())
+}
+
+#[test]
+fn features_that_wait_are_refused(rt: HostRuntime) -> Result<(), Fail> {
+    let font = "{\"gsub\":{\"scripts\":[],\"features\":[[\"kern\",[]]],\"lookups\":[]}}";
+    let options = featured(rt.alloc(), &[], None)?;
+    let (answer, out) = ran(rt.alloc(), &options, "{}", font, b"fi");
+    assert_eq!(rt; answer, Err(RunFault::WrongShape));
+    assert!(rt; out.is_empty());
     Ok(())
 }
