@@ -1,6 +1,6 @@
 //! Worked rows of normalising.
 
-use crate::normalized::{items_of_text, normalized};
+use crate::rounds::{items_of_text, normalized};
 use crate::normalizing::Normalizing;
 use crate::rows::RowNormalizer;
 use normal_forms::NormalizationMode;
