@@ -1,21 +1,19 @@
 -- Equivalent texts have one normalised list.
-use Rattle.std.proofs.Common.{ℕ, zero, suc, ◌≡◌, ◌&&◌, ◌||◌, Bool, true, false, List, [], ◌∷◌, ◌++◌, drop, map, refl, sym, ap, ap₂, ◌∙◌, inl, inr}
-use Rattle.std.specs.List.{list_any, flat_map}
+use Rattle.std.proofs.Common.{ℕ, ◌≡◌, ◌||◌, Bool, false, List, [], ◌∷◌, drop, map, refl, sym, ap, ap₂, ◌∙◌}
+use Rattle.std.specs.List.{list_any}
 use Rattle.unicode_chars.specs.Character.{is_variation_selector_character}
 use Rattle.unicode_tables.specs.Expansion.{EndWithin}
-use Rattle.unicode_tables.specs.Lawful.{IsLawful}
 use Rattle.unicode_tables.specs.Tables.{Tables, split_of, class_of}
-use Rattle.unicode_tables.specs.Texts.{full_text, text_order, AreEquivalent}
+use Rattle.unicode_tables.specs.Texts.{full_text}
 use Rattle.unicode_tables.proofs.Steps.{equivalents_have_one_order}
 use Rattle.glyph_lists.specs.Items.{Item}
-use Rattle.normal_forms.specs.Arranged.{Arranged}
 use Rattle.normal_forms.specs.Characters.{is_mark, is_selector, is_mark_character, mark_class, standing_for, items_of_text}
-use Rattle.normal_forms.specs.Expanding.{part_of, expanded_list, expanded_groups, expanded_item}
+use Rattle.normal_forms.specs.Expanding.{part_of, expanded_list, expanded_groups}
 use Rattle.normal_forms.specs.Ordering.{ordered_list, joiners_shown}
 use Rattle.normal_forms.specs.NormalizedList.{has_later_mark, composed_if, arranged_marks, normalized}
 use Rattle.normal_forms.specs.Normalizer.{Normalizer, is_composing}
 use Rattle.normal_forms.specs.Laws.{EquivalentsNormalizeAlike}
-use Rattle.normal_forms.specs.Premises.{SplitsAsUnicode, ExpandsGreatest, IsRegular, HasNoSelector, HasShortRuns}
+use Rattle.normal_forms.specs.Premises.{SplitsAsUnicode, ExpandsGreatest, IsRegular, HasNoSelector}
 use Rattle.normal_forms.specs.SupportedExpansion.{Greatest}
 use Rattle.normal_forms.proofs.Classes.{mark_of_character, class_of_part, order_map, short_map}
 use Rattle.normal_forms.proofs.Expanded.{items_in_turn, groups_items, text_in_full}

@@ -1,5 +1,5 @@
 -- Items of the tables' characters have the tables' classes.
-use Rattle.std.proofs.Common.{ℕ, zero, suc, ◌≡◌, ◌≢◌, ◌<◌, ◌+◌, ◌*◌, ◌%◌, ◌==◌, ◌||◌, if◌then◌else◌, Bool, true, false, List, [], ◌∷◌, ◌++◌, map, filter, refl, sym, ap, ap₂, ◌∙◌, arith, inl, inr}
+use Rattle.std.proofs.Common.{ℕ, ◌≡◌, ◌≢◌, ◌+◌, ◌*◌, ◌%◌, ◌==◌, ◌||◌, if◌then◌else◌, Bool, true, false, List, [], ◌∷◌, map, refl, sym, ap, ap₂, ◌∙◌, arith, inl, inr}
 use Rattle.std.proofs.lemmas.Bool.{cases_Bool, cases_eq, cond-true, cond-false}
 use Rattle.std.proofs.lemmas.Nat.{and_mask}
 use Rattle.std.specs.Int.RustNames.{bit_and}
@@ -13,7 +13,7 @@ use Rattle.unicode_tables.specs.Lawful.{ClassesAreOfMarks}
 use Rattle.unicode_tables.specs.Orders.{order_from_classes, classes_from_order}
 use Rattle.unicode_tables.specs.Tables.{Tables, class_of}
 use Rattle.glyph_lists.specs.Items.{Item}
-use Rattle.normal_forms.specs.Characters.{category_of, is_mark_number, is_mark, mark_class, is_mark_character, is_hidden_character, bit_if, properties_of, character_class, standing_for, with_glyph}
+use Rattle.normal_forms.specs.Characters.{is_mark_number, is_mark, mark_class, is_mark_character, is_hidden_character, bit_if, properties_of, character_class, standing_for}
 use Rattle.normal_forms.specs.Expanding.{part_of}
 use Rattle.normal_forms.specs.Normalizer.{Normalizer}
 use Rattle.normal_forms.specs.Premises.{HasShortRuns}

@@ -1,16 +1,16 @@
 -- Equivalent texts: chains of steps, and marks sorted by steps.
-use Rattle.std.proofs.Common.{ℕ, zero, suc, ◌≡◌, ◌≢◌, ◌≤◌, ◌<◌, ◌+◌, ◌==◌, nat_le, true, false, if◌then◌else◌, List, [], ◌∷◌, ◌++◌, filter, append_assoc, Option, Some, None, refl, sym, ap, ap₂, subst, ◌∙◌, arith, inl, inr, ne_eqb, eq-eqb, le-leb}
+use Rattle.std.proofs.Common.{ℕ, zero, suc, ◌≡◌, ◌≢◌, ◌≤◌, ◌<◌, ◌==◌, nat_le, true, false, List, [], ◌∷◌, ◌++◌, filter, append_assoc, Option, Some, None, refl, sym, ap, subst, ◌∙◌, arith, inl, inr, ne_eqb, eq-eqb}
 use Rattle.std.proofs.lemmas.Bool.{cases_Bool, cases_eq, cases_order, cond-true, cond-false}
 use Rattle.std.proofs.lemmas.Bool.Decides.{nat_tests}
 use Rattle.std.proofs.lemmas.List.{append-nil}
-use Rattle.unicode_tables.specs.ClassOrder.{of_class, by_class, class_bound, run_order, order_after, class_order}
-use Rattle.unicode_tables.specs.Expansion.{Splits, followed_by, by_parts, expanded, EndWithin}
+use Rattle.unicode_tables.specs.ClassOrder.{of_class, by_class, class_bound, run_order, order_after}
+use Rattle.unicode_tables.specs.Expansion.{followed_by, by_parts, expanded}
 use Rattle.unicode_tables.specs.Lawful.{IsLawful}
 use Rattle.unicode_tables.specs.Orders.{IsRun}
 use Rattle.unicode_tables.specs.Tables.{Tables, split_of, pair_of, class_of}
 use Rattle.unicode_tables.specs.Texts.{full_expansion, full_text, text_order, IsSplit, IsSwap, IsStep, splits, joins, swaps, AreEquivalent, same, then_step}
 use Rattle.unicode_tables.proofs.Steps.{pairs_keep_order}
-use Rattle.normal_forms.proofs.Runs.{run_append, run_of_class}
+use Rattle.normal_forms.proofs.Runs.{run_append}
 
 pub then_all : (t : Tables) (xs ys zs : List ℕ) → AreEquivalent t xs ys → AreEquivalent t ys zs → AreEquivalent t xs zs
 then_all t xs ys _ h same = h

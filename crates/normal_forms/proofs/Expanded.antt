@@ -1,12 +1,12 @@
 -- The first round without selectors.
-use Rattle.std.proofs.Common.{ℕ, zero, suc, ◌≡◌, ◌==◌, ◌||◌, ◌&&◌, Bool, true, false, List, [], ◌∷◌, ◌++◌, append_assoc, Option, Some, None, map, is_some, unwrap_or, refl, sym, ap, ap₂, ◌∙◌, inl, inr}
+use Rattle.std.proofs.Common.{ℕ, ◌≡◌, true, false, List, [], ◌∷◌, ◌++◌, append_assoc, Option, Some, None, map, is_some, unwrap_or, refl, sym, ap, ap₂, ◌∙◌, inl, inr}
 use Rattle.std.proofs.lemmas.Bool.{cases_Bool, cond-true, cond-false, and_parts, or_parts}
 use Rattle.std.proofs.lemmas.List.{append-nil, map-append}
 use Rattle.std.proofs.lemmas.List.Concat.{flat_map-append}
 use Rattle.std.proofs.lemmas.List.Folds.{list_all-append, list_any-append}
 use Rattle.std.specs.List.{list_all, list_any, flat_map}
 use Rattle.unicode_tables.specs.Expansion.{EndWithin}
-use Rattle.unicode_tables.specs.Tables.{Tables, split_of}
+use Rattle.unicode_tables.specs.Tables.{split_of}
 use Rattle.unicode_tables.specs.Texts.{full_expansion, full_text}
 use Rattle.unicode_tables.proofs.Expansions.{expansion_alone}
 use Rattle.glyph_lists.specs.Items.{Item}
@@ -15,7 +15,7 @@ use Rattle.normal_forms.specs.Characters.{is_mark, is_selector, standing_for, it
 use Rattle.normal_forms.specs.Expanding.{with_found_glyph, items_for, part_of, expanded_item, expanded, expanded_group, expanded_groups}
 use Rattle.normal_forms.specs.Normalizer.{Normalizer, has_character, reach_alone, reach_with_marks}
 use Rattle.normal_forms.specs.Premises.{SplitsAsUnicode}
-use Rattle.normal_forms.specs.SupportedExpansion.{Reach, Greatest, in_parts}
+use Rattle.normal_forms.specs.SupportedExpansion.{Reach, Greatest}
 use Rattle.normal_forms.proofs.Supported.{greatest_parts, no_parts, parts_agree}
 
 pub items_in_turn : (stretches : List Arranged) → (in_turn stretches).items ≡ flat_map items stretches

@@ -1,24 +1,23 @@
 -- What keeps a list equivalent, and its items of the tables' classes.
-use Rattle.std.proofs.Common.{ℕ, zero, suc, ◌≡◌, ◌≢◌, ◌≤◌, ◌<◌, ◌+◌, ◌-◌, ◌*◌, ◌/◌, ◌%◌, ◌==◌, ◌||◌, ◌&&◌, ◌⊎◌, Bool, true, false, if◌then◌else◌, List, [], ◌∷◌, ◌++◌, map, append_assoc, Option, Some, None, option_map, refl, sym, ap, ap₂, subst, ◌∙◌, arith, inl, inr, max, eqb-true}
-use Rattle.std.proofs.lemmas.Bool.{cases_Bool, cases_eq, cond-true, cond-false, or_parts, and_parts}
+use Rattle.std.proofs.Common.{ℕ, zero, suc, ◌≡◌, ◌==◌, ◌||◌, ◌⊎◌, Bool, true, false, List, [], ◌∷◌, ◌++◌, map, append_assoc, Option, Some, None, option_map, refl, sym, ap, subst, ◌∙◌, inl, inr, eqb-true}
+use Rattle.std.proofs.lemmas.Bool.{cases_Bool, cond-true, cond-false, or_parts, and_parts}
 use Rattle.std.proofs.lemmas.List.{append-nil, map-append}
 use Rattle.std.proofs.lemmas.List.Concat.{flat_map-append}
 use Rattle.std.proofs.lemmas.List.Folds.{list_any-append}
 use Rattle.std.specs.List.{list_any, flat_map}
-use Rattle.unicode_tables.specs.ClassOrder.{of_class, by_class, class_bound, run_order, order_after, class_order}
 use Rattle.unicode_tables.specs.Expansion.{Splits, followed_by}
 use Rattle.unicode_tables.specs.Lawful.{ClassesAreOfMarks}
 use Rattle.unicode_tables.specs.Tables.{Tables, split_of, class_of}
-use Rattle.unicode_tables.specs.Texts.{text_order, AreEquivalent, same}
+use Rattle.unicode_tables.specs.Texts.{AreEquivalent, same}
 use Rattle.glyph_lists.specs.Items.{Item}
 use Rattle.normal_forms.specs.Arranged.{items, Arranged}
-use Rattle.normal_forms.specs.Characters.{category_of, is_mark, is_mark_number, is_space, is_selector, mark_class, characters_of, standing_for}
-use Rattle.normal_forms.specs.Expanding.{is_typed_space, space_glyph, with_glyph_of_space, with_found_glyph, whole_item, items_for, part_of, expanded_item, expanded, expanded_group, expanded_groups}
+use Rattle.normal_forms.specs.Characters.{category_of, is_mark, is_mark_number, is_space, is_selector, mark_class, characters_of}
+use Rattle.normal_forms.specs.Expanding.{is_typed_space, space_glyph, with_glyph_of_space, with_found_glyph, items_for, part_of, expanded_item, expanded_group, expanded_groups}
 use Rattle.normal_forms.specs.Normalizer.{Normalizer, has_character, reach_alone, reach_with_marks}
 use Rattle.normal_forms.specs.Premises.{SplitsAsUnicode}
 use Rattle.normal_forms.specs.SupportedExpansion.{Reach, Least, Greatest, alone, preferred, by_supported, supported, in_parts, expansion}
 use Rattle.normal_forms.proofs.Classes.{class_of_part}
-use Rattle.normal_forms.proofs.Equivalence.{then_all, side_by_side, split_is_equivalent, followed_alike, order_is_equivalent}
+use Rattle.normal_forms.proofs.Equivalence.{then_all, side_by_side, split_is_equivalent, followed_alike}
 use Rattle.normal_forms.proofs.Expanded.{items_of_expanded}
 
 -- supported expansions are equivalent to their characters

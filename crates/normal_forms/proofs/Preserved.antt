@@ -1,20 +1,15 @@
 -- Normalising keeps a text equivalent.
-use Rattle.std.proofs.Common.{ℕ, ◌≡◌, ◌&&◌, Bool, true, false, List, [], ◌∷◌, map, refl, sym, ap, subst, ◌∙◌, inl, inr}
-use Rattle.std.proofs.lemmas.Bool.{cases_Bool}
-use Rattle.std.specs.List.{flat_map}
-use Rattle.unicode_tables.specs.Expansion.{EndWithin}
+use Rattle.std.proofs.Common.{ℕ, ◌≡◌, Bool, true, false, List, [], ◌∷◌, refl, sym, ap, subst}
 use Rattle.unicode_tables.specs.ClassOrder.{class_order}
 use Rattle.unicode_tables.specs.Lawful.{IsLawful, ClassesAreOfMarks}
-use Rattle.unicode_tables.specs.Tables.{Tables, split_of, class_of}
+use Rattle.unicode_tables.specs.Tables.{Tables}
 use Rattle.unicode_tables.specs.Texts.{AreEquivalent, same}
 use Rattle.unicode_tables.proofs.Steps.{equivalents_have_one_order}
 use Rattle.glyph_lists.specs.Items.{Item}
-use Rattle.normal_forms.specs.Arranged.{items, Arranged}
 use Rattle.normal_forms.specs.Characters.{mark_class, characters_of, standing_for, items_of_text}
 use Rattle.normal_forms.specs.Expanding.{expanded_list, expanded_groups}
 use Rattle.normal_forms.specs.Ordering.{ordered_list, joiners_shown}
-use Rattle.normal_forms.specs.Composing.{composed_list}
-use Rattle.normal_forms.specs.NormalizedList.{has_later_mark, ordered_if, composed_if, arranged_marks, normalized}
+use Rattle.normal_forms.specs.NormalizedList.{has_later_mark, composed_if, arranged_marks, normalized}
 use Rattle.normal_forms.specs.Normalizer.{Normalizer, is_composing}
 use Rattle.normal_forms.specs.Laws.{NormalizingKeepsEquivalence, EquivalenceIsOneOrder}
 use Rattle.normal_forms.specs.Premises.{SplitsAsUnicode, ComposesWithinUnicode, ReordersNothing, HasNoSelector, HasShortRuns}

@@ -1,6 +1,6 @@
 -- Runs of marks, and lists that have one class order.
-use Rattle.std.proofs.Common.{ℕ, zero, suc, ◌≡◌, ◌≢◌, ◌≤◌, ◌<◌, ◌+◌, ◌==◌, nat_lt, nat_le, if◌then◌else◌, true, false, List, [], ◌∷◌, ◌++◌, length, append_assoc, refl, sym, ap, ap₂, ◌∙◌, arith, inl, inr, max, ne_eqb, eq-eqb, le-leb}
-use Rattle.std.proofs.lemmas.Bool.{cases_Bool, cases_eq, cases_order, cond-true, cond-false, eqb-false}
+use Rattle.std.proofs.Common.{ℕ, zero, suc, ◌≡◌, ◌≢◌, ◌≤◌, ◌<◌, ◌+◌, ◌==◌, nat_lt, nat_le, if◌then◌else◌, true, false, List, [], ◌∷◌, ◌++◌, length, append_assoc, refl, sym, ap, ap₂, ◌∙◌, arith, inl, inr, ne_eqb, eq-eqb, le-leb}
+use Rattle.std.proofs.lemmas.Bool.{cases_Bool, cases_eq, cases_order, cond-true, cond-false}
 use Rattle.std.proofs.lemmas.Bool.Decides.{nat_tests}
 use Rattle.std.proofs.lemmas.List.{append-nil, length-append, length_push}
 use Rattle.std.specs.List.{flat_map}
@@ -9,7 +9,7 @@ use Rattle.unicode_tables.specs.Orders.{IsRun}
 use Rattle.glyph_lists.specs.Items.{Item}
 use Rattle.normal_forms.specs.Arranged.{items, Arranged, kept}
 use Rattle.normal_forms.specs.Characters.{mark_class}
-use Rattle.normal_forms.specs.Ordering.{sorted_run, arranged_run, arranged_runs, ordered_list}
+use Rattle.normal_forms.specs.Ordering.{arranged_run, arranged_runs, ordered_list}
 use Rattle.normal_forms.specs.Premises.{HasShortRuns}
 use Rattle.normal_forms.proofs.Expanded.{items_in_turn}
 

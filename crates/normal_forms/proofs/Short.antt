@@ -1,18 +1,18 @@
 -- Runs that are short in the full expansion are short in every expansion.
-use Rattle.std.proofs.Common.{ℕ, zero, suc, ◌≡◌, ◌≢◌, ◌≤◌, ◌<◌, ◌+◌, ◌==◌, ◌||◌, Bool, true, false, if◌then◌else◌, List, [], ◌∷◌, ◌++◌, length, map, Option, Some, None, option_map, refl, sym, ap, ap₂, subst, ◌∙◌, arith, inl, inr, ne_eqb, eq-eqb}
+use Rattle.std.proofs.Common.{ℕ, zero, suc, ◌≡◌, ◌≢◌, ◌≤◌, ◌+◌, ◌==◌, ◌||◌, Bool, true, false, if◌then◌else◌, List, [], ◌∷◌, ◌++◌, length, Option, Some, None, refl, sym, ap, ap₂, subst, ◌∙◌, arith, inl, inr, ne_eqb, eq-eqb}
 use Rattle.std.proofs.lemmas.Bool.{cases_Bool, cases_eq, cond-true, cond-false, eqb-false}
 use Rattle.std.proofs.lemmas.List.{append-nil, map-append, length-append}
 use Rattle.std.proofs.lemmas.List.Concat.{flat_map-append}
 use Rattle.std.specs.List.{flat_map}
 use Rattle.unicode_tables.specs.Expansion.{Splits, followed_by, by_parts, expanded, EndWithin}
-use Rattle.unicode_tables.specs.Lawful.{IsLawful, SecondPartsStay, SplitsKeepClass}
+use Rattle.unicode_tables.specs.Lawful.{SecondPartsStay, SplitsKeepClass}
 use Rattle.unicode_tables.specs.Orders.{IsRun}
 use Rattle.unicode_tables.specs.Tables.{Tables, split_of, class_of}
 use Rattle.unicode_tables.specs.Texts.{full_expansion, full_text}
 use Rattle.unicode_tables.proofs.Expansions.{expansion_of_parts, expansion_alone}
 use Rattle.glyph_lists.specs.Items.{Item}
 use Rattle.normal_forms.specs.Characters.{mark_class, characters_of, items_of_text, standing_for}
-use Rattle.normal_forms.specs.Expanding.{items_for, whole_item, part_of, expanded_item, expanded_groups, expanded_list}
+use Rattle.normal_forms.specs.Expanding.{items_for, expanded_item, expanded_groups, expanded_list}
 use Rattle.normal_forms.specs.Laws.{ExpansionKeepsRunsShort}
 use Rattle.normal_forms.specs.Normalizer.{Normalizer, has_character}
 use Rattle.normal_forms.specs.Premises.{SplitsAsUnicode, HasNoSelector, HasShortRuns}

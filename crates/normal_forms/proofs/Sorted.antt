@@ -1,15 +1,15 @@
 -- A list in class order: equivalent, of the tables' classes, and rising.
-use Rattle.std.proofs.Common.{ℕ, zero, suc, ◌≡◌, ◌≢◌, ◌≤◌, ◌<◌, ◌+◌, ◌-◌, ◌*◌, ◌/◌, ◌%◌, ◌^◌, ◌==◌, ◌||◌, ◌&&◌, Bool, true, false, if◌then◌else◌, List, [], ◌∷◌, ◌++◌, map, append_assoc, refl, sym, ap, ap₂, subst, ◌∙◌, arith, inl, inr, max, eqb-true, ne_eqb, eq-eqb}
+use Rattle.std.proofs.Common.{ℕ, zero, suc, ◌≡◌, ◌≢◌, ◌≤◌, ◌+◌, ◌-◌, ◌*◌, ◌/◌, ◌%◌, ◌==◌, ◌&&◌, true, false, if◌then◌else◌, List, [], ◌∷◌, ◌++◌, refl, sym, ap, ap₂, subst, ◌∙◌, arith, inl, inr, max, eqb-true, ne_eqb, eq-eqb}
 use Rattle.std.proofs.lemmas.Bool.{cases_Bool, cases_eq, cond-true, cond-false}
-use Rattle.std.proofs.lemmas.List.{append-nil, map-append}
+use Rattle.std.proofs.lemmas.List.{map-append}
 use Rattle.std.proofs.lemmas.Nat.{and_mask}
 use Rattle.std.proofs.lemmas.Nat.Bits.{and_high}
 use Rattle.std.specs.Int.RustNames.{bit_and}
 use Rattle.unicode_tables.specs.ClassOrder.{of_class, by_class, class_bound, run_order, order_after, class_order}
 use Rattle.unicode_tables.specs.Tables.{Tables, class_of}
-use Rattle.unicode_tables.specs.Texts.{text_order, AreEquivalent, same}
+use Rattle.unicode_tables.specs.Texts.{AreEquivalent, same}
 use Rattle.glyph_lists.specs.Items.{Item}
-use Rattle.normal_forms.specs.Characters.{is_mark_number, is_mark, mark_class, characters_of, without_bits, shown}
+use Rattle.normal_forms.specs.Characters.{is_mark_number, mark_class, characters_of, without_bits, shown}
 use Rattle.normal_forms.specs.Composing.{last_class}
 use Rattle.normal_forms.specs.Ordering.{keeps_nothing_apart, joiner_between, with_joiners_shown, joiners_shown}
 use Rattle.normal_forms.proofs.Equivalence.{order_is_equivalent}

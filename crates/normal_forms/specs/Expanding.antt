@@ -1,6 +1,6 @@
 -- The first round: characters are split, and selectors join what they select.
 use Rattle.std.specs.Prelude.{ℕ, Bool, ◌==◌, ◌&&◌, nat_lt, if◌then◌else◌, List, [], ◌∷◌, ◌++◌, map, Option, Some, None, unwrap_or, is_some}
-use Rattle.std.specs.List.{list_any, flat_map}
+use Rattle.std.specs.List.{list_any}
 use Rattle.std.specs.Option.{option_or}
 use Rattle.unicode_chars.specs.Character.{space_fallback_of}
 use Rattle.unicode_chars.specs.declared.space.TheConstants.{NOT_SPACE}

@@ -1,5 +1,5 @@
 -- The normalised list of a text.
-use Rattle.std.specs.Prelude.{ℕ, Bool, ◌&&◌, if◌then◌else◌, List, drop}
+use Rattle.std.specs.Prelude.{Bool, ◌&&◌, if◌then◌else◌, List, drop}
 use Rattle.std.specs.List.{list_any}
 use Rattle.glyph_lists.specs.Items.{Item}
 use Rattle.normal_forms.specs.Arranged.{Arranged, kept, and_arranged}

@@ -1,5 +1,5 @@
 -- Texts and normalisers of which the laws speak.
-use Rattle.std.specs.Prelude.{ℕ, ◌≡◌, ◌≢◌, ◌≤◌, ◌+◌, ◌==◌, Bool, true, false, if◌then◌else◌, List, [], ◌∷◌, Some, drop}
+use Rattle.std.specs.Prelude.{ℕ, ◌≡◌, ◌≤◌, ◌+◌, ◌==◌, true, false, if◌then◌else◌, List, [], ◌∷◌, Some, drop}
 use Rattle.std.specs.List.{list_any, list_all}
 use Rattle.unicode_chars.specs.Character.{is_variation_selector_character}
 use Rattle.unicode_tables.specs.Tables.{split_of, pair_of, class_of}
@@ -8,7 +8,7 @@ use Rattle.glyph_lists.specs.Items.{Item}
 use Rattle.normal_forms.specs.Arranged.{kept}
 use Rattle.normal_forms.specs.Characters.{is_mark_character}
 use Rattle.normal_forms.specs.Normalizer.{Normalizer, has_character, reach_alone, reach_with_marks}
-use Rattle.normal_forms.specs.SupportedExpansion.{Reach, Greatest}
+use Rattle.normal_forms.specs.SupportedExpansion.{Greatest}
 use Rattle.normal_forms.specs.declared.mode.TheConstants.{MAX_COMBINING_MARKS}
 
 -- no run of nonzero class has more elements than are put in order; so many of a run are met

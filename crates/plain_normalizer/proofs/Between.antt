@@ -1,12 +1,9 @@
 -- What stands between a starter and a mark, and the steps of composing.
-use Rattle.std.proofs.Common.{ℕ, zero, suc, ◌≡◌, ◌≢◌, ◌-◌, ◌||◌, nat_lt, ◌==◌, if◌then◌else◌, true, false, List, [], ◌∷◌, ◌++◌, length, drop, get_or, Option, Some, None, option_map, refl, sym, ap, ap₂, ◌∙◌, arith}
+use Rattle.std.proofs.Common.{ℕ, ◌≡◌, ◌||◌, nat_lt, ◌==◌, false, List, [], ◌∷◌, ◌++◌, Some, None, refl, ap}
 use Rattle.std.specs.List.{list_any}
-use Rattle.std.specs.Option.{option_map_or}
-use Rattle.std.proofs.lemmas.Bool.{cond-true, cond-false}
 use Rattle.glyph_lists.specs.Items.{Item}
-use Rattle.normal_forms.specs.Arranged.{Arranged, items}
 use Rattle.normal_forms.specs.Characters.{is_mark, mark_class}
-use Rattle.normal_forms.specs.Composing.{last_class, is_reaching, composite, with_composition, composed_from}
+use Rattle.normal_forms.specs.Composing.{last_class, is_reaching, composite, composed_from}
 use Rattle.normal_forms.specs.NormalizedList.{has_later_mark}
 use Rattle.normal_forms.specs.Normalizer.{Normalizer}
 use Rattle.plain_normalizer.specs.declared.item.PlainItem.{PlainItem}

@@ -1,5 +1,5 @@
 -- Items as the plain program has them.
-use Rattle.std.specs.Prelude.{ℕ, List, map}
+use Rattle.std.specs.Prelude.{List, map}
 use Rattle.glyph_lists.specs.Items.{Item}
 use Rattle.plain_normalizer.specs.declared.item.PlainItem.{PlainItem}
 

@@ -1,6 +1,5 @@
 -- What rows say of characters.
-use Rattle.std.specs.Prelude.{ℕ, ◌==◌, ◌&&◌, ◌||◌, Bool, if◌then◌else◌, List, find, Option, Some, None, option_map}
-use Rattle.std.specs.Option.{option_map_or}
+use Rattle.std.specs.Prelude.{ℕ, ◌==◌, ◌&&◌, Bool, if◌then◌else◌, List, find, Option, None, option_map}
 use Rattle.normal_forms.specs.Characters.{is_mark_character}
 
 abbrev pub glyph_in : List (ℕ × ℕ) → ℕ → Option ℕ

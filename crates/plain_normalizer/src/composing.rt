@@ -76,7 +76,7 @@ fn composed_behind<N: Normalizing>(
 }
 
 /// The list with marks composed with their base, as far as the font has what they compose to.
-pub fn composed_list<N: Normalizing>(
+pub(crate) fn composed_list<N: Normalizing>(
     alloc: Global,
     by: &N,
     xs: &[PlainItem],

@@ -405,7 +405,7 @@ fn expanded_from<N: Normalizing>(
 
 /// The list with its characters split.
 #[tactic(auto, using(crate::proofs::Groups::list_of_groups))]
-pub fn expanded_list<N: Normalizing>(
+pub(crate) fn expanded_list<N: Normalizing>(
     alloc: Global,
     by: &N,
     xs: &[PlainItem],

@@ -52,7 +52,7 @@ impl PlainItem {
     }
 
     /// Whether it is a mark.
-    pub fn is_mark(&self) -> bool
+    pub(crate) fn is_mark(&self) -> bool
         ensures { result ≡ is_mark (seen self.now) }
     {
         let category = self.category();
@@ -62,28 +62,28 @@ impl PlainItem {
     }
 
     /// Whether it is a space.
-    pub fn is_space(&self) -> bool
+    pub(crate) fn is_space(&self) -> bool
         ensures { result ≡ is_space (seen self.now) }
     {
         self.category() == RB_UNICODE_GENERAL_CATEGORY_SPACE_SEPARATOR
     }
 
     /// Whether it is a variation selector.
-    pub fn is_selector(&self) -> bool
+    pub(crate) fn is_selector(&self) -> bool
         ensures { result ≡ is_selector (seen self.now) }
     {
         self.character.is_variation_selector()
     }
 
     /// Its combining class, 0 for what is no mark.
-    pub fn mark_class(&self) -> u8
+    pub(crate) fn mark_class(&self) -> u8
         ensures { result ≡ mark_class (seen self.now) }
     {
         if self.is_mark() { self.class } else { 0 }
     }
 
     /// The same item, no longer hidden.
-    pub fn shown(&self) -> PlainItem
+    pub(crate) fn shown(&self) -> PlainItem
         ensures { seen result ≡ shown (seen self.now) }
     {
         let props = self.props - (self.props & HIDDEN);
@@ -91,7 +91,7 @@ impl PlainItem {
     }
 
     /// A selector that the font doesn't join with the character before it.
-    pub fn unjoined(&self, has_glyph: bool) -> PlainItem
+    pub(crate) fn unjoined(&self, has_glyph: bool) -> PlainItem
         ensures { seen result ≡ unjoined_selector has_glyph (seen self.now) }
     {
         let kept = self.props - (self.props & CATEGORY);
@@ -138,7 +138,7 @@ fn category_of(u: char) -> u32
 
 /// The property word of a character.
 #[tactic(auto, unfolding(normal_forms::specs::Characters::properties_of))]
-pub fn properties_of(u: char) -> u32
+pub(crate) fn properties_of(u: char) -> u32
     ensures { result ≡ properties_of u }
 {
     category_of(u)

@@ -51,7 +51,7 @@ fn append_run<N: Normalizing>(
 
 /// The list with each run of marks in order.
 #[tactic(auto, using(crate::proofs::Runs::last_run, crate::proofs::Runs::list_of_runs))]
-pub fn ordered_list<N: Normalizing>(
+pub(crate) fn ordered_list<N: Normalizing>(
     alloc: Global,
     by: &N,
     xs: &[PlainItem],
@@ -110,7 +110,7 @@ fn push_with_joiners(
 }
 
 /// The list with each grapheme joiner that keeps nothing apart shown.
-pub fn joiners_shown(alloc: Global, xs: &[PlainItem]) -> Result<Vec<PlainItem>, AllocError>
+pub(crate) fn joiners_shown(alloc: Global, xs: &[PlainItem]) -> Result<Vec<PlainItem>, AllocError>
     ensures { IfOk result (λ v. seen_all v.items ≡ joiners_shown (seen_all xs.now)) }
 {
     let mut out = Vec::new(alloc);

@@ -1,4 +1,4 @@
-use Rattle.std.proofs.Common.{◌≡◌, ◌≢◌, ◌∷◌, ◌++◌, false, length, rules, sym, ap, ◌∙◌}
+use Rattle.std.proofs.Common.{◌≡◌, ◌≢◌, ◌∷◌, false, length, rules, sym, ◌∙◌}
 use Rattle.std.specs.List.{list_any}
 use Rattle.normal_forms.specs.Characters.{is_selector}
 use Rattle.plain_normalizer.specs.PlainItems.{seen, seen_all}
