@@ -17,7 +17,9 @@ use glyph_types::info::hb_glyph_info_t;
 use glyph_types::level::BufferClusterLevel;
 use glyph_types::position::GlyphPosition;
 use order::{KnownOrder, Lent};
-use shaping_text::constants::{BufferFlags, HB_BUFFER_SCRATCH_FLAG_DEFAULT, hb_buffer_scratch_flags_t};
+use shaping_text::constants::{
+    BufferFlags, HB_BUFFER_SCRATCH_FLAG_DEFAULT, hb_buffer_scratch_flags_t,
+};
 use shaping_text::direction::Direction;
 use shaping_text::script::Script;
 use std::alloc::Global;

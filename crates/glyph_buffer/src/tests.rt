@@ -4,11 +4,9 @@ use crate::buffer::hb_buffer_t;
 use crate::glyphs::GlyphBuffer;
 use crate::unicode_buffer::UnicodeBuffer;
 use glyph_types::flags::SerializeFlags;
-use glyph_types::info::{UNSAFE_TO_BREAK, UNSAFE_TO_CONCAT, hb_glyph_info_t};
-use glyph_types::level::BufferClusterLevel;
+use glyph_types::info::hb_glyph_info_t;
 use glyph_types::names::{GlyphId, GlyphNames, hb_glyph_extents_t};
 use glyph_types::position::GlyphPosition;
-use shaping_text::constants::{BufferFlags, HB_BUFFER_SCRATCH_FLAG_HAS_GLYPH_FLAGS};
 use shaping_text::direction::Direction;
 use shaping_text::script::{ARABIC, CYRILLIC, HAN, HEBREW, OLD_HUNGARIAN, RUNIC, Script, UNKNOWN};
 use std::process::Abort;
@@ -177,119 +175,6 @@ fn prints_two_glyphs(rt: HostRuntime) -> Result<(), Fail> {
     Ok(())
 }
 
-/// Asserts the numbers, clusters and masks of glyphs.
-fn reads(rt: &impl Abort, glyphs: &[hb_glyph_info_t], want: &[(u32, u32, u32)]) {
-    assert_eq!(rt; glyphs.len(), want.len());
-    for (glyph, (number, cluster, mask)) in glyphs.iter().zip(want) {
-        assert_eq!(rt; glyph.glyph_id, *number);
-        assert_eq!(rt; glyph.cluster, *cluster);
-        assert_eq!(rt; glyph.mask, *mask);
-    }
-}
-
-#[test]
-fn merges_by_level(rt: HostRuntime) -> Result<(), Fail> {
-    for (level, want, scratch) in [
-        (
-            BufferClusterLevel::MonotoneCharacters,
-            [(97, 0, 0), (98, 1, 0), (99, 1, 0)],
-            0,
-        ),
-        (
-            BufferClusterLevel::Characters,
-            [(97, 0, 0), (98, 1, 0), (99, 2, 3)],
-            HB_BUFFER_SCRATCH_FLAG_HAS_GLYPH_FLAGS,
-        ),
-    ] {
-        let mut buffer = hb_buffer_t::new(rt.alloc());
-        assert!(rt; buffer.push_str("abc")?);
-        buffer.set_cluster_level(level);
-        assert_eq!(rt; buffer.cluster_level(), level);
-        buffer.merge_clusters(1, 3);
-        reads(&rt, buffer.info_slice(), &want);
-        assert_eq!(rt; buffer.scratch_flags(), scratch);
-    }
-    Ok(())
-}
-
-#[test]
-fn merges_clusters_wherever_they_are(rt: HostRuntime) -> Result<(), Fail> {
-    let mut buffer = hb_buffer_t::new(rt.alloc());
-    for (character, cluster) in [('a', 5), ('b', 2), ('c', 5), ('d', 9)] {
-        assert!(rt; buffer.add(character, cluster)?);
-    }
-    buffer.reset_masks(16 + UNSAFE_TO_BREAK);
-    buffer.merge_clusters(1, 3);
-    reads(
-        &rt,
-        buffer.info_slice(),
-        &[(97, 2, 16), (98, 2, 17), (99, 2, 16), (100, 9, 17)],
-    );
-    Ok(())
-}
-
-#[test]
-fn merges_runs_of_what_was_read(rt: HostRuntime) -> Result<(), Fail> {
-    let mut buffer = hb_buffer_t::new(rt.alloc());
-    for (character, cluster) in [('a', 0), ('b', 4), ('c', 4), ('d', 4), ('e', 6), ('f', 6), ('g', 7)] {
-        assert!(rt; buffer.add(character, cluster)?);
-    }
-    buffer.reverse();
-    assert!(rt; buffer.clear_output()?);
-    assert!(rt; buffer.next_glyphs(2)?);
-    assert_eq!(rt; buffer.out_len(), 2);
-    buffer.merge_clusters(2, 4);
-    assert!(rt; buffer.sync()?);
-    reads(
-        &rt,
-        buffer.info_slice(),
-        &[
-            (103, 7, 0),
-            (102, 4, 0),
-            (101, 4, 0),
-            (100, 4, 0),
-            (99, 4, 0),
-            (98, 4, 0),
-            (97, 0, 0),
-        ],
-    );
-    Ok(())
-}
-
-#[test]
-fn merges_by_what_was_written(rt: HostRuntime) -> Result<(), Fail> {
-    let mut buffer = hb_buffer_t::new(rt.alloc());
-    assert!(rt; buffer.push_str("abcd")?);
-    buffer.cur_mut(3).cluster = 1;
-    buffer.merge_clusters(0, 2);
-    reads(
-        &rt,
-        buffer.info_slice(),
-        &[(97, 0, 0), (98, 0, 0), (99, 2, 0), (100, 0, 0)],
-    );
-    Ok(())
-}
-
-#[test]
-fn replaces_glyphs_by_one(rt: HostRuntime) -> Result<(), Fail> {
-    let mut buffer = hb_buffer_t::new(rt.alloc());
-    assert!(rt; buffer.push_str("abcd")?);
-    assert!(rt; buffer.clear_output()?);
-    assert!(rt; buffer.next_glyph()?);
-    assert!(rt; buffer.replace_glyphs(2, 1, &[300])?);
-    assert_eq!(rt; buffer.idx(), 3);
-    assert_eq!(rt; buffer.prev().glyph_id, 300);
-    assert!(rt; buffer.replace_glyphs(1, 3, &[7, 8, 9])?);
-    assert_eq!(rt; buffer.out_info().len(), 5);
-    assert!(rt; buffer.sync()?);
-    reads(
-        &rt,
-        buffer.info_slice(),
-        &[(97, 0, 0), (300, 1, 0), (7, 3, 0), (8, 3, 0), (9, 3, 0)],
-    );
-    Ok(())
-}
-
 #[test]
 fn copies_nothing_without_a_glyph(rt: HostRuntime) -> Result<(), Fail> {
     let mut buffer = hb_buffer_t::new(rt.alloc());
@@ -299,78 +184,5 @@ fn copies_nothing_without_a_glyph(rt: HostRuntime) -> Result<(), Fail> {
     assert!(rt; buffer.replace_glyphs(0, 2, &[1, 2])?);
     assert!(rt; buffer.output_glyph(1)?);
     assert_eq!(rt; buffer.out_len(), 0);
-    Ok(())
-}
-
-#[test]
-fn refuses_what_passes_the_limit(rt: HostRuntime) -> Result<(), Fail> {
-    let mut buffer = hb_buffer_t::new(rt.alloc());
-    assert!(rt; buffer.push_str("abc")?);
-    buffer.set_max_len(3);
-    assert!(rt; buffer.clear_output()?);
-    for number in [1, 2, 3] {
-        assert!(rt; buffer.output_glyph(number)?);
-    }
-    reads(&rt, buffer.out_info(), &[(1, 0, 0), (2, 0, 0), (3, 0, 0)]);
-    assert!(rt; !buffer.output_glyph(4)?);
-    assert!(rt; !buffer.sync()?);
-    buffer.clear();
-    assert!(rt; buffer.is_empty());
-    buffer.set_max_len(3);
-    assert!(rt; !buffer.push_str("abcd")?);
-    assert!(rt; buffer.is_empty());
-    Ok(())
-}
-
-#[test]
-fn moves_glyphs_through_the_output(rt: HostRuntime) -> Result<(), Fail> {
-    let mut buffer = hb_buffer_t::new(rt.alloc());
-    assert!(rt; buffer.push_str("abcdef")?);
-    assert!(rt; buffer.clear_output()?);
-    assert!(rt; buffer.replace_glyph(40)?);
-    buffer.skip_glyph();
-    assert!(rt; buffer.output_info(hb_glyph_info_t { glyph_id: 41, cluster: 2, ..hb_glyph_info_t::default() })?);
-    assert!(rt; buffer.next_glyphs(2)?);
-    buffer.merge_clusters(4, 6);
-    assert!(rt; buffer.sync()?);
-    reads(
-        &rt,
-        buffer.info_slice(),
-        &[(40, 0, 0), (41, 2, 0), (99, 2, 0), (100, 3, 0), (101, 4, 0), (102, 4, 0)],
-    );
-    Ok(())
-}
-
-#[test]
-fn marks_outside_the_least_cluster(rt: HostRuntime) -> Result<(), Fail> {
-    let both = UNSAFE_TO_BREAK | UNSAFE_TO_CONCAT;
-    let mut buffer = hb_buffer_t::new(rt.alloc());
-    for (character, cluster) in [('a', 3), ('b', 1), ('c', 1), ('d', 2)] {
-        assert!(rt; buffer.add(character, cluster)?);
-    }
-    buffer.unsafe_to_break(Some(1), Some(3));
-    buffer.unsafe_to_concat(None, None);
-    assert_eq!(rt; buffer.scratch_flags(), 0);
-    buffer.unsafe_to_break(Some(1), None);
-    assert_eq!(rt; buffer.scratch_flags(), HB_BUFFER_SCRATCH_FLAG_HAS_GLYPH_FLAGS);
-    reads(
-        &rt,
-        buffer.info_slice(),
-        &[(97, 3, 0), (98, 1, 0), (99, 1, 0), (100, 2, both)],
-    );
-    buffer.safe_to_insert_tatweel(Some(0), Some(2));
-    buffer.set_flags(
-        BufferFlags(BufferFlags::PRODUCE_UNSAFE_TO_CONCAT.0 + BufferFlags::PRODUCE_SAFE_TO_INSERT_TATWEEL.0),
-    );
-    assert_eq!(rt; buffer.flags().0, 192);
-    buffer.safe_to_insert_tatweel(Some(2), Some(4));
-    buffer.unsafe_to_concat(Some(1), Some(2));
-    reads(
-        &rt,
-        buffer.info_slice(),
-        &[(97, 3, both), (98, 1, 2), (99, 1, 0), (100, 2, 7)],
-    );
-    buffer.set_scratch_flags(0);
-    assert_eq!(rt; buffer.scratch_flags(), 0);
     Ok(())
 }

@@ -7,8 +7,8 @@ ghost use Rattle.glyph_buffer.specs.Merging.{place_of};
 ghost use Rattle.glyph_buffer.specs.Marking.{asks_concat, asks_tatweel, concat_marked, end_or, marked_range, start_or, tatweel_marked, with_flagged, with_marked};
 
 use super::hb_buffer_t;
-use bitflags::Flags;
 use super::merges::telling_flags;
+use bitflags::Flags;
 use glyph_clusters::marks::{flag_within, mark_within};
 use glyph_types::info::{
     SAFE_TO_INSERT_TATWEEL, UNSAFE_TO_BREAK, UNSAFE_TO_CONCAT, hb_glyph_info_t, hb_mask_t,
@@ -151,13 +151,7 @@ fn mark_behind(
     mark_within(ahead, start - from, end - from, flags)
 }
 
-fn flag_in(
-    info: &mut Vec<hb_glyph_info_t>,
-    from: usize,
-    start: usize,
-    end: usize,
-    flags: hb_mask_t,
-)
+fn flag_in(info: &mut Vec<hb_glyph_info_t>, from: usize, start: usize, end: usize, flags: hb_mask_t)
     requires begins { from ≤ start }
     requires ordered { start ≤ end }
     requires within { end ≤ vec_len info.old }

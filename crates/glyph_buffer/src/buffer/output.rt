@@ -12,8 +12,9 @@ use glyph_types::info::hb_glyph_info_t;
 use std::alloc::AllocError;
 
 impl hb_buffer_t {
-    /// Puts a copy of the glyph at the cursor, past the end of the last of the output, behind the output under another number;
-    /// with neither, none is made. It answers false, and puts none, where the output would have more than it may.
+    /// Puts a copy of the glyph at the cursor behind the output under another number; where the cursor is past the end, a
+    /// copy of the output's last, and with neither none. It answers false, and puts none, where the output would have more
+    /// than it may.
     pub fn output_glyph(&mut self, glyph_index: u32) -> Result<bool, AllocError>
         requires { self.old.is_open ≡ true }
         ensures held { IfOk result (λ b. b ≡ fits_copies 1 self.old) }
@@ -78,7 +79,7 @@ impl hb_buffer_t {
     }
 }
 
-// Puts a copy of the glyph at a place of the input, past its end of the last of the output, behind the output.
+// Puts a copy of the glyph at a place of the input, past its end of the output's last, behind the output.
 #[tactic(auto, using(std::proofs::lemmas::List::take_rest))]
 fn push_copy(out: &mut Vec<hb_glyph_info_t>, info: &[hb_glyph_info_t], at: usize, number: u32)
     requires within { at ≤ length info.now }

@@ -15,9 +15,9 @@ use glyph_types::level::BufferClusterLevel;
 use std::alloc::AllocError;
 
 impl hb_buffer_t {
-    /// Merges the `num_in` glyphs at the cursor and takes them out; for each of the `num_out` numbers a copy of the first of
-    /// them, past the end of the last of the output, goes behind the output. With neither, none is made. It answers
-    /// false, and changes neither list, where the output would have more than it may.
+    /// Merges the `num_in` glyphs at the cursor and takes them out; a copy of the glyph at the cursor goes behind the output
+    /// for each of the `num_out` numbers. Where the cursor is past the end the copies are of the output's last, and with
+    /// neither none is made. It answers false, and changes neither list, where the output would have more than it may.
     pub fn replace_glyphs(
         &mut self,
         num_in: usize,
@@ -93,7 +93,10 @@ fn replace_lists(
     marked
 }
 
-pub(super) fn model_of(ahead: &[hb_glyph_info_t], behind: &[hb_glyph_info_t]) -> Option<hb_glyph_info_t>
+pub(super) fn model_of(
+    ahead: &[hb_glyph_info_t],
+    behind: &[hb_glyph_info_t],
+) -> Option<hb_glyph_info_t>
     ensures { result ≡ or (first_of ahead.now) (last_of behind.now) }
 {
     match ahead {
@@ -102,7 +105,11 @@ pub(super) fn model_of(ahead: &[hb_glyph_info_t], behind: &[hb_glyph_info_t]) ->
     }
 }
 
-pub(super) fn push_copies(glyphs: &mut Vec<hb_glyph_info_t>, model: Option<hb_glyph_info_t>, numbers: &[u32])
+pub(super) fn push_copies(
+    glyphs: &mut Vec<hb_glyph_info_t>,
+    model: Option<hb_glyph_info_t>,
+    numbers: &[u32],
+)
     requires { vec_len glyphs.old + length numbers.now ≤ vec_capacity glyphs.old }
     ensures { glyphs.new.items ≡ glyphs.old.items ++ copied glyph_numbered model numbers.now }
 {

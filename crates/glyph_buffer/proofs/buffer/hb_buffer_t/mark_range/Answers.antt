@@ -39,6 +39,10 @@ invariant_of-self c =
     let le : c.args.start - from ≤ c.args.end - from = omega (arith, c.requires.ordered) in
     let after = order_marked order c.args.flags (c.args.start - from) (c.args.end - from) (clusters c.self.inside.out_info.items) (drop from c.self.inside.info.items) (drop from c.mark_in-any.new.info.items) le c.mark_in-any.ensures.items before in
     record {
-      cursor = first_of (search rules, grind (arith, common_steps)); input_within = first_of (search rules, grind (arith, common_steps)); output_within = first_of (search rules, grind (arith, common_steps)); closed = first_of (search rules, grind (arith, common_steps)); placed = first_of (search rules, grind (arith, common_steps));
+      cursor = first_of (search rules, grind (arith, common_steps));
+      input_within = first_of (search rules, grind (arith, common_steps));
+      output_within = first_of (search rules, grind (arith, common_steps));
+      closed = first_of (search rules, grind (arith, common_steps));
+      placed = first_of (search rules, grind (arith, common_steps));
       ordered = known_back order c.self.inside.out_info.items c.mark_in-any.new.info.items from (start_of c.self.inside) begins after;
     }

@@ -15,7 +15,11 @@ invariant_of-self-2 c =
     let wide : c.self.inside.idx + c.args.count - c.self.inside.idx ≡ c.args.count = omega arith in
     let items : c.extend_from_slice.new.self.items ≡ c.self.inside.out_info.items ++ take c.args.count (drop c.self.inside.idx c.self.inside.info.items) = rw (wide, c.deref.ensures.value) at c.in_ok-extend_from_slice.ensures.items in
     record {
-      cursor = first_of (search rules, grind (arith, common_steps)); input_within = first_of (search rules, grind (arith, common_steps)); output_within = first_of (search rules, grind (arith, common_steps)); closed = first_of (search rules, grind (arith, common_steps)); placed = first_of (search rules, grind (arith, common_steps));
+      cursor = first_of (search rules, grind (arith, common_steps));
+      input_within = first_of (search rules, grind (arith, common_steps));
+      output_within = first_of (search rules, grind (arith, common_steps));
+      closed = first_of (search rules, grind (arith, common_steps));
+      placed = first_of (search rules, grind (arith, common_steps));
       ordered = rw open_now (order_moved_on c.settled-self-inside.result c.self.inside.out_info.items c.self.inside.info.items c.extend_from_slice.new.self.items c.self.inside.idx c.args.count items known);
     }
 

@@ -18,6 +18,10 @@ invariant_of-self-2 c =
     let fits = rw (← c.self.view_is, open_now) at (room_is 1 c.args.self.now c.lacks_room.result c.lacks_room.ensures c.if-lacks_room.false) in
     let within = replaced_within b.max_len 1 b.out_info.items (drop b.idx b.info.items) b.out_info.items (drop b.idx b.info.items) (c.args.glyph_index ∷ []) refl fits refl refl c.self.invariant.output_within in
     record {
-      cursor = first_of (search rules, grind (arith, common_steps)); input_within = first_of (search rules, grind (arith, common_steps)); output_within = rw items within; closed = first_of (search rules, grind (arith, common_steps)); placed = first_of (search rules, grind (arith, common_steps));
+      cursor = first_of (search rules, grind (arith, common_steps));
+      input_within = first_of (search rules, grind (arith, common_steps));
+      output_within = rw items within;
+      closed = first_of (search rules, grind (arith, common_steps));
+      placed = first_of (search rules, grind (arith, common_steps));
       ordered = rw open_now (known_back order c.push_copy.new.out.items b.info.items b.idx b.idx refl after);
     }

@@ -12,6 +12,10 @@ invariant_of-self-2 c =
     let known = (rw c.deref.ensures.value at (c.settled-self-inside.ensures (clusters c.self.inside.out_info.items) c.self.inside.idx)) before in
     let within : c.self.inside.idx < length c.self.inside.info.items = grind (arith, common_steps) in
     record {
-      cursor = first_of (search rules, grind (arith, common_steps)); input_within = first_of (search rules, grind (arith, common_steps)); output_within = first_of (search rules, grind (arith, common_steps)); closed = first_of (search rules, grind (arith, common_steps)); placed = first_of (search rules, grind (arith, common_steps));
+      cursor = first_of (search rules, grind (arith, common_steps));
+      input_within = first_of (search rules, grind (arith, common_steps));
+      output_within = first_of (search rules, grind (arith, common_steps));
+      closed = first_of (search rules, grind (arith, common_steps));
+      placed = first_of (search rules, grind (arith, common_steps));
       ordered = rw open_now (order_renumbered c.settled-self-inside.result c.self.inside.out_info.items c.self.inside.info.items c.push.new.self.items c.self.inside.idx _ _ within c.in_ok-push.ensures.items (ap (λ (g : hb_glyph_info_t). g.cluster) c.index.ensures) known);
     }

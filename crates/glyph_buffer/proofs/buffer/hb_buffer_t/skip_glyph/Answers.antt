@@ -11,6 +11,10 @@ invariant_of-self c =
     let before = rw open_now at c.self.invariant.ordered in
     let known = (rw c.deref.ensures.value at (c.settled-self-inside.ensures (clusters c.self.inside.out_info.items) c.self.inside.idx)) before in
     record {
-      cursor = first_of (search rules, grind (arith, common_steps)); input_within = first_of (search rules, grind (arith, common_steps)); output_within = first_of (search rules, grind (arith, common_steps)); closed = first_of (search rules, grind (arith, common_steps)); placed = first_of (search rules, grind (arith, common_steps));
+      cursor = first_of (search rules, grind (arith, common_steps));
+      input_within = first_of (search rules, grind (arith, common_steps));
+      output_within = first_of (search rules, grind (arith, common_steps));
+      closed = first_of (search rules, grind (arith, common_steps));
+      placed = first_of (search rules, grind (arith, common_steps));
       ordered = rw open_now (order_skipped c.settled-self-inside.result (clusters c.self.inside.out_info.items) (clusters c.self.inside.info.items) c.self.inside.idx known);
     }
