@@ -63,9 +63,11 @@ merged_end R anti range e among within (g ∷ gs) beyond =
   where
     there : R e g.cluster
     there = beyond g.cluster (has_here g.cluster (clusters gs))
+
     absent : (u : Bool) → has_number range g.cluster ≡ u → (g.cluster == e) ≡ false → u ≡ false
     absent false k d = refl
     absent true k d = absurd (differ_test g.cluster e d (anti g.cluster e (within g.cluster k) there))
+
     by_test : (t : Bool) → (g.cluster == e) ≡ t → in_cluster (merged range g.cluster) g ≡ (if t then in_cluster (least_number range) g else g)
     by_test true d =
         let same = equal_test g.cluster e d in
@@ -110,11 +112,11 @@ front_stays c low (suc i) (g ∷ gs) le o stop =
     ∙ append_assoc (ns ++ d.cluster ∷ []) (clusters (drop (suc i) (g ∷ gs))) (c ∷ []) in
     let other : d.cluster ≢ c = subst (λ (n : ℕ). (get_or (g ∷ gs) n g).cluster ≢ c) less (stop g (omega arith)) in
     none_renamed c low (take (suc i) (g ∷ gs)) (λ n h. by_order (clusters (g ∷ gs) ++ c ∷ []) o (λ falls chain.
-        let cut_chain : IsChain (Stands falls) ((ns ++ d.cluster ∷ []) ++ (clusters (drop (suc i) (g ∷ gs)) ++ c ∷ [])) = subst (IsChain (Stands falls)) whole chain in
-        let near = chain_left (Stands falls) (ns ++ d.cluster ∷ []) (clusters (drop (suc i) (g ∷ gs)) ++ c ∷ []) cut_chain in
-        let last : Stands falls d.cluster c = chain_across (Stands falls) d.cluster c (ns ++ d.cluster ∷ []) (clusters (drop (suc i) (g ∷ gs)) ++ c ∷ []) cut_chain (has_right d.cluster ns (d.cluster ∷ []) (has_here d.cluster [])) (has_right c (clusters (drop (suc i) (g ∷ gs))) (c ∷ []) (has_here c [])) in
-        let among : Has (ns ++ d.cluster ∷ []) n = subst (λ (ms : List ℕ). Has ms n) seen h in
-        stops (Turned (Stands falls)) (turned_anti falls) c d.cluster last other (ns ++ d.cluster ∷ []) (λ k has. to_end falls ns d.cluster k near has) n among))
+    let cut_chain : IsChain (Stands falls) ((ns ++ d.cluster ∷ []) ++ (clusters (drop (suc i) (g ∷ gs)) ++ c ∷ [])) = subst (IsChain (Stands falls)) whole chain in
+    let near = chain_left (Stands falls) (ns ++ d.cluster ∷ []) (clusters (drop (suc i) (g ∷ gs)) ++ c ∷ []) cut_chain in
+    let last : Stands falls d.cluster c = chain_across (Stands falls) d.cluster c (ns ++ d.cluster ∷ []) (clusters (drop (suc i) (g ∷ gs)) ++ c ∷ []) cut_chain (has_right d.cluster ns (d.cluster ∷ []) (has_here d.cluster [])) (has_right c (clusters (drop (suc i) (g ∷ gs))) (c ∷ []) (has_here c [])) in
+    let among : Has (ns ++ d.cluster ∷ []) n = subst (λ (ms : List ℕ). Has ms n) seen h in
+    stops (Turned (Stands falls)) (turned_anti falls) c d.cluster last other (ns ++ d.cluster ∷ []) (λ k has. to_end falls ns d.cluster k near has) n among))
   where
     to_end : (falls : Bool) (ns : List ℕ) (m k : ℕ) → IsChain (Stands falls) (ns ++ m ∷ []) → Has (ns ++ m ∷ []) k → Stands falls k m
     to_end falls [] m k chain has = elim (has_cases m k [] has) [ inl e ↦ subst (λ (j : ℕ). Stands falls j m) e (stands_self falls m) | inr none ↦ cc ]
@@ -140,16 +142,17 @@ back_stays c low at gs o stop = by_rest (drop at gs) refl
         let cluster_of : hb_glyph_info_t → ℕ = λ h. h.cluster in
         let whole : clusters gs ≡ clusters (take at gs) ++ (d.cluster ∷ clusters hs) = ap clusters (sym (take-append-drop at gs) ∙ ap (λ zs. take at gs ++ zs) e) ∙ map-append cluster_of (take at gs) (d ∷ hs) in
         none_renamed c low (d ∷ hs) (λ n h. by_order (c ∷ clusters gs) o (λ falls chain.
-            let tail : IsChain (Stands falls) (clusters (take at gs) ++ (d.cluster ∷ clusters hs)) = subst (IsChain (Stands falls)) whole chain.1 in
-            let rest = chain_right (Stands falls) (clusters (take at gs)) (d.cluster ∷ clusters hs) tail in
-            let has : Has (clusters gs) d.cluster = subst (λ (ms : List ℕ). Has ms d.cluster) (sym whole) (has_right d.cluster (clusters (take at gs)) (d.cluster ∷ clusters hs) (has_here d.cluster (clusters hs))) in
-            let first : Stands falls c d.cluster = from_has (Stands falls) c d.cluster (clusters gs) chain.0 has in
-            stops (Stands falls) (stands_anti falls) c d.cluster first other (d.cluster ∷ clusters hs) (λ k there. from_first (Stands falls) (stands_self falls) d.cluster k (clusters hs) rest.0 there) n h))
+        let tail : IsChain (Stands falls) (clusters (take at gs) ++ (d.cluster ∷ clusters hs)) = subst (IsChain (Stands falls)) whole chain.1 in
+        let rest = chain_right (Stands falls) (clusters (take at gs)) (d.cluster ∷ clusters hs) tail in
+        let has : Has (clusters gs) d.cluster = subst (λ (ms : List ℕ). Has ms d.cluster) (sym whole) (has_right d.cluster (clusters (take at gs)) (d.cluster ∷ clusters hs) (has_here d.cluster (clusters hs))) in
+        let first : Stands falls c d.cluster = from_has (Stands falls) c d.cluster (clusters gs) chain.0 has in
+        stops (Stands falls) (stands_anti falls) c d.cluster first other (d.cluster ∷ clusters hs) (λ k there. from_first (Stands falls) (stands_self falls) d.cluster k (clusters hs) rest.0 there) n h))
       where
         within : (i : ℕ) (xs : List hb_glyph_info_t) (n : ℕ) → length (drop i xs) ≡ suc n → i < length xs
         within zero xs n l = omega (arith, l)
         within (suc i) [] n l = cc
         within (suc i) (x ∷ xs) n l = omega (arith, within i xs n l)
+
         first_is : drop at gs ≡ get_or gs at d ∷ drop (at + 1) gs → get_or gs at d ≡ d
         first_is f = let both : get_or gs at d ∷ drop (at + 1) gs ≡ d ∷ hs = sym f ∙ e in cc
 

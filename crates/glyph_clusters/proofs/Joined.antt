@@ -72,9 +72,9 @@ order_back gs i j first last le f l o =
     let there : i + (j - i) ≡ j = omega arith in
     let behind : drop (j - i) (drop i gs) ≡ drop j gs = drop-drop (j - i) i gs ∙ ap (λ n. drop n gs) there in
     rw behind (by_range (clusters (slice_range gs i j)) first last f l (λ xs is end. by_order (clusters gs) o (λ falls chain.
-        let whole = subst (IsChain (Stands falls)) ((cut_at gs i j le).whole ∙ ap (λ ns. clusters (take i gs) ++ (ns ++ clusters (drop j gs))) is) chain in
-        let rest = last_back (Stands falls) first xs (clusters (drop j gs)) (chain_right (Stands falls) (clusters (take i gs)) ((first ∷ xs) ++ clusters (drop j gs)) whole) in
-        ordered_from falls (last ∷ clusters (drop j gs)) (subst (λ (n : ℕ). IsChain (Stands falls) (n ∷ clusters (drop j gs))) (sym end) rest))))
+    let whole = subst (IsChain (Stands falls)) ((cut_at gs i j le).whole ∙ ap (λ ns. clusters (take i gs) ++ (ns ++ clusters (drop j gs))) is) chain in
+    let rest = last_back (Stands falls) first xs (clusters (drop j gs)) (chain_right (Stands falls) (clusters (take i gs)) ((first ∷ xs) ++ clusters (drop j gs)) whole) in
+    ordered_from falls (last ∷ clusters (drop j gs)) (subst (λ (n : ℕ). IsChain (Stands falls) (n ∷ clusters (drop j gs))) (sym end) rest))))
 
 by_first : {P : Type 0} (range : List ℕ) (first : ℕ) → first_of range ≡ Some first → ((xs : List ℕ) → range ≡ first ∷ xs → P) → P
 by_first [] first f k = cc
@@ -86,8 +86,8 @@ merged_front range first gs f o = by_first range first f (λ xs is. by_order (cl
     let whole = subst (λ (ns : List ℕ). IsChain (Stands falls) (clusters gs ++ ns)) is chain in
     let own = chain_right (Stands falls) (clusters gs) (first ∷ xs) whole in
     rw is (sym (merged_end (Turned (Stands falls)) (turned_anti falls) (first ∷ xs) first (has_here first xs)
-        (λ n h. from_first (Stands falls) (stands_self falls) first n xs own.0 h) gs
-        (λ n h. chain_across (Stands falls) n first (clusters gs) (first ∷ xs) whole h (has_here first xs))))))
+    (λ n h. from_first (Stands falls) (stands_self falls) first n xs own.0 h) gs
+    (λ n h. chain_across (Stands falls) n first (clusters gs) (first ∷ xs) whole h (has_here first xs))))))
 
 pub order_beside : (range : List ℕ) (first : ℕ) (ns : List ℕ) → first_of range ≡ Some first → IsOrdered (ns ++ range) → IsOrdered (ns ++ first ∷ [])
 order_beside range first ns f o = by_first range first f (λ xs is. by_order (ns ++ range) o (λ falls chain.
@@ -104,8 +104,8 @@ merged_back range first last gs f l o = by_range range first last f l (λ xs is 
     let own = chain_left (Stands falls) (first ∷ xs) (clusters gs) whole in
     let last_among : Has (first ∷ xs) last = subst (Has (first ∷ xs)) (sym end) (has_last_from first xs) in
     rw is (sym (merged_end (Stands falls) (stands_anti falls) (first ∷ xs) last last_among
-        (λ n h. subst (Stands falls n) (sym end) (to_last (Stands falls) (stands_self falls) first n xs own h)) gs
-        (λ n h. chain_across (Stands falls) last n (first ∷ xs) (clusters gs) whole last_among h)))))
+    (λ n h. subst (Stands falls n) (sym end) (to_last (Stands falls) (stands_self falls) first n xs own h)) gs
+    (λ n h. chain_across (Stands falls) last n (first ∷ xs) (clusters gs) whole last_among h)))))
 
 pub joined_parts : (gs : List hb_glyph_info_t) (i j low first last : ℕ) (front range back : List hb_glyph_info_t) → i ≤ j → IsOrdered (clusters gs)
     → first_of (clusters (slice_range gs i j)) ≡ Some first → last_of (clusters (slice_range gs i j)) ≡ Some last → low ≡ least_number (clusters (slice_range gs i j))
