@@ -9,4 +9,3 @@ pub mod Text
 pub mod Lending
 pub mod Appended
 pub mod Segment
-pub mod Wrappers

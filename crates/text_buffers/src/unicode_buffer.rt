@@ -1,10 +1,12 @@
 ghost use Rattle.std.specs.Prelude.{◌≡◌, ◌==◌, length, true, false, Ok, Some, OnErr, IfOk, ◌∷◌, [], unwrap_or};
 ghost use Rattle.shaping_text.specs.declared.script.TheConstants.{UNKNOWN};
 ghost use Rattle.glyph_buffer.specs.Sides.{empty_buffer, all_glyphs, with_added, has_room};
+ghost use Rattle.text_buffers.specs.Wrappers.{IsCharacter};
+ghost use Rattle.std.specs.List.{All};
 ghost use Rattle.glyph_buffer.specs.Segment.{guessed, with_segment};
 ghost use Rattle.glyph_buffer.specs.Text.{added_glyph, added_text, fits_text};
 
-use crate::buffer::hb_buffer_t;
+use glyph_buffer::buffer::hb_buffer_t;
 use shaping_text::direction::Direction;
 use shaping_text::script::{Script, UNKNOWN};
 use std::alloc::{AllocError, Global};
@@ -18,7 +20,7 @@ pub struct UnicodeBuffer {
 
 impl Model for UnicodeBuffer {
     ghost use Rattle.glyph_buffer.specs.Sides.{Sides};
-    ghost use Rattle.glyph_buffer.specs.Wrappers.{IsText};
+    ghost use Rattle.text_buffers.specs.Wrappers.{IsText};
 
     ghost Value = { Sides };
 
@@ -51,6 +53,7 @@ impl UnicodeBuffer {
     }
 
     /// Adds a character; answers false, and adds nothing, where the text has as many as it may.
+    #[tactic(auto, using(crate::proofs::Characters::one_character, crate::proofs::Characters::text_grown))]
     pub fn add(&mut self, codepoint: char, cluster: u32) -> Result<bool, AllocError>
         ensures held { IfOk result (λ b. b ≡ has_room 1 self.old) }
         ensures added { result ≡ Ok true → self.new ≡ with_added (added_glyph codepoint cluster ∷ []) self.old }
@@ -62,6 +65,7 @@ impl UnicodeBuffer {
 
     /// Adds the characters of a text, each with the byte where it begins as its cluster; answers false, and adds
     /// nothing, where there would be more than there may be or a character begins past byte `u32::MAX`.
+    #[tactic(auto, using(crate::proofs::Characters::text_characters, crate::proofs::Characters::text_grown))]
     pub fn push_str(&mut self, text: &str) -> Result<bool, AllocError>
         ensures held { IfOk result (λ b. b ≡ fits_text text.now self.old) }
         ensures added { result ≡ Ok true → self.new ≡ with_added (added_text text.now) self.old }
@@ -116,14 +120,18 @@ impl UnicodeBuffer {
         ensures same { result ≡ self }
         ensures closed { result.is_open ≡ false }
         ensures unrefused { result.has_refused ≡ false }
+        ensures characters { All IsCharacter (all_glyphs result) }
     {
         let UnicodeBuffer { buffer } = self;
         buffer
     }
 
-    pub(crate) fn cleared(buffer: hb_buffer_t) -> UnicodeBuffer
-        requires { buffer ≡ empty_buffer }
-        ensures { result ≡ empty_buffer }
+    /// The text that a buffer holds.
+    pub fn from_buffer(buffer: hb_buffer_t) -> UnicodeBuffer
+        requires closed { buffer.is_open ≡ false }
+        requires unrefused { buffer.has_refused ≡ false }
+        requires characters { All IsCharacter (all_glyphs buffer) }
+        ensures { result ≡ buffer }
     {
         UnicodeBuffer { buffer }
     }
