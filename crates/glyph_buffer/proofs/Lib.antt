@@ -1,4 +1,6 @@
 pub mod Chars
+pub mod Context
+pub mod Counted
 pub mod Written
 pub mod Appended
 pub mod Kept

@@ -15,9 +15,16 @@ sides_of b = record {
   read = b.idx;
   has_refused = not b.successful;
   max_len = b.max_len;
+  max_ops = b.max_ops;
+  lig_id = b.lig_id;
   level = b.cluster_level;
   direction = b.direction;
   script = b.script;
+  language = b.language;
+  pre_context = b.pre_context.items;
+  post_context = b.post_context.items;
+  invisible = b.invisible;
+  not_found_variation_selector = b.not_found_variation_selector;
   scratch_flags = b.scratch_flags;
   flags = b.flags;
 }

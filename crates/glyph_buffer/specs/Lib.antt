@@ -1,6 +1,7 @@
 pub mod Sides
 pub mod Merging
 pub mod Rooms
+pub mod Settings
 pub mod Marking
 pub mod Masks
 pub mod Known

@@ -1,5 +1,5 @@
 -- A buffer as its clients see it: the glyphs behind the cursor and the glyphs ahead of it.
-use Rattle.std.specs.Prelude.{ℕ, pos, ◌+◌, Bool, true, false, nat_le, not, ◌&&◌, if◌then◌else◌, List, [], ◌++◌, length, take, drop, reverse, replicate, Option, None}
+use Rattle.std.specs.Prelude.{ℕ, ℤ, pos, ◌+◌, Bool, true, false, nat_le, not, ◌&&◌, if◌then◌else◌, List, [], ◌++◌, length, take, drop, reverse, replicate, Option, None}
 use Rattle.glyph_types.specs.declared.info.hb_glyph_info_t.{hb_glyph_info_t}
 use Rattle.glyph_types.specs.declared.level.BufferClusterLevel.{BufferClusterLevel}
 use Rattle.glyph_types.specs.declared.level.BufferClusterLevel.TheVariants.{MonotoneGraphemes}
@@ -9,6 +9,7 @@ use Rattle.glyph_lists.specs.Readings.{Run}
 use Rattle.shaping_text.specs.declared.constants.BufferFlags.{BufferFlags}
 use Rattle.shaping_text.specs.declared.direction.Direction.{Direction}
 use Rattle.shaping_text.specs.declared.direction.Direction.TheVariants.{Invalid}
+use Rattle.shaping_text.specs.declared.language.Language.{Language}
 use Rattle.shaping_text.specs.declared.script.Script.{Script}
 
 pub record Sides : Type 0 where
@@ -22,9 +23,19 @@ pub record Sides : Type 0 where
   pub read : ℕ
   pub has_refused : Bool
   pub max_len : ℕ
+  pub max_ops : ℤ
+  -- the ligature number that was given last, 0 for none
+  pub lig_id : ℕ
   pub level : BufferClusterLevel
   pub direction : Direction
   pub script : Option Script
+  pub language : Option Language
+  -- the characters in front of the text and behind it, nearest first
+  pub pre_context : List ℕ
+  pub post_context : List ℕ
+  -- the glyphs that stand for what is not to be seen, and for a selector that the font does not know
+  pub invisible : Option ℕ
+  pub not_found_variation_selector : Option ℕ
   -- what the stages of shaping tell each other of the glyphs
   pub scratch_flags : ℕ
   -- what is asked of the shaping
@@ -59,9 +70,16 @@ empty_buffer = record {
   read = 0;
   has_refused = false;
   max_len = 0x3FFF_FFFF;
+  max_ops = pos 0x1FFF_FFFF;
+  lig_id = 0;
   level = MonotoneGraphemes;
   direction = Invalid;
   script = None;
+  language = None;
+  pre_context = [];
+  post_context = [];
+  invisible = None;
+  not_found_variation_selector = None;
   scratch_flags = 0;
   flags = record { 0 = 0 };
 }

@@ -1,10 +1,13 @@
 ghost use Rattle.std.specs.Prelude.{◌≡◌};
 ghost use Rattle.glyph_buffer.specs.Sides.{empty_buffer};
 
+mod context;
 mod cursor;
+mod limits;
 mod marks;
 mod masks;
 mod merges;
+mod numbering;
 mod order;
 mod output;
 mod replacement;
@@ -13,6 +16,7 @@ mod segment;
 mod settings;
 mod storage;
 
+use arrayvec::ArrayVec;
 use glyph_types::info::hb_glyph_info_t;
 use glyph_types::level::BufferClusterLevel;
 use glyph_types::position::GlyphPosition;
@@ -21,6 +25,7 @@ use shaping_text::constants::{
     BufferFlags, HB_BUFFER_SCRATCH_FLAG_DEFAULT, hb_buffer_scratch_flags_t,
 };
 use shaping_text::direction::Direction;
+use shaping_text::language::Language;
 use shaping_text::script::Script;
 use std::alloc::Global;
 use std::marker::Model;
@@ -36,9 +41,17 @@ pub struct hb_buffer_t {
     have_output: bool,
     successful: bool,
     max_len: usize,
+    max_ops: i32,
+    // The ligature number that was given last, 0 for none.
+    lig_id: u8,
     cluster_level: BufferClusterLevel,
     direction: Direction,
     script: Option<Script>,
+    language: Option<Language>,
+    pre_context: ArrayVec<char, 5>,
+    post_context: ArrayVec<char, 5>,
+    invisible: Option<u32>,
+    not_found_variation_selector: Option<u32>,
     scratch_flags: hb_buffer_scratch_flags_t,
     flags: BufferFlags,
     // Of all glyphs; of one that was lent, by the cluster that it had. So a merge need not walk the whole list.
@@ -62,6 +75,21 @@ impl hb_buffer_t {
     /// How many glyphs a list may have where nothing else was said.
     pub const MAX_LEN_DEFAULT: usize = 0x3FFF_FFFF;
 
+    /// How many glyphs a list may have for each that there is when shaping begins.
+    pub const MAX_LEN_FACTOR: usize = 64;
+
+    /// How many glyphs a list may have at least while it is shaped.
+    pub const MAX_LEN_MIN: usize = 16384;
+
+    /// How many steps may be taken where nothing else was said.
+    pub const MAX_OPS_DEFAULT: i32 = 0x1FFF_FFFF;
+
+    /// How many steps may be taken for each glyph that there is when shaping begins.
+    pub const MAX_OPS_FACTOR: i32 = 1024;
+
+    /// How many steps may be taken at least while a list is shaped.
+    pub const MAX_OPS_MIN: i32 = 16384;
+
     /// An empty buffer with no direction and no script.
     pub fn new(alloc: Global) -> hb_buffer_t
         ensures { result ≡ empty_buffer }
@@ -74,9 +102,16 @@ impl hb_buffer_t {
             have_output: false,
             successful: true,
             max_len: Self::MAX_LEN_DEFAULT,
+            max_ops: Self::MAX_OPS_DEFAULT,
+            lig_id: 0,
             cluster_level: BufferClusterLevel::MonotoneGraphemes,
             direction: Direction::Invalid,
             script: None,
+            language: None,
+            pre_context: ArrayVec::new(),
+            post_context: ArrayVec::new(),
+            invisible: None,
+            not_found_variation_selector: None,
             scratch_flags: HB_BUFFER_SCRATCH_FLAG_DEFAULT,
             flags: BufferFlags::default(),
             order: KnownOrder::Rising,
@@ -95,9 +130,16 @@ impl hb_buffer_t {
         self.have_output = false;
         self.successful = true;
         self.max_len = Self::MAX_LEN_DEFAULT;
+        self.max_ops = Self::MAX_OPS_DEFAULT;
+        self.lig_id = 0;
         self.cluster_level = BufferClusterLevel::MonotoneGraphemes;
         self.direction = Direction::Invalid;
         self.script = None;
+        self.language = None;
+        self.pre_context.clear();
+        self.post_context.clear();
+        self.invisible = None;
+        self.not_found_variation_selector = None;
         self.scratch_flags = HB_BUFFER_SCRATCH_FLAG_DEFAULT;
         self.flags = BufferFlags::default();
         self.order = KnownOrder::Rising;

@@ -1,9 +1,12 @@
-ghost use Rattle.std.specs.Prelude.{◌≡◌, ◌≤◌, ◌+◌, length};
-ghost use Rattle.glyph_buffer.specs.Sides.{with_flags, with_level, with_max_len, with_scratch_flags};
+ghost use Rattle.std.specs.Prelude.{◌≡◌};
+ghost use Rattle.std.specs.Option.{option_copied};
+ghost use Rattle.glyph_buffer.specs.Sides.{with_flags, with_level, with_scratch_flags};
+ghost use Rattle.glyph_buffer.specs.Settings.{with_invisible, with_language, with_not_found_variation_selector};
 
 use super::hb_buffer_t;
 use glyph_types::level::BufferClusterLevel;
 use shaping_text::constants::{BufferFlags, hb_buffer_scratch_flags_t};
+use shaping_text::language::Language;
 
 impl hb_buffer_t {
     pub fn cluster_level(&self) -> BufferClusterLevel
@@ -44,19 +47,41 @@ impl hb_buffer_t {
         self.flags = flags;
     }
 
-    /// How many glyphs a list may have.
-    pub fn max_len(&self) -> usize
-        ensures { result ≡ self.now.max_len }
+    pub fn language(&self) -> Option<&Language>
+        ensures { option_copied result ≡ self.now.language }
     {
-        self.max_len
+        self.language.as_ref()
     }
 
-    /// Sets how many glyphs a list may have: at least as many as the input and the output have.
-    pub fn set_max_len(&mut self, max_len: usize)
-        requires input { self.old.read + length self.old.ahead ≤ max_len }
-        requires output { length self.old.behind ≤ max_len }
-        ensures { self.new ≡ with_max_len max_len self.old }
+    pub fn set_language(&mut self, language: Option<Language>)
+        ensures { self.new ≡ with_language language self.old }
     {
-        self.max_len = max_len;
+        self.language = language;
+    }
+
+    /// The glyph that stands for a character that is not to be seen, none for a space of no width.
+    pub fn invisible(&self) -> Option<u32>
+        ensures { result ≡ self.now.invisible }
+    {
+        self.invisible
+    }
+
+    pub fn set_invisible(&mut self, glyph: Option<u32>)
+        ensures { self.new ≡ with_invisible glyph self.old }
+    {
+        self.invisible = glyph;
+    }
+
+    /// The glyph that stands for a variation selector that the font does not know.
+    pub fn not_found_variation_selector(&self) -> Option<u32>
+        ensures { result ≡ self.now.not_found_variation_selector }
+    {
+        self.not_found_variation_selector
+    }
+
+    pub fn set_not_found_variation_selector(&mut self, glyph: Option<u32>)
+        ensures { self.new ≡ with_not_found_variation_selector glyph self.old }
+    {
+        self.not_found_variation_selector = glyph;
     }
 }

@@ -1,0 +1,41 @@
+ghost use Rattle.std.specs.Prelude.{◌≡◌, false, length, vec_len};
+ghost use Rattle.glyph_lists.specs.Items.{clusters, flags_of};
+ghost use Rattle.glyph_buffer.specs.Sides.{all_glyphs, items_of};
+ghost use Rattle.glyph_buffer.specs.Settings.{counted_from, glyphs_counted, with_counted};
+
+use super::hb_buffer_t;
+use super::order::KnownOrder;
+use glyph_types::info::hb_glyph_info_t;
+
+impl hb_buffer_t {
+    /// Gives the glyphs the clusters 0, 1, 2 and so on; those past the greatest number have that one.
+    pub fn reset_clusters(&mut self)
+        requires { self.old.is_open ≡ false }
+        ensures counted { self.new ≡ with_counted self.old }
+        ensures items { items_of self.new ≡ items_of self.old }
+        ensures clusters { clusters (all_glyphs self.new) ≡ counted_from 0 (all_glyphs self.old) }
+        ensures flags { flags_of (all_glyphs self.new) ≡ flags_of (all_glyphs self.old) }
+    {
+        number_all(&mut self.info);
+        self.order = KnownOrder::Rising;
+        self.lent = None;
+    }
+}
+
+fn number_all(glyphs: &mut Vec<hb_glyph_info_t>)
+    ensures items { glyphs.new.items ≡ glyphs_counted 0 glyphs.old.items }
+    ensures len { vec_len glyphs.new ≡ vec_len glyphs.old }
+{
+    number_each(glyphs);
+}
+
+#[tactic(auto, using(crate::proofs::Counted::counted_step, crate::proofs::Counted::next_cluster))]
+fn number_each(glyphs: &mut [hb_glyph_info_t])
+    ensures { glyphs.new ≡ glyphs_counted 0 glyphs.old }
+{
+    let mut cluster = 0;
+    for glyph in glyphs.iter_mut() {
+        *glyph = hb_glyph_info_t { cluster, ..*glyph };
+        cluster = cluster.saturating_add(1);
+    }
+}
