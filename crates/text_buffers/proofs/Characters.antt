@@ -1,13 +1,15 @@
 -- Texts to which characters are added have characters alone.
-use Rattle.std.proofs.Common.{ℕ, ◌≡◌, ◌+◌, ◌++◌, ◌&&◌, Bool, true, false, List, [], ◌∷◌, Result, Ok, Err, OnErr, refl, sym, subst, append_assoc}
+use Rattle.std.proofs.Common.{ℕ, ◌≡◌, ◌+◌, ◌++◌, ◌&&◌, Bool, true, false, List, [], ◌∷◌, Result, Ok, Err, OnErr, refl, sym, ap, subst, append_assoc, min, length}
 use Rattle.std.specs.List.{All}
 use Rattle.std.specs.Char.{len_utf8}
 use Rattle.std.specs.Str.{chars, IsUtf8}
 use Rattle.std.proofs.lemmas.Str.{scalars-chars}
-use Rattle.std.proofs.lemmas.List.Elements.{All-nil, All-cons, All-append}
+use Rattle.std.proofs.lemmas.List.Elements.{All-nil, All-cons, All-append, All-head, All-tail}
+use Rattle.std.proofs.lemmas.List.{take-append-drop}
 use lib.Utf8.{scalar, scalars}
 use Rattle.glyph_types.specs.declared.info.hb_glyph_info_t.{hb_glyph_info_t}
 use Rattle.glyph_buffer.specs.Sides.{Sides, all_glyphs, with_added}
+use Rattle.glyph_buffer.specs.Settings.{glyphs_counted, most_cluster, with_counted}
 use Rattle.glyph_buffer.specs.Text.{added_glyph, added_from, added_text}
 use Rattle.text_buffers.specs.Wrappers.{IsCharacter, IsText}
 
@@ -46,3 +48,18 @@ pub text_grown : {E : Type 0} (r : Result Bool E) (s t : Sides) (gs : List hb_gl
 text_grown (Ok true) s t gs added full err is all = subst IsText (sym (added refl)) (grown s gs is all)
 text_grown (Ok false) s t gs added full err is all = subst IsText (sym (full refl)) is
 text_grown (Err e) s t gs added full err is all = subst IsText (sym err) is
+
+counted : (n : ℕ) (gs : List hb_glyph_info_t) → All IsCharacter gs → All IsCharacter (glyphs_counted n gs)
+counted n [] all = All-nil IsCharacter
+counted n (g ∷ gs) all =
+    let first = All-head IsCharacter g gs all in
+    let recounted : (record g { cluster = min n most_cluster }) ≡ added_glyph g.glyph_id (min n most_cluster) = ap (λ (h : hb_glyph_info_t). record h { cluster = min n most_cluster }) first.plain in
+    All-cons IsCharacter (record g { cluster = min n most_cluster }) (glyphs_counted (n + 1) gs) (record { plain = recounted; scalar_value = first.scalar_value }) (counted (n + 1) gs (All-tail IsCharacter g gs all))
+
+-- a text stays one where its clusters are counted anew
+pub text_counted : (s : Sides) → IsText s → IsText (with_counted s)
+text_counted s is = record {
+  closed = is.closed;
+  unrefused = is.unrefused;
+  characters = subst (All IsCharacter) (sym (take-append-drop (length s.behind) (glyphs_counted 0 (all_glyphs s)))) (counted 0 (all_glyphs s) is.characters);
+}

@@ -5,9 +5,12 @@ use crate::unicode_buffer::UnicodeBuffer;
 use glyph_buffer::buffer::hb_buffer_t;
 use glyph_types::flags::SerializeFlags;
 use glyph_types::info::hb_glyph_info_t;
+use glyph_types::level::BufferClusterLevel;
 use glyph_types::names::{GlyphId, GlyphNames, hb_glyph_extents_t};
 use glyph_types::position::GlyphPosition;
+use shaping_text::constants::BufferFlags;
 use shaping_text::direction::Direction;
+use shaping_text::language::Language;
 use shaping_text::script::{ARABIC, CYRILLIC, HAN, HEBREW, RUNIC, UNKNOWN};
 use std::process::Abort;
 use std::test::Fail;
@@ -133,5 +136,53 @@ fn takes_a_text_out_and_puts_it_back(rt: HostRuntime) -> Result<(), Fail> {
     let text = UnicodeBuffer::from_buffer(text.into_buffer());
     assert_eq!(rt; text.len(), 2);
     holds(&rt, text.into_buffer().info_slice(), &[('é', 0), ('b', 7)]);
+    Ok(())
+}
+
+#[test]
+fn keeps_what_it_was_told(rt: HostRuntime) -> Result<(), Fail> {
+    let mut text = UnicodeBuffer::new(rt.alloc());
+    text.set_pre_context("abcdefg");
+    text.set_post_context("hi");
+    text.set_flags(BufferFlags::BEGINNING_OF_TEXT);
+    text.set_cluster_level(BufferClusterLevel::Characters);
+    text.set_invisible_glyph(3);
+    text.set_not_found_variation_selector_glyph(4);
+    assert_eq!(rt; text.flags(), BufferFlags::BEGINNING_OF_TEXT);
+    assert_eq!(rt; text.cluster_level(), BufferClusterLevel::Characters);
+    let buffer = text.into_buffer();
+    assert_eq!(rt; *buffer.pre_context(), ['g', 'f', 'e', 'd', 'c']);
+    assert_eq!(rt; *buffer.post_context(), ['h', 'i']);
+    assert_eq!(rt; buffer.invisible(), Some(3));
+    assert_eq!(rt; buffer.not_found_variation_selector(), Some(4));
+    Ok(())
+}
+
+#[test]
+fn counts_clusters_anew(rt: HostRuntime) -> Result<(), Fail> {
+    let mut text = UnicodeBuffer::new(rt.alloc());
+    assert!(rt; text.push_str("é€b")?);
+    text.reset_clusters();
+    holds(
+        &rt,
+        text.into_buffer().info_slice(),
+        &[('é', 0), ('€', 1), ('b', 2)],
+    );
+    Ok(())
+}
+
+#[test]
+fn knows_its_language(rt: HostRuntime) -> Result<(), Fail> {
+    let mut text = UnicodeBuffer::new(rt.alloc());
+    assert!(rt; text.language().is_none());
+    let turkish = Language::from_str(rt.alloc(), "TR");
+    assert!(rt; turkish.is_ok());
+    if let Ok(turkish) = turkish {
+        text.set_language(turkish);
+    }
+    assert!(rt;
+        text.language()
+            .is_some_and(|language| language.as_str() == "tr")
+    );
     Ok(())
 }
