@@ -56,10 +56,12 @@ counted n (g ∷ gs) all =
     let recounted : (record g { cluster = min n most_cluster }) ≡ added_glyph g.glyph_id (min n most_cluster) = ap (λ (h : hb_glyph_info_t). record h { cluster = min n most_cluster }) first.plain in
     All-cons IsCharacter (record g { cluster = min n most_cluster }) (glyphs_counted (n + 1) gs) (record { plain = recounted; scalar_value = first.scalar_value }) (counted (n + 1) gs (All-tail IsCharacter g gs all))
 
+all_counted : (s : Sides) → IsText s → All IsCharacter (all_glyphs (with_counted s))
+all_counted s is = subst (All IsCharacter) (sym (take-append-drop (length s.behind) (glyphs_counted 0 (all_glyphs s)))) (counted 0 (all_glyphs s) is.characters)
+
+recounted : (s : Sides) → IsText s → IsText (with_counted s)
+recounted s is = record { closed = is.closed; unrefused = is.unrefused; characters = all_counted s is }
+
 -- a text stays one where its clusters are counted anew
-pub text_counted : (s : Sides) → IsText s → IsText (with_counted s)
-text_counted s is = record {
-  closed = is.closed;
-  unrefused = is.unrefused;
-  characters = subst (All IsCharacter) (sym (take-append-drop (length s.behind) (glyphs_counted 0 (all_glyphs s)))) (counted 0 (all_glyphs s) is.characters);
-}
+pub text_counted : (s t : Sides) → t ≡ with_counted s → IsText s → IsText t
+text_counted s t e is = subst IsText (sym e) (recounted s is)

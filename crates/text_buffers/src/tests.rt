@@ -151,8 +151,8 @@ fn keeps_what_it_was_told(rt: HostRuntime) -> Result<(), Fail> {
     assert_eq!(rt; text.flags(), BufferFlags::BEGINNING_OF_TEXT);
     assert_eq!(rt; text.cluster_level(), BufferClusterLevel::Characters);
     let buffer = text.into_buffer();
-    assert_eq!(rt; *buffer.pre_context(), ['g', 'f', 'e', 'd', 'c']);
-    assert_eq!(rt; *buffer.post_context(), ['h', 'i']);
+    assert_eq!(rt; buffer.pre_context(), ['g', 'f', 'e', 'd', 'c'].as_slice());
+    assert_eq!(rt; buffer.post_context(), ['h', 'i'].as_slice());
     assert_eq!(rt; buffer.invisible(), Some(3));
     assert_eq!(rt; buffer.not_found_variation_selector(), Some(4));
     Ok(())

@@ -174,7 +174,6 @@ impl UnicodeBuffer {
     }
 
     /// Gives the characters the clusters 0, 1, 2 and so on; those past the greatest number have that one.
-    #[tactic(auto, using(crate::proofs::Characters::text_counted))]
     pub fn reset_clusters(&mut self)
         ensures { self.new ≡ with_counted self.old }
     {
