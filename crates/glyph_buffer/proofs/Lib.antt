@@ -10,3 +10,4 @@ pub mod Masked
 pub mod Known
 pub mod Ordered
 pub mod Marked
+pub mod Moved

@@ -7,6 +7,7 @@ mod limits;
 mod marks;
 mod masks;
 mod merges;
+mod moves;
 mod numbering;
 mod order;
 mod output;
