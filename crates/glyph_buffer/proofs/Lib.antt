@@ -11,4 +11,5 @@ pub mod Known
 pub mod Falling
 pub mod Ordered
 pub mod Marked
+pub mod Across
 pub mod Moved

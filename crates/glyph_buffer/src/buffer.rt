@@ -1,6 +1,7 @@
 ghost use Rattle.std.specs.Prelude.{◌≡◌};
 ghost use Rattle.glyph_buffer.specs.Sides.{empty_buffer};
 
+mod across;
 mod context;
 mod cursor;
 mod limits;
