@@ -8,5 +8,8 @@ pub mod Merged
 pub mod Replaced
 pub mod Masked
 pub mod Known
+pub mod Falling
 pub mod Ordered
 pub mod Marked
+pub mod Across
+pub mod Moved

@@ -1,30 +1,38 @@
 -- What new masks for all glyphs do to the sides.
 use Rattle.std.specs.Global.{Vec}
 use Rattle.std.specs.Prelude.{bit_and}
-use Rattle.std.proofs.Common.{ℕ, ◌≡◌, Bool, true, false, if◌then◌else◌, List, [], ◌∷◌, length, map, take, refl, ap, sym, ◌∙◌}
+use Rattle.std.specs.Int.RustNames.{bit_or}
+use Rattle.std.proofs.lemmas.Nat.{and_mask, and_shr, and_mod, and_le_l, or_shr}
+use Rattle.std.proofs.Common.{ℕ, ◌≡◌, ◌-◌, ◌*◌, ◌/◌, ◌%◌, arith, Bool, true, false, if◌then◌else◌, List, [], ◌∷◌, length, map, take, refl, ap, sym, ◌∙◌}
 use Rattle.std.proofs.lemmas.List.{map-append, take-map, drop-map, take_at, drop_at, take-append-drop, length-map}
 use Rattle.glyph_types.specs.declared.info.hb_glyph_info_t.{hb_glyph_info_t}
-use Rattle.glyph_lists.specs.Items.{strip, clusters, flags_of}
+use Rattle.glyph_lists.specs.Items.{item_of, strip, clusters, flags_of, glyph_flags, without_flags}
 use Rattle.glyph_buffer.specs.declared.buffer.hb_buffer_t.TheInside.{Inside}
 use Rattle.glyph_buffer.specs.Inside.{sides_of}
 use Rattle.glyph_buffer.specs.Sides.{Sides, all_glyphs, items_of}
-use Rattle.glyph_buffer.specs.Masks.{glyph_masked, item_masked, with_masks}
+use Rattle.glyph_buffer.specs.Masks.{bits_set, flags_set, glyph_masked, glyph_set, is_within, item_masked, item_set, items_set, with_masks, with_set_masks}
+use Rattle.glyph_buffer.specs.Merging.{with_glyphs}
 
 -- the side behind the cursor, whether or not an output is open
-behind_masked : (is_open : Bool) (m n : ℕ) (out info : List hb_glyph_info_t)
-    → (if is_open then map (glyph_masked m) out else take n (map (glyph_masked m) info)) ≡ map (glyph_masked m) (if is_open then out else take n info)
-behind_masked true m n out info = refl
-behind_masked false m n out info = take-map (glyph_masked m) n info
+behind_mapped : (f : hb_glyph_info_t → hb_glyph_info_t) (is_open : Bool) (n : ℕ) (out info : List hb_glyph_info_t)
+    → (if is_open then map f out else take n (map f info)) ≡ map f (if is_open then out else take n info)
+behind_mapped f true n out info = refl
+behind_mapped f false n out info = take-map f n info
 
-both_masked : (m : ℕ) (s : Sides) → with_masks m s ≡ record s { behind = map (glyph_masked m) s.behind; ahead = map (glyph_masked m) s.ahead }
-both_masked m s =
-    let whole = map-append (glyph_masked m) s.behind s.ahead in
-    let long = length-map s.behind (glyph_masked m) in
-    rw (whole, take_at (map (glyph_masked m) s.behind) (map (glyph_masked m) s.ahead) (length s.behind) long, drop_at (map (glyph_masked m) s.behind) (map (glyph_masked m) s.ahead) (length s.behind) long) refl
+both_mapped : (f : hb_glyph_info_t → hb_glyph_info_t) (s : Sides) → with_glyphs (map f (all_glyphs s)) s ≡ record s { behind = map f s.behind; ahead = map f s.ahead }
+both_mapped f s =
+    let whole = map-append f s.behind s.ahead in
+    let long = length-map s.behind f in
+    rw (whole, take_at (map f s.behind) (map f s.ahead) (length s.behind) long, drop_at (map f s.behind) (map f s.ahead) (length s.behind) long) refl
+
+-- each glyph was changed alike
+pub mapped_view : (f : hb_glyph_info_t → hb_glyph_info_t) (b : Inside) (info out : Vec hb_glyph_info_t) → info.items ≡ map f b.info.items → out.items ≡ map f b.out_info.items
+    → sides_of (record b { info = info; out_info = out }) ≡ with_glyphs (map f (all_glyphs (sides_of b))) (sides_of b)
+mapped_view f b info out i o = rw (i, o, behind_mapped f b.have_output b.idx b.out_info.items b.info.items, drop-map f b.idx b.info.items) (sym (both_mapped f (sides_of b)))
 
 pub masked_view : (b : Inside) (info out : Vec hb_glyph_info_t) (m : ℕ) → info.items ≡ map (glyph_masked m) b.info.items → out.items ≡ map (glyph_masked m) b.out_info.items
     → sides_of (record b { info = info; out_info = out }) ≡ with_masks m (sides_of b)
-masked_view b info out m i o = rw (i, o, behind_masked b.have_output m b.idx b.out_info.items b.info.items, drop-map (glyph_masked m) b.idx b.info.items) (sym (both_masked m (sides_of b)))
+masked_view b info out m i o = mapped_view (glyph_masked m) b info out i o
 
 all_masked : (m : ℕ) (s : Sides) → all_glyphs (with_masks m s) ≡ map (glyph_masked m) (all_glyphs s)
 all_masked m s = take-append-drop (length s.behind) (map (glyph_masked m) (all_glyphs s))
@@ -41,3 +49,61 @@ masked_clusters m s = ap clusters (all_masked m s) ∙ map_map (glyph_masked m) 
 
 pub masked_flags : (m : ℕ) (s : Sides) → flags_of (all_glyphs (with_masks m s)) ≡ map (λ (g : hb_glyph_info_t). bit_and m 7) (all_glyphs s)
 masked_flags m s = ap flags_of (all_masked m s) ∙ map_map (glyph_masked m) _ (all_glyphs s)
+
+-- bits that are cleared, above the three flags
+high_cleared : (m under : ℕ) → (m - bit_and m under) / 8 ≡ m / 8 - bit_and (m / 8) (under / 8)
+high_cleared m under =
+    let high = and_shr m under 3 in
+    let low = and_mod m under 3 in
+    let few = and_le_l (m % 8) (under % 8) in
+    let some = and_le_l (m / 8) (under / 8) in
+    omega (arith, high, low, few, some)
+
+high_set : (value under m : ℕ) → bits_set value under m / 8 ≡ bit_or (m / 8 - bit_and (m / 8) (under / 8)) (bit_and value under / 8)
+high_set value under m = or_shr (m - bit_and m under) (bit_and value under) 3 ∙ ap (λ n. bit_or n (bit_and value under / 8)) (high_cleared m under)
+
+without_flags_is : (m : ℕ) → without_flags m ≡ m / 8 * 8
+without_flags_is m = let low = and_mask m 3 in omega (arith, low)
+
+-- the three flags don't tell what the bits above them become
+pub set_above : (value under m : ℕ) → without_flags (bits_set value under m) ≡ without_flags (bits_set value under (without_flags m))
+set_above value under m =
+    let high : without_flags m / 8 ≡ m / 8 = (let is = without_flags_is m in omega (arith, is)) in
+    let same = high_set value under m ∙ ap (λ n. bit_or (n - bit_and n (under / 8)) (bit_and value under / 8)) (sym high) ∙ sym (high_set value under (without_flags m)) in
+    without_flags_is (bits_set value under m) ∙ ap (λ n. n * 8) same ∙ sym (without_flags_is (bits_set value under (without_flags m)))
+
+item_of_set : (value under start end : ℕ) (g : hb_glyph_info_t) → item_of (glyph_set value under start end g) ≡ (if is_within start end g.cluster then item_set value under (item_of g) else item_of g)
+item_of_set value under start end g =
+    elim (is_within start end g.cluster) as (λ t. item_of (if t then record g { mask = bits_set value under g.mask } else g) ≡ (if t then item_set value under (item_of g) else item_of g))
+    [ true ↦ rw (set_above value under g.mask) refl | false ↦ refl ]
+
+strip_set : (value under start end : ℕ) (gs : List hb_glyph_info_t) → strip (map (glyph_set value under start end) gs) ≡ items_set value under start end (clusters gs) (strip gs)
+strip_set value under start end [] = refl
+strip_set value under start end (g ∷ gs) = rw (item_of_set value under start end g, strip_set value under start end gs) refl
+
+cluster_of_set : (value under start end : ℕ) (g : hb_glyph_info_t) → (glyph_set value under start end g).cluster ≡ g.cluster
+cluster_of_set value under start end g = elim (is_within start end g.cluster) as (λ t. (if t then record g { mask = bits_set value under g.mask } else g).cluster ≡ g.cluster) [ true ↦ refl | false ↦ refl ]
+
+pub clusters_set : (value under start end : ℕ) (gs : List hb_glyph_info_t) → clusters (map (glyph_set value under start end) gs) ≡ clusters gs
+clusters_set value under start end [] = refl
+clusters_set value under start end (g ∷ gs) = rw (cluster_of_set value under start end g, clusters_set value under start end gs) refl
+
+flags_of_glyph : (value under start end : ℕ) (g : hb_glyph_info_t) → glyph_flags (glyph_set value under start end g) ≡ flags_set value under start end g
+flags_of_glyph value under start end g =
+    elim (is_within start end g.cluster) as (λ t. glyph_flags (if t then record g { mask = bits_set value under g.mask } else g) ≡ (if t then bit_and (bits_set value under g.mask) 7 else glyph_flags g)) [ true ↦ refl | false ↦ refl ]
+
+flags_of_set : (value under start end : ℕ) (gs : List hb_glyph_info_t) → flags_of (map (glyph_set value under start end) gs) ≡ map (flags_set value under start end) gs
+flags_of_set value under start end [] = refl
+flags_of_set value under start end (g ∷ gs) = rw (flags_of_glyph value under start end g, flags_of_set value under start end gs) refl
+
+all_set : (value under start end : ℕ) (s : Sides) → all_glyphs (with_set_masks value under start end s) ≡ map (glyph_set value under start end) (all_glyphs s)
+all_set value under start end s = take-append-drop (length s.behind) (map (glyph_set value under start end) (all_glyphs s))
+
+pub set_items : (value under start end : ℕ) (s : Sides) → items_of (with_set_masks value under start end s) ≡ items_set value under start end (clusters (all_glyphs s)) (items_of s)
+set_items value under start end s = ap strip (all_set value under start end s) ∙ strip_set value under start end (all_glyphs s)
+
+pub set_clusters : (value under start end : ℕ) (s : Sides) → clusters (all_glyphs (with_set_masks value under start end s)) ≡ clusters (all_glyphs s)
+set_clusters value under start end s = ap clusters (all_set value under start end s) ∙ clusters_set value under start end (all_glyphs s)
+
+pub set_flags : (value under start end : ℕ) (s : Sides) → flags_of (all_glyphs (with_set_masks value under start end s)) ≡ map (flags_set value under start end) (all_glyphs s)
+set_flags value under start end s = ap flags_of (all_set value under start end s) ∙ flags_of_set value under start end (all_glyphs s)

@@ -66,7 +66,7 @@ merge_order falls MonotoneGraphemes from to ns le h = subst (IsInOrder falls) (s
 merge_order falls MonotoneCharacters from to ns le h = subst (IsInOrder falls) (sym (merge_joins MonotoneCharacters from to ns le tt (ordered_from falls ns h))) (event_keeps_order (Join from to) falls ns h)
 merge_order falls Characters from to ns le h = h
 
-order_merged_at : (o : KnownOrder) (level : BufferClusterLevel) (from to : ℕ) (ns : List ℕ) → from ≤ to → HasOrder o ns → HasOrder o (merged_at level from to ns)
+pub order_merged_at : (o : KnownOrder) (level : BufferClusterLevel) (from to : ℕ) (ns : List ℕ) → from ≤ to → HasOrder o ns → HasOrder o (merged_at level from to ns)
 order_merged_at Unknown level from to ns le h = tt
 order_merged_at Rising level from to ns le h = merge_order false level from to ns le h
 order_merged_at Falling level from to ns le h = merge_order true level from to ns le h

@@ -1,7 +1,7 @@
 -- What is known of the order of clusters.
 use Rattle.std.specs.Prelude.{ℕ, ◌≡◌, ◌∷◌, Bool, true, false, List, Option, Some, None, slice_set}
 use Rattle.glyph_lists.specs.Events.{last_from}
-use Rattle.glyph_lists.specs.Order.{IsInOrder, IsRising}
+use Rattle.glyph_lists.specs.Order.{IsInOrder, IsFalling, IsRising}
 use Rattle.glyph_buffer.specs.declared.buffer.order.KnownOrder.{KnownOrder}
 use Rattle.glyph_buffer.specs.declared.buffer.order.KnownOrder.TheVariants.{Unknown, Rising, Falling}
 use Rattle.glyph_buffer.specs.declared.buffer.order.Lent.{Lent}
@@ -24,4 +24,9 @@ put_back (Some l) ns = slice_set ns l.at l.cluster
 -- a number and those behind it never fall, and n is the last of them
 pub record IsRisingTo (start : ℕ) (ns : List ℕ) (n : ℕ) : Type 0 where
   pub rises : IsRising (start ∷ ns)
+  pub last : last_from start ns ≡ n
+
+-- a number and those behind it never rise, and n is the last of them
+pub record IsFallingTo (start : ℕ) (ns : List ℕ) (n : ℕ) : Type 0 where
+  pub falls : IsFalling (start ∷ ns)
   pub last : last_from start ns ≡ n

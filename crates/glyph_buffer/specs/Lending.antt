@@ -1,5 +1,5 @@
 -- What a buffer is once a glyph or a place that it lent comes back.
-use Rattle.std.specs.Prelude.{ℕ, slice_set}
+use Rattle.std.specs.Prelude.{ℕ, ◌-◌, length, slice_set}
 use Rattle.std.specs.Borrow.{Lends, MutBor, Fml}
 use Rattle.glyph_types.specs.declared.info.hb_glyph_info_t.{hb_glyph_info_t}
 use Rattle.glyph_types.specs.declared.position.GlyphPosition.{GlyphPosition}
@@ -16,8 +16,15 @@ with_glyph_ahead i g s = record s { ahead = slice_set s.ahead i g }
 abbrev pub with_current_place : GlyphPosition → Sides → Sides
 with_current_place p s = record s { places = slice_set s.places s.read p }
 
+-- another glyph at the end of the output
+abbrev pub with_last_behind : hb_glyph_info_t → Sides → Sides
+with_last_behind g s = record s { behind = slice_set s.behind (length s.behind - 1) g }
+
 abbrev pub LendsGlyph : ℕ → MutBor Sides → MutBor hb_glyph_info_t → Fml
 LendsGlyph i s r = Lends the_row info_row s r (λ g. with_glyph_ahead i g s.now)
 
 abbrev pub LendsPlace : MutBor Sides → MutBor GlyphPosition → Fml
 LendsPlace s r = Lends the_row place_row s r (λ p. with_current_place p s.now)
+
+abbrev pub LendsLast : MutBor Sides → MutBor hb_glyph_info_t → Fml
+LendsLast s r = Lends the_row info_row s r (λ g. with_last_behind g s.now)

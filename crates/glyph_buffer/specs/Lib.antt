@@ -7,6 +7,7 @@ pub mod Masks
 pub mod Known
 pub mod Inside
 pub mod Text
+pub mod Moving
 pub mod Lending
 pub mod Appended
 pub mod Segment

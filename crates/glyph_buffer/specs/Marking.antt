@@ -40,3 +40,13 @@ concat_marked start end s = if asks_concat s then flagged_range 2 start end s el
 
 abbrev pub tatweel_marked : Option ℕ → Option ℕ → Sides → Sides
 tatweel_marked start end s = if asks_tatweel s then marked_range 4 start end s else marked_range 3 start end s
+
+-- a range that begins in the output and ends in the input
+abbrev pub marked_across : ℕ → Option ℕ → Option ℕ → Sides → Sides
+marked_across bits start end s = with_marked bits (start_or start) (place_of (end_or end s) s) s
+
+abbrev pub flagged_across : ℕ → Option ℕ → Option ℕ → Sides → Sides
+flagged_across bits start end s = with_flagged bits (start_or start) (place_of (end_or end s) s) s
+
+abbrev pub concat_marked_across : Option ℕ → Option ℕ → Sides → Sides
+concat_marked_across start end s = if asks_concat s then flagged_across 2 start end s else s

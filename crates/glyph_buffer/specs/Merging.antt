@@ -2,9 +2,11 @@
 use Rattle.std.specs.Prelude.{ℕ, ◌+◌, ◌-◌, ◌==◌, ◌||◌, Bool, if◌then◌else◌, List, [], ◌∷◌, ◌++◌, map, length, take, drop, Option}
 use Rattle.std.specs.Int.RustNames.{bit_or}
 use Rattle.glyph_types.specs.declared.info.hb_glyph_info_t.{hb_glyph_info_t}
-use Rattle.glyph_lists.specs.Items.{clusters}
-use Rattle.glyph_lists.specs.Events.{first_of, last_of, or}
-use Rattle.glyph_lists.specs.Glyphs.{glyphs_merged_at, is_marked_at}
+use Rattle.glyph_types.specs.declared.level.BufferClusterLevel.{BufferClusterLevel}
+use Rattle.glyph_types.specs.declared.level.BufferClusterLevel.TheVariants.{MonotoneGraphemes, MonotoneCharacters, Characters}
+use Rattle.glyph_lists.specs.Items.{clusters, flags_of}
+use Rattle.glyph_lists.specs.Events.{first_of, last_of, or, stretch}
+use Rattle.glyph_lists.specs.Glyphs.{flags_merged, glyphs_merged, glyphs_merged_at, is_marked_at}
 use Rattle.glyph_lists.specs.Replacements.{copied, glyph_numbered}
 use Rattle.glyph_buffer.specs.Sides.{Sides, all_glyphs, has_output_room}
 
@@ -23,6 +25,22 @@ telling_flags any flags = if any then bit_or flags 32 else flags
 -- the places from `from` up to before `to` merge; at the level that keeps characters apart they are marked
 abbrev pub with_merged : ℕ → ℕ → Sides → Sides
 with_merged from to s = record (with_glyphs (glyphs_merged_at s.level from to (all_glyphs s)) s) { scratch_flags = telling_flags (is_marked_at s.level from to (clusters (all_glyphs s))) s.scratch_flags }
+
+-- what a merge of such places within the output leaves: at the level that keeps characters apart nothing changes
+abbrev pub output_merged_at : BufferClusterLevel → ℕ → ℕ → List hb_glyph_info_t → List hb_glyph_info_t
+output_merged_at MonotoneGraphemes from to gs = glyphs_merged (stretch from to (clusters gs)) gs
+output_merged_at MonotoneCharacters from to gs = glyphs_merged (stretch from to (clusters gs)) gs
+output_merged_at Characters from to gs = gs
+
+-- the glyph flags after it
+abbrev pub flags_output_merged_at : BufferClusterLevel → ℕ → ℕ → List hb_glyph_info_t → List ℕ
+flags_output_merged_at MonotoneGraphemes from to gs = flags_merged (stretch from to (clusters gs)) gs
+flags_output_merged_at MonotoneCharacters from to gs = flags_merged (stretch from to (clusters gs)) gs
+flags_output_merged_at Characters from to gs = flags_of gs
+
+-- the places of the output from `from` up to before `to` merge
+abbrev pub with_output_merged : ℕ → ℕ → Sides → Sides
+with_output_merged from to s = with_glyphs (output_merged_at s.level from to (all_glyphs s)) s
 
 -- what new glyphs are copies of: the glyph at the cursor, past the end the last behind it
 abbrev pub model : Sides → Option hb_glyph_info_t

@@ -1,12 +1,14 @@
 ghost use Rattle.std.specs.Prelude.{◌≡◌};
 ghost use Rattle.glyph_buffer.specs.Sides.{empty_buffer};
 
+mod across;
 mod context;
 mod cursor;
 mod limits;
 mod marks;
 mod masks;
 mod merges;
+mod moves;
 mod numbering;
 mod order;
 mod output;

@@ -107,6 +107,19 @@ merged_back range first last gs f l o = by_range range first last f l (λ xs is 
     (λ n h. subst (Stands falls n) (sym end) (to_last (Stands falls) (stands_self falls) first n xs own h)) gs
     (λ n h. chain_across (Stands falls) last n (first ∷ xs) (clusters gs) whole last_among h)))))
 
+by_first_and_last : {P : Type 0} (range : List ℕ) (last : ℕ) → last_of range ≡ Some last → ((first : ℕ) → first_of range ≡ Some first → P) → P
+by_first_and_last [] last l k = cc
+by_first_and_last (x ∷ xs) last l k = k x refl
+
+-- the cluster that ends a range, before those behind it
+pub order_after : (range : List ℕ) (last : ℕ) (ns : List ℕ) → last_of range ≡ Some last → IsOrdered (range ++ ns) → IsOrdered (last ∷ ns)
+order_after range last ns l o = by_first_and_last range last l (λ first f. by_range range first last f l (λ xs is end. by_order (range ++ ns) o (λ falls chain.
+    let whole = subst (λ (ms : List ℕ). IsChain (Stands falls) (ms ++ ns)) is chain in
+    ordered_from falls (last ∷ ns) (subst (λ (n : ℕ). IsChain (Stands falls) (n ∷ ns)) (sym end) (last_back (Stands falls) first xs ns whole)))))
+
+pub renamed_after : (range : List ℕ) (last low : ℕ) (gs hs : List hb_glyph_info_t) → last_of range ≡ Some last → low ≡ least_number range → IsOrdered (range ++ clusters gs) → hs ≡ renamed last low gs → hs ≡ glyphs_merged range gs
+renamed_after range last low gs hs l is o e = by_first_and_last range last l (λ first f. e ∙ ap (λ n. renamed last n gs) is ∙ merged_back range first last gs f l o)
+
 pub joined_parts : (gs : List hb_glyph_info_t) (i j low first last : ℕ) (front range back : List hb_glyph_info_t) → i ≤ j → IsOrdered (clusters gs)
     → first_of (clusters (slice_range gs i j)) ≡ Some first → last_of (clusters (slice_range gs i j)) ≡ Some last → low ≡ least_number (clusters (slice_range gs i j))
     → front ≡ renamed first low (take i gs)

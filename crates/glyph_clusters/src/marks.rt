@@ -1,4 +1,4 @@
-ghost use Rattle.std.specs.Prelude.{◌≡◌, ◌==◌, ◌≤◌, not, length, map};
+ghost use Rattle.std.specs.Prelude.{◌≡◌, ◌==◌, ◌≤◌, ◌++◌, not, length, map};
 ghost use Rattle.std.specs.List.{list_any};
 ghost use Rattle.glyph_lists.specs.Items.{clusters};
 ghost use Rattle.glyph_lists.specs.Events.{stretch};
@@ -27,6 +27,38 @@ pub fn mark_within(
     let any = has_other_cluster(range, low);
     mark_outside(range, low, flags);
     any
+}
+
+/// Sets flags on the glyphs of two lists outside the least cluster of both; answers whether there are such.
+#[tactic(auto, using(crate::proofs::Across::told_across))]
+pub fn mark_across(
+    behind: &mut [hb_glyph_info_t],
+    ahead: &mut [hb_glyph_info_t],
+    flags: hb_mask_t,
+) -> bool
+    ensures behind { behind.new ≡ map (marked_outside flags (least_number (clusters behind.old ++ clusters ahead.old))) behind.old }
+    ensures ahead { ahead.new ≡ map (marked_outside flags (least_number (clusters behind.old ++ clusters ahead.old))) ahead.old }
+    ensures any { result ≡ tells_apart (clusters behind.old ++ clusters ahead.old) }
+{
+    let low = least_across(behind, ahead);
+    let any = has_other_cluster(behind, low) || has_other_cluster(ahead, low);
+    mark_outside(behind, low, flags);
+    mark_outside(ahead, low, flags);
+    any
+}
+
+/// The least cluster of two lists, 0 where there is no glyph.
+#[tactic(auto, using(crate::proofs::Across::least_second, crate::proofs::Across::least_first, crate::proofs::Across::least_both))]
+fn least_across(behind: &[hb_glyph_info_t], ahead: &[hb_glyph_info_t]) -> u32
+    ensures { result ≡ least_number (clusters behind.now ++ clusters ahead.now) }
+{
+    if behind.is_empty() {
+        return least_cluster(ahead);
+    }
+    if ahead.is_empty() {
+        return least_cluster(behind);
+    }
+    least_cluster(behind).min(least_cluster(ahead))
 }
 
 /// Whether one of the glyphs is outside the cluster.
@@ -71,8 +103,9 @@ pub fn flag_within(glyphs: &mut [hb_glyph_info_t], start: usize, end: usize, fla
     flag_all(&mut glyphs[start..end], flags);
 }
 
+/// Sets flags on all glyphs.
 #[tactic(auto, using(glyph_lists::specs::Lists::map_step))]
-fn flag_all(glyphs: &mut [hb_glyph_info_t], flags: hb_mask_t)
+pub fn flag_all(glyphs: &mut [hb_glyph_info_t], flags: hb_mask_t)
     ensures { glyphs.new ≡ map (flagged flags) glyphs.old }
 {
     for glyph in glyphs.iter_mut() {

@@ -43,6 +43,23 @@ pub fn merge_beside(glyphs: &mut [hb_glyph_info_t], range: &[hb_glyph_info_t], i
     }
 }
 
+/// The clusters that occur in `range` become the least of them, wherever they are among the glyphs. Where the range and
+/// these behind it are known to stand in order it costs the range and the run at the front.
+#[tactic(auto, using(crate::proofs::Joined::order_after))]
+pub fn merge_after(glyphs: &mut [hb_glyph_info_t], range: &[hb_glyph_info_t], in_order: bool)
+    requires { in_order ≡ true → IsOrdered (clusters range.now ++ clusters glyphs.old) }
+    ensures { glyphs.new ≡ glyphs_merged (clusters range.now) glyphs.old }
+{
+    if range.is_empty() {
+        return;
+    }
+    let low = least_cluster(range);
+    if !in_order {
+        return spread(glyphs, range, low);
+    }
+    rename_front(glyphs, last_cluster(range), low);
+}
+
 #[tactic(auto, using(crate::proofs::Joined::joined_parts, crate::proofs::Joined::order_front, crate::proofs::Joined::order_back))]
 fn merge_in_order(glyphs: &mut [hb_glyph_info_t], start: usize, end: usize)
     requires some { start < end }

@@ -2,10 +2,10 @@ ghost use Rattle.std.specs.Prelude.{◌≡◌, ◌<◌, ◌≤◌, ◌+◌, ◌-
 ghost use Rattle.std.specs.Borrow.{sem};
 ghost use Rattle.glyph_buffer.specs.Sides.{all_glyphs, with_output, moved_on, fits_next, fits_joined, synced, refused};
 ghost use Rattle.glyph_buffer.specs.Merging.{with_skipped};
-ghost use Rattle.glyph_buffer.specs.Lending.{LendsGlyph, LendsPlace};
+ghost use Rattle.glyph_buffer.specs.Lending.{LendsGlyph, LendsLast, LendsPlace};
 
 use super::hb_buffer_t;
-use super::order::Lent;
+use super::order::{KnownOrder, Lent};
 use glyph_types::info::hb_glyph_info_t;
 use glyph_types::position::GlyphPosition;
 use std::alloc::AllocError;
@@ -49,6 +49,18 @@ impl hb_buffer_t {
         ensures { slice_get self.now.behind (length self.now.behind - 1) ≡ Some result.now }
     {
         &self.out_info[self.out_info.len() - 1]
+    }
+
+    /// The last glyph of the output, to be written.
+    pub fn prev_mut(&mut self) -> &mut hb_glyph_info_t
+        requires open { self.old.is_open ≡ true }
+        requires there { 0 < length self.old.behind }
+        ensures value { slice_get self.old.behind (length self.old.behind - 1) ≡ Some result.now }
+        ensures* writes_back { sem 𝓛 (LendsLast self.entry result) }
+    {
+        let last = self.out_info.len() - 1;
+        self.order = KnownOrder::Unknown;
+        &mut self.out_info[last]
     }
 
     /// The glyphs of the output.

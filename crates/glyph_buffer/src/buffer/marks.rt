@@ -45,7 +45,7 @@ impl hb_buffer_t {
         ensures clusters { clusters (all_glyphs self.new) ≡ clusters (all_glyphs self.old) }
         ensures flags { flags_of (all_glyphs self.new) ≡ (if asks_concat self.old then flags_flagged 2 (place_of (start_or start) self.old) (place_of (end_or end self.old) self.old) (all_glyphs self.old) else flags_of (all_glyphs self.old)) }
     {
-        if self.flags.contains(BufferFlags::PRODUCE_UNSAFE_TO_CONCAT) {
+        if self.asks_concat() {
             let count = self.info.len();
             self.flag_range(start.unwrap_or(0), end.unwrap_or(count), UNSAFE_TO_CONCAT);
         }
@@ -75,6 +75,12 @@ impl hb_buffer_t {
         } else {
             self.unsafe_to_break(start, end);
         }
+    }
+
+    pub(super) fn asks_concat(&self) -> bool
+        ensures { result ≡ asks_concat self.now }
+    {
+        self.flags.contains(BufferFlags::PRODUCE_UNSAFE_TO_CONCAT)
     }
 
     fn mark_range(&mut self, start: usize, end: usize, flags: hb_mask_t)

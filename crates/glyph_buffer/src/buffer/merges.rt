@@ -95,7 +95,13 @@ fn merge_out(out: &mut Vec<hb_glyph_info_t>, range: &[hb_glyph_info_t], in_order
     merge_beside(out, range, in_order);
 }
 
-fn merge_in(info: &mut Vec<hb_glyph_info_t>, from: usize, start: usize, end: usize, in_order: bool)
+pub(super) fn merge_in(
+    info: &mut Vec<hb_glyph_info_t>,
+    from: usize,
+    start: usize,
+    end: usize,
+    in_order: bool,
+)
     requires begins { from ≤ start }
     requires ordered { start ≤ end }
     requires within { end ≤ vec_len info.old }

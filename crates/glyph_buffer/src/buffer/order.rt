@@ -3,7 +3,7 @@ ghost use Rattle.glyph_lists.specs.Items.{clusters};
 ghost use Rattle.glyph_lists.specs.Order.{IsRising, IsFalling};
 ghost use Rattle.glyph_lists.specs.Events.{last_of};
 ghost use Rattle.glyph_buffer.specs.Text.{added_text};
-ghost use Rattle.glyph_buffer.specs.Known.{HasOrder, IsRisingTo, is_known, put_back};
+ghost use Rattle.glyph_buffer.specs.Known.{HasOrder, IsFallingTo, IsRisingTo, is_known, put_back};
 
 use glyph_types::info::hb_glyph_info_t;
 
@@ -106,13 +106,24 @@ impl KnownOrder {
     }
 }
 
-/// Whether the clusters of two lists are seen to rise.
+/// Which way the clusters of two lists are seen to go.
 #[tactic(auto, using(crate::proofs::Known::rises_on))]
 fn order_of(behind: &[hb_glyph_info_t], ahead: &[hb_glyph_info_t]) -> KnownOrder
     ensures { HasOrder result (clusters behind.now ++ clusters ahead.now) }
 {
     match rising_end(0, behind) {
         Some(last) if rising_end(last, ahead).is_some() => KnownOrder::Rising,
+        _ => falling_order_of(behind, ahead),
+    }
+}
+
+/// Whether the clusters of two lists are seen to fall.
+#[tactic(auto, using(crate::proofs::Falling::falls_on))]
+fn falling_order_of(behind: &[hb_glyph_info_t], ahead: &[hb_glyph_info_t]) -> KnownOrder
+    ensures { HasOrder result (clusters behind.now ++ clusters ahead.now) }
+{
+    match falling_end(u32::MAX, behind) {
+        Some(last) if falling_end(last, ahead).is_some() => KnownOrder::Falling,
         _ => KnownOrder::Unknown,
     }
 }
@@ -125,6 +136,21 @@ fn rising_end(start: u32, glyphs: &[hb_glyph_info_t]) -> Option<u32>
     let mut last = start;
     for glyph in glyphs {
         if glyph.cluster < last {
+            return None;
+        }
+        last = glyph.cluster;
+    }
+    Some(last)
+}
+
+/// The last cluster, or `start` where there is none, if `start` and the clusters never rise.
+#[tactic(auto, using(crate::proofs::Falling::falling_to_next))]
+fn falling_end(start: u32, glyphs: &[hb_glyph_info_t]) -> Option<u32>
+    ensures { IfSome result (λ n. IsFallingTo start (clusters glyphs.now) n) }
+{
+    let mut last = start;
+    for glyph in glyphs {
+        if glyph.cluster > last {
             return None;
         }
         last = glyph.cluster;

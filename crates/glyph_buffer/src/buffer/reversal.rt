@@ -1,8 +1,11 @@
-ghost use Rattle.std.specs.Prelude.{◌≡◌, false, reverse};
+ghost use Rattle.std.specs.Prelude.{◌≡◌, ◌≤◌, false, length, reverse, vec_len};
 ghost use Rattle.glyph_lists.specs.Items.{clusters};
 ghost use Rattle.glyph_buffer.specs.Sides.{all_glyphs, flags_of, items_of, reversed, with_cleared_places};
+ghost use Rattle.glyph_buffer.specs.Moving.{range_reversed, with_range_reversed};
 
 use super::hb_buffer_t;
+use super::order::KnownOrder;
+use glyph_types::info::hb_glyph_info_t;
 use glyph_types::position::GlyphPosition;
 
 impl hb_buffer_t {
@@ -20,10 +23,44 @@ impl hb_buffer_t {
         self.pos.reverse();
     }
 
+    /// Turns the glyphs from `start` up to before `end` round, and their places with them.
+    pub fn reverse_range(&mut self, start: usize, end: usize)
+        requires closed { self.old.is_open ≡ false }
+        requires ordered { start ≤ end }
+        requires within { end ≤ length (all_glyphs self.old) }
+        ensures turned { self.new ≡ with_range_reversed start end self.old }
+        ensures items { items_of self.new ≡ range_reversed start end (items_of self.old) }
+        ensures clusters { clusters (all_glyphs self.new) ≡ range_reversed start end (clusters (all_glyphs self.old)) }
+        ensures flags { flags_of (all_glyphs self.new) ≡ range_reversed start end (flags_of (all_glyphs self.old)) }
+    {
+        self.order = KnownOrder::Unknown;
+        self.lent = None;
+        turn_glyphs(&mut self.info, start, end);
+        turn_places(&mut self.pos, start, end);
+    }
+
     /// Makes each place nothing.
     pub fn clear_positions(&mut self)
         ensures { self.new ≡ with_cleared_places self.old }
     {
         self.pos.fill(GlyphPosition::default());
     }
+}
+
+fn turn_glyphs(glyphs: &mut Vec<hb_glyph_info_t>, start: usize, end: usize)
+    requires ordered { start ≤ end }
+    requires within { end ≤ vec_len glyphs.old }
+    ensures items { glyphs.new.items ≡ range_reversed start end glyphs.old.items }
+    ensures len { vec_len glyphs.new ≡ vec_len glyphs.old }
+{
+    glyphs[start..end].reverse();
+}
+
+fn turn_places(places: &mut Vec<GlyphPosition>, start: usize, end: usize)
+    requires ordered { start ≤ end }
+    requires within { end ≤ vec_len places.old }
+    ensures items { places.new.items ≡ range_reversed start end places.old.items }
+    ensures len { vec_len places.new ≡ vec_len places.old }
+{
+    places[start..end].reverse();
 }

@@ -1,7 +1,8 @@
-ghost use Rattle.std.specs.Prelude.{◌≡◌, ◌+◌, ◌≤◌, ◌<◌, ◌^◌, ◌==◌, ◌++◌, ◌∷◌, [], length, false, true, Ok, OnOk, OnErr, IfOk, IsTrue, vec_len, vec_capacity};
+ghost use Rattle.std.specs.Prelude.{◌≡◌, ◌+◌, ◌≤◌, ◌<◌, ◌^◌, ◌==◌, ◌++◌, ◌∷◌, [], length, nat_le, false, true, Ok, OnOk, OnErr, IfOk, IsTrue, vec_len, vec_capacity};
 ghost use Rattle.std.specs.Str.{chars};
-ghost use Rattle.glyph_buffer.specs.Sides.{all_glyphs, with_added, has_room, zero_places};
+ghost use Rattle.glyph_buffer.specs.Sides.{all_glyphs, with_added, has_room, refused, zero_place, zero_places};
 ghost use Rattle.glyph_buffer.specs.Text.{added_glyph, added_text, fits_text, offsets_fit};
+ghost use Rattle.glyph_buffer.specs.Moving.{of_length, with_len, zero_glyph};
 ghost use Rattle.glyph_buffer.specs.Appended.{IsAppended};
 
 use super::hb_buffer_t;
@@ -67,6 +68,26 @@ impl hb_buffer_t {
         Ok(true)
     }
 
+    /// Cuts the list at n glyphs, or fills it up with glyphs and places of nothing; the cursor stands no further than its
+    /// end. It answers false, and changes nothing, where the list would have more than it may.
+    pub fn set_len(&mut self, n: usize) -> Result<bool, AllocError>
+        requires { self.old.is_open ≡ false }
+        ensures held { IfOk result (λ b. b ≡ nat_le n self.old.max_len) }
+        ensures set { result ≡ Ok true → self.new ≡ with_len n self.old }
+        ensures full { result ≡ Ok false → self.new ≡ refused self.old }
+        ensures err { OnErr result (self.new ≡ self.old) }
+    {
+        if n > self.max_len {
+            self.successful = false;
+            return Ok(false);
+        }
+        resize_lists(&mut self.info, &mut self.pos, n)?;
+        self.idx = self.idx.min(n);
+        self.order = KnownOrder::Unknown;
+        self.lent = None;
+        Ok(true)
+    }
+
     #[tactic(auto, using(crate::proofs::Appended::appended_view, crate::proofs::Appended::appended_sound))]
     /// Adds the characters of a text, each with the byte where it begins as its cluster; answers false, and adds
     /// nothing, where the list would have more than it may or a character begins past byte `u32::MAX`.
@@ -87,6 +108,23 @@ impl hb_buffer_t {
         self.lent = None;
         Ok(true)
     }
+}
+
+fn resize_lists(
+    glyphs: &mut Vec<hb_glyph_info_t>,
+    places: &mut Vec<GlyphPosition>,
+    n: usize,
+) -> Result<(), AllocError>
+    ensures glyphs_ok { OnOk result (glyphs.new.items ≡ of_length n zero_glyph glyphs.old.items) }
+    ensures places_ok { OnOk result (places.new.items ≡ of_length n zero_place places.old.items) }
+    ensures glyphs_err { OnErr result (glyphs.new.items ≡ glyphs.old.items) }
+    ensures places_err { OnErr result (places.new.items ≡ places.old.items) }
+{
+    let missing = n.saturating_sub(glyphs.len());
+    glyphs.reserve(missing)?;
+    places.resize(n, GlyphPosition::default())?;
+    glyphs.resize(n, hb_glyph_info_t::default()).unwrap();
+    Ok(())
 }
 
 fn added(codepoint: char, cluster: u32) -> hb_glyph_info_t

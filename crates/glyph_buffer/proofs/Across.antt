@@ -1,0 +1,223 @@
+-- What happens to a range that begins in the output, over both sides.
+use Rattle.std.specs.Global.{Vec}
+use Rattle.std.specs.Prelude.{slice_range}
+use Rattle.std.proofs.Common.{ℕ, ◌≡◌, ◌≤◌, ◌<◌, ◌+◌, ◌-◌, Bool, true, false, nat_lt, ◌⊎◌, inl, inr, Option, List, [], ◌∷◌, ◌++◌, length, map, take, drop, refl, arith, ap, sym, subst, append_assoc, ◌∙◌}
+use Rattle.std.proofs.lemmas.List.{map-append, take-append-drop, take-append-le, drop-append-le, take_at, drop_at, drop-drop, drop-map, take-map, length-map, length-append, length-drop}
+use Rattle.std.proofs.Math.Seq.{take-append-add, take-append_seam, drop-append-add, drop-append_seam}
+use Rattle.glyph_types.specs.declared.info.hb_glyph_info_t.{hb_glyph_info_t}
+use Rattle.glyph_types.specs.declared.level.BufferClusterLevel.TheVariants.{MonotoneGraphemes, MonotoneCharacters, Characters}
+use Rattle.glyph_types.specs.declared.level.BufferClusterLevel.{BufferClusterLevel}
+use Rattle.glyph_lists.specs.Items.{strip, clusters, flags_of}
+use Rattle.glyph_lists.specs.Events.{stretch}
+use Rattle.glyph_lists.specs.Merges.{least_number, merged, merged_at}
+use Rattle.glyph_lists.specs.Order.{IsOrdered}
+use Rattle.glyph_lists.specs.Glyphs.{flagged, glyphs_flagged, glyphs_marked, glyphs_merged, in_cluster, marked_outside, tells_apart}
+use Rattle.glyph_lists.specs.Lemmas.Drawn.{IsDrawn, drawn_second, drawn_drop}
+use Rattle.glyph_lists.specs.Lemmas.Events.{order_drawn}
+use Rattle.glyph_lists.specs.Lemmas.Glyphs.{cluster_marked, clusters_merged, cut_out, flags_of_merged, stretch_is, strip_merged}
+use Rattle.glyph_lists.specs.Lemmas.Merges.{chain_left}
+use Rattle.glyph_buffer.specs.declared.buffer.hb_buffer_t.TheInside.{Inside}
+use Rattle.glyph_buffer.specs.declared.buffer.order.KnownOrder.{KnownOrder}
+use Rattle.glyph_buffer.specs.declared.buffer.order.Lent.{Lent}
+use Rattle.glyph_buffer.specs.Inside.{sides_of}
+use Rattle.glyph_buffer.specs.Known.{HasOrder}
+use Rattle.glyph_buffer.specs.Sides.{Sides, all_glyphs, items_of}
+use Rattle.glyph_buffer.specs.Merging.{flags_output_merged_at, output_merged_at, place_of, telling_flags, with_glyphs, with_output_merged}
+use Rattle.glyph_buffer.specs.Marking.{with_marked, with_flagged}
+use Rattle.glyph_buffer.proofs.Merged.{ahead_known}
+use Rattle.glyph_buffer.proofs.Ordered.{known_ahead, known_back, order_merged_at}
+
+-- a range that goes over the end of the first of two lists
+slice_across : {X : Type 0} (xs ys : List X) (start n : ℕ) → start ≤ length xs → slice_range (xs ++ ys) start (length xs + n) ≡ drop start xs ++ take n ys
+slice_across xs ys start n le =
+    let long = length-drop start xs in
+    let wide : length xs + n - start ≡ length (drop start xs) + n = omega (arith, long, le) in
+    rw (drop-append-le start xs ys le, wide) (take-append-add (drop start xs) ys n)
+
+stretch_across : (xs ys : List hb_glyph_info_t) (start n : ℕ) → start ≤ length xs → stretch start (length xs + n) (clusters (xs ++ ys)) ≡ clusters (drop start xs) ++ clusters (take n ys)
+stretch_across xs ys start n le =
+    let cluster_of : hb_glyph_info_t → ℕ = λ g. g.cluster in
+    stretch_is (xs ++ ys) start (length xs + n) ∙ ap clusters (slice_across xs ys start n le) ∙ map-append cluster_of (drop start xs) (take n ys)
+
+-- each glyph of such a range is changed alike
+changed_across : (f : hb_glyph_info_t → hb_glyph_info_t) (xs ys : List hb_glyph_info_t) (start n : ℕ) → start ≤ length xs
+    → take start (xs ++ ys) ++ map f (slice_range (xs ++ ys) start (length xs + n)) ++ drop (length xs + n) (xs ++ ys) ≡ (take start xs ++ map f (drop start xs)) ++ (map f (take n ys) ++ drop n ys)
+changed_across f xs ys start n le =
+    rw (slice_across xs ys start n le, take-append-le start xs ys le, drop-append-add xs ys n, map-append f (drop start xs) (take n ys))
+    (ap (λ zs. zs ++ drop n ys) (sym (append_assoc (take start xs) (map f (drop start xs)) (map f (take n ys)))) ∙ append_assoc (take start xs ++ map f (drop start xs)) (map f (take n ys)) (drop n ys))
+
+-- other glyphs on both sides of an open buffer
+both_view : (b : Inside) (info out : Vec hb_glyph_info_t) (order : KnownOrder) (lent : Option Lent) (flags : ℕ) (gs : List hb_glyph_info_t) → b.have_output ≡ true → length out.items ≡ length b.out_info.items
+    → gs ≡ out.items ++ drop b.idx info.items
+    → sides_of (record b { info = info; out_info = out; scratch_flags = flags; order = order; lent = lent }) ≡ record (with_glyphs gs (sides_of b)) { scratch_flags = flags }
+both_view b info out order lent flags gs h long e =
+    rw (h, e, take_at out.items (drop b.idx info.items) (length b.out_info.items) long, drop_at out.items (drop b.idx info.items) (length b.out_info.items) long) refl
+
+changed_length : (f : hb_glyph_info_t → hb_glyph_info_t) (xs : List hb_glyph_info_t) (start : ℕ) → length (take start xs ++ map f (drop start xs)) ≡ length xs
+changed_length f xs start =
+    let whole = ap length (take-append-drop start xs) in
+    omega (arith, whole, length-append (take start xs) (drop start xs), length-append (take start xs) (map f (drop start xs)), length-map (drop start xs) f)
+
+ahead_is : (gs : List hb_glyph_info_t) (from end : ℕ) → from ≤ end → drop end gs ≡ drop (end - from) (drop from gs)
+ahead_is gs from end le = let there : from + (end - from) ≡ end = omega arith in sym (drop-drop (end - from) from gs ∙ ap (λ n. drop n gs) there)
+
+pub marked_across_view : (b : Inside) (info out : Vec hb_glyph_info_t) (order : KnownOrder) (lent : Option Lent) (bits start end flags : ℕ) → b.have_output ≡ true → start ≤ length b.out_info.items → b.idx ≤ end
+    → out.items ≡ take start b.out_info.items ++ map (marked_outside bits (least_number (clusters (drop start b.out_info.items) ++ clusters (slice_range b.info.items b.idx end)))) (drop start b.out_info.items)
+    → drop b.idx info.items ≡ map (marked_outside bits (least_number (clusters (drop start b.out_info.items) ++ clusters (slice_range b.info.items b.idx end)))) (slice_range b.info.items b.idx end) ++ drop end b.info.items
+    → flags ≡ telling_flags (tells_apart (clusters (drop start b.out_info.items) ++ clusters (slice_range b.info.items b.idx end))) b.scratch_flags
+    → sides_of (record b { info = info; out_info = out; scratch_flags = flags; order = order; lent = lent }) ≡ with_marked bits start (place_of end (sides_of b)) (sides_of b)
+marked_across_view b info out order lent bits start end flags h le begins o i f =
+    let behind = b.out_info.items in
+    let ahead = drop b.idx b.info.items in
+    let n = end - b.idx in
+    let range = stretch_across behind ahead start n le in
+    let mark = marked_outside bits (least_number (clusters (drop start behind) ++ clusters (take n ahead))) in
+    let place : place_of end (sides_of b) ≡ length behind + n = rw h (omega (arith, begins)) in
+    let all : all_glyphs (sides_of b) ≡ behind ++ ahead = rw h refl in
+    let long = ap length o ∙ changed_length mark behind start in
+    let glyphs : glyphs_marked bits start (length behind + n) (behind ++ ahead) ≡ out.items ++ drop b.idx info.items =
+    rw (range, o, i, ahead_is b.info.items b.idx end begins) (changed_across mark behind ahead start n le) in
+    both_view b info out order lent flags (glyphs_marked bits start (length behind + n) (behind ++ ahead)) h long glyphs
+    ∙ rw (place, all, range, f) refl
+
+pub flagged_across_view : (b : Inside) (info out : Vec hb_glyph_info_t) (order : KnownOrder) (lent : Option Lent) (bits start end flags : ℕ) → b.have_output ≡ true → start ≤ length b.out_info.items → b.idx ≤ end
+    → out.items ≡ take start b.out_info.items ++ map (flagged bits) (drop start b.out_info.items)
+    → drop b.idx info.items ≡ map (flagged bits) (slice_range b.info.items b.idx end) ++ drop end b.info.items
+    → flags ≡ telling_flags (nat_lt start (length b.out_info.items + (end - b.idx))) b.scratch_flags
+    → sides_of (record b { info = info; out_info = out; scratch_flags = flags; order = order; lent = lent }) ≡ with_flagged bits start (place_of end (sides_of b)) (sides_of b)
+flagged_across_view b info out order lent bits start end flags h le begins o i f =
+    let behind = b.out_info.items in
+    let ahead = drop b.idx b.info.items in
+    let n = end - b.idx in
+    let place : place_of end (sides_of b) ≡ length behind + n = rw h (omega (arith, begins)) in
+    let all : all_glyphs (sides_of b) ≡ behind ++ ahead = rw h refl in
+    let long = ap length o ∙ changed_length (flagged bits) behind start in
+    let glyphs : glyphs_flagged bits start (length behind + n) (behind ++ ahead) ≡ out.items ++ drop b.idx info.items =
+    rw (o, i, ahead_is b.info.items b.idx end begins) (changed_across (flagged bits) behind ahead start n le) in
+    both_view b info out order lent flags (glyphs_flagged bits start (length behind + n) (behind ++ ahead)) h long glyphs
+    ∙ rw (place, all, f) refl
+
+pub place_within : (start end : ℕ) (s : Sides) → start ≤ length s.behind → s.read ≤ end → start ≤ place_of end s
+place_within start end s le begins = omega arith
+
+-- a range of the first of two lists stands in order before the second
+stays_so : {xs ys : List ℕ} → IsDrawn xs ys → IsOrdered xs → IsOrdered ys
+stays_so d o = elim o [ inl rises ↦ inl (order_drawn false d rises) | inr falls ↦ inr (order_drawn true d falls) ]
+
+pub range_ordered : (out : List hb_glyph_info_t) (ns : List ℕ) (start end : ℕ) → start ≤ end → IsOrdered (clusters out ++ ns) → IsOrdered (clusters (slice_range out start end) ++ ns)
+range_ordered out ns start end le o =
+    let cluster_of : hb_glyph_info_t → ℕ = λ g. g.cluster in
+    let front = clusters (take start out) in
+    let range = clusters (slice_range out start end) in
+    let back = clusters (drop end out) in
+    let cut : clusters out ≡ front ++ (range ++ back) = ap clusters (sym (cut_out start end out le)) ∙ map-append cluster_of (take start out ++ slice_range out start end) (drop end out) ∙ ap (λ ns. ns ++ back) (map-append cluster_of (take start out) (slice_range out start end)) ∙ append_assoc front range back in
+    let whole : clusters out ++ ns ≡ front ++ (range ++ (back ++ ns)) = ap (λ ms. ms ++ ns) cut ∙ append_assoc front (range ++ back) ns ∙ ap (λ ms. front ++ ms) (append_assoc range back ns) in
+    let near = ahead_known front (range ++ (back ++ ns)) (subst IsOrdered whole o) in
+    subst (λ ms. IsOrdered (range ++ ms)) (drop_at back ns (length back) refl) (stays_so (drawn_second range (drawn_drop (length back) (back ++ ns))) near)
+
+pub front_ordered : (xs ys : List ℕ) → IsOrdered (xs ++ ys) → IsOrdered xs
+front_ordered xs ys o = elim o [ inl rises ↦ inl (chain_left (λ m n. m ≤ n) xs ys rises) | inr falls ↦ inr (chain_left (λ m n. n ≤ m) xs ys falls) ]
+
+-- what is seen of each glyph stays where a change of glyphs keeps it
+seen_across : (f : hb_glyph_info_t → hb_glyph_info_t) → ((g : hb_glyph_info_t) → (f g).cluster ≡ g.cluster) → (gs : List hb_glyph_info_t) → clusters (map f gs) ≡ clusters gs
+seen_across f same [] = refl
+seen_across f same (g ∷ gs) = rw (same g, seen_across f same gs) refl
+
+order_changed : (o : KnownOrder) (f : hb_glyph_info_t → hb_glyph_info_t) → ((g : hb_glyph_info_t) → (f g).cluster ≡ g.cluster) → (out info new_out new_info : List hb_glyph_info_t) (start from end : ℕ) → from ≤ end
+    → new_out ≡ take start out ++ map f (drop start out) → drop from new_info ≡ map f (slice_range info from end) ++ drop end info
+    → HasOrder o (clusters out ++ drop from (clusters info)) → HasOrder o (clusters new_out ++ drop from (clusters new_info))
+order_changed o f same out info new_out new_info start from end le output input h =
+    let cluster_of : hb_glyph_info_t → ℕ = λ g. g.cluster in
+    let behind : clusters new_out ≡ clusters out = ap clusters output ∙ map-append cluster_of (take start out) (map f (drop start out)) ∙ ap (λ ns. clusters (take start out) ++ ns) (seen_across f same (drop start out)) ∙ sym (map-append cluster_of (take start out) (drop start out)) ∙ ap clusters (take-append-drop start out) in
+    let rest : slice_range info from end ++ drop end info ≡ drop from info = ap (λ gs. slice_range info from end ++ gs) (ahead_is info from end le) ∙ take-append-drop (end - from) (drop from info) in
+    let ahead : clusters (drop from new_info) ≡ clusters (drop from info) = ap clusters input ∙ map-append cluster_of (map f (slice_range info from end)) (drop end info) ∙ ap (λ ns. ns ++ clusters (drop end info)) (seen_across f same (slice_range info from end)) ∙ sym (map-append cluster_of (slice_range info from end) (drop end info)) ∙ ap clusters rest in
+    known_back o new_out new_info from from refl (rw (behind, ahead) (known_ahead o out info from from refl h))
+
+pub order_marked_across : (o : KnownOrder) (bits low : ℕ) (out info new_out new_info : List hb_glyph_info_t) (start from end : ℕ) → from ≤ end
+    → new_out ≡ take start out ++ map (marked_outside bits low) (drop start out) → drop from new_info ≡ map (marked_outside bits low) (slice_range info from end) ++ drop end info
+    → HasOrder o (clusters out ++ drop from (clusters info)) → HasOrder o (clusters new_out ++ drop from (clusters new_info))
+order_marked_across o bits low out info new_out new_info start from end le output input h = order_changed o (marked_outside bits low) (cluster_marked bits low) out info new_out new_info start from end le output input h
+
+pub order_flagged_across : (o : KnownOrder) (bits : ℕ) (out info new_out new_info : List hb_glyph_info_t) (start from end : ℕ) → from ≤ end
+    → new_out ≡ take start out ++ map (flagged bits) (drop start out) → drop from new_info ≡ map (flagged bits) (slice_range info from end) ++ drop end info
+    → HasOrder o (clusters out ++ drop from (clusters info)) → HasOrder o (clusters new_out ++ drop from (clusters new_info))
+order_flagged_across o bits out info new_out new_info start from end le output input h = order_changed o (flagged bits) (λ g. refl) out info new_out new_info start from end le output input h
+
+-- a range within the first of two lists
+stretch_first : (xs ys : List hb_glyph_info_t) (start end : ℕ) → start ≤ end → end ≤ length xs → stretch start end (clusters (xs ++ ys)) ≡ stretch start end (clusters xs)
+stretch_first xs ys start end le within =
+    let long = length-drop start xs in
+    let few : end - start ≤ length (drop start xs) = omega (arith, long) in
+    let inner : slice_range (xs ++ ys) start end ≡ slice_range xs start end = rw (drop-append-le start xs ys (omega (arith, le, within))) (take-append-le (end - start) (drop start xs) ys few) in
+    stretch_is (xs ++ ys) start end ∙ ap clusters inner ∙ sym (stretch_is xs start end)
+
+both_merged : (xs ys : List hb_glyph_info_t) (start end : ℕ) → start ≤ end → end ≤ length xs
+    → glyphs_merged (stretch start end (clusters (xs ++ ys))) (xs ++ ys) ≡ glyphs_merged (stretch start end (clusters xs)) xs ++ glyphs_merged (stretch start end (clusters xs)) ys
+both_merged xs ys start end le within =
+    let range = stretch start end (clusters xs) in
+    rw (stretch_first xs ys start end le within) (map-append (λ (g : hb_glyph_info_t). in_cluster (merged range g.cluster) g) xs ys)
+
+pub output_merged_view : (b : Inside) (info out : Vec hb_glyph_info_t) (order : KnownOrder) (lent : Option Lent) (start end : ℕ) → b.have_output ≡ true → start ≤ end → end ≤ length b.out_info.items
+    → out.items ≡ glyphs_merged (stretch start end (clusters b.out_info.items)) b.out_info.items → drop b.idx info.items ≡ glyphs_merged (stretch start end (clusters b.out_info.items)) (drop b.idx b.info.items)
+    → sides_of (record b { info = info; out_info = out; order = order; lent = lent }) ≡ with_glyphs (glyphs_merged (stretch start end (clusters (all_glyphs (sides_of b)))) (all_glyphs (sides_of b))) (sides_of b)
+output_merged_view b info out order lent start end h le within o i =
+    let behind = b.out_info.items in
+    let ahead = drop b.idx b.info.items in
+    let range = stretch start end (clusters behind) in
+    let all : all_glyphs (sides_of b) ≡ behind ++ ahead = rw h refl in
+    let long = ap length o ∙ length-map behind (λ (g : hb_glyph_info_t). in_cluster (merged range g.cluster) g) in
+    let gs = glyphs_merged (stretch start end (clusters (behind ++ ahead))) (behind ++ ahead) in
+    let glyphs : gs ≡ out.items ++ drop b.idx info.items = rw (o, i) (both_merged behind ahead start end le within) in
+    both_view b info out order lent b.scratch_flags gs h long glyphs ∙ rw all refl
+
+pub order_output_merged : (o : KnownOrder) (start end : ℕ) (out info new_out new_info : List hb_glyph_info_t) (from : ℕ) → start ≤ end → end ≤ length out
+    → new_out ≡ glyphs_merged (stretch start end (clusters out)) out → drop from new_info ≡ glyphs_merged (stretch start end (clusters out)) (drop from info)
+    → HasOrder o (clusters out ++ drop from (clusters info)) → HasOrder o (clusters new_out ++ clusters (drop from new_info))
+order_output_merged o start end out info new_out new_info from le within output input h =
+    let cluster_of : hb_glyph_info_t → ℕ = λ g. g.cluster in
+    let ahead = drop from info in
+    let before : HasOrder o (clusters (out ++ ahead)) = rw (map-append cluster_of out ahead) (known_ahead o out info from from refl h) in
+    let after = order_merged_at o MonotoneGraphemes start end (clusters (out ++ ahead)) le before in
+    subst (HasOrder o) (sym (clusters_merged (stretch start end (clusters (out ++ ahead))) (out ++ ahead)) ∙ ap clusters (both_merged out ahead start end le within)
+    ∙ ap (λ gs. clusters (gs ++ glyphs_merged (stretch start end (clusters out)) ahead)) (sym output) ∙ ap (λ gs. clusters (new_out ++ gs)) (sym input) ∙ map-append cluster_of new_out (drop from new_info)) after
+
+all_output_merged : (start end : ℕ) (s : Sides) → all_glyphs (with_output_merged start end s) ≡ output_merged_at s.level start end (all_glyphs s)
+all_output_merged start end s = take-append-drop (length s.behind) (output_merged_at s.level start end (all_glyphs s))
+
+strip_output_merged : (level : BufferClusterLevel) (start end : ℕ) (gs : List hb_glyph_info_t) → strip (output_merged_at level start end gs) ≡ strip gs
+strip_output_merged MonotoneGraphemes start end gs = strip_merged (stretch start end (clusters gs)) gs
+strip_output_merged MonotoneCharacters start end gs = strip_merged (stretch start end (clusters gs)) gs
+strip_output_merged Characters start end gs = refl
+
+clusters_output_merged : (level : BufferClusterLevel) (start end : ℕ) (gs : List hb_glyph_info_t) → clusters (output_merged_at level start end gs) ≡ merged_at level start end (clusters gs)
+clusters_output_merged MonotoneGraphemes start end gs = clusters_merged (stretch start end (clusters gs)) gs
+clusters_output_merged MonotoneCharacters start end gs = clusters_merged (stretch start end (clusters gs)) gs
+clusters_output_merged Characters start end gs = refl
+
+flags_output_merged : (level : BufferClusterLevel) (start end : ℕ) (gs : List hb_glyph_info_t) → flags_of (output_merged_at level start end gs) ≡ flags_output_merged_at level start end gs
+flags_output_merged MonotoneGraphemes start end gs = flags_of_merged (stretch start end (clusters gs)) gs
+flags_output_merged MonotoneCharacters start end gs = flags_of_merged (stretch start end (clusters gs)) gs
+flags_output_merged Characters start end gs = refl
+
+pub output_items : (start end : ℕ) (s : Sides) → items_of (with_output_merged start end s) ≡ items_of s
+output_items start end s = ap strip (all_output_merged start end s) ∙ strip_output_merged s.level start end (all_glyphs s)
+
+pub output_clusters : (start end : ℕ) (s : Sides) → clusters (all_glyphs (with_output_merged start end s)) ≡ merged_at s.level start end (clusters (all_glyphs s))
+output_clusters start end s = ap clusters (all_output_merged start end s) ∙ clusters_output_merged s.level start end (all_glyphs s)
+
+pub output_flags : (start end : ℕ) (s : Sides) → flags_of (all_glyphs (with_output_merged start end s)) ≡ flags_output_merged_at s.level start end (all_glyphs s)
+output_flags start end s = ap flags_of (all_output_merged start end s) ∙ flags_output_merged s.level start end (all_glyphs s)
+
+-- where nothing is merged
+pub same_glyphs : (s : Sides) → with_glyphs (all_glyphs s) s ≡ s
+same_glyphs s = rw (take-append_seam s.behind s.ahead, drop-append_seam s.behind s.ahead) refl
+
+-- by the level
+pub output_left : (start end : ℕ) (s : Sides) → s.level ≡ Characters → s ≡ with_output_merged start end s
+output_left start end s e = sym (ap (λ l. with_glyphs (output_merged_at l start end (all_glyphs s)) s) e ∙ same_glyphs s)
+
+pub output_at : (start end : ℕ) (s : Sides) → (s.level ≡ MonotoneGraphemes) ⊎ (s.level ≡ MonotoneCharacters) → with_glyphs (glyphs_merged (stretch start end (clusters (all_glyphs s))) (all_glyphs s)) s ≡ with_output_merged start end s
+output_at start end s which = elim which [
+  | inl e ↦ sym (ap (λ l. with_glyphs (output_merged_at l start end (all_glyphs s)) s) e)
+  | inr e ↦ sym (ap (λ l. with_glyphs (output_merged_at l start end (all_glyphs s)) s) e)
+]

@@ -1,0 +1,17 @@
+use Rattle.std.proofs.Common.{ap, ◌∙◌}
+use Rattle.glyph_lists.specs.Items.{clusters, flags_of}
+use Rattle.glyph_buffer.specs.Sides.{Sides, all_glyphs, items_of}
+use Rattle.glyph_buffer.specs.Merging.{with_output_merged}
+use Rattle.glyph_buffer.proofs.Across.{output_at, output_items, output_clusters, output_flags}
+use Rattle.glyph_buffer.proofs.buffer.hb_buffer_t.merge_out_clusters.Goals as goal
+
+pub returns-in-MonotoneGraphemes : goal.returns-in-MonotoneGraphemes
+returns-in-MonotoneGraphemes c =
+    let s = c.args.self.now in
+    let merged = c.merge_output.ensures ∙ output_at c.args.start c.args.end s (rw (← c.self.view_is) c.in-MonotoneGraphemes.is) in
+    record {
+      merged = merged;
+      items = ap items_of merged ∙ output_items c.args.start c.args.end s;
+      clusters = ap (λ (t : Sides). clusters (all_glyphs t)) merged ∙ output_clusters c.args.start c.args.end s;
+      flags = ap (λ (t : Sides). flags_of (all_glyphs t)) merged ∙ output_flags c.args.start c.args.end s;
+    }

@@ -1,0 +1,226 @@
+ghost use Rattle.std.specs.Prelude.{◌≡◌, ◌+◌, ◌-◌, ◌≤◌, ◌<◌, ◌++◌, if◌then◌else◌, true, drop, length, map, nat_lt, slice_range, take, vec_len};
+ghost use Rattle.glyph_lists.specs.Items.{clusters, flags_of};
+ghost use Rattle.glyph_lists.specs.Events.{stretch};
+ghost use Rattle.glyph_lists.specs.Merges.{least_number, merged_at};
+ghost use Rattle.glyph_lists.specs.Order.{IsOrdered};
+ghost use Rattle.glyph_lists.specs.Glyphs.{flagged, flags_flagged, flags_marked, glyphs_merged, marked_outside, tells_apart};
+ghost use Rattle.glyph_buffer.specs.Sides.{all_glyphs, items_of};
+ghost use Rattle.glyph_buffer.specs.Merging.{flags_output_merged_at, place_of, with_glyphs, with_output_merged};
+ghost use Rattle.glyph_buffer.specs.Marking.{asks_concat, concat_marked_across, end_or, marked_across, start_or, with_flagged, with_marked};
+
+use super::hb_buffer_t;
+use super::merges::{merge_in, telling_flags};
+use glyph_clusters::marks::{flag_all, mark_across};
+use glyph_clusters::runs::merge_after;
+use glyph_types::info::{UNSAFE_TO_BREAK, UNSAFE_TO_CONCAT, hb_glyph_info_t, hb_mask_t};
+use glyph_types::level::BufferClusterLevel;
+
+// Ranges that begin in the output.
+impl hb_buffer_t {
+    /// Merges the clusters of the glyphs of the output from `start` up to before `end`, as `merge_clusters` does those of the
+    /// input; at the level that keeps characters apart it does nothing at all. It takes no memory.
+    pub fn merge_out_clusters(&mut self, start: usize, end: usize)
+        requires open { self.old.is_open ≡ true }
+        requires ordered { start ≤ end }
+        requires within { end ≤ length self.old.behind }
+        ensures merged { self.new ≡ with_output_merged start end self.old }
+        ensures items { items_of self.new ≡ items_of self.old }
+        ensures clusters { clusters (all_glyphs self.new) ≡ merged_at self.old.level start end (clusters (all_glyphs self.old)) }
+        ensures flags { flags_of (all_glyphs self.new) ≡ flags_output_merged_at self.old.level start end (all_glyphs self.old) }
+    {
+        match self.cluster_level {
+            BufferClusterLevel::Characters => {}
+            BufferClusterLevel::MonotoneGraphemes | BufferClusterLevel::MonotoneCharacters => {
+                self.merge_output(start, end);
+            }
+        }
+    }
+
+    fn merge_output(&mut self, start: usize, end: usize)
+        requires open { self.old.is_open ≡ true }
+        requires ordered { start ≤ end }
+        requires within { end ≤ length self.old.behind }
+        ensures { self.new ≡ with_glyphs (glyphs_merged (stretch start end (clusters (all_glyphs self.old))) (all_glyphs self.old)) self.old }
+    {
+        let order = self.order.settled(self.lent, &self.info);
+        let in_order = order.is_known();
+        let out = &mut self.out_info;
+        merge_range(out, &mut self.info, self.idx, start, end, in_order);
+        self.order = order.walked(&self.out_info, &self.info, self.idx);
+        self.lent = None;
+    }
+
+    /// Marks the glyphs from `start` of the output, over its end, up to before `end` of the input that are outside the least
+    /// cluster among them as unsafe to break and to concat. Where they are not told, the range begins at 0 and ends at the
+    /// length of the input.
+    pub fn unsafe_to_break_from_outbuffer(&mut self, start: Option<usize>, end: Option<usize>)
+        requires open { self.old.is_open ≡ true }
+        requires begins { start_or start ≤ length self.old.behind }
+        requires unread { self.old.read ≤ end_or end self.old }
+        requires within { end_or end self.old ≤ self.old.read + length self.old.ahead }
+        ensures marked { self.new ≡ marked_across 3 start end self.old }
+        ensures items { items_of self.new ≡ items_of self.old }
+        ensures clusters { clusters (all_glyphs self.new) ≡ clusters (all_glyphs self.old) }
+        ensures flags { flags_of (all_glyphs self.new) ≡ flags_marked 3 (start_or start) (place_of (end_or end self.old) self.old) (all_glyphs self.old) }
+    {
+        let count = self.info.len();
+        self.mark_both(
+            start.unwrap_or(0),
+            end.unwrap_or(count),
+            UNSAFE_TO_BREAK | UNSAFE_TO_CONCAT,
+        );
+    }
+
+    /// Marks the glyphs from `start` of the output, over its end, up to before `end` of the input as unsafe to concat, where
+    /// that is asked for.
+    pub fn unsafe_to_concat_from_outbuffer(&mut self, start: Option<usize>, end: Option<usize>)
+        requires open { self.old.is_open ≡ true }
+        requires begins { start_or start ≤ length self.old.behind }
+        requires unread { self.old.read ≤ end_or end self.old }
+        requires within { end_or end self.old ≤ self.old.read + length self.old.ahead }
+        ensures marked { self.new ≡ concat_marked_across start end self.old }
+        ensures items { items_of self.new ≡ items_of self.old }
+        ensures clusters { clusters (all_glyphs self.new) ≡ clusters (all_glyphs self.old) }
+        ensures flags { flags_of (all_glyphs self.new) ≡ (if asks_concat self.old then flags_flagged 2 (start_or start) (place_of (end_or end self.old) self.old) (all_glyphs self.old) else flags_of (all_glyphs self.old)) }
+    {
+        if self.asks_concat() {
+            let count = self.info.len();
+            self.flag_both(start.unwrap_or(0), end.unwrap_or(count), UNSAFE_TO_CONCAT);
+        }
+    }
+
+    fn mark_both(&mut self, start: usize, end: usize, flags: hb_mask_t)
+        requires open { self.old.is_open ≡ true }
+        requires glyph_flags { flags < 8 }
+        requires begins { start ≤ length self.old.behind }
+        requires unread { self.old.read ≤ end }
+        requires within { end ≤ self.old.read + length self.old.ahead }
+        ensures marked { self.new ≡ with_marked flags start (place_of end self.old) self.old }
+        ensures items { items_of self.new ≡ items_of self.old }
+        ensures clusters { clusters (all_glyphs self.new) ≡ clusters (all_glyphs self.old) }
+        ensures flags { flags_of (all_glyphs self.new) ≡ flags_marked flags start (place_of end self.old) (all_glyphs self.old) }
+    {
+        let order = self.order.settled(self.lent, &self.info);
+        let out = &mut self.out_info;
+        let any = mark_lists(out, &mut self.info, start, self.idx, end, flags);
+        self.order = order;
+        self.lent = None;
+        self.scratch_flags = telling_flags(any, self.scratch_flags);
+    }
+
+    fn flag_both(&mut self, start: usize, end: usize, flags: hb_mask_t)
+        requires open { self.old.is_open ≡ true }
+        requires glyph_flags { flags < 8 }
+        requires begins { start ≤ length self.old.behind }
+        requires unread { self.old.read ≤ end }
+        requires within { end ≤ self.old.read + length self.old.ahead }
+        ensures marked { self.new ≡ with_flagged flags start (place_of end self.old) self.old }
+        ensures items { items_of self.new ≡ items_of self.old }
+        ensures clusters { clusters (all_glyphs self.new) ≡ clusters (all_glyphs self.old) }
+        ensures flags { flags_of (all_glyphs self.new) ≡ flags_flagged flags start (place_of end self.old) (all_glyphs self.old) }
+    {
+        let order = self.order.settled(self.lent, &self.info);
+        let out = &mut self.out_info;
+        let any = flag_lists(out, &mut self.info, start, self.idx, end, flags);
+        self.order = order;
+        self.lent = None;
+        self.scratch_flags = telling_flags(any, self.scratch_flags);
+    }
+}
+
+/// Merges a range of the output on both lists, of which the input begins at `from`.
+#[tactic(auto, using(glyph_lists::specs::Lemmas::Glyphs::stretch_is, crate::proofs::Across::range_ordered, crate::proofs::Across::front_ordered))]
+fn merge_range(
+    out: &mut Vec<hb_glyph_info_t>,
+    info: &mut Vec<hb_glyph_info_t>,
+    from: usize,
+    start: usize,
+    end: usize,
+    in_order: bool,
+)
+    requires begins { from ≤ vec_len info.old }
+    requires ordered { start ≤ end }
+    requires within { end ≤ vec_len out.old }
+    requires known { in_order ≡ true → IsOrdered (clusters out.old.items ++ clusters (drop from info.old.items)) }
+    ensures output { out.new.items ≡ glyphs_merged (stretch start end (clusters out.old.items)) out.old.items }
+    ensures input { drop from info.new.items ≡ glyphs_merged (stretch start end (clusters out.old.items)) (drop from info.old.items) }
+    ensures input_len { vec_len info.new ≡ vec_len info.old }
+    ensures output_len { vec_len out.new ≡ vec_len out.old }
+{
+    merge_input(info, from, &out[start..end], in_order);
+    merge_in(out, 0, start, end, in_order);
+}
+
+fn merge_input(
+    info: &mut Vec<hb_glyph_info_t>,
+    from: usize,
+    range: &[hb_glyph_info_t],
+    in_order: bool,
+)
+    requires begins { from ≤ vec_len info.old }
+    requires known { in_order ≡ true → IsOrdered (clusters range.now ++ clusters (drop from info.old.items)) }
+    ensures items { drop from info.new.items ≡ glyphs_merged (clusters range.now) (drop from info.old.items) }
+    ensures len { vec_len info.new ≡ vec_len info.old }
+{
+    merge_ahead(info, from, range, in_order);
+}
+
+#[tactic(auto, using(crate::proofs::Merged::put_behind))]
+fn merge_ahead(
+    glyphs: &mut [hb_glyph_info_t],
+    from: usize,
+    range: &[hb_glyph_info_t],
+    in_order: bool,
+)
+    requires begins { from ≤ length glyphs.old }
+    requires known { in_order ≡ true → IsOrdered (clusters range.now ++ clusters (drop from glyphs.old)) }
+    ensures { drop from glyphs.new ≡ glyphs_merged (clusters range.now) (drop from glyphs.old) }
+{
+    let (_, ahead) = glyphs.split_at_mut(from);
+    merge_after(ahead, range, in_order);
+}
+
+/// Sets flags on the glyphs of the output from `start` on and those of the input from `from` up to before `end`, outside
+/// the least cluster among them; answers whether there are such.
+fn mark_lists(
+    out: &mut Vec<hb_glyph_info_t>,
+    info: &mut Vec<hb_glyph_info_t>,
+    start: usize,
+    from: usize,
+    end: usize,
+    flags: hb_mask_t,
+) -> bool
+    requires begins { start ≤ vec_len out.old }
+    requires ordered { from ≤ end }
+    requires within { end ≤ vec_len info.old }
+    ensures output { out.new.items ≡ take start out.old.items ++ map (marked_outside flags (least_number (clusters (drop start out.old.items) ++ clusters (slice_range info.old.items from end)))) (drop start out.old.items) }
+    ensures input { drop from info.new.items ≡ map (marked_outside flags (least_number (clusters (drop start out.old.items) ++ clusters (slice_range info.old.items from end)))) (slice_range info.old.items from end) ++ drop end info.old.items }
+    ensures any { result ≡ tells_apart (clusters (drop start out.old.items) ++ clusters (slice_range info.old.items from end)) }
+    ensures input_len { vec_len info.new ≡ vec_len info.old }
+    ensures output_len { vec_len out.new ≡ vec_len out.old }
+{
+    mark_across(&mut out[start..], &mut info[from..end], flags)
+}
+
+/// Sets flags on the same glyphs; answers whether there are such.
+fn flag_lists(
+    out: &mut Vec<hb_glyph_info_t>,
+    info: &mut Vec<hb_glyph_info_t>,
+    start: usize,
+    from: usize,
+    end: usize,
+    flags: hb_mask_t,
+) -> bool
+    requires begins { start ≤ vec_len out.old }
+    requires ordered { from ≤ end }
+    requires within { end ≤ vec_len info.old }
+    ensures output { out.new.items ≡ take start out.old.items ++ map (flagged flags) (drop start out.old.items) }
+    ensures input { drop from info.new.items ≡ map (flagged flags) (slice_range info.old.items from end) ++ drop end info.old.items }
+    ensures any { result ≡ nat_lt start (length out.old.items + (end - from)) }
+    ensures input_len { vec_len info.new ≡ vec_len info.old }
+    ensures output_len { vec_len out.new ≡ vec_len out.old }
+{
+    flag_all(&mut out[start..], flags);
+    flag_all(&mut info[from..end], flags);
+    start < out.len() || from < end
+}

@@ -1,0 +1,108 @@
+ghost use Rattle.std.specs.Prelude.{◌≡◌, ◌≤◌, ◌+◌, ◌-◌, ◌++◌, length, drop, nat_le, true, false, Ok, OnErr, IfOk, vec_len, vec_capacity};
+ghost use Rattle.glyph_buffer.specs.Sides.{all_glyphs, refused};
+ghost use Rattle.glyph_buffer.specs.Moving.{fits_moved, moved_to};
+
+use super::hb_buffer_t;
+use glyph_types::info::hb_glyph_info_t;
+use std::alloc::AllocError;
+
+impl hb_buffer_t {
+    /// Moves the cursor in front of the i-th of all glyphs. While an output is open, glyphs go from the one side to the other;
+    /// it answers false, and moves nothing, where a call before was refused for length, or the side that grows would have
+    /// more than it may.
+    pub fn move_to(&mut self, i: usize) -> Result<bool, AllocError>
+        requires { i ≤ length (all_glyphs self.old) }
+        ensures held { IfOk result (λ b. b ≡ fits_moved i self.old) }
+        ensures moved { result ≡ Ok true → self.new ≡ moved_to i self.old }
+        ensures kept { all_glyphs self.new ≡ all_glyphs self.old }
+        ensures full { result ≡ Ok false → self.new ≡ refused self.old }
+        ensures err { OnErr result (self.new ≡ self.old) }
+        ensures in_place { self.old.is_open ≡ false → result ≡ Ok true }
+    {
+        if !self.have_output {
+            self.idx = i;
+            return Ok(true);
+        }
+        if !self.successful {
+            return Ok(false);
+        }
+        let count = self.out_info.len();
+        if i > count {
+            return self.next_glyphs(i - count);
+        }
+        self.move_back(i)
+    }
+
+    /// Takes the glyphs of the output from the i-th on back in front of the input.
+    fn move_back(&mut self, i: usize) -> Result<bool, AllocError>
+        requires open { self.old.is_open ≡ true }
+        requires there { i ≤ length self.old.behind }
+        ensures held { IfOk result (λ b. b ≡ nat_le (length self.old.ahead + (length self.old.behind - i)) self.old.max_len) }
+        ensures moved { result ≡ Ok true → self.new ≡ moved_to i self.old }
+        ensures kept { all_glyphs self.new ≡ all_glyphs self.old }
+        ensures full { result ≡ Ok false → self.new ≡ refused self.old }
+        ensures err { OnErr result (self.new ≡ self.old) }
+    {
+        let rest = self.info.len() - self.idx;
+        if self.max_len - rest < self.out_info.len() - i {
+            self.successful = false;
+            return Ok(false);
+        }
+        let order = self.order.settled(self.lent, &self.info);
+        let first = put_in_front(&mut self.info, self.idx, &self.out_info[i..])?;
+        self.idx = first;
+        self.out_info.truncate(i);
+        self.order = order;
+        self.lent = None;
+        Ok(true)
+    }
+}
+
+/// Puts glyphs in front of those from a place on, in the room of what stood before them, and more where that is too little;
+/// answers where they begin.
+fn put_in_front(
+    info: &mut Vec<hb_glyph_info_t>,
+    at: usize,
+    glyphs: &[hb_glyph_info_t],
+) -> Result<usize, AllocError>
+    requires { at ≤ vec_len info.old }
+    ensures first { IfOk result (λ n. n ≡ at - length glyphs.now) }
+    ensures items { IfOk result (λ n. drop n info.new.items ≡ glyphs.now ++ drop at info.old.items) }
+    ensures len { IfOk result (λ n. vec_len info.new ≡ n + length glyphs.now + (vec_len info.old - at)) }
+    ensures err { OnErr result (info.new.items ≡ info.old.items) }
+{
+    if glyphs.len() <= at {
+        let first = at - glyphs.len();
+        write_range(info, first, at, glyphs);
+        return Ok(first);
+    }
+    info.reserve(glyphs.len() - at)?;
+    put_all_in_front(info, at, glyphs);
+    Ok(0)
+}
+
+fn write_range(
+    info: &mut Vec<hb_glyph_info_t>,
+    start: usize,
+    end: usize,
+    glyphs: &[hb_glyph_info_t],
+)
+    requires range { end ≡ start + length glyphs.now }
+    requires within { end ≤ vec_len info.old }
+    ensures items { drop start info.new.items ≡ glyphs.now ++ drop end info.old.items }
+    ensures len { vec_len info.new ≡ vec_len info.old }
+{
+    info[start..end].copy_from_slice(glyphs);
+}
+
+fn put_all_in_front(info: &mut Vec<hb_glyph_info_t>, at: usize, glyphs: &[hb_glyph_info_t])
+    requires within { at ≤ vec_len info.old }
+    requires room { vec_len info.old - at + length glyphs.now ≤ vec_capacity info.old }
+    ensures { info.new.items ≡ glyphs.now ++ drop at info.old.items }
+{
+    let rest = info.len() - at;
+    info.rotate_left(at);
+    info.truncate(rest);
+    info.extend_from_slice(glyphs).unwrap();
+    info.rotate_right(glyphs.len());
+}
