@@ -11,3 +11,4 @@ pub mod Moving
 pub mod Lending
 pub mod Appended
 pub mod Segment
+pub mod Laws

@@ -2,5 +2,6 @@
 #![tactic(auto)]
 
 pub mod buffer;
+pub mod laws;
 #[cfg(test)]
 mod tests;

@@ -186,3 +186,50 @@ fn knows_its_language(rt: HostRuntime) -> Result<(), Fail> {
     );
     Ok(())
 }
+
+#[test]
+fn prints_from_right_to_left(rt: HostRuntime) -> Result<(), Fail> {
+    let mut buffer = hb_buffer_t::new(rt.alloc());
+    assert!(rt; buffer.add('\u{1}', 0)?);
+    assert!(rt; buffer.add('\u{2}', 1)?);
+    buffer.cur_pos_mut().x_advance = 500;
+    assert!(rt; buffer.next_glyph()?);
+    buffer.cur_pos_mut().x_advance = 600;
+    buffer.reverse();
+    let glyphs = GlyphBuffer::from_buffer(buffer);
+    let text = glyphs.serialize(rt.alloc(), &NoNames, SerializeFlags::NO_GLYPH_NAMES)?;
+    assert_eq!(rt; text.as_str(), "2=1+600|1=0+500");
+    Ok(())
+}
+
+#[test]
+fn prints_a_ligature_of_characters_kept_apart(rt: HostRuntime) -> Result<(), Fail> {
+    let mut text = UnicodeBuffer::new(rt.alloc());
+    text.set_cluster_level(BufferClusterLevel::Characters);
+    assert!(rt; text.add('f', 10)?);
+    assert!(rt; text.add('i', 40)?);
+    let mut buffer = text.into_buffer();
+    assert!(rt; buffer.clear_output()?);
+    if buffer.len() - buffer.idx() == 2 {
+        assert!(rt; buffer.replace_glyphs(2, 1, &[7])?);
+    }
+    assert!(rt; buffer.sync()?);
+    if buffer.len() == 1 {
+        buffer.cur_pos_mut().x_advance = 520;
+    }
+    let glyphs = GlyphBuffer::from_buffer(buffer);
+    let text = glyphs.serialize(rt.alloc(), &NoNames, SerializeFlags::NO_GLYPH_NAMES)?;
+    assert_eq!(rt; text.as_str(), "7=10+520");
+    Ok(())
+}
+
+#[test]
+fn refuses_a_text_past_the_limit(rt: HostRuntime) -> Result<(), Fail> {
+    let mut buffer = hb_buffer_t::new(rt.alloc());
+    buffer.set_max_len(3);
+    assert!(rt; !buffer.push_str("abcd")?);
+    assert!(rt; buffer.is_empty());
+    assert!(rt; buffer.push_str("abc")?);
+    assert_eq!(rt; buffer.len(), 3);
+    Ok(())
+}
