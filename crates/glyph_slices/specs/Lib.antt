@@ -1,0 +1,6 @@
+pub mod Groups
+pub mod Runs
+pub mod Merging
+pub mod Deleting
+pub mod Laws
+pub mod Deleted
