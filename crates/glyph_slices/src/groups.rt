@@ -18,6 +18,20 @@ pub fn group_end<F: Fn(&hb_glyph_info_t, &hb_glyph_info_t) -> bool>(
     requires within { start < length glyphs.now }
     ensures { (joins : Glyph → Glyph → Bool) → Decides F.Fn group joins → result ≡ start + group_length joins (drop start glyphs.now) }
 {
+    end_of_group(glyphs, start, &group)
+}
+
+pub(crate) fn end_of_group<F: Fn(&hb_glyph_info_t, &hb_glyph_info_t) -> bool>(
+    glyphs: &[hb_glyph_info_t],
+    start: usize,
+    group: &F,
+) -> usize
+    requires callable { F.IsAlwaysCallable group.now }
+    requires within { start < length glyphs.now }
+    ensures end { (joins : Glyph → Glyph → Bool) → Decides F.Fn group.now joins → result ≡ start + group_length joins (drop start glyphs.now) }
+    ensures some { start < result }
+    ensures within { result ≤ length glyphs.now }
+{
     let mut end = start + 1;
     while end < glyphs.len() && group(&glyphs[end - 1], &glyphs[end]) {
         end += 1;

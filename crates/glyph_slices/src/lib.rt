@@ -5,3 +5,4 @@ pub mod deletion;
 pub mod groups;
 pub mod laws;
 pub mod merges;
+pub mod reversal;

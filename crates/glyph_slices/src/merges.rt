@@ -1,6 +1,7 @@
 ghost use Rattle.std.specs.Prelude.{◌≡◌, ◌≤◌, true, length};
 ghost use Rattle.glyph_lists.specs.Items.{clusters};
 ghost use Rattle.glyph_lists.specs.Order.{IsOrdered};
+ghost use Rattle.glyph_lists.specs.Readings.{IsMonotone};
 ghost use Rattle.glyph_lists.specs.Glyphs.{glyphs_merged_at, is_marked_at};
 
 use glyph_clusters::marks::mark_within;
@@ -30,7 +31,7 @@ pub fn merge_range(
     merge_at(glyphs, level, start, end, in_order)
 }
 
-fn merge_at(
+pub(crate) fn merge_at(
     glyphs: &mut [hb_glyph_info_t],
     level: BufferClusterLevel,
     start: usize,
@@ -39,7 +40,7 @@ fn merge_at(
 ) -> bool
     requires ordered { start ≤ end }
     requires within { end ≤ length glyphs.old }
-    requires known { in_order ≡ true → IsOrdered (clusters glyphs.old) }
+    requires known { in_order ≡ true → IsMonotone level → IsOrdered (clusters glyphs.old) }
     ensures merged { glyphs.new ≡ glyphs_merged_at level start end glyphs.old }
     ensures marked { result ≡ is_marked_at level start end (clusters glyphs.old) }
 {

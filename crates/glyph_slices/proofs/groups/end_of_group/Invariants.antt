@@ -2,7 +2,7 @@ use Rattle.std.proofs.Common.{◌≡◌, ◌+◌, ◌-◌, ◌<◌, ◌≤◌, l
 use Rattle.glyph_types.specs.declared.info.hb_glyph_info_t.{hb_glyph_info_t as Glyph}
 use Rattle.glyph_slices.specs.Groups.{Decides, joined_behind, group_length}
 use Rattle.glyph_slices.proofs.Neighbours.{no_glyph}
-use Rattle.glyph_slices.proofs.groups.group_end.Given as goal
+use Rattle.glyph_slices.proofs.groups.end_of_group.Given as goal
 
 -- what is left of the group behind the glyphs that were passed
 abbrev pub invariant-loop-end : goal.invariant-loop-end
