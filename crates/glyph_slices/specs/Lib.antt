@@ -3,5 +3,6 @@ pub mod Runs
 pub mod Merging
 pub mod Turning
 pub mod Deleting
+pub mod DeletionWalk
 pub mod Laws
 pub mod Deleted

@@ -1,9 +1,17 @@
-ghost use Rattle.std.specs.Prelude.{◌≡◌, ◌<◌, ◌≤◌, Some, length, map};
+ghost use Rattle.std.specs.Prelude.{◌≡◌, ◌<◌, ◌≤◌, Some, true, Bool, length, map, take};
+ghost use Rattle.glyph_types.specs.declared.info.hb_glyph_info_t.{hb_glyph_info_t as Glyph};
 ghost use Rattle.glyph_lists.specs.Items.{clusters};
 ghost use Rattle.glyph_lists.specs.Events.{last_of};
+ghost use Rattle.glyph_lists.specs.Order.{IsOrdered};
 ghost use Rattle.glyph_slices.specs.Deleting.{recast, end_recast, IsEndRun};
+ghost use Rattle.glyph_slices.specs.DeletionWalk.{Tells, all_passed};
 
+mod walk;
+
+use self::walk::{Walk, pass_glyph, settle};
 use glyph_types::info::{DEFINED, hb_glyph_info_t, hb_mask_t};
+use glyph_types::level::BufferClusterLevel;
+use glyph_types::position::GlyphPosition;
 
 /// Puts the glyph into the cluster; where it was in another, the three glyph flags of `mask` take the place of its own.
 pub fn set_cluster(info: &mut hb_glyph_info_t, cluster: u32, mask: hb_mask_t)
@@ -63,4 +71,35 @@ fn recast(glyph: hb_glyph_info_t, cluster: u32, mask: hb_mask_t) -> hb_glyph_inf
     let mut other = glyph;
     set_cluster(&mut other, cluster, mask);
     other
+}
+
+/// Deletes the glyphs that `filter` picks, from the left, and answers how many stay and whether a merge marked one. Those
+/// that stay stand at the front of both slices, places beside their glyphs; what is behind them has no meaning. A glyph
+/// is tested as it stands when the walk reaches it. It takes no memory, and linear time where all clusters are known to
+/// stand in order.
+pub fn delete_within<F: Fn(&hb_glyph_info_t) -> bool>(
+    glyphs: &mut [hb_glyph_info_t],
+    places: &mut [GlyphPosition],
+    level: BufferClusterLevel,
+    in_order: bool,
+    filter: F,
+) -> (usize, bool)
+    requires callable { F.IsAlwaysCallable filter }
+    requires placed { length places.old ≡ length glyphs.old }
+    requires known { in_order ≡ true → IsOrdered (clusters glyphs.old) }
+    ensures within { result.0 ≤ length glyphs.old }
+    ensures glyphs { (goes : Glyph → Bool) → Tells F.Fn filter goes → take result.0 glyphs.new ≡ (all_passed level goes glyphs.old places.old).kept }
+    ensures places { (goes : Glyph → Bool) → Tells F.Fn filter goes → take result.0 places.new ≡ (all_passed level goes glyphs.old places.old).kept_places }
+    ensures marked { (goes : Glyph → Bool) → Tells F.Fn filter goes → result.1 ≡ (all_passed level goes glyphs.old places.old).is_marked }
+{
+    let mut walk = Walk {
+        kept: 0,
+        due: None,
+        marked: false,
+    };
+    for at in 0..glyphs.len() {
+        walk = pass_glyph(glyphs, places, at, walk, level, in_order, &filter);
+    }
+    settle(glyphs, walk.kept, walk.due);
+    (walk.kept, walk.marked)
 }
