@@ -11,4 +11,3 @@ pub mod Moving
 pub mod Lending
 pub mod Appended
 pub mod Segment
-pub mod Wrappers

@@ -6,8 +6,8 @@ pub use feature_text::feature::{
 };
 pub use feature_text::text_parser::TextParser;
 pub use glyph_buffer::buffer::hb_buffer_t;
-pub use glyph_buffer::glyphs::GlyphBuffer;
-pub use glyph_buffer::unicode_buffer::UnicodeBuffer;
+pub use text_buffers::glyphs::GlyphBuffer;
+pub use text_buffers::unicode_buffer::UnicodeBuffer;
 pub use glyph_text::serialize;
 pub use glyph_types::cause::ShapeCause;
 pub use glyph_types::flags::{GlyphPropsFlags, SerializeFlags, UnicodeProps};

@@ -2,8 +2,8 @@ ghost use Rattle.std.specs.Prelude.{◌≡◌, ◌==◌, length, false, true, If
 ghost use Rattle.glyph_text.specs.Printed.{HasGlyphNumbers, asks_font, printed_text};
 ghost use Rattle.glyph_buffer.specs.Sides.{empty_buffer, all_glyphs};
 
-use crate::buffer::hb_buffer_t;
 use crate::unicode_buffer::UnicodeBuffer;
+use glyph_buffer::buffer::hb_buffer_t;
 use glyph_text::serialize;
 use glyph_types::flags::SerializeFlags;
 use glyph_types::info::hb_glyph_info_t;
@@ -20,7 +20,7 @@ pub struct GlyphBuffer {
 
 impl Model for GlyphBuffer {
     ghost use Rattle.glyph_buffer.specs.Sides.{Sides};
-    ghost use Rattle.glyph_buffer.specs.Wrappers.{IsClosed};
+    ghost use Rattle.text_buffers.specs.Wrappers.{IsClosed};
 
     ghost Value = { Sides };
 
@@ -62,7 +62,7 @@ impl GlyphBuffer {
     {
         let GlyphBuffer { mut buffer } = self;
         buffer.clear();
-        UnicodeBuffer::cleared(buffer)
+        UnicodeBuffer::from_buffer(buffer)
     }
 
     /// The glyphs of a buffer.

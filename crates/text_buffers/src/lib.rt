@@ -1,0 +1,7 @@
+// A text that is to be shaped, and the glyphs that came of one: the buffer as its users hold it.
+#![tactic(auto)]
+
+pub mod glyphs;
+#[cfg(test)]
+mod tests;
+pub mod unicode_buffer;
