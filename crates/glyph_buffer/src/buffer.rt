@@ -17,6 +17,8 @@ mod reversal;
 mod segment;
 mod settings;
 mod storage;
+#[cfg(test)]
+mod tests;
 
 use arrayvec::ArrayVec;
 use glyph_types::info::hb_glyph_info_t;

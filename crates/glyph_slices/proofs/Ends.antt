@@ -1,0 +1,58 @@
+-- The run at the end of a list.
+use Rattle.std.proofs.Common.{ℕ, suc, zero, ◌≡◌, ◌≢◌, ◌≤◌, ◌<◌, ◌+◌, ◌-◌, ◌==◌, ◌&&◌, Bool, true, false, if◌then◌else◌, List, [], ◌∷◌, ◌++◌, Option, Some, None, slice_get, length, map, take, drop, get_or, arith, refl, ap, sym, subst, ◌∙◌}
+use Rattle.std.specs.List.{list_all}
+use borrow.Rule.Slice.PartMut.{put_mid}
+use Rattle.std.proofs.lemmas.Grind.{common_steps}
+use Rattle.std.proofs.lemmas.List.{drop_more, drop_all, take_all, length-drop, length-map, append-nil}
+use Rattle.glyph_types.specs.declared.info.hb_glyph_info_t.{hb_glyph_info_t as Glyph}
+use Rattle.glyph_lists.specs.Items.{clusters}
+use Rattle.glyph_lists.specs.Events.{last_of}
+use Rattle.glyph_slices.specs.Deleting.{recast, end_recast_from, end_recast, IsEndRun}
+
+got_cluster : (gs : List Glyph) (i : ℕ) (d : Glyph) → i < length gs → slice_get (clusters gs) i ≡ Some (get_or gs i d).cluster
+got_cluster [] i d lt = absurd (omega arith)
+got_cluster (g ∷ gs) zero d lt = refl
+got_cluster (g ∷ gs) (suc i) d lt = got_cluster gs i d (omega arith)
+
+pub last_cluster_is : (gs : List Glyph) (d : Glyph) → 0 < length gs → last_of (clusters gs) ≡ Some (get_or gs (length gs - 1) d).cluster
+last_cluster_is gs d lt =
+    let cluster_of : Glyph → ℕ = λ g. g.cluster in
+    ap (λ n. slice_get (clusters gs) (n - 1)) (length-map gs cluster_of) ∙ got_cluster gs (length gs - 1) d (omega arith)
+
+one_fails : (p i : ℕ) (gs : List Glyph) (d : Glyph) → i < length gs → (get_or gs i d).cluster ≢ p → list_all (λ (k : Glyph). k.cluster == p) gs ≡ false
+one_fails p i [] d lt ne = absurd (omega arith)
+one_fails p zero (g ∷ gs) d lt ne =
+    let off : (g.cluster == p) ≡ false = grind (arith, common_steps, ne) in
+    rw off refl
+one_fails p (suc i) (g ∷ gs) d lt ne =
+    let rest = one_fails p i gs d (omega (arith, lt)) ne in
+    rw rest (elim (g.cluster == p) as (λ t. (t && false) ≡ false) [ true ↦ refl | false ↦ refl ])
+
+-- the run at the end of a list, recast
+pub end_parts : (p at : ℕ) (g : Glyph) (gs : List Glyph) → at ≤ length gs → IsEndRun p at gs → end_recast_from p g gs ≡ take at gs ++ map (recast g.cluster g.mask) (drop at gs)
+end_parts p zero g [] le run = refl
+end_parts p (suc i) g [] le run = refl
+end_parts p zero g (h ∷ hs) le run = rw run.all refl
+end_parts p (suc i) g (h ∷ hs) le run =
+    let off : list_all (λ (k : Glyph). k.cluster == p) (h ∷ hs) ≡ false = one_fails p i (h ∷ hs) h (omega (arith, le)) (run.first i h (omega arith)) in
+    let rest = end_parts p i g hs (omega (arith, le)) (record { all = run.all; first = λ j d e. run.first (suc j) d (omega (arith, e)) }) in
+    rw off (ap (λ ks. h ∷ ks) rest)
+
+pub end_put : (p at : ℕ) (g : Glyph) (gs range : List Glyph) → at ≤ length gs → last_of (clusters gs) ≡ Some p → IsEndRun p at gs → range ≡ map (recast g.cluster g.mask) (take (length gs - at) (drop at gs)) → put_mid at (length gs - at) gs range ≡ end_recast g gs
+end_put p at g gs range le last run e =
+    let few : length (drop at gs) ≤ length gs - at = omega (arith, length-drop at gs) in
+    let none : drop (length gs - at) (drop at gs) ≡ [] = drop_all (length gs - at) (drop at gs) few in
+    let all : take (length gs - at) (drop at gs) ≡ drop at gs = take_all (length gs - at) (drop at gs) few in
+    rw (last, e, none, all, append-nil (map (recast g.cluster g.mask) (drop at gs))) (sym (end_parts p at g gs le run))
+
+pub end_of_none : (g : Glyph) (gs : List Glyph) → length gs ≡ 0 → gs ≡ end_recast g gs
+end_of_none g [] e = refl
+end_of_none g (h ∷ hs) e = cc
+
+-- one glyph more of the cluster
+pub run_longer : (p at i : ℕ) (gs : List Glyph) (d : Glyph) → i + 1 ≡ at → at ≤ length gs → (get_or gs i d).cluster ≡ p → list_all (λ (k : Glyph). k.cluster == p) (drop at gs) ≡ true → list_all (λ (k : Glyph). k.cluster == p) (drop i gs) ≡ true
+run_longer p at i gs d one le e before =
+    let lt : i < length gs = omega arith in
+    let cut : drop i gs ≡ get_or gs i d ∷ drop at gs = drop_more gs i d lt ∙ ap (λ n. get_or gs i d ∷ drop n gs) one in
+    let same : ((get_or gs i d).cluster == p) ≡ true = grind (arith, common_steps, e) in
+    rw (cut, same) before

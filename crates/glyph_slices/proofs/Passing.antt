@@ -1,0 +1,162 @@
+-- A walk of deletions passes one glyph.
+use Rattle.std.proofs.Common.{ℕ, suc, zero, ◌≡◌, ◌≤◌, ◌<◌, ◌+◌, ◌-◌, ◌||◌, inl, inr, Bool, true, false, if◌then◌else◌, List, [], ◌∷◌, ◌++◌, Option, Some, None, length, map, take, drop, get_or, arith, refl, ap, sym, subst, ◌∙◌, append_assoc}
+use Rattle.std.proofs.lemmas.List.{drop_more, map-append, take-append-drop, drop-drop, length-take-le}
+use Rattle.std.proofs.Math.Seq.{drop-append-add}
+use Rattle.glyph_types.specs.declared.info.hb_glyph_info_t.{hb_glyph_info_t as Glyph}
+use Rattle.glyph_types.specs.declared.level.BufferClusterLevel.{BufferClusterLevel as Level}
+use Rattle.glyph_types.specs.declared.level.BufferClusterLevel.TheVariants.{MonotoneGraphemes, MonotoneCharacters, Characters}
+use Rattle.glyph_lists.specs.Items.{Place, clusters}
+use Rattle.glyph_lists.specs.Events.{Delete, first_of, last_of, is_number}
+use Rattle.glyph_lists.specs.Order.{IsInOrder, IsOrdered}
+use Rattle.glyph_lists.specs.Readings.{IsMonotone}
+use Rattle.glyph_lists.specs.Deletions.{deleted, deleted_alone}
+use Rattle.glyph_lists.specs.Lemmas.Deletions.{deletion_is_event, no_last}
+use Rattle.glyph_lists.specs.Lemmas.Events.{event_keeps_order}
+use Rattle.glyph_slices.specs.declared.deletion.walk.Walk.{Walk}
+use Rattle.glyph_slices.specs.Deleting.{Left, glyphs_deleted, deletion_marks}
+use Rattle.glyph_slices.specs.Deleted.{clusters_deleted}
+use Rattle.glyph_slices.specs.DeletionWalk.{Deletes, IsDue, IsWalk, Passed, all_passed, many_passed, settled, passed_at, passed_of, first_passed, with_glyph, without_glyph}
+use Rattle.glyph_slices.proofs.Neighbours.{no_glyph}
+
+pub or_false : (b : Bool) → (b || false) ≡ b
+or_false true = refl
+or_false false = refl
+
+pub behind_front : (at : ℕ) (gs ys : List Glyph) → at ≤ length gs → drop (at + 1) (take at gs ++ ys) ≡ drop 1 ys
+behind_front at gs ys le =
+    let long : length (take at gs) ≡ at = length-take-le at gs le in
+    ap (λ n. drop (n + 1) (take at gs ++ ys)) (sym long) ∙ drop-append-add (take at gs) ys 1
+
+order_at : (falls : Bool) (level : Level) (front : List ℕ) (n : ℕ) (back : List ℕ) → IsMonotone level → IsInOrder falls (front ++ n ∷ back) → IsInOrder falls (deleted level front n back)
+order_at falls level front n back mono o = subst (IsInOrder falls) (sym (deletion_is_event level falls front n back mono o)) (event_keeps_order (Delete (length front)) falls (front ++ n ∷ back) o)
+
+order_monotone : (level : Level) (front : List ℕ) (n : ℕ) (back : List ℕ) → IsMonotone level → IsOrdered (front ++ n ∷ back) → IsOrdered (deleted level front n back)
+order_monotone level front n back mono o = elim o [ inl rises ↦ inl (order_at false level front n back mono rises) | inr falls ↦ inr (order_at true level front n back mono falls) ]
+
+order_tail : (n : ℕ) (ns : List ℕ) → IsOrdered (n ∷ ns) → IsOrdered ns
+order_tail n ns o = elim o [ inl rises ↦ inl rises.1 | inr falls ↦ inr falls.1 ]
+
+-- a deletion keeps the order
+order_deleted : (level : Level) (front : List ℕ) (n : ℕ) (back : List ℕ) → IsOrdered (front ++ n ∷ back) → IsOrdered (deleted level front n back)
+order_deleted MonotoneGraphemes front n back o = order_monotone MonotoneGraphemes front n back tt o
+order_deleted MonotoneCharacters front n back o = order_monotone MonotoneCharacters front n back tt o
+order_deleted Characters front n back o = by_last (last_of front) refl
+  where
+    alike : (p : ℕ) → last_of front ≡ Some p → deleted MonotoneGraphemes front n back ≡ deleted Characters front n back
+    alike p e = rw e refl
+
+    none : front ≡ [] → deleted Characters front n back ≡ back
+    none e = rw e (elim (is_number (first_of back) n) as (λ t. (if t then back else back) ≡ back) [ true ↦ refl | false ↦ refl ])
+
+    by_last : (l : Option ℕ) → last_of front ≡ l → IsOrdered (deleted Characters front n back)
+    by_last (Some p) e = subst IsOrdered (alike p e) (order_monotone MonotoneGraphemes front n back tt o)
+    by_last None e =
+        let empty = no_last front e in
+        let all : IsOrdered (n ∷ back) = subst (λ (ms : List ℕ). IsOrdered (ms ++ n ∷ back)) empty o in
+        subst IsOrdered (sym (none empty)) (order_tail n back all)
+
+pub passed_without : (level : Level) (at : ℕ) (w v : Walk) (gs new : List Glyph) (ps : List Place) (g : Glyph) (back : List Glyph) (m : Bool)
+    → Deletes level (settled w.due (take w.kept gs)) (drop at gs) (settled v.due (take v.kept new)) (drop (at + 1) new) m → v.kept ≡ w.kept → v.marked ≡ (w.marked || m) → drop at gs ≡ g ∷ back
+    → passed_at (at + 1) v new ps ≡ without_glyph level (passed_at at w gs ps) g back
+passed_without level at w v gs new ps g back m gone kept marked e =
+    let one = gone.front_is g back e in
+    let two = gone.back_is g back e in
+    let three = marked ∙ ap (λ b. w.marked || b) (gone.marked_is g back e) in
+    let four : take v.kept ps ≡ take w.kept ps = ap (λ n. take n ps) kept in
+    let five : drop (at + 1) ps ≡ drop 1 (drop at ps) = sym (drop-drop 1 at ps) in
+    rw (one, two, three, four, five) refl
+
+pub walk_without : (level : Level) (in_order : Bool) (at : ℕ) (w v : Walk) (gs new : List Glyph) (m : Bool) → at < length gs
+    → Deletes level (settled w.due (take w.kept gs)) (drop at gs) (settled v.due (take v.kept new)) (drop (at + 1) new) m → v.kept ≡ w.kept → IsDue in_order v.due (take v.kept new) → IsWalk in_order at w gs → IsWalk in_order (at + 1) v new
+walk_without level in_order at w v gs new m lt gone kept due sound = record {
+  few = omega (arith, kept, sound.few);
+  due = due;
+  known = known;
+}
+  where
+    cut : drop at gs ≡ get_or gs at no_glyph ∷ drop (at + 1) gs
+    cut = drop_more gs at no_glyph lt
+
+    known : in_order ≡ true → IsOrdered (clusters (settled v.due (take v.kept new)) ++ clusters (drop (at + 1) new))
+    known sure =
+        let h = get_or gs at no_glyph in
+        let back = drop (at + 1) gs in
+        let before = settled w.due (take w.kept gs) in
+        let old : IsOrdered (clusters before ++ clusters (h ∷ back)) = subst (λ (hs : List Glyph). IsOrdered (clusters before ++ clusters hs)) cut (sound.known sure) in
+        let after = order_deleted level (clusters before) h.cluster (clusters back) old in
+        let seen : clusters (settled v.due (take v.kept new)) ++ clusters (drop (at + 1) new) ≡ deleted level (clusters before) h.cluster (clusters back) =
+        ap (λ hs. clusters hs ++ clusters (drop (at + 1) new)) (gone.front_is h back cut) ∙ ap (λ hs. clusters (glyphs_deleted level before h back).front ++ clusters hs) (gone.back_is h back cut) ∙ clusters_deleted level before h back in
+        subst IsOrdered (sym seen) after
+
+-- with none that stays before it
+pub front_deletes : (level : Level) (at : ℕ) (w : Walk) (gs new : List Glyph) (m : Bool) → w.kept ≡ 0 → Deletes level [] (drop at gs) [] (drop (at + 1) new) m → Deletes level (settled w.due (take w.kept gs)) (drop at gs) [] (drop (at + 1) new) m
+front_deletes level at w gs new m none gone = subst (λ (hs : List Glyph). Deletes level hs (drop at gs) [] (drop (at + 1) new) m) (sym empty) gone
+  where
+    nothing : (due : Option Glyph) → settled due [] ≡ []
+    nothing None = refl
+    nothing (Some d) = refl
+
+    empty : settled w.due (take w.kept gs) ≡ []
+    empty = ap (λ n. settled w.due (take n gs)) none ∙ nothing w.due
+
+pub passed_gone : (level : Level) (goes : Glyph → Bool) (at : ℕ) (w : Walk) (gs : List Glyph) (ps : List Place) (new : Passed) → at < length gs → goes (get_or gs at no_glyph) ≡ true
+    → ((g : Glyph) (back : List Glyph) → drop at gs ≡ g ∷ back → new ≡ without_glyph level (passed_at at w gs ps) g back) → new ≡ first_passed level goes (passed_at at w gs ps)
+passed_gone level goes at w gs ps new lt picked gone =
+    let g = get_or gs at no_glyph in
+    let back = drop (at + 1) gs in
+    let cut : drop at gs ≡ g ∷ back = drop_more gs at no_glyph lt in
+    let here : first_passed level goes (passed_at at w gs ps) ≡ passed_of level goes (passed_at at w gs ps) (g ∷ back) = ap (passed_of level goes (passed_at at w gs ps)) cut in
+    let next : passed_of level goes (passed_at at w gs ps) (g ∷ back) ≡ without_glyph level (passed_at at w gs ps) g back = ap (λ t. if t then without_glyph level (passed_at at w gs ps) g back else with_glyph (passed_at at w gs ps) g back) picked in
+    gone g back cut ∙ sym (here ∙ next)
+
+pub passed_kept : (level : Level) (goes : Glyph → Bool) (at : ℕ) (w v : Walk) (gs new : List Glyph) (ps places : List Place) → at < length gs → goes (get_or gs at no_glyph) ≡ false
+    → v ≡ record { kept = w.kept + 1; due = None; marked = w.marked }
+    → take (w.kept + 1) new ≡ settled w.due (take w.kept gs) ++ take 1 (drop at gs) → drop (at + 1) new ≡ drop (at + 1) gs
+    → take (w.kept + 1) places ≡ take w.kept ps ++ take 1 (drop at ps) → drop (at + 1) places ≡ drop (at + 1) ps
+    → passed_at (at + 1) v new places ≡ first_passed level goes (passed_at at w gs ps)
+passed_kept level goes at w v gs new ps places lt off is front back first rest =
+    let g = get_or gs at no_glyph in
+    let behind = drop (at + 1) gs in
+    let cut : drop at gs ≡ g ∷ behind = drop_more gs at no_glyph lt in
+    let here : first_passed level goes (passed_at at w gs ps) ≡ passed_of level goes (passed_at at w gs ps) (g ∷ behind) = ap (passed_of level goes (passed_at at w gs ps)) cut in
+    let next : passed_of level goes (passed_at at w gs ps) (g ∷ behind) ≡ with_glyph (passed_at at w gs ps) g behind = ap (λ t. if t then without_glyph level (passed_at at w gs ps) g behind else with_glyph (passed_at at w gs ps) g behind) off in
+    let whole : take (w.kept + 1) new ≡ settled w.due (take w.kept gs) ++ g ∷ [] = front ∙ ap (λ hs. settled w.due (take w.kept gs) ++ take 1 hs) cut in
+    let five : drop (at + 1) places ≡ drop 1 (drop at ps) = rest ∙ sym (drop-drop 1 at ps) in
+    rw is (rw (whole, back, first, five) refl) ∙ sym (here ∙ next)
+
+pub walk_kept : (in_order : Bool) (at : ℕ) (w v : Walk) (gs new : List Glyph) → at < length gs → v ≡ record { kept = w.kept + 1; due = None; marked = w.marked }
+    → take (w.kept + 1) new ≡ settled w.due (take w.kept gs) ++ take 1 (drop at gs) → drop (at + 1) new ≡ drop (at + 1) gs → IsWalk in_order at w gs → IsWalk in_order (at + 1) v new
+walk_kept in_order at w v gs new lt is front back sound = rw is (record { few = omega (arith, sound.few); due = tt; known = known })
+  where
+    known : in_order ≡ true → IsOrdered (clusters (take (w.kept + 1) new) ++ clusters (drop (at + 1) new))
+    known sure =
+        let f : Glyph → ℕ = λ g. g.cluster in
+        let before = settled w.due (take w.kept gs) in
+        let all : clusters (take (w.kept + 1) new) ++ clusters (drop (at + 1) new) ≡ clusters before ++ clusters (drop at gs) =
+        ap (λ hs. clusters hs ++ clusters (drop (at + 1) new)) front ∙ ap (λ hs. clusters (before ++ take 1 (drop at gs)) ++ clusters hs) (back ∙ sym (drop-drop 1 at gs))
+        ∙ ap (λ ns. ns ++ clusters (drop 1 (drop at gs))) (map-append f before (take 1 (drop at gs))) ∙ append_assoc (clusters before) (clusters (take 1 (drop at gs))) (clusters (drop 1 (drop at gs)))
+        ∙ ap (λ ns. clusters before ++ ns) (sym (map-append f (take 1 (drop at gs)) (drop 1 (drop at gs))) ∙ ap clusters (take-append-drop 1 (drop at gs))) in
+        subst IsOrdered (sym all) (sound.known sure)
+
+-- the rest of a list, from a place on
+pub rest_deletes : (level : Level) (at : ℕ) (gs front rest new : List Glyph) (m : Bool) → at ≤ length gs → front ≡ take at gs → rest ≡ drop at gs → Deletes level [] rest [] (drop 1 new) m → Deletes level [] (drop at gs) [] (drop (at + 1) (front ++ new)) m
+rest_deletes level at gs front rest new m le f r gone =
+    let behind : drop (at + 1) (front ++ new) ≡ drop 1 new = ap (λ hs. drop (at + 1) (hs ++ new)) f ∙ behind_front at gs new le in
+    subst (λ (hs : List Glyph). Deletes level [] (drop at gs) [] hs m) (sym behind) (subst (λ (hs : List Glyph). Deletes level [] hs [] (drop 1 new) m) r gone)
+
+-- one glyph was passed, and the others are still to be
+pub passes_on : (level : Level) (goes : Glyph → Bool) (at : ℕ) (w v : Walk) (gs new : List Glyph) (ps places : List Place) (whole : Passed) → at < length gs → length new ≡ length gs
+    → passed_at (at + 1) v new places ≡ first_passed level goes (passed_at at w gs ps) → many_passed level goes (length gs - at) (passed_at at w gs ps) ≡ whole
+    → many_passed level goes (length new - (at + 1)) (passed_at (at + 1) v new places) ≡ whole
+passes_on level goes at w v gs new ps places whole lt long step before =
+    let less : length gs - at ≡ suc (length new - (at + 1)) = omega arith in
+    let opened : many_passed level goes (suc (length new - (at + 1))) (passed_at at w gs ps) ≡ whole = ap (λ n. many_passed level goes n (passed_at at w gs ps)) (sym less) ∙ before in
+    ap (many_passed level goes (length new - (at + 1))) step ∙ opened
+
+-- none is left
+pub passes_end : (level : Level) (goes : Glyph → Bool) (at : ℕ) (w : Walk) (gs : List Glyph) (ps : List Place) (whole : Passed) → length gs ≤ at → many_passed level goes (length gs - at) (passed_at at w gs ps) ≡ whole → passed_at at w gs ps ≡ whole
+passes_end level goes at w gs ps whole le before = let none : length gs - at ≡ 0 = omega arith in rw none at before
+
+-- none was passed yet
+pub passes_begin : (level : Level) (goes : Glyph → Bool) (gs : List Glyph) (ps : List Place) → many_passed level goes (length gs - 0) (passed_at 0 (record { kept = 0; due = None; marked = false }) gs ps) ≡ all_passed level goes gs ps
+passes_begin level goes gs ps = let all : length gs - 0 ≡ length gs = omega arith in rw all refl

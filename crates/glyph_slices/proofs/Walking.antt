@@ -1,0 +1,169 @@
+-- Steps of a walk of deletions.
+use borrow.Rule.Slice.PartMut.{put_mid}
+use Rattle.std.proofs.Common.{ℕ, suc, zero, ◌≡◌, ◌≢◌, ◌≤◌, ◌<◌, ◌+◌, ◌-◌, ◌==◌, ◌&&◌, ◌||◌, Bool, true, false, if◌then◌else◌, List, [], ◌∷◌, ◌++◌, Option, Some, None, slice_get, length, map, take, drop, get_or, set, arith, refl, ap, sym, subst, ◌∙◌}
+use Rattle.std.proofs.lemmas.Grind.{common_steps}
+use Rattle.std.proofs.lemmas.List.{drop_more, drop_all, drop-drop, length-take-le, length-map, take_more_set, drop-set-lt, take-append-drop}
+use Rattle.std.proofs.Math.Seq.{take-append_seam, drop-append_seam, drop-append-add}
+use Rattle.std.specs.List.{list_all}
+use Rattle.glyph_types.specs.declared.info.hb_glyph_info_t.{hb_glyph_info_t as Glyph}
+use Rattle.glyph_types.specs.declared.level.BufferClusterLevel.{BufferClusterLevel}
+use Rattle.glyph_types.specs.declared.level.BufferClusterLevel.TheVariants.{MonotoneGraphemes, MonotoneCharacters, Characters}
+use Rattle.glyph_lists.specs.Items.{clusters}
+use Rattle.glyph_lists.specs.Events.{first_of, last_of, last_from, is_number}
+use Rattle.glyph_lists.specs.Deletions.{end_renumbered}
+use Rattle.glyph_lists.specs.Lemmas.Drawn.{last_more}
+use Rattle.glyph_lists.specs.Lemmas.Deletions.{last_is}
+use Rattle.glyph_lists.specs.Glyphs.{glyphs_merged_at, is_marked_at}
+use Rattle.glyph_lists.specs.Lemmas.Glyphs.{length_merged_at}
+use Rattle.glyph_slices.specs.Deleting.{recast, end_recast_from, end_recast, Left, glyphs_deleted_alone, glyphs_deleted, deletion_marks}
+use Rattle.glyph_slices.specs.Deleted.{end_clusters, end_length}
+use Rattle.glyph_slices.specs.DeletionWalk.{Deletes, settled}
+
+pub settled_put : (kept : ℕ) (g : Glyph) (gs range : List Glyph) → range ≡ end_recast g (take kept gs) → put_mid 0 kept gs range ≡ end_recast g (take kept gs) ++ drop kept gs
+settled_put kept g gs range e = rw e refl
+
+pub moved_front : {X : Type 0} (to from : ℕ) (xs : List X) (d : X) → to ≤ from → from < length xs → take (to + 1) (set xs to (get_or xs from d)) ≡ take to xs ++ take 1 (drop from xs)
+moved_front to from xs d le lt =
+    let within : to < length xs = omega arith in
+    take_more_set xs to (get_or xs from d) within ∙ ap (λ ys. take to xs ++ ys) (sym (ap (take 1) (drop_more xs from d lt)))
+
+pub moved_back : {X : Type 0} (to from : ℕ) (xs : List X) (y : X) → to ≤ from → drop (from + 1) (set xs to y) ≡ drop (from + 1) xs
+moved_back to from xs y le = drop-set-lt (from + 1) xs to y (omega arith)
+
+settled_length : (due : Option Glyph) (gs : List Glyph) → length (settled due gs) ≡ length gs
+settled_length None gs = refl
+settled_length (Some d) gs = end_length d gs
+
+pub settled_front : (due : Option Glyph) (k : ℕ) (gs new : List Glyph) → k ≤ length gs → new ≡ settled due (take k gs) ++ drop k gs → take k new ≡ settled due (take k gs)
+settled_front due k gs new le e =
+    let long : length (settled due (take k gs)) ≡ k = settled_length due (take k gs) ∙ length-take-le k gs le in
+    ap (take k) e ∙ ap (λ n. take n (settled due (take k gs) ++ drop k gs)) (sym long) ∙ take-append_seam (settled due (take k gs)) (drop k gs)
+
+pub settled_back : (due : Option Glyph) (k i : ℕ) (gs new : List Glyph) → k ≤ i → k ≤ length gs → new ≡ settled due (take k gs) ++ drop k gs → drop i new ≡ drop i gs
+settled_back due k i gs new ki le e =
+    let long : length (settled due (take k gs)) ≡ k = settled_length due (take k gs) ∙ length-take-le k gs le in
+    let there : i ≡ length (settled due (take k gs)) + (i - k) = omega arith in
+    let here : k + (i - k) ≡ i = omega arith in
+    ap (drop i) e ∙ ap (λ n. drop n (settled due (take k gs) ++ drop k gs)) there ∙ drop-append-add (settled due (take k gs)) (drop k gs) (i - k) ∙ drop-drop (i - k) k gs ∙ ap (λ n. drop n gs) here
+
+pub keep_front : (due : Option Glyph) (k at : ℕ) (gs mid new : List Glyph) → k ≤ at → at < length gs → mid ≡ settled due (take k gs) ++ drop k gs → take (k + 1) new ≡ take k mid ++ take 1 (drop at mid) → take (k + 1) new ≡ settled due (take k gs) ++ take 1 (drop at gs)
+keep_front due k at gs mid new le lt m e =
+    e ∙ ap (λ ys. ys ++ take 1 (drop at mid)) (settled_front due k gs mid (omega arith) m) ∙ ap (λ ys. settled due (take k gs) ++ take 1 ys) (settled_back due k at gs mid le (omega arith) m)
+
+pub keep_ahead : (due : Option Glyph) (k at : ℕ) (gs mid new : List Glyph) → k ≤ at → at < length gs → mid ≡ settled due (take k gs) ++ drop k gs → drop (at + 1) new ≡ drop (at + 1) mid → drop (at + 1) new ≡ drop (at + 1) gs
+keep_ahead due k at gs mid new le lt m e = e ∙ settled_back due k (at + 1) gs mid (omega arith) (omega arith) m
+
+none_apart : (level : BufferClusterLevel) (n : ℕ) → false ≡ is_marked_at level 0 2 (n ∷ [])
+none_apart MonotoneGraphemes n = refl
+none_apart MonotoneCharacters n = refl
+none_apart Characters n = let same : (n == n) ≡ true = grind (arith, common_steps) in rw same refl
+
+lone : (level : BufferClusterLevel) (g : Glyph) → [] ≡ drop 1 (glyphs_merged_at level 0 2 (g ∷ []))
+lone level g = sym (drop_all 1 (glyphs_merged_at level 0 2 (g ∷ [])) (omega (arith, length_merged_at level 0 2 (g ∷ []) (omega arith))))
+
+tail_is : {X : Type 0} (xs ys : List X) (x : X) → xs ≡ x ∷ ys → drop 1 xs ≡ ys
+tail_is xs ys x e = ap (drop 1) e
+
+-- one glyph alone
+pub first_alone : (level : BufferClusterLevel) (rest : List Glyph) → length rest < 2 → Deletes level [] rest [] (drop 1 rest) false
+first_alone level rest lt = record {
+  front_is = λ g back e. front g back;
+  back_is = λ g back e. tail_is rest back g e ∙ behind g back (few g back e);
+  marked_is = λ g back e. none g back (few g back e);
+}
+  where
+    few : (g : Glyph) (back : List Glyph) → rest ≡ g ∷ back → length back < 1
+    few g back e = omega (arith, ap length e)
+
+    front : (g : Glyph) (back : List Glyph) → [] ≡ (glyphs_deleted level [] g back).front
+    front g back = elim (is_number (first_of (clusters back)) g.cluster) as (λ t. [] ≡ (if t then record { front = []; back = back } else glyphs_deleted_alone level None [] g back).front) [ true ↦ refl | false ↦ refl ]
+
+    behind : (g : Glyph) (back : List Glyph) → length back < 1 → back ≡ (glyphs_deleted level [] g back).back
+    behind g [] h = lone level g
+    behind g (k ∷ ks) h = absurd (omega arith)
+
+    none : (g : Glyph) (back : List Glyph) → length back < 1 → false ≡ deletion_marks level [] g.cluster (clusters back)
+    none g [] h = none_apart level g.cluster
+    none g (k ∷ ks) h = absurd (omega arith)
+
+-- the next has its cluster
+pub first_same : (level : BufferClusterLevel) (rest : List Glyph) (d : Glyph) → 2 ≤ length rest → (get_or rest 0 d).cluster ≡ (get_or rest 1 d).cluster → Deletes level [] rest [] (drop 1 rest) false
+first_same level [] d le same = absurd (omega arith)
+first_same level (x ∷ []) d le same = absurd (omega arith)
+first_same level (x ∷ y ∷ ys) d le same = record {
+  front_is = λ g back e. sym (ap (λ (l : Left). l.front) (found g back e));
+  back_is = λ g back e. tail_is (x ∷ y ∷ ys) back g e ∙ sym (ap (λ (l : Left). l.back) (found g back e));
+  marked_is = λ g back e. let t = number g back e in rw t refl;
+}
+  where
+    number : (g : Glyph) (back : List Glyph) → x ∷ y ∷ ys ≡ g ∷ back → is_number (first_of (clusters back)) g.cluster ≡ true
+    number g back e =
+        let first : x ≡ g = cc in
+        let rest : y ∷ ys ≡ back = cc in
+        let equal : (y.cluster == x.cluster) ≡ true = grind (arith, common_steps, same) in
+        subst (λ (hs : List Glyph). is_number (first_of (clusters hs)) g.cluster ≡ true) rest (subst (λ (h : Glyph). (y.cluster == h.cluster) ≡ true) first equal)
+
+    found : (g : Glyph) (back : List Glyph) → x ∷ y ∷ ys ≡ g ∷ back → glyphs_deleted level [] g back ≡ record { front = []; back = back }
+    found g back e = let t = number g back e in rw t refl
+
+-- the next has another
+pub first_other : (level : BufferClusterLevel) (rest new : List Glyph) (marked : Bool) (d : Glyph) → 2 ≤ length rest → (get_or rest 0 d).cluster ≢ (get_or rest 1 d).cluster → new ≡ glyphs_merged_at level 0 2 rest → marked ≡ is_marked_at level 0 2 (clusters rest)
+    → Deletes level [] rest [] (drop 1 new) marked
+first_other level [] new marked d le other n m = absurd (omega arith)
+first_other level (x ∷ []) new marked d le other n m = absurd (omega arith)
+first_other level (x ∷ y ∷ ys) new marked d le other n m = record {
+  front_is = λ g back e. sym (ap (λ (l : Left). l.front) (found g back e));
+  back_is = λ g back e. ap (drop 1) (n ∙ ap (glyphs_merged_at level 0 2) e) ∙ sym (ap (λ (l : Left). l.back) (found g back e));
+  marked_is = λ g back e. let t = number g back e in rw t (m ∙ ap (λ hs. is_marked_at level 0 2 (clusters hs)) e);
+}
+  where
+    number : (g : Glyph) (back : List Glyph) → x ∷ y ∷ ys ≡ g ∷ back → is_number (first_of (clusters back)) g.cluster ≡ false
+    number g back e =
+        let first : x ≡ g = cc in
+        let rest : y ∷ ys ≡ back = cc in
+        let apart : (y.cluster == x.cluster) ≡ false = grind (arith, common_steps, other) in
+        subst (λ (hs : List Glyph). is_number (first_of (clusters hs)) g.cluster ≡ false) rest (subst (λ (h : Glyph). (y.cluster == h.cluster) ≡ false) first apart)
+
+    found : (g : Glyph) (back : List Glyph) → x ∷ y ∷ ys ≡ g ∷ back → glyphs_deleted level [] g back ≡ record { front = []; back = drop 1 (glyphs_merged_at level 0 2 (g ∷ back)) }
+    found g back e = let t = number g back e in rw t refl
+
+pub next_is : (gs : List Glyph) (at c : ℕ) (d : Glyph) → at < length gs → ((get_or gs at d).cluster == c) ≡ is_number (first_of (clusters (drop at gs))) c
+next_is gs at c d lt = rw (drop_more gs at d lt) refl
+
+pub next_none : (gs : List Glyph) (at c : ℕ) → length gs ≤ at → false ≡ is_number (first_of (clusters (drop at gs))) c
+next_none gs at c le = let none : drop at gs ≡ [] = drop_all at gs le in rw none refl
+
+-- the last number of a list whose last run took another
+last_renumbered : (p n : ℕ) (ns : List ℕ) → last_of ns ≡ Some p → last_of (end_renumbered p n ns) ≡ Some n
+last_renumbered p n [] e = cc
+last_renumbered p n (m ∷ []) e =
+    let here : m ≡ p = cc in
+    let same : (m == p) ≡ true = grind (arith, common_steps, here) in
+    rw same refl
+last_renumbered p n (m ∷ k ∷ ks) e =
+    let rest = last_renumbered p n (k ∷ ks) (sym (last_more m k ks) ∙ e) in
+    elim (list_all (λ j. j == p) (m ∷ k ∷ ks)) as (λ t. last_of (if t then map (λ (j : ℕ). n) (m ∷ k ∷ ks) else m ∷ end_renumbered p n (k ∷ ks)) ≡ Some n) [
+      | true ↦ all_n m k ks
+      | false ↦ behind m (end_renumbered p n (k ∷ ks)) rest
+    ]
+  where
+    all_n : (a b : ℕ) (js : List ℕ) → last_of (map (λ (j : ℕ). n) (a ∷ b ∷ js)) ≡ Some n
+    all_n a b [] = refl
+    all_n a b (c ∷ cs) = last_more n n (map (λ (j : ℕ). n) (c ∷ cs)) ∙ all_n b c cs
+
+    behind : (a : ℕ) (js : List ℕ) → last_of js ≡ Some n → last_of (a ∷ js) ≡ Some n
+    behind a [] h = cc
+    behind a (b ∷ bs) h = last_more a b bs ∙ h
+
+pub has_last : (ns : List ℕ) → 0 < length ns → (p : ℕ) × (last_of ns ≡ Some p)
+has_last [] lt = absurd (omega arith)
+has_last (x ∷ xs) lt = (last_from x xs, last_is x xs)
+
+pub last_recast : (g : Glyph) (gs : List Glyph) → 0 < length gs → last_of (clusters (end_recast g gs)) ≡ Some g.cluster
+last_recast g gs lt =
+    let f : Glyph → ℕ = λ h. h.cluster in
+    let last = has_last (clusters gs) (omega (arith, length-map gs f)) in
+    ap last_of (end_clusters last.0 g gs last.1) ∙ last_renumbered last.0 g.cluster (clusters gs) last.1
+
+pub last_settled : (d : Glyph) (k : ℕ) (gs : List Glyph) → 0 < k → k ≤ length gs → last_of (clusters (settled (Some d) (take k gs))) ≡ Some d.cluster
+last_settled d k gs some le = last_recast d (take k gs) (omega (arith, length-take-le k gs le))

@@ -1,0 +1,5 @@
+use Rattle.glyph_slices.specs.Deleted.{clusters_deleted}
+use Rattle.glyph_slices.proofs.laws.deletes_clusters.Goals as goal
+
+pub returns : goal.returns
+returns c = clusters_deleted

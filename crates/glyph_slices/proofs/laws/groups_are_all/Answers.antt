@@ -1,0 +1,5 @@
+use Rattle.glyph_slices.proofs.Groups_turned.{flat_groups}
+use Rattle.glyph_slices.proofs.laws.groups_are_all.Goals as goal
+
+pub returns : goal.returns
+returns c = flat_groups

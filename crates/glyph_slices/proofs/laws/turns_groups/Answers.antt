@@ -1,0 +1,5 @@
+use Rattle.glyph_slices.proofs.Groups_turned.{turns_groups}
+use Rattle.glyph_slices.proofs.laws.turns_groups.Goals as goal
+
+pub returns : goal.returns
+returns c = turns_groups

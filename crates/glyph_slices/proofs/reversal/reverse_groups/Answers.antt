@@ -1,0 +1,36 @@
+use Rattle.std.proofs.Common.{arith, ◌≡◌, ◌||◌, ap, sym, refl, ◌∙◌, reverse, false}
+use Rattle.glyph_slices.specs.Turning.{Turning, turned}
+use Rattle.glyph_slices.proofs.Turned.{rest_begins, rest_goes_on, rest_ends}
+use Rattle.glyph_slices.proofs.Groups_turned.{turned_plain}
+use Rattle.glyph_slices.proofs.reversal.reverse_groups.Goals as goal
+
+pub loop-start-init : goal.loop-start-init
+loop-start-init g c = record {
+  within = omega arith;
+  placed = c.requires.placed;
+  known = λ asked sure mono. c.requires.known sure;
+  rest = λ joins same. rest_begins c.args.merge c.args.level joins c.args.glyphs.now c.args.places.now;
+}
+
+pub loop-start-preserved : goal.loop-start-preserved
+loop-start-preserved g c =
+    let turn = c.turn_group-marked.ensures in
+    let inv = c.loop-start.invariant in
+    record {
+      within = omega (arith, c.end_of_group-end.ensures.within);
+      placed = omega (arith, inv.placed);
+      known = λ asked sure mono. turn.order asked mono (inv.known asked sure mono);
+      rest = λ joins same. rest_goes_on c.args.merge c.args.level joins c.loop-start.start c.end_of_group-end.result c.loop-start.glyphs c.turn_group-marked.new.glyphs c.loop-start.places c.turn_group-marked.new.places
+          c.loop-start.marked (c.loop-start.marked || c.turn_group-marked.result) _ c.loop-start-test.true c.end_of_group-end.ensures.some (omega arith) (c.end_of_group-end.ensures.end joins same) (turn.turned c.loop-start.marked) (inv.rest joins same);
+    }
+
+pub returns : goal.returns
+returns g c =
+    let inv = c.loop-start.invariant in
+    record {
+      glyphs = λ joins same. c.reverse.ensures.after ∙ ap (λ (t : Turning). t.glyphs) (rest_ends c.args.merge c.args.level joins c.loop-start.start c.loop-start.glyphs c.loop-start.places c.loop-start.marked _ c.loop-start-test.false inv.placed (inv.rest joins same));
+      places = λ joins same. c.reverse-2.ensures.after ∙ ap (λ (t : Turning). t.places) (rest_ends c.args.merge c.args.level joins c.loop-start.start c.loop-start.glyphs c.loop-start.places c.loop-start.marked _ c.loop-start-test.false inv.placed (inv.rest joins same));
+      marked = λ joins same. ap (λ (t : Turning). t.is_marked) (rest_ends c.args.merge c.args.level joins c.loop-start.start c.loop-start.glyphs c.loop-start.places c.loop-start.marked _ c.loop-start-test.false inv.placed (inv.rest joins same));
+      plain = λ joins same off. c.reverse.ensures.after ∙ ap (λ (t : Turning). t.glyphs) (rest_ends c.args.merge c.args.level joins c.loop-start.start c.loop-start.glyphs c.loop-start.places c.loop-start.marked _ c.loop-start-test.false inv.placed (inv.rest joins same))
+          ∙ ap (λ t. (turned t c.args.level joins c.args.glyphs.now c.args.places.now).glyphs) off ∙ turned_plain c.args.level joins c.args.glyphs.now c.args.places.now;
+    }

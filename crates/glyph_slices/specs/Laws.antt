@@ -1,0 +1,32 @@
+-- What holds of each deletion, and of groups.
+use Rattle.std.specs.Prelude.{ℕ, ◌≡◌, Bool, List, [], ◌∷◌, ◌++◌, length, map, take, drop, reverse}
+use Rattle.std.specs.List.{flat_map}
+use Rattle.glyph_types.specs.declared.info.hb_glyph_info_t.{hb_glyph_info_t}
+use Rattle.glyph_types.specs.declared.level.BufferClusterLevel.{BufferClusterLevel}
+use Rattle.glyph_lists.specs.Items.{strip, clusters}
+use Rattle.glyph_lists.specs.Deletions.{deleted}
+use Rattle.glyph_slices.specs.Turning.{groups, groups_turned}
+use Rattle.glyph_slices.specs.Deleting.{glyphs_deleted}
+
+-- the clusters that it leaves are those of the deletion of a number
+abbrev pub DeletesClusters : Type 0
+DeletesClusters = (level : BufferClusterLevel) (front : List hb_glyph_info_t) (g : hb_glyph_info_t) (back : List hb_glyph_info_t)
+    → clusters (glyphs_deleted level front g back).front ++ clusters (glyphs_deleted level front g back).back ≡ deleted level (clusters front) g.cluster (clusters back)
+
+-- all other items stay
+abbrev pub DeletesOneItem : Type 0
+DeletesOneItem = (level : BufferClusterLevel) (front : List hb_glyph_info_t) (g : hb_glyph_info_t) (back : List hb_glyph_info_t)
+    → (strip (glyphs_deleted level front g back).front ≡ strip front) × (strip (glyphs_deleted level front g back).back ≡ strip back)
+
+-- a list cut into pieces of given lengths
+abbrev pub cut_into : {X : Type 0} → List ℕ → List X → List (List X)
+cut_into [] xs = []
+cut_into (n ∷ ns) xs = take n xs ∷ cut_into ns (drop n xs)
+
+-- the groups of a list, one after another, are the list
+abbrev pub GroupsAreAll : Type 0
+GroupsAreAll = (joins : hb_glyph_info_t → hb_glyph_info_t → Bool) (gs : List hb_glyph_info_t) → flat_map (λ hs. hs) (groups joins gs) ≡ gs
+
+-- a list in which the order of groups was turned round has those groups, the last first, each in its own order
+abbrev pub TurnsGroups : Type 0
+TurnsGroups = (joins : hb_glyph_info_t → hb_glyph_info_t → Bool) (gs : List hb_glyph_info_t) → let turned = reverse (groups joins gs) in cut_into (map (λ hs. length hs) turned) (groups_turned joins gs) ≡ turned

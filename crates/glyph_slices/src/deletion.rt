@@ -1,0 +1,105 @@
+ghost use Rattle.std.specs.Prelude.{◌≡◌, ◌<◌, ◌≤◌, Some, true, Bool, length, map, take};
+ghost use Rattle.glyph_types.specs.declared.info.hb_glyph_info_t.{hb_glyph_info_t as Glyph};
+ghost use Rattle.glyph_lists.specs.Items.{clusters};
+ghost use Rattle.glyph_lists.specs.Events.{last_of};
+ghost use Rattle.glyph_lists.specs.Order.{IsOrdered};
+ghost use Rattle.glyph_slices.specs.Deleting.{recast, end_recast, IsEndRun};
+ghost use Rattle.glyph_slices.specs.DeletionWalk.{Tells, all_passed};
+
+mod walk;
+
+use self::walk::{Walk, pass_glyph, settle};
+use glyph_types::info::{DEFINED, hb_glyph_info_t, hb_mask_t};
+use glyph_types::level::BufferClusterLevel;
+use glyph_types::position::GlyphPosition;
+
+/// Puts the glyph into the cluster; where it was in another, the three glyph flags of `mask` take the place of its own.
+pub fn set_cluster(info: &mut hb_glyph_info_t, cluster: u32, mask: hb_mask_t)
+    ensures { info.new ≡ recast cluster mask info.old }
+{
+    if info.cluster != cluster {
+        info.cluster = cluster;
+        info.mask = info.mask - (info.mask & DEFINED) + (mask & DEFINED);
+    }
+}
+
+/// The glyphs at the end of the slice that are of the last one's cluster go to the cluster of `glyph`, with its three flags.
+#[tactic(auto, using(crate::proofs::Ends::end_of_none, crate::proofs::Ends::end_put))]
+pub fn recast_end(glyphs: &mut [hb_glyph_info_t], glyph: &hb_glyph_info_t)
+    ensures { glyphs.new ≡ end_recast glyph.now glyphs.old }
+{
+    if glyphs.is_empty() {
+        return;
+    }
+    let cluster = last_cluster(glyphs);
+    let at = end_run(glyphs, cluster);
+    recast_all(&mut glyphs[at..], glyph);
+}
+
+#[tactic(auto, using(crate::proofs::Ends::last_cluster_is))]
+fn last_cluster(glyphs: &[hb_glyph_info_t]) -> u32
+    requires { 0 < length glyphs.now }
+    ensures { last_of (clusters glyphs.now) ≡ Some result }
+{
+    glyphs[glyphs.len() - 1].cluster
+}
+
+/// Where the glyphs of the cluster at the end begin.
+fn end_run(glyphs: &[hb_glyph_info_t], cluster: u32) -> usize
+    ensures within { result ≤ length glyphs.now }
+    ensures begins { IsEndRun cluster result glyphs.now }
+{
+    let mut at = glyphs.len();
+    while at > 0 && glyphs[at - 1].cluster == cluster {
+        at -= 1;
+    }
+    at
+}
+
+#[tactic(auto, using(glyph_lists::specs::Lists::map_step))]
+fn recast_all(glyphs: &mut [hb_glyph_info_t], glyph: &hb_glyph_info_t)
+    ensures { glyphs.new ≡ map (recast glyph.now.cluster glyph.now.mask) glyphs.old }
+{
+    for other in glyphs.iter_mut() {
+        *other = recast(*other, glyph.cluster, glyph.mask);
+    }
+}
+
+fn recast(glyph: hb_glyph_info_t, cluster: u32, mask: hb_mask_t) -> hb_glyph_info_t
+    ensures { result ≡ recast cluster mask glyph }
+{
+    let mut other = glyph;
+    set_cluster(&mut other, cluster, mask);
+    other
+}
+
+/// Deletes the glyphs that `filter` picks, from the left, and answers how many stay and whether a merge marked one. Those
+/// that stay stand at the front of both slices, places beside their glyphs; what is behind them has no meaning. A glyph
+/// is tested as it stands when the walk reaches it. It takes no memory, and linear time where all clusters are known to
+/// stand in order.
+pub fn delete_within<F: Fn(&hb_glyph_info_t) -> bool>(
+    glyphs: &mut [hb_glyph_info_t],
+    places: &mut [GlyphPosition],
+    level: BufferClusterLevel,
+    in_order: bool,
+    filter: F,
+) -> (usize, bool)
+    requires callable { F.IsAlwaysCallable filter }
+    requires placed { length places.old ≡ length glyphs.old }
+    requires known { in_order ≡ true → IsOrdered (clusters glyphs.old) }
+    ensures within { result.0 ≤ length glyphs.old }
+    ensures glyphs { (goes : Glyph → Bool) → Tells F.Fn filter goes → take result.0 glyphs.new ≡ (all_passed level goes glyphs.old places.old).kept }
+    ensures places { (goes : Glyph → Bool) → Tells F.Fn filter goes → take result.0 places.new ≡ (all_passed level goes glyphs.old places.old).kept_places }
+    ensures marked { (goes : Glyph → Bool) → Tells F.Fn filter goes → result.1 ≡ (all_passed level goes glyphs.old places.old).is_marked }
+{
+    let mut walk = Walk {
+        kept: 0,
+        due: None,
+        marked: false,
+    };
+    for at in 0..glyphs.len() {
+        walk = pass_glyph(glyphs, places, at, walk, level, in_order, &filter);
+    }
+    settle(glyphs, walk.kept, walk.due);
+    (walk.kept, walk.marked)
+}

@@ -1,0 +1,21 @@
+ghost use Rattle.glyph_slices.specs.Laws.{DeletesClusters, DeletesOneItem, GroupsAreAll, TurnsGroups};
+
+/// A deletion leaves the clusters that the deletion of a number leaves of numbers.
+pub fn deletes_clusters()
+    ensures { DeletesClusters }
+{}
+
+/// A deletion changes no other item.
+pub fn deletes_one_item()
+    ensures { DeletesOneItem }
+{}
+
+/// The groups of a list, one after another, are the list.
+pub fn groups_are_all()
+    ensures { GroupsAreAll }
+{}
+
+/// Where the order of groups was turned round, the list has them the last first, each in its own order.
+pub fn turns_groups()
+    ensures { TurnsGroups }
+{}

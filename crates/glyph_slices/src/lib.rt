@@ -1,0 +1,8 @@
+// Walks over slices of glyphs: groups of neighbours, merges of a range, a stable sort, and deletion in place.
+#![tactic(auto)]
+
+pub mod deletion;
+pub mod groups;
+pub mod laws;
+pub mod merges;
+pub mod reversal;
