@@ -13,3 +13,4 @@ pub mod Ordered
 pub mod Marked
 pub mod Across
 pub mod Moved
+pub mod Picked
