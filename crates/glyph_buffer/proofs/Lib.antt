@@ -14,3 +14,4 @@ pub mod Marked
 pub mod Across
 pub mod Moved
 pub mod Picked
+pub mod Deleting

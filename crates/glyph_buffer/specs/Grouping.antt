@@ -1,6 +1,8 @@
 -- Groups in turned order, and glyphs that a test picks taken out.
-use Rattle.std.specs.Prelude.{Bool, min, length}
+use Rattle.std.specs.Prelude.{ℕ, ◌+◌, Bool, List, min, length}
 use Rattle.glyph_types.specs.declared.info.hb_glyph_info_t.{hb_glyph_info_t}
+use Rattle.glyph_lists.specs.Items.{clusters}
+use Rattle.glyph_slices.specs.Deleting.{Left, glyphs_deleted, deletion_marks}
 use Rattle.glyph_slices.specs.Turning.{Turning, turned}
 use Rattle.glyph_slices.specs.DeletionWalk.{Passed, all_passed}
 use Rattle.glyph_buffer.specs.Merging.{telling_flags}
@@ -20,3 +22,10 @@ with_passed t s = record (with_list t.kept t.kept_places (record s { read = min 
 -- the glyphs that a test picks go, from the left
 abbrev pub with_picked_deleted : (hb_glyph_info_t → Bool) → Sides → Sides
 with_picked_deleted goes s = with_passed (all_passed s.level goes (all_glyphs s) s.places) s
+
+abbrev pub with_left : Left → Bool → Sides → Sides
+with_left l any s = record s { behind = l.front; ahead = l.back; read = s.read + 1; scratch_flags = telling_flags any s.scratch_flags }
+
+-- the glyph at the cursor goes, from between those behind it and those after
+abbrev pub with_deleted : hb_glyph_info_t → List hb_glyph_info_t → Sides → Sides
+with_deleted g back s = with_left (glyphs_deleted s.level s.behind g back) (deletion_marks s.level (clusters s.behind) g.cluster (clusters back)) s
