@@ -14,3 +14,5 @@ pub mod Marked
 pub mod Across
 pub mod Moved
 pub mod Twice
+pub mod Picked
+pub mod Deleting

@@ -2,6 +2,7 @@ pub mod Sides
 pub mod Merging
 pub mod Rooms
 pub mod Settings
+pub mod Grouping
 pub mod Marking
 pub mod Masks
 pub mod Known

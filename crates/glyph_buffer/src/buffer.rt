@@ -4,6 +4,8 @@ ghost use Rattle.glyph_buffer.specs.Sides.{empty_buffer};
 mod across;
 mod context;
 mod cursor;
+mod deletion;
+mod groups;
 mod limits;
 mod marks;
 mod masks;

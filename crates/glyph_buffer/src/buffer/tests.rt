@@ -214,3 +214,37 @@ fn keeps_what_is_told(rt: HostRuntime) -> Result<(), Fail> {
     assert_eq!(rt; buffer.not_found_variation_selector(), None);
     Ok(())
 }
+
+#[test]
+fn deletes_glyphs(rt: HostRuntime) -> Result<(), Fail> {
+    let mut buffer = hb_buffer_t::new(rt.alloc());
+    assert!(rt; buffer.add('\u{1}', 5)?);
+    assert!(rt; buffer.add('\u{2}', 3)?);
+    assert!(rt; buffer.add('\u{3}', 7)?);
+    assert!(rt; buffer.clear_output()?);
+    assert!(rt; buffer.next_glyph()?);
+    buffer.delete_glyph();
+    assert!(rt; buffer.sync()?);
+    holds(&rt, buffer.info_slice(), &[(1, 3, 0), (3, 7, 0)]);
+    buffer.delete_glyphs_inplace(|glyph| glyph.glyph_id == 1);
+    holds(&rt, buffer.info_slice(), &[(3, 3, 0)]);
+    Ok(())
+}
+
+#[test]
+fn finds_and_turns_groups(rt: HostRuntime) -> Result<(), Fail> {
+    let mut buffer = hb_buffer_t::new(rt.alloc());
+    assert!(rt; buffer.add('\u{1}', 0)?);
+    assert!(rt; buffer.add('\u{2}', 0)?);
+    assert!(rt; buffer.add('\u{3}', 1)?);
+    assert_eq!(rt; buffer.next_cluster(0), 2);
+    assert_eq!(rt; buffer.next_syllable(1), 3);
+    assert_eq!(rt; buffer.next_grapheme(1), 2);
+    assert_eq!(rt;
+        buffer.group_end(0, |one, two| one.cluster == two.cluster),
+        2
+    );
+    buffer.reverse_groups(|one, two| one.cluster == two.cluster, true);
+    holds(&rt, buffer.info_slice(), &[(3, 1, 0), (1, 0, 0), (2, 0, 0)]);
+    Ok(())
+}
