@@ -6,3 +6,5 @@ pub mod groups;
 pub mod laws;
 pub mod merges;
 pub mod reversal;
+#[cfg(test)]
+mod tests;
