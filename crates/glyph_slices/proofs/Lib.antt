@@ -5,3 +5,4 @@ pub mod Groups_turned
 pub mod Walking
 pub mod Dues
 pub mod Passing
+pub mod Spans
