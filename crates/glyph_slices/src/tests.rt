@@ -4,6 +4,7 @@ use crate::deletion::{delete_within, recast_end, set_cluster};
 use crate::groups::{group_end, next_cluster, next_grapheme, next_syllable};
 use crate::merges::merge_range;
 use crate::reversal::reverse_groups;
+use crate::sorting::sort;
 use glyph_types::flags::UnicodeProps;
 use glyph_types::info::hb_glyph_info_t;
 use glyph_types::level::BufferClusterLevel;
@@ -203,5 +204,52 @@ fn deletes_the_first(rt: HostRuntime) -> Result<(), Fail> {
     assert!(&rt; !marked);
     assert_eq!(&rt; glyphs[0], glyph(1, 0, 0));
     assert_eq!(&rt; glyphs[1], glyph(2, 0, 0));
+    Ok(())
+}
+
+#[test]
+fn sorts_and_merges_what_it_permutes(rt: HostRuntime) -> Result<(), Fail> {
+    let mut glyphs = [
+        glyph(5, 0, 0),
+        glyph(7, 1, 1),
+        glyph(6, 2, 9),
+        glyph(7, 3, 2),
+    ];
+    let marked = sort(
+        rt.alloc(),
+        &mut glyphs,
+        BufferClusterLevel::MonotoneGraphemes,
+        false,
+        0,
+        4,
+        |info| info.glyph_id,
+    )?;
+    assert!(&rt; !marked);
+    assert_eq!(&rt;
+        glyphs,
+        [
+            glyph(5, 0, 0),
+            glyph(6, 1, 8),
+            glyph(7, 1, 1),
+            glyph(7, 3, 2)
+        ]
+    );
+    Ok(())
+}
+
+#[test]
+fn sorting_marks_where_characters_are_kept_apart(rt: HostRuntime) -> Result<(), Fail> {
+    let mut glyphs = [glyph(2, 0, 0), glyph(1, 1, 0), glyph(0, 2, 0)];
+    let marked = sort(
+        rt.alloc(),
+        &mut glyphs,
+        BufferClusterLevel::Characters,
+        false,
+        0,
+        2,
+        |info| info.glyph_id,
+    )?;
+    assert!(&rt; marked);
+    assert_eq!(&rt; glyphs, [glyph(1, 1, 3), glyph(2, 0, 0), glyph(0, 2, 0)]);
     Ok(())
 }
