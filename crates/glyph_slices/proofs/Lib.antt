@@ -6,3 +6,4 @@ pub mod Walking
 pub mod Dues
 pub mod Passing
 pub mod Spans
+pub mod Sorted_items

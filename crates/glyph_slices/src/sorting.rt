@@ -1,6 +1,6 @@
-ghost use Rattle.std.specs.Prelude.{◌≡◌, ◌+◌, ◌-◌, ◌≤◌, ℕ, true, length, map, max, vec_len, IfOk, OnOk, OnErr, slice_range};
+ghost use Rattle.std.specs.Prelude.{◌≡◌, ◌+◌, ◌-◌, ◌≤◌, ◌++◌, ℕ, true, take, drop, length, map, max, vec_len, IfOk, OnOk, OnErr, slice_range};
 ghost use Rattle.glyph_types.specs.declared.info.hb_glyph_info_t.{hb_glyph_info_t as Glyph};
-ghost use Rattle.glyph_lists.specs.Items.{clusters};
+ghost use Rattle.glyph_lists.specs.Items.{Item, clusters, item_of, strip};
 ghost use Rattle.glyph_lists.specs.Order.{IsOrdered};
 ghost use Rattle.stable_order.specs.Keys.{key_order};
 ghost use Rattle.glyph_slices.specs.Sorting.{Gives, Spanned, glyph_at, keyed_from, put_in_order, range_sorted, range_spanned, span_merged};
@@ -28,6 +28,7 @@ pub fn sort<F: Fn(&hb_glyph_info_t) -> u32>(
     requires within { end ≤ length glyphs.old }
     requires known { in_order ≡ true → IsOrdered (clusters glyphs.old) }
     ensures sorted { (k : Glyph → ℕ) → Gives F.Fn key k → OnOk result (glyphs.new ≡ (range_sorted level start end k glyphs.old).glyphs) }
+    ensures items { (k : Item → ℕ) → Gives F.Fn key (λ g. k (item_of g)) → OnOk result (strip glyphs.new ≡ take start (strip glyphs.old) ++ key_order k (slice_range (strip glyphs.old) start end) ++ drop end (strip glyphs.old)) }
     ensures marked { (k : Glyph → ℕ) → Gives F.Fn key k → IfOk result (λ b. b ≡ (range_sorted level start end k glyphs.old).is_marked) }
     ensures err { OnErr result (glyphs.new ≡ glyphs.old) }
 {

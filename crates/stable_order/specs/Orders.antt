@@ -82,3 +82,24 @@ bound_map key f (x ∷ xs) = ap (max (key (f x) + 1)) (bound_map key f xs)
 -- the order of changed elements
 pub key_order_map : {X Y : Type 0} (key : Y → ℕ) (f : X → Y) (xs : List X) → key_order key (map f xs) ≡ map f (key_order (λ x. key (f x)) xs)
 key_order_map key f xs = ap (λ n. by_key key n (map f xs)) (bound_map key f xs) ∙ by_key_map key f (key_bound (λ x. key (f x)) xs) xs
+
+-- two keys that agree on all elements of a list
+abbrev pub Agree : {X : Type 0} → (X → ℕ) → (X → ℕ) → List X → Type 0
+Agree one other [] = Unit {0}
+Agree one other (x ∷ xs) = (one x ≡ other x) × Agree one other xs
+
+of_key_agree : {X : Type 0} (one other : X → ℕ) (c : ℕ) (xs : List X) → Agree one other xs → of_key one c xs ≡ of_key other c xs
+of_key_agree one other c [] h = refl
+of_key_agree one other c (x ∷ xs) h = ap (λ ys. if one x == c then x ∷ ys else ys) (of_key_agree one other c xs h.1) ∙ ap (λ n. if n == c then x ∷ of_key other c xs else of_key other c xs) h.0
+
+by_key_agree : {X : Type 0} (one other : X → ℕ) (n : ℕ) (xs : List X) → Agree one other xs → by_key one n xs ≡ by_key other n xs
+by_key_agree one other zero xs h = refl
+by_key_agree one other (suc n) xs h = ap (λ ys. ys ++ of_key one n xs) (by_key_agree one other n xs h) ∙ ap (λ ys. by_key other n xs ++ ys) (of_key_agree one other n xs h)
+
+bound_agree : {X : Type 0} (one other : X → ℕ) (xs : List X) → Agree one other xs → key_bound one xs ≡ key_bound other xs
+bound_agree one other [] h = refl
+bound_agree one other (x ∷ xs) h = ap (λ n. max (n + 1) (key_bound one xs)) h.0 ∙ ap (max (other x + 1)) (bound_agree one other xs h.1)
+
+-- order a list alike
+pub key_order_agree : {X : Type 0} (one other : X → ℕ) (xs : List X) → Agree one other xs → key_order one xs ≡ key_order other xs
+key_order_agree one other xs h = ap (λ n. by_key one n xs) (bound_agree one other xs h) ∙ by_key_agree one other (key_bound other xs) xs h
