@@ -1,5 +1,5 @@
 -- Steps of a sort of a range.
-use Rattle.std.proofs.Common.{ℕ, suc, zero, ◌≡◌, ◌≤◌, ◌<◌, ◌+◌, ◌-◌, ◌&&◌, nat_lt, max, Bool, true, false, if◌then◌else◌, List, [], ◌∷◌, ◌++◌, length, map, take, drop, get_or, set, arith, refl, ap, sym, subst, ◌∙◌, append_assoc}
+use Rattle.std.proofs.Common.{ℕ, suc, ◌≡◌, ◌≤◌, ◌<◌, ◌+◌, ◌-◌, ◌&&◌, nat_lt, max, Bool, true, false, if◌then◌else◌, List, [], ◌∷◌, ◌++◌, length, map, take, drop, get_or, set, arith, refl, ap, sym, ◌∙◌, append_assoc}
 use Rattle.std.specs.Prelude.{slice_range}
 use borrow.Rule.Slice.PartMut.{put_mid}
 use Rattle.std.specs.List.{list_all}

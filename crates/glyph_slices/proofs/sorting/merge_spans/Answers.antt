@@ -1,5 +1,4 @@
-use Rattle.std.proofs.Common.{ℕ, ◌≡◌, ◌<◌, ◌+◌, nat_lt, arith, ap, sym, ◌∙◌}
-use Rattle.glyph_slices.specs.declared.sorting.Keyed.{Keyed}
+use Rattle.std.proofs.Common.{ℕ, ◌<◌, nat_lt, arith, ap, sym, ◌∙◌}
 use Rattle.glyph_slices.proofs.Spans.{no_place, reach_more, spans_go_on, spans_end}
 use Rattle.glyph_slices.proofs.sorting.merge_spans.Goals as goal
 

@@ -1,9 +1,9 @@
-use Rattle.std.proofs.Common.{◌≡◌, sym, ap, ◌∙◌, map}
+use Rattle.std.proofs.Common.{sym, ap, ◌∙◌, map}
 use Rattle.glyph_slices.specs.declared.sorting.Keyed.{Keyed}
 use Rattle.glyph_slices.specs.Sorting.{glyph_at}
 use Rattle.glyph_slices.proofs.Spans.{sorted_is, sort_marks}
 use Rattle.glyph_lists.specs.Items.{item_of, strip}
-use Rattle.glyph_slices.proofs.Sorted_items.{items_sorted}
+use Rattle.glyph_slices.proofs.SortedItems.{items_sorted}
 use Rattle.glyph_slices.proofs.sorting.sort.Goals as goal
 
 pub returns-clause-sorted : goal.returns-clause-sorted

@@ -1,15 +1,8 @@
-use Rattle.std.proofs.Common.{ℕ, ◌≡◌, rules, refl}
+use Rattle.std.proofs.Common.{ℕ, rules, refl}
 use Rattle.std.proofs.lemmas.List.Sorted.{IsNonDecreasingBy-from_sort_by_key, answers_always}
 use Rattle.stable_order.specs.StableSort.{stable_sort_is}
 use Rattle.glyph_slices.specs.declared.sorting.Keyed.{Keyed}
 use Rattle.glyph_slices.proofs.sorting.sort_places.Goals as goal
-
-key_of : Keyed → ℕ
-key_of e = e.key
-
--- a place of each key
-of_key : ℕ → Keyed
-of_key k = record { key = k; place = 0 }
 
 pub returns-clause-sorted : goal.returns-clause-sorted
 returns-clause-sorted c =

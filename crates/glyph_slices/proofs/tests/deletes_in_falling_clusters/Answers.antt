@@ -1,4 +1,4 @@
-use Rattle.std.proofs.Common.{arith, ◌≤◌, inr}
+use Rattle.std.proofs.Common.{arith, inr}
 use Rattle.glyph_slices.proofs.tests.deletes_in_falling_clusters.Goals as goal
 
 pub delete_within-kept-requires-clause-known : goal.delete_within-kept-requires-clause-known
