@@ -1,16 +1,16 @@
 -- A run that takes the cluster of one glyph after another takes that of the last.
-use Rattle.std.proofs.Common.{ℕ, suc, zero, ◌≡◌, ◌≢◌, ◌≤◌, ◌<◌, ◌+◌, ◌-◌, ◌==◌, ◌&&◌, ◌||◌, inl, inr, nat_lt, Bool, true, false, if◌then◌else◌, List, [], ◌∷◌, ◌++◌, Option, Some, None, length, map, take, drop, get_or, arith, refl, ap, sym, subst, ◌∙◌}
+use Rattle.std.proofs.Common.{ℕ, ◌≡◌, ◌≢◌, ◌≤◌, ◌<◌, ◌+◌, ◌-◌, ◌==◌, ◌&&◌, inl, inr, nat_lt, Bool, true, false, if◌then◌else◌, List, [], ◌∷◌, ◌++◌, Option, Some, None, length, map, arith, refl, ap, sym, subst, ◌∙◌}
 use Rattle.std.specs.List.{list_all}
 use Rattle.std.proofs.lemmas.Bool.Decides.{nat_tests}
 use Rattle.std.proofs.lemmas.Grind.{common_steps}
 use Rattle.std.proofs.lemmas.Nat.{and_mask}
-use Rattle.std.proofs.lemmas.List.{drop_more, length-map}
+use Rattle.std.proofs.lemmas.List.{length-map}
 use Rattle.std.specs.Int.RustNames.{bit_and}
 use Rattle.glyph_types.specs.declared.info.hb_glyph_info_t.{hb_glyph_info_t as Glyph}
 use Rattle.glyph_types.specs.declared.level.BufferClusterLevel.{BufferClusterLevel as Level}
 use Rattle.glyph_lists.specs.Items.{clusters, without_flags}
 use Rattle.glyph_lists.specs.Events.{first_of, last_of, last_from, is_number}
-use Rattle.glyph_lists.specs.Order.{IsChain, IsInOrder, IsOrdered}
+use Rattle.glyph_lists.specs.Order.{IsOrdered}
 use Rattle.glyph_lists.specs.Lemmas.Numbers.{Has, has_here, has_more, has_last_from}
 use Rattle.glyph_lists.specs.Lemmas.Events.{Stands, stands_self}
 use Rattle.glyph_lists.specs.Lemmas.Ends.{to_last}
@@ -19,7 +19,7 @@ use Rattle.glyph_lists.specs.Lemmas.Deletions.{last_is}
 use Rattle.glyph_slices.specs.Deleting.{recast, end_recast_from, end_recast, Left, glyphs_deleted, deletion_marks}
 use Rattle.glyph_slices.specs.Deleted.{recast_cluster}
 use Rattle.glyph_slices.specs.DeletionWalk.{Deletes, IsDue, settled}
-use Rattle.glyph_slices.proofs.Walking.{has_last, last_recast, settled_front, settled_back}
+use Rattle.glyph_slices.proofs.Walking.{has_last, last_recast}
 
 equal_test : (m n : ℕ) → m ≡ n → (m == n) ≡ true
 equal_test m n e = grind (arith, common_steps, e)

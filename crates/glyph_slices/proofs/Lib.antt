@@ -1,7 +1,9 @@
 pub mod Neighbours
 pub mod Ends
 pub mod Turned
-pub mod Groups_turned
+pub mod GroupsTurned
 pub mod Walking
 pub mod Dues
 pub mod Passing
+pub mod Spans
+pub mod SortedItems

@@ -1,5 +1,5 @@
 -- A walk of deletions passes one glyph.
-use Rattle.std.proofs.Common.{ℕ, suc, zero, ◌≡◌, ◌≤◌, ◌<◌, ◌+◌, ◌-◌, ◌||◌, inl, inr, Bool, true, false, if◌then◌else◌, List, [], ◌∷◌, ◌++◌, Option, Some, None, length, map, take, drop, get_or, arith, refl, ap, sym, subst, ◌∙◌, append_assoc}
+use Rattle.std.proofs.Common.{ℕ, suc, ◌≡◌, ◌≤◌, ◌<◌, ◌+◌, ◌-◌, ◌||◌, inl, inr, Bool, true, false, if◌then◌else◌, List, [], ◌∷◌, ◌++◌, Option, Some, None, length, take, drop, get_or, arith, refl, ap, sym, subst, ◌∙◌, append_assoc}
 use Rattle.std.proofs.lemmas.List.{drop_more, map-append, take-append-drop, drop-drop, length-take-le}
 use Rattle.std.proofs.Math.Seq.{drop-append-add}
 use Rattle.glyph_types.specs.declared.info.hb_glyph_info_t.{hb_glyph_info_t as Glyph}
@@ -9,11 +9,11 @@ use Rattle.glyph_lists.specs.Items.{Place, clusters}
 use Rattle.glyph_lists.specs.Events.{Delete, first_of, last_of, is_number}
 use Rattle.glyph_lists.specs.Order.{IsInOrder, IsOrdered}
 use Rattle.glyph_lists.specs.Readings.{IsMonotone}
-use Rattle.glyph_lists.specs.Deletions.{deleted, deleted_alone}
+use Rattle.glyph_lists.specs.Deletions.{deleted}
 use Rattle.glyph_lists.specs.Lemmas.Deletions.{deletion_is_event, no_last}
 use Rattle.glyph_lists.specs.Lemmas.Events.{event_keeps_order}
 use Rattle.glyph_slices.specs.declared.deletion.walk.Walk.{Walk}
-use Rattle.glyph_slices.specs.Deleting.{Left, glyphs_deleted, deletion_marks}
+use Rattle.glyph_slices.specs.Deleting.{glyphs_deleted}
 use Rattle.glyph_slices.specs.Deleted.{clusters_deleted}
 use Rattle.glyph_slices.specs.DeletionWalk.{Deletes, IsDue, IsWalk, Passed, all_passed, many_passed, settled, passed_at, passed_of, first_passed, with_glyph, without_glyph}
 use Rattle.glyph_slices.proofs.Neighbours.{no_glyph}

@@ -1,8 +1,8 @@
 -- A walk that turns round group after group.
 use Rattle.std.specs.Prelude.{slice_range}
 use borrow.Rule.Slice.PartMut.{put_mid}
-use Rattle.std.proofs.Common.{ℕ, suc, zero, ◌≡◌, ◌≤◌, ◌<◌, ◌+◌, ◌-◌, ◌||◌, ◌==◌, ◌&&◌, inl, inr, Bool, true, false, if◌then◌else◌, List, [], ◌∷◌, ◌++◌, length, map, take, drop, reverse, arith, refl, ap, sym, subst, ◌∙◌, append_assoc}
-use Rattle.std.proofs.lemmas.List.{drop-drop, take-map, drop-map, length-append, take-append-drop, length-take-le, length-drop, length-reverse, reverse-append, reverse-reverse, map-append, append-nil, drop_all, take_all}
+use Rattle.std.proofs.Common.{ℕ, suc, zero, ◌≡◌, ◌≤◌, ◌<◌, ◌+◌, ◌-◌, ◌||◌, ◌==◌, Bool, true, false, List, [], ◌∷◌, ◌++◌, length, map, take, drop, reverse, arith, refl, ap, sym, subst, ◌∙◌, append_assoc}
+use Rattle.std.proofs.lemmas.List.{drop-drop, take-map, drop-map, length-append, take-append-drop, length-take-le, length-drop, length-reverse, reverse-append, reverse-reverse, map-append, drop_all, take_all}
 use Rattle.std.proofs.lemmas.Grind.{reverse_onto, common_steps}
 use Rattle.std.proofs.Math.Seq.{take-append_seam, drop-append_seam}
 use Rattle.glyph_types.specs.declared.info.hb_glyph_info_t.{hb_glyph_info_t as Glyph}
@@ -15,7 +15,7 @@ use Rattle.glyph_lists.specs.Order.{IsOrdered}
 use Rattle.glyph_lists.specs.Readings.{IsMonotone}
 use Rattle.glyph_lists.specs.Lemmas.Merges.{map_alike}
 use Rattle.glyph_slices.specs.Merging.{order_merged}
-use Rattle.glyph_lists.specs.Glyphs.{in_cluster, glyphs_merged_at, beside_merged, glyphs_merged, is_marked_at, tells_apart}
+use Rattle.glyph_lists.specs.Glyphs.{in_cluster, glyphs_merged_at, beside_merged, glyphs_merged, tells_apart}
 use Rattle.glyph_lists.specs.Lemmas.Glyphs.{merged_at_beyond, stretch_is, length_beside, length_merged_at, clusters_merged, cut_out}
 use Rattle.glyph_slices.specs.Groups.{group_length}
 use Rattle.glyph_slices.specs.Turning.{Turning, part_turned, merged_if, is_marked_if, beside_if, first_turned, group_turned, turning_at, all_turned, turned}

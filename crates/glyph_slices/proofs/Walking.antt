@@ -1,9 +1,9 @@
 -- Steps of a walk of deletions.
 use borrow.Rule.Slice.PartMut.{put_mid}
-use Rattle.std.proofs.Common.{ℕ, suc, zero, ◌≡◌, ◌≢◌, ◌≤◌, ◌<◌, ◌+◌, ◌-◌, ◌==◌, ◌&&◌, ◌||◌, Bool, true, false, if◌then◌else◌, List, [], ◌∷◌, ◌++◌, Option, Some, None, slice_get, length, map, take, drop, get_or, set, arith, refl, ap, sym, subst, ◌∙◌}
+use Rattle.std.proofs.Common.{ℕ, ◌≡◌, ◌≢◌, ◌≤◌, ◌<◌, ◌+◌, ◌-◌, ◌==◌, Bool, true, false, if◌then◌else◌, List, [], ◌∷◌, ◌++◌, Option, Some, None, length, map, take, drop, get_or, set, arith, refl, ap, sym, subst, ◌∙◌}
 use Rattle.std.proofs.lemmas.Grind.{common_steps}
-use Rattle.std.proofs.lemmas.List.{drop_more, drop_all, drop-drop, length-take-le, length-map, take_more_set, drop-set-lt, take-append-drop}
-use Rattle.std.proofs.Math.Seq.{take-append_seam, drop-append_seam, drop-append-add}
+use Rattle.std.proofs.lemmas.List.{drop_more, drop_all, drop-drop, length-take-le, length-map, take_more_set, drop-set-lt}
+use Rattle.std.proofs.Math.Seq.{take-append_seam, drop-append-add}
 use Rattle.std.specs.List.{list_all}
 use Rattle.glyph_types.specs.declared.info.hb_glyph_info_t.{hb_glyph_info_t as Glyph}
 use Rattle.glyph_types.specs.declared.level.BufferClusterLevel.{BufferClusterLevel}
@@ -15,7 +15,7 @@ use Rattle.glyph_lists.specs.Lemmas.Drawn.{last_more}
 use Rattle.glyph_lists.specs.Lemmas.Deletions.{last_is}
 use Rattle.glyph_lists.specs.Glyphs.{glyphs_merged_at, is_marked_at}
 use Rattle.glyph_lists.specs.Lemmas.Glyphs.{length_merged_at}
-use Rattle.glyph_slices.specs.Deleting.{recast, end_recast_from, end_recast, Left, glyphs_deleted_alone, glyphs_deleted, deletion_marks}
+use Rattle.glyph_slices.specs.Deleting.{end_recast, Left, glyphs_deleted_alone, glyphs_deleted, deletion_marks}
 use Rattle.glyph_slices.specs.Deleted.{end_clusters, end_length}
 use Rattle.glyph_slices.specs.DeletionWalk.{Deletes, settled}
 

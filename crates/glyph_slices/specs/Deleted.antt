@@ -1,5 +1,5 @@
 -- What a deletion leaves of clusters and items.
-use Rattle.std.proofs.Common.{ℕ, suc, zero, ◌≡◌, ◌≢◌, ◌≤◌, ◌<◌, ◌+◌, ◌-◌, ◌==◌, ◌||◌, nat_lt, ◌&&◌, Bool, true, false, if◌then◌else◌, List, [], ◌∷◌, ◌++◌, Option, Some, None, length, map, take, drop, arith, refl, ap, sym, subst, ◌∙◌}
+use Rattle.std.proofs.Common.{ℕ, ◌≡◌, ◌+◌, ◌-◌, ◌==◌, ◌||◌, nat_lt, ◌&&◌, Bool, true, false, if◌then◌else◌, List, [], ◌∷◌, ◌++◌, Option, Some, None, length, map, drop, arith, refl, ap, sym, ◌∙◌}
 use Rattle.std.specs.List.{list_all}
 use Rattle.std.specs.Int.RustNames.{bit_and}
 use Rattle.std.proofs.lemmas.Grind.{common_steps}
@@ -12,7 +12,7 @@ use Rattle.glyph_lists.specs.Events.{first_of, last_of, is_number}
 use Rattle.glyph_lists.specs.Glyphs.{glyphs_merged_at}
 use Rattle.glyph_lists.specs.Deletions.{end_renumbered, deleted_alone, deleted}
 use Rattle.glyph_lists.specs.Lemmas.Glyphs.{clusters_merged_at, strip_merged_at}
-use Rattle.glyph_slices.specs.Deleting.{recast, end_recast_from, end_recast_if, end_recast, Left, glyphs_deleted_alone, glyphs_deleted}
+use Rattle.glyph_slices.specs.Deleting.{recast, end_recast_from, end_recast_if, end_recast, glyphs_deleted_alone, glyphs_deleted}
 
 pub recast_cluster : (c mask : ℕ) (h : Glyph) → (recast c mask h).cluster ≡ c
 recast_cluster c mask h = by_test (h.cluster == c) refl

@@ -1,5 +1,5 @@
 -- What the deletion of a glyph makes of the glyphs before and behind it.
-use Rattle.std.specs.Prelude.{ℕ, ◌+◌, ◌≡◌, ◌≢◌, ◌==◌, ◌||◌, nat_lt, Bool, true, false, if◌then◌else◌, List, [], ◌∷◌, ◌++◌, Option, Some, None, map, drop, slice_index_or as get_or}
+use Rattle.std.specs.Prelude.{ℕ, ◌+◌, ◌≡◌, ◌≢◌, ◌==◌, ◌||◌, nat_lt, Bool, true, false, if◌then◌else◌, List, [], ◌∷◌, Option, Some, None, map, drop, slice_index_or as get_or}
 use Rattle.std.specs.List.{list_all}
 use Rattle.std.specs.Int.RustNames.{bit_and}
 use Rattle.glyph_types.specs.declared.info.hb_glyph_info_t.{hb_glyph_info_t}

@@ -8,7 +8,7 @@ use Rattle.glyph_lists.specs.Items.{Place, clusters}
 use Rattle.glyph_lists.specs.Order.{IsOrdered}
 use Rattle.glyph_lists.specs.Lemmas.Numbers.{Has}
 use Rattle.glyph_slices.specs.declared.deletion.walk.Walk.{Walk}
-use Rattle.glyph_slices.specs.Deleting.{end_recast, Left, glyphs_deleted, deletion_marks}
+use Rattle.glyph_slices.specs.Deleting.{end_recast, glyphs_deleted, deletion_marks}
 
 -- each answer that a test of a glyph may give is that of p
 abbrev pub Tells : {F : Type 0} → Shared F (Bor hb_glyph_info_t × Unit {0}) Bool → F → (hb_glyph_info_t → Bool) → Type 0

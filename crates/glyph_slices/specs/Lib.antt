@@ -4,5 +4,6 @@ pub mod Merging
 pub mod Turning
 pub mod Deleting
 pub mod DeletionWalk
+pub mod Sorting
 pub mod Laws
 pub mod Deleted

@@ -6,3 +6,6 @@ pub mod groups;
 pub mod laws;
 pub mod merges;
 pub mod reversal;
+pub mod sorting;
+#[cfg(test)]
+mod tests;

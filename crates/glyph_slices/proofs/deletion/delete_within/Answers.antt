@@ -1,5 +1,5 @@
-use Rattle.std.proofs.Common.{arith, refl, ap, ◌∙◌, ◌≡◌, ◌<◌, ◌≤◌, ◌-◌, length}
-use Rattle.glyph_slices.specs.DeletionWalk.{Passed, many_passed}
+use Rattle.std.proofs.Common.{arith, ap, ◌∙◌, ◌≤◌, length}
+use Rattle.glyph_slices.specs.DeletionWalk.{Passed}
 use Rattle.glyph_slices.proofs.Walking.{settled_front}
 use Rattle.glyph_slices.proofs.Passing.{passes_on, passes_begin, passes_end}
 use Rattle.glyph_slices.proofs.deletion.delete_within.Goals as goal

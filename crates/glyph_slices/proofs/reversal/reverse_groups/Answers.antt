@@ -1,7 +1,7 @@
-use Rattle.std.proofs.Common.{arith, ◌≡◌, ◌||◌, ap, sym, refl, ◌∙◌, reverse, false}
+use Rattle.std.proofs.Common.{arith, ◌||◌, ap, ◌∙◌}
 use Rattle.glyph_slices.specs.Turning.{Turning, turned}
 use Rattle.glyph_slices.proofs.Turned.{rest_begins, rest_goes_on, rest_ends}
-use Rattle.glyph_slices.proofs.Groups_turned.{turned_plain}
+use Rattle.glyph_slices.proofs.GroupsTurned.{turned_plain}
 use Rattle.glyph_slices.proofs.reversal.reverse_groups.Goals as goal
 
 pub loop-start-init : goal.loop-start-init

@@ -1,4 +1,4 @@
-use Rattle.std.proofs.Common.{arith, ◌≡◌, ◌≤◌, ◌<◌, ◌-◌, ◌+◌, length, take, drop, sym, ap, ◌∙◌, subst, Some, None, true, false, get_or, ◌++◌}
+use Rattle.std.proofs.Common.{arith, ◌≤◌, ◌<◌, ◌+◌, length, take, drop, sym, ◌∙◌, subst, Some, false, get_or, ◌++◌}
 use Rattle.std.proofs.lemmas.List.{drop_more, length-take-le}
 use Rattle.glyph_slices.specs.DeletionWalk.{Deletes, settled}
 use Rattle.glyph_lists.specs.Items.{clusters}

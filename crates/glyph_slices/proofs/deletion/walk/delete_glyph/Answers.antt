@@ -1,4 +1,4 @@
-use Rattle.std.proofs.Common.{arith, None, ◌||◌, refl, sym, ◌≡◌, ◌<◌, ◌∙◌}
+use Rattle.std.proofs.Common.{None, ◌||◌, refl, sym, ◌∙◌}
 use Rattle.glyph_slices.proofs.Passing.{passed_without, walk_without, front_deletes, or_false}
 use Rattle.glyph_slices.proofs.deletion.walk.delete_glyph.Goals as goal
 

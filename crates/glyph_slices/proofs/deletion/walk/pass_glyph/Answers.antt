@@ -1,6 +1,5 @@
-use Rattle.std.proofs.Common.{arith, refl, sym, ◌≡◌, ◌<◌, ◌∙◌}
+use Rattle.std.proofs.Common.{refl, sym, ◌∙◌}
 use Rattle.std.proofs.lemmas.Fn.{says_at}
-use Rattle.glyph_slices.proofs.Neighbours.{no_glyph}
 use Rattle.glyph_slices.proofs.Passing.{passed_gone, passed_kept, walk_kept}
 use Rattle.glyph_slices.proofs.deletion.walk.pass_glyph.Goals as goal
 

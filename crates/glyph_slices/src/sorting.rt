@@ -1,0 +1,154 @@
+ghost use Rattle.std.specs.Prelude.{◌≡◌, ◌+◌, ◌-◌, ◌≤◌, ◌++◌, ℕ, true, take, drop, length, map, max, vec_len, IfOk, OnOk, OnErr, slice_range};
+ghost use Rattle.glyph_types.specs.declared.info.hb_glyph_info_t.{hb_glyph_info_t as Glyph};
+ghost use Rattle.glyph_lists.specs.Items.{Item, clusters, item_of, strip};
+ghost use Rattle.glyph_lists.specs.Order.{IsOrdered};
+ghost use Rattle.stable_order.specs.Keys.{key_order};
+ghost use Rattle.glyph_slices.specs.Sorting.{Gives, Spanned, glyph_at, keyed_from, put_in_order, range_sorted, range_spanned, span_merged};
+
+use crate::merges::merge_range;
+use glyph_types::info::hb_glyph_info_t;
+use glyph_types::level::BufferClusterLevel;
+use std::alloc::{AllocError, Global};
+
+/// Puts the glyphs from `start` up to before `end` in stable order by the keys that they have, and merges each smallest
+/// span that the order permutes: one of more than one glyph, between places before which all came from before them. The
+/// merges come first, on the glyphs as they stood, so that where all clusters are known to stand in order each costs its
+/// span and the runs at its ends. Answers whether a merge marked a glyph; where memory is short the slice stays as it was.
+pub fn sort<F: Fn(&hb_glyph_info_t) -> u32>(
+    alloc: Global,
+    glyphs: &mut [hb_glyph_info_t],
+    level: BufferClusterLevel,
+    in_order: bool,
+    start: usize,
+    end: usize,
+    key: F,
+) -> Result<bool, AllocError>
+    requires callable { F.IsAlwaysCallable key }
+    requires ordered { start ≤ end }
+    requires within { end ≤ length glyphs.old }
+    requires known { in_order ≡ true → IsOrdered (clusters glyphs.old) }
+    ensures sorted { (k : Glyph → ℕ) → Gives F.Fn key k → OnOk result (glyphs.new ≡ (range_sorted level start end k glyphs.old).glyphs) }
+    ensures items { (k : Item → ℕ) → Gives F.Fn key (λ g. k (item_of g)) → OnOk result (strip glyphs.new ≡ take start (strip glyphs.old) ++ key_order k (slice_range (strip glyphs.old) start end) ++ drop end (strip glyphs.old)) }
+    ensures marked { (k : Glyph → ℕ) → Gives F.Fn key k → IfOk result (λ b. b ≡ (range_sorted level start end k glyphs.old).is_marked) }
+    ensures err { OnErr result (glyphs.new ≡ glyphs.old) }
+{
+    let mut order = keyed_places(alloc, &glyphs[start..end], &key)?;
+    sort_places(&mut order)?;
+    let mut copy = glyphs[start..end].to_vec(alloc)?;
+    let marked = merge_spans(glyphs, level, in_order, start, &order);
+    let range = &mut glyphs[start..end];
+    copy.copy_from_slice(range);
+    put_in_order(range, &copy, &order);
+    Ok(marked)
+}
+
+/// A glyph's key, and its place in a range.
+#[derive(Clone, Copy)]
+struct Keyed {
+    key: u32,
+    place: usize,
+}
+
+/// The key and the place of each glyph.
+fn keyed_places<F: Fn(&hb_glyph_info_t) -> u32>(
+    alloc: Global,
+    glyphs: &[hb_glyph_info_t],
+    key: &F,
+) -> Result<Vec<Keyed>, AllocError>
+    requires { F.IsAlwaysCallable key.now }
+    ensures keys { (k : Glyph → ℕ) → Gives F.Fn key.now k → IfOk result (λ v. v.items ≡ keyed_from k 0 glyphs.now) }
+    ensures len { IfOk result (λ v. vec_len v ≡ length glyphs.now) }
+{
+    let mut places = Vec::new(alloc);
+    for (place, glyph) in glyphs.iter().enumerate() {
+        let keyed = Keyed {
+            key: key(glyph),
+            place,
+        };
+        places.push(keyed)?;
+    }
+    Ok(places)
+}
+
+/// Puts places in the order of their keys, those of one key in the order that they have.
+fn sort_places(places: &mut Vec<Keyed>) -> Result<(), AllocError>
+    ensures sorted { OnOk result (places.new.items ≡ key_order (λ e. e.key) places.old.items) }
+    ensures len { OnOk result (vec_len places.new ≡ vec_len places.old) }
+{
+    places.sort_by_key(|keyed| keyed.key)?;
+    Ok(())
+}
+
+/// Merges the glyphs from `start` up to before `end` where there are several; answers whether one was marked.
+fn merge_span(
+    glyphs: &mut [hb_glyph_info_t],
+    level: BufferClusterLevel,
+    in_order: bool,
+    start: usize,
+    end: usize,
+    marked: bool,
+) -> bool
+    requires ordered { start ≤ end }
+    requires within { end ≤ length glyphs.old }
+    requires known { in_order ≡ true → IsOrdered (clusters glyphs.old) }
+    ensures merged { record { glyphs = glyphs.new; is_marked = result } ≡ span_merged level start end (record { glyphs = glyphs.old; is_marked = marked }) }
+    ensures order { IsOrdered (clusters glyphs.old) → IsOrdered (clusters glyphs.new) }
+{
+    if end - start < 2 {
+        return marked;
+    }
+    let merged = merge_range(glyphs, level, start, end, in_order);
+    marked | merged
+}
+
+/// Merges the spans of a range that begins at `start`; answers whether a glyph was marked.
+fn merge_spans(
+    glyphs: &mut [hb_glyph_info_t],
+    level: BufferClusterLevel,
+    in_order: bool,
+    start: usize,
+    order: &[Keyed],
+) -> bool
+    requires within { start + length order.now ≤ length glyphs.old }
+    requires known { in_order ≡ true → IsOrdered (clusters glyphs.old) }
+    ensures { record { glyphs = glyphs.new; is_marked = result } ≡ range_spanned level start order.now glyphs.old }
+{
+    let mut marked = false;
+    let mut begin = 0;
+    let mut reach = 0;
+    for place in 0..order.len() {
+        reach = further(reach, order[place].place);
+        if place < reach {
+            continue;
+        }
+        let end = place + 1;
+        marked = merge_span(glyphs, level, in_order, start + begin, start + end, marked);
+        begin = end;
+    }
+    marked
+}
+
+fn further(one: usize, other: usize) -> usize
+    ensures { result ≡ max one other }
+{
+    if one < other { other } else { one }
+}
+
+/// Each place of a range takes the glyph that stood at another place of it, as the order tells.
+fn put_in_order(range: &mut [hb_glyph_info_t], copy: &[hb_glyph_info_t], order: &[Keyed])
+    requires { length order.now ≡ length range.old }
+    ensures { range.new ≡ map (λ e. glyph_at copy.now e.place) order.now }
+{
+    for place in 0..order.len() {
+        range[place] = glyph_at(copy, order[place].place);
+    }
+}
+
+fn glyph_at(glyphs: &[hb_glyph_info_t], place: usize) -> hb_glyph_info_t
+    ensures { result ≡ glyph_at glyphs.now place }
+{
+    match glyphs.get(place) {
+        Some(glyph) => *glyph,
+        None => hb_glyph_info_t::default(),
+    }
+}

@@ -1,0 +1,4 @@
+pub mod Keys
+pub mod Laws
+pub mod Orders
+pub mod StableSort
