@@ -68,7 +68,9 @@ impl hb_buffer_t {
     )
         requires callable { F.IsAlwaysCallable group }
         requires closed { self.old.is_open ≡ false }
-        ensures { (joins : Glyph → Glyph → Bool) → Decides F.Fn group joins → self.new ≡ with_groups_turned merge joins self.old }
+        ensures turned { (joins : Glyph → Glyph → Bool) → Decides F.Fn group joins → self.new ≡ with_groups_turned merge joins self.old }
+        ensures closed { self.new.is_open ≡ false }
+        ensures count { length (all_glyphs self.new) ≡ length (all_glyphs self.old) }
     {
         let in_order = self.order.settled(self.lent, &self.info).is_known();
         self.order = KnownOrder::Unknown;
@@ -84,7 +86,9 @@ impl hb_buffer_t {
     pub fn delete_glyphs_inplace<F: Fn(&hb_glyph_info_t) -> bool>(&mut self, filter: F)
         requires callable { F.IsAlwaysCallable filter }
         requires closed { self.old.is_open ≡ false }
-        ensures { (goes : Glyph → Bool) → Tells F.Fn filter goes → self.new ≡ with_picked_deleted goes self.old }
+        ensures deleted { (goes : Glyph → Bool) → Tells F.Fn filter goes → self.new ≡ with_picked_deleted goes self.old }
+        ensures closed { self.new.is_open ≡ false }
+        ensures few { length (all_glyphs self.new) ≤ length (all_glyphs self.old) }
     {
         let in_order = self.order.settled(self.lent, &self.info).is_known();
         self.order = KnownOrder::Unknown;

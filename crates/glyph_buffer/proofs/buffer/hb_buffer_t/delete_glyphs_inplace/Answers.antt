@@ -6,8 +6,8 @@ use Rattle.glyph_buffer.specs.Merging.{telling_flags}
 use Rattle.glyph_buffer.proofs.Picked.{picked_view}
 use Rattle.glyph_buffer.proofs.buffer.hb_buffer_t.delete_glyphs_inplace.Goals as goal
 
-pub returns : goal.returns
-returns g c goes tells =
+pub returns-clause-deleted : goal.returns-clause-deleted
+returns-clause-deleted g c goes tells =
     let b = c.self.inside in
     let closed : b.have_output ≡ false = rw (← c.self.view_is) at c.requires.closed in
     let picked = c.delete_picked-marked in
