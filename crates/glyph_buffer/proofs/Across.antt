@@ -1,8 +1,8 @@
 -- What happens to a range that begins in the output, over both sides.
 use Rattle.std.specs.Global.{Vec}
 use Rattle.std.specs.Prelude.{slice_range}
-use Rattle.std.proofs.Common.{ℕ, ◌≡◌, ◌≤◌, ◌<◌, ◌+◌, ◌-◌, Bool, true, false, nat_lt, ◌⊎◌, inl, inr, Option, List, [], ◌∷◌, ◌++◌, length, map, take, drop, refl, arith, ap, sym, subst, append_assoc, ◌∙◌}
-use Rattle.std.proofs.lemmas.List.{map-append, take-append-drop, take-append-le, drop-append-le, take_at, drop_at, drop-drop, drop-map, take-map, length-map, length-append, length-drop}
+use Rattle.std.proofs.Common.{ℕ, ◌≡◌, ◌≤◌, ◌+◌, ◌-◌, true, false, nat_lt, ◌⊎◌, inl, inr, Option, List, [], ◌∷◌, ◌++◌, length, map, take, drop, refl, arith, ap, sym, subst, append_assoc, ◌∙◌}
+use Rattle.std.proofs.lemmas.List.{map-append, take-append-drop, take-append-le, drop-append-le, take_at, drop_at, drop-drop, length-map, length-append, length-drop}
 use Rattle.std.proofs.Math.Seq.{take-append-add, take-append_seam, drop-append-add, drop-append_seam}
 use Rattle.glyph_types.specs.declared.info.hb_glyph_info_t.{hb_glyph_info_t}
 use Rattle.glyph_types.specs.declared.level.BufferClusterLevel.TheVariants.{MonotoneGraphemes, MonotoneCharacters, Characters}

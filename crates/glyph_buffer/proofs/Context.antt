@@ -1,5 +1,5 @@
 -- The first and the last characters of a text.
-use Rattle.std.proofs.Common.{ℕ, ◌≡◌, ◌≤◌, ◌<◌, ◌+◌, get_or, List, [], ◌∷◌, ◌++◌, length, take, reverse, refl, ap, sym, arith, append-nil, length-append, ◌∙◌}
+use Rattle.std.proofs.Common.{ℕ, ◌≡◌, ◌≤◌, ◌+◌, get_or, List, [], ◌∷◌, ◌++◌, length, take, reverse, refl, ap, sym, arith, append-nil, length-append, ◌∙◌}
 use Rattle.std.specs.Prelude.{encode_utf8}
 use Rattle.std.specs.Char.{IsScalar}
 use Rattle.std.specs.Str.{chars, IsUtf8, IsCharBoundary}

@@ -1,9 +1,9 @@
 -- The glyph at the cursor was deleted.
 use Rattle.std.specs.Global.{Vec}
-use Rattle.std.proofs.Common.{ℕ, suc, zero, ◌≡◌, ◌≢◌, ◌≤◌, ◌<◌, ◌+◌, ◌-◌, ◌==◌, ◌||◌, nat_lt, Bool, true, false, if◌then◌else◌, List, [], ◌∷◌, ◌++◌, Option, Some, None, slice_get, length, map, take, drop, get_or, arith, refl, ap, sym, subst, ◌∙◌}
+use Rattle.std.proofs.Common.{ℕ, suc, zero, ◌≡◌, ◌≢◌, ◌≤◌, ◌<◌, ◌+◌, ◌-◌, ◌==◌, ◌||◌, nat_lt, Bool, true, false, if◌then◌else◌, List, [], ◌∷◌, ◌++◌, Option, Some, None, slice_get, length, take, drop, get_or, arith, refl, ap, sym, subst, ◌∙◌}
 use Rattle.std.proofs.lemmas.Bool.Decides.{nat_tests}
 use Rattle.std.proofs.lemmas.Grind.{common_steps}
-use Rattle.std.proofs.lemmas.List.{drop_more, drop_all, length-take-le, length-map, map-append, drop-map}
+use Rattle.std.proofs.lemmas.List.{drop_more, drop_all, length-take-le, length-map, map-append}
 use Rattle.std.proofs.Math.Seq.{drop-append-add}
 use Rattle.glyph_types.specs.declared.info.hb_glyph_info_t.{hb_glyph_info_t as Glyph}
 use Rattle.glyph_types.specs.declared.level.BufferClusterLevel.{BufferClusterLevel as Level}

@@ -1,5 +1,5 @@
 -- Groups in turned order, and glyphs that a test picks taken out.
-use Rattle.std.specs.Prelude.{ℕ, ◌+◌, Bool, List, min, length}
+use Rattle.std.specs.Prelude.{◌+◌, Bool, List, min, length}
 use Rattle.glyph_types.specs.declared.info.hb_glyph_info_t.{hb_glyph_info_t}
 use Rattle.glyph_lists.specs.Items.{clusters}
 use Rattle.glyph_slices.specs.Deleting.{Left, glyphs_deleted, deletion_marks}

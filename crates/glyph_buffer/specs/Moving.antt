@@ -1,6 +1,5 @@
 -- The cursor at another place, and lists cut, filled or turned round in part.
 use Rattle.std.specs.Prelude.{ℕ, ◌+◌, ◌-◌, ◌&&◌, Bool, true, not, nat_le, nat_lt, if◌then◌else◌, List, ◌++◌, length, take, drop, reverse, replicate, min, slice_range}
-use Rattle.glyph_lists.specs.Items.{Place}
 use Rattle.glyph_types.specs.declared.info.hb_glyph_info_t.{hb_glyph_info_t}
 use Rattle.glyph_buffer.specs.Sides.{Sides, all_glyphs, with_list, zero_place}
 use Rattle.glyph_buffer.specs.Text.{added_glyph}

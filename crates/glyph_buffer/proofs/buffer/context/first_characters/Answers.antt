@@ -1,4 +1,4 @@
-use Rattle.std.proofs.Common.{arith, rules, append_assoc, append-nil}
+use Rattle.std.proofs.Common.{arith, rules, append_assoc}
 use Rattle.std.proofs.lemmas.Grind.{common_steps}
 use Rattle.glyph_buffer.proofs.Context.{first_step, first_none, taken_whole, taken_full, past_first}
 use Rattle.glyph_buffer.proofs.buffer.context.first_characters.Goals as goal

@@ -1,4 +1,4 @@
-use Rattle.std.proofs.Common.{arith, rules, append_assoc, append-nil}
+use Rattle.std.proofs.Common.{arith, rules, append_assoc}
 use Rattle.std.proofs.lemmas.Grind.{common_steps}
 use Rattle.glyph_buffer.proofs.Context.{last_step, last_none, taken_whole, taken_full, before_last}
 use Rattle.glyph_buffer.proofs.buffer.context.last_characters.Goals as goal

@@ -1,9 +1,8 @@
-use Rattle.std.proofs.Common.{None, ◌≡◌, ◌<◌, ◌+◌, ◌∷◌, true, length, drop, get_or, refl, rules, arith, sym, ap, subst, ◌∙◌}
+use Rattle.std.proofs.Common.{None, ◌≡◌, ◌<◌, ◌+◌, ◌∷◌, true, length, drop, get_or, refl, rules, arith, sym, ap, ◌∙◌}
 use Rattle.std.proofs.lemmas.Grind.{common_steps}
 use Rattle.std.proofs.lemmas.List.{drop_more}
-use Rattle.glyph_lists.specs.Items.{clusters, strip}
+use Rattle.glyph_lists.specs.Items.{clusters}
 use Rattle.glyph_buffer.specs.Grouping.{with_deleted}
-use Rattle.glyph_buffer.specs.Merging.{telling_flags}
 use Rattle.glyph_buffer.specs.Moving.{zero_glyph}
 use Rattle.glyph_buffer.specs.Sides.{Sides, all_glyphs, items_of}
 use Rattle.glyph_buffer.proofs.Deleting.{deleted_view, left_items, left_numbers, order_gone}

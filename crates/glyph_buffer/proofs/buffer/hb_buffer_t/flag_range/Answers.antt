@@ -3,8 +3,8 @@ use Rattle.std.proofs.lemmas.Grind.{common_steps}
 use Rattle.glyph_lists.specs.Items.{clusters, flags_of}
 use Rattle.glyph_buffer.specs.Sides.{Sides, all_glyphs, items_of}
 use Rattle.glyph_buffer.specs.Inside.{start_of}
-use Rattle.glyph_buffer.specs.Merging.{place_of, telling_flags}
-use Rattle.glyph_buffer.specs.Marking.{with_marked, with_flagged}
+use Rattle.glyph_buffer.specs.Merging.{place_of}
+use Rattle.glyph_buffer.specs.Marking.{with_flagged}
 use Rattle.glyph_buffer.proofs.Marked.{places_order, flagged_items, flagged_clusters, flagged_flags, flagged_view, order_flagged}
 use Rattle.glyph_buffer.proofs.Ordered.{known_ahead, known_back}
 use Rattle.glyph_buffer.proofs.buffer.hb_buffer_t.flag_range.Goals as goal

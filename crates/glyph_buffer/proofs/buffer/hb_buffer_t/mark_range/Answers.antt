@@ -4,7 +4,7 @@ use Rattle.glyph_lists.specs.Items.{clusters, flags_of}
 use Rattle.glyph_buffer.specs.Sides.{Sides, all_glyphs, items_of}
 use Rattle.glyph_buffer.specs.Inside.{start_of}
 use Rattle.glyph_buffer.specs.Merging.{place_of, telling_flags}
-use Rattle.glyph_buffer.specs.Marking.{with_marked, with_flagged}
+use Rattle.glyph_buffer.specs.Marking.{with_marked}
 use Rattle.glyph_buffer.proofs.Marked.{places_order, marked_items, marked_clusters, marked_flags, marked_view, order_marked}
 use Rattle.glyph_buffer.proofs.Ordered.{known_ahead, known_back}
 use Rattle.glyph_buffer.proofs.buffer.hb_buffer_t.mark_range.Goals as goal

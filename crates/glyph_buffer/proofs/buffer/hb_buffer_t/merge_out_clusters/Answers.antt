@@ -1,7 +1,6 @@
 use Rattle.std.proofs.Common.{ap, ◌∙◌}
 use Rattle.glyph_lists.specs.Items.{clusters, flags_of}
 use Rattle.glyph_buffer.specs.Sides.{Sides, all_glyphs, items_of}
-use Rattle.glyph_buffer.specs.Merging.{with_output_merged}
 use Rattle.glyph_buffer.proofs.Across.{output_at, output_items, output_clusters, output_flags}
 use Rattle.glyph_buffer.proofs.buffer.hb_buffer_t.merge_out_clusters.Goals as goal
 

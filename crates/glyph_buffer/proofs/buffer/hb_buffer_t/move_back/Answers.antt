@@ -1,7 +1,7 @@
 use Rattle.std.proofs.Common.{None, ◌≡◌, ◌≤◌, ◌+◌, ◌-◌, ◌++◌, refl, true, length, drop, rules, arith, ap, ◌∙◌}
 use Rattle.std.proofs.lemmas.Grind.{common_steps}
 use Rattle.glyph_lists.specs.Items.{clusters}
-use Rattle.glyph_buffer.specs.Sides.{Sides, all_glyphs}
+use Rattle.glyph_buffer.specs.Sides.{all_glyphs}
 use Rattle.glyph_buffer.specs.Moving.{moved_to}
 use Rattle.glyph_buffer.proofs.Moved.{moved_back, moved_to_all, order_back}
 use Rattle.glyph_buffer.proofs.buffer.hb_buffer_t.move_back.Goals as goal

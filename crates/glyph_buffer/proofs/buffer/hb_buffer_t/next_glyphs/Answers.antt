@@ -1,8 +1,7 @@
-use Rattle.std.proofs.Common.{None, ◌≡◌, ◌<◌, ◌++◌, ◌∷◌, ◌+◌, ◌-◌, [], true, length, take, drop, refl, rules, arith, ap, ◌∙◌}
+use Rattle.std.proofs.Common.{None, ◌≡◌, ◌++◌, ◌+◌, ◌-◌, true, take, drop, rules, arith, ap, ◌∙◌}
 use Rattle.std.proofs.lemmas.Grind.{common_steps}
-use Rattle.glyph_types.specs.declared.info.hb_glyph_info_t.{hb_glyph_info_t}
 use Rattle.glyph_lists.specs.Items.{clusters}
-use Rattle.glyph_buffer.specs.Sides.{Sides, all_glyphs, moved_on}
+use Rattle.glyph_buffer.specs.Sides.{all_glyphs, moved_on}
 use Rattle.glyph_buffer.proofs.Kept.{moved_all, moved_closed, moved_open}
 use Rattle.glyph_buffer.proofs.Ordered.{order_moved_on}
 use Rattle.glyph_buffer.proofs.buffer.hb_buffer_t.next_glyphs.Goals as goal

@@ -1,6 +1,5 @@
-use Rattle.std.proofs.Common.{◌≡◌, ◌<◌, ◌++◌, ◌∷◌, ◌+◌, [], true, length, take, drop, refl, rules, arith, ap, ◌∙◌}
+use Rattle.std.proofs.Common.{◌≡◌, ◌∷◌, [], true, drop, refl, rules, arith}
 use Rattle.std.proofs.lemmas.Grind.{common_steps}
-use Rattle.glyph_types.specs.declared.info.hb_glyph_info_t.{hb_glyph_info_t}
 use Rattle.glyph_lists.specs.Items.{clusters}
 use Rattle.glyph_buffer.proofs.Ordered.{known_ahead, known_back, order_copied}
 use Rattle.glyph_buffer.proofs.Replaced.{room_is, replaced_within}

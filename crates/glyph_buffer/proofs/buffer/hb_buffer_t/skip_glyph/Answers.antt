@@ -1,6 +1,5 @@
-use Rattle.std.proofs.Common.{◌≡◌, ◌<◌, ◌++◌, ◌∷◌, ◌+◌, [], true, length, take, drop, refl, rules, arith, ap, ◌∙◌}
+use Rattle.std.proofs.Common.{◌≡◌, true, rules, arith}
 use Rattle.std.proofs.lemmas.Grind.{common_steps}
-use Rattle.glyph_types.specs.declared.info.hb_glyph_info_t.{hb_glyph_info_t}
 use Rattle.glyph_lists.specs.Items.{clusters}
 use Rattle.glyph_buffer.proofs.Ordered.{order_skipped}
 use Rattle.glyph_buffer.proofs.buffer.hb_buffer_t.skip_glyph.Goals as goal
