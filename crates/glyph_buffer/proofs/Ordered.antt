@@ -129,3 +129,9 @@ order_drawn_known Falling xs ys d h = order_drawn true d h
 -- a glyph of the input went
 pub order_skipped : (o : KnownOrder) (front ns : List ℕ) (n : ℕ) → HasOrder o (front ++ drop n ns) → HasOrder o (front ++ drop (n + 1) ns)
 order_skipped o front ns n h = rw (← drop-drop 1 n ns) (order_drawn_known o (front ++ drop n ns) (front ++ drop 1 (drop n ns)) (drawn_second front (drawn_drop 1 (drop n ns))) h)
+
+-- what keeps rising clusters rising, and falling ones falling
+pub order_if_kept : (o : KnownOrder) (old new : List ℕ) → ((falls : Bool) → IsInOrder falls old → IsInOrder falls new) → HasOrder o old → HasOrder o new
+order_if_kept Unknown old new keeps h = tt
+order_if_kept Rising old new keeps h = keeps false h
+order_if_kept Falling old new keeps h = keeps true h

@@ -12,4 +12,5 @@ pub mod Moving
 pub mod Lending
 pub mod Appended
 pub mod Segment
+pub mod Sorting
 pub mod Laws

@@ -18,6 +18,7 @@ mod replacement;
 mod reversal;
 mod segment;
 mod settings;
+mod sorting;
 mod storage;
 #[cfg(test)]
 mod tests;

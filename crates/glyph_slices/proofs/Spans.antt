@@ -1,13 +1,14 @@
 -- Steps of a sort of a range.
-use Rattle.std.proofs.Common.{ℕ, suc, ◌≡◌, ◌≤◌, ◌<◌, ◌+◌, ◌-◌, ◌&&◌, nat_lt, max, Bool, true, false, if◌then◌else◌, List, [], ◌∷◌, ◌++◌, length, map, take, drop, get_or, set, arith, refl, ap, sym, ◌∙◌, append_assoc}
+use Rattle.std.proofs.Common.{ℕ, suc, ◌≡◌, ◌≤◌, ◌<◌, ◌+◌, ◌-◌, ◌&&◌, nat_lt, max, ◌==◌, Bool, true, false, if◌then◌else◌, List, [], ◌∷◌, ◌++◌, length, map, take, drop, get_or, set, arith, refl, ap, sym, ◌∙◌, append_assoc}
 use Rattle.std.specs.Prelude.{slice_range}
 use borrow.Rule.Slice.PartMut.{put_mid}
 use Rattle.std.specs.List.{list_all}
 use Rattle.stable_order.specs.Keys.{key_order}
 use Rattle.std.proofs.lemmas.Bool.Decides.{nat_tests}
 use Rattle.std.proofs.lemmas.Grind.{common_steps}
-use Rattle.std.proofs.lemmas.List.{drop_more, drop-drop, take_more, map-append, length-map, length-take-le}
-use Rattle.std.proofs.Math.Seq.{set-append_seam}
+use Rattle.std.proofs.lemmas.List.{drop_more, drop-drop, take_more, map-append, length-map, length-take-le, take-append-drop}
+use Rattle.std.proofs.Math.Seq.{set-append_seam, map-set_same}
+use Rattle.glyph_lists.specs.Items.{clusters}
 use Rattle.glyph_types.specs.declared.info.hb_glyph_info_t.{hb_glyph_info_t as Glyph}
 use Rattle.glyph_types.specs.declared.level.BufferClusterLevel.{BufferClusterLevel as Level}
 use Rattle.glyph_slices.specs.declared.sorting.Keyed.{Keyed}
@@ -80,6 +81,12 @@ put_step f order old range i d z g lt long before e =
     ap (λ hs. set hs i z) cut ∙ ap (λ n. set (map f (take i order) ++ get_or old i g ∷ drop (i + 1) old) n z) (sym at) ∙ set-append_seam (map f (take i order)) (get_or old i g) (drop (i + 1) old) z
     ∙ ap (λ (h : Glyph). map f (take i order) ++ h ∷ drop (i + 1) old) e ∙ sym (append_assoc (map f (take i order)) (f (get_or order i d) ∷ []) (drop (i + 1) old)) ∙ ap (λ hs. hs ++ drop (i + 1) old) (sym more)
 
+-- a place that takes a glyph of the cluster that it had
+pub same_step : (range old : List Glyph) (i : ℕ) (z d : Glyph) (s : Bool) → (s ≡ true → clusters range ≡ clusters old) → (s && ((get_or range i d).cluster == z.cluster)) ≡ true → clusters (set range i z) ≡ clusters old
+same_step range old i z d s before both =
+    let alike : z.cluster ≡ (get_or range i d).cluster = grind (arith, nat_tests, common_steps, both) in
+    map-set_same (λ (g : Glyph). g.cluster) range i z d alike ∙ before (grind (arith, nat_tests, common_steps, both))
+
 -- a range was put in order once its spans were merged
 put_range : (start end : ℕ) (order : List Keyed) (mid range : List Glyph) → start ≤ end → range ≡ map (λ (e : Keyed). glyph_at (slice_range mid start end) e.place) order → put_mid start (end - start) mid range ≡ put_in_order start end order mid
 put_range start end order mid range le e =
@@ -102,3 +109,12 @@ pub sort_marks : (level : Level) (start end : ℕ) (k : Glyph → ℕ) (gs mid :
     → record { glyphs = mid; is_marked = marked } ≡ range_spanned level start order gs → marked ≡ (range_sorted level start end k gs).is_marked
 sort_marks level start end k gs mid keyed order marked e o spanned =
     ap (λ (s : Spanned). s.is_marked) spanned ∙ ap (λ es. (range_spanned level start es gs).is_marked) (order_is k (slice_range gs start end) keyed order e o)
+
+-- a range whose clusters are as they were leaves all of them so
+pub put_same : (start n : ℕ) (mid range : List Glyph) → clusters range ≡ clusters (take n (drop start mid)) → clusters (put_mid start n mid range) ≡ clusters mid
+put_same start n mid range e =
+    let f : Glyph → ℕ = λ g. g.cluster in
+    let back : List Glyph = drop n (drop start mid) in
+    map-append f (take start mid) (range ++ back)
+    ∙ ap (λ ns. clusters (take start mid) ++ ns) (map-append f range back ∙ ap (λ ns. ns ++ clusters back) e ∙ sym (map-append f (take n (drop start mid)) back) ∙ ap clusters (take-append-drop n (drop start mid)))
+    ∙ sym (map-append f (take start mid) (drop start mid)) ∙ ap clusters (take-append-drop start mid)

@@ -30,3 +30,8 @@ order_merged level from to gs new le e o =
       | inl rises ↦ inl (order_kept false level from to (clusters gs) le rises)
       | inr falls ↦ inr (order_kept true level from to (clusters gs) le falls)
     ]))
+
+pub direction_merged : (level : BufferClusterLevel) (from to : ℕ) (gs new : List hb_glyph_info_t) → from ≤ to → new ≡ glyphs_merged_at level from to gs → (falls : Bool) → IsInOrder falls (clusters gs) → IsInOrder falls (clusters new)
+direction_merged level from to gs new le e falls h =
+    let P : List hb_glyph_info_t → Type 0 = λ hs. IsInOrder falls (clusters hs) in
+    subst P (sym e) (subst (IsInOrder falls) (sym (clusters_merged_at level from to gs le)) (order_kept falls level from to (clusters gs) le h))

@@ -1,6 +1,6 @@
-ghost use Rattle.std.specs.Prelude.{◌≡◌, ◌≤◌, true, length};
+ghost use Rattle.std.specs.Prelude.{◌≡◌, ◌≤◌, true, Bool, length};
 ghost use Rattle.glyph_lists.specs.Items.{clusters};
-ghost use Rattle.glyph_lists.specs.Order.{IsOrdered};
+ghost use Rattle.glyph_lists.specs.Order.{IsInOrder, IsOrdered};
 ghost use Rattle.glyph_lists.specs.Readings.{IsMonotone};
 ghost use Rattle.glyph_lists.specs.Glyphs.{glyphs_merged_at, is_marked_at};
 
@@ -13,7 +13,7 @@ use glyph_types::level::BufferClusterLevel;
 /// among them becomes the least of them, wherever it is, and a glyph whose cluster changes loses its three flags. At the
 /// level that keeps characters apart those outside the least cluster are marked as unsafe to break and to concat. Answers
 /// whether a glyph was marked. Where all clusters are known to stand in order it costs the range and the runs at its ends.
-#[tactic(auto, using(crate::specs::Merging::order_merged))]
+#[tactic(auto, using(crate::specs::Merging::order_merged, crate::specs::Merging::direction_merged))]
 pub fn merge_range(
     glyphs: &mut [hb_glyph_info_t],
     level: BufferClusterLevel,
@@ -27,6 +27,7 @@ pub fn merge_range(
     ensures merged { glyphs.new ≡ glyphs_merged_at level start end glyphs.old }
     ensures marked { result ≡ is_marked_at level start end (clusters glyphs.old) }
     ensures order { IsOrdered (clusters glyphs.old) → IsOrdered (clusters glyphs.new) }
+    ensures direction { (falls : Bool) → IsInOrder falls (clusters glyphs.old) → IsInOrder falls (clusters glyphs.new) }
 {
     merge_at(glyphs, level, start, end, in_order)
 }

@@ -1,7 +1,7 @@
-ghost use Rattle.std.specs.Prelude.{◌≡◌, ◌+◌, ◌-◌, ◌≤◌, ◌++◌, ℕ, true, take, drop, length, map, max, vec_len, IfOk, OnOk, OnErr, slice_range};
+ghost use Rattle.std.specs.Prelude.{◌≡◌, ◌+◌, ◌-◌, ◌≤◌, ◌++◌, ℕ, Bool, true, take, drop, length, map, max, vec_len, IfOk, OnOk, OnErr, slice_range};
 ghost use Rattle.glyph_types.specs.declared.info.hb_glyph_info_t.{hb_glyph_info_t as Glyph};
 ghost use Rattle.glyph_lists.specs.Items.{Item, clusters, item_of, strip};
-ghost use Rattle.glyph_lists.specs.Order.{IsOrdered};
+ghost use Rattle.glyph_lists.specs.Order.{IsInOrder, IsOrdered};
 ghost use Rattle.stable_order.specs.Keys.{key_order};
 ghost use Rattle.glyph_slices.specs.Sorting.{Gives, Spanned, glyph_at, keyed_from, put_in_order, range_sorted, range_spanned, span_merged};
 
@@ -13,7 +13,7 @@ use std::alloc::{AllocError, Global};
 /// Puts the glyphs from `start` up to before `end` in stable order by the keys that they have, and merges each smallest
 /// span that the order permutes: one of more than one glyph, between places before which all came from before them. The
 /// merges come first, on the glyphs as they stood, so that where all clusters are known to stand in order each costs its
-/// span and the runs at its ends. Answers whether a merge marked a glyph; where memory is short the slice stays as it was.
+/// span and the runs at its ends. Where memory is short the slice stays as it was.
 pub fn sort<F: Fn(&hb_glyph_info_t) -> u32>(
     alloc: Global,
     glyphs: &mut [hb_glyph_info_t],
@@ -22,14 +22,15 @@ pub fn sort<F: Fn(&hb_glyph_info_t) -> u32>(
     start: usize,
     end: usize,
     key: F,
-) -> Result<bool, AllocError>
+) -> Result<Sorted, AllocError>
     requires callable { F.IsAlwaysCallable key }
     requires ordered { start ≤ end }
     requires within { end ≤ length glyphs.old }
     requires known { in_order ≡ true → IsOrdered (clusters glyphs.old) }
     ensures sorted { (k : Glyph → ℕ) → Gives F.Fn key k → OnOk result (glyphs.new ≡ (range_sorted level start end k glyphs.old).glyphs) }
     ensures items { (k : Item → ℕ) → Gives F.Fn key (λ g. k (item_of g)) → OnOk result (strip glyphs.new ≡ take start (strip glyphs.old) ++ key_order k (slice_range (strip glyphs.old) start end) ++ drop end (strip glyphs.old)) }
-    ensures marked { (k : Glyph → ℕ) → Gives F.Fn key k → IfOk result (λ b. b ≡ (range_sorted level start end k glyphs.old).is_marked) }
+    ensures marked { (k : Glyph → ℕ) → Gives F.Fn key k → IfOk result (λ s. s.marked ≡ (range_sorted level start end k glyphs.old).is_marked) }
+    ensures order { (falls : Bool) → IfOk result (λ s. s.in_order ≡ true → IsInOrder falls (clusters glyphs.old) → IsInOrder falls (clusters glyphs.new)) }
     ensures err { OnErr result (glyphs.new ≡ glyphs.old) }
 {
     let mut order = keyed_places(alloc, &glyphs[start..end], &key)?;
@@ -38,8 +39,17 @@ pub fn sort<F: Fn(&hb_glyph_info_t) -> u32>(
     let marked = merge_spans(glyphs, level, in_order, start, &order);
     let range = &mut glyphs[start..end];
     copy.copy_from_slice(range);
-    put_in_order(range, &copy, &order);
-    Ok(marked)
+    let in_order = put_in_order(range, &copy, &order);
+    Ok(Sorted { marked, in_order })
+}
+
+/// What a sort did to clusters.
+#[derive(Clone, Copy, PartialEq, Eq, Debug)]
+pub struct Sorted {
+    /// Whether a merge marked a glyph.
+    pub marked: bool,
+    /// Whether each place has the cluster that the merges left there: then clusters that stood in order still do.
+    pub in_order: bool,
 }
 
 /// A glyph's key, and its place in a range.
@@ -93,6 +103,7 @@ fn merge_span(
     requires known { in_order ≡ true → IsOrdered (clusters glyphs.old) }
     ensures merged { record { glyphs = glyphs.new; is_marked = result } ≡ span_merged level start end (record { glyphs = glyphs.old; is_marked = marked }) }
     ensures order { IsOrdered (clusters glyphs.old) → IsOrdered (clusters glyphs.new) }
+    ensures direction { (falls : Bool) → IsInOrder falls (clusters glyphs.old) → IsInOrder falls (clusters glyphs.new) }
 {
     if end - start < 2 {
         return marked;
@@ -111,7 +122,8 @@ fn merge_spans(
 ) -> bool
     requires within { start + length order.now ≤ length glyphs.old }
     requires known { in_order ≡ true → IsOrdered (clusters glyphs.old) }
-    ensures { record { glyphs = glyphs.new; is_marked = result } ≡ range_spanned level start order.now glyphs.old }
+    ensures merged { record { glyphs = glyphs.new; is_marked = result } ≡ range_spanned level start order.now glyphs.old }
+    ensures direction { (falls : Bool) → IsInOrder falls (clusters glyphs.old) → IsInOrder falls (clusters glyphs.new) }
 {
     let mut marked = false;
     let mut begin = 0;
@@ -134,14 +146,24 @@ fn further(one: usize, other: usize) -> usize
     if one < other { other } else { one }
 }
 
-/// Each place of a range takes the glyph that stood at another place of it, as the order tells.
-fn put_in_order(range: &mut [hb_glyph_info_t], copy: &[hb_glyph_info_t], order: &[Keyed])
+/// Each place of a range takes the glyph that stood at another place of it, as the order tells; answers whether each place
+/// has the cluster that it had.
+fn put_in_order(
+    range: &mut [hb_glyph_info_t],
+    copy: &[hb_glyph_info_t],
+    order: &[Keyed],
+) -> bool
     requires { length order.now ≡ length range.old }
-    ensures { range.new ≡ map (λ e. glyph_at copy.now e.place) order.now }
+    ensures put { range.new ≡ map (λ e. glyph_at copy.now e.place) order.now }
+    ensures same { result ≡ true → clusters range.new ≡ clusters range.old }
 {
+    let mut same = true;
     for place in 0..order.len() {
-        range[place] = glyph_at(copy, order[place].place);
+        let glyph = glyph_at(copy, order[place].place);
+        same &= range[place].cluster == glyph.cluster;
+        range[place] = glyph;
     }
+    same
 }
 
 fn glyph_at(glyphs: &[hb_glyph_info_t], place: usize) -> hb_glyph_info_t

@@ -215,7 +215,7 @@ fn sorts_and_merges_what_it_permutes(rt: HostRuntime) -> Result<(), Fail> {
         glyph(6, 2, 9),
         glyph(7, 3, 2),
     ];
-    let marked = sort(
+    let sorted = sort(
         rt.alloc(),
         &mut glyphs,
         BufferClusterLevel::MonotoneGraphemes,
@@ -224,7 +224,8 @@ fn sorts_and_merges_what_it_permutes(rt: HostRuntime) -> Result<(), Fail> {
         4,
         |info| info.glyph_id,
     )?;
-    assert!(&rt; !marked);
+    assert!(&rt; !sorted.marked);
+    assert!(&rt; sorted.in_order);
     assert_eq!(&rt;
         glyphs,
         [
@@ -240,7 +241,7 @@ fn sorts_and_merges_what_it_permutes(rt: HostRuntime) -> Result<(), Fail> {
 #[test]
 fn sorting_marks_where_characters_are_kept_apart(rt: HostRuntime) -> Result<(), Fail> {
     let mut glyphs = [glyph(2, 0, 0), glyph(1, 1, 0), glyph(0, 2, 0)];
-    let marked = sort(
+    let sorted = sort(
         rt.alloc(),
         &mut glyphs,
         BufferClusterLevel::Characters,
@@ -249,7 +250,8 @@ fn sorting_marks_where_characters_are_kept_apart(rt: HostRuntime) -> Result<(), 
         2,
         |info| info.glyph_id,
     )?;
-    assert!(&rt; marked);
+    assert!(&rt; sorted.marked);
+    assert!(&rt; !sorted.in_order);
     assert_eq!(&rt; glyphs, [glyph(1, 1, 3), glyph(2, 0, 0), glyph(0, 2, 0)]);
     Ok(())
 }

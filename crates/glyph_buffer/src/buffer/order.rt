@@ -1,6 +1,6 @@
-ghost use Rattle.std.specs.Prelude.{◌≡◌, ◌++◌, ◌∷◌, [], ℕ, List, Some, true, reverse, drop, length, ◌≤◌, IfSome};
+ghost use Rattle.std.specs.Prelude.{◌≡◌, ◌++◌, ◌∷◌, [], ℕ, Bool, List, Some, true, reverse, drop, length, ◌≤◌, IfSome};
 ghost use Rattle.glyph_lists.specs.Items.{clusters};
-ghost use Rattle.glyph_lists.specs.Order.{IsRising, IsFalling};
+ghost use Rattle.glyph_lists.specs.Order.{IsInOrder, IsRising, IsFalling};
 ghost use Rattle.glyph_lists.specs.Events.{last_of};
 ghost use Rattle.glyph_buffer.specs.Text.{added_text};
 ghost use Rattle.glyph_buffer.specs.Known.{HasOrder, IsFallingTo, IsRisingTo, is_known, put_back};
@@ -86,6 +86,13 @@ impl KnownOrder {
             KnownOrder::Rising => KnownOrder::Falling,
             KnownOrder::Falling => KnownOrder::Rising,
         }
+    }
+
+    /// What is known of other clusters that stand in order where these do, if that is so.
+    pub(super) fn if_kept(self, kept: bool) -> KnownOrder
+        ensures { (old new : List ℕ) → ((falls : Bool) → kept ≡ true → IsInOrder falls old → IsInOrder falls new) → HasOrder self old → HasOrder result new }
+    {
+        if kept { self } else { KnownOrder::Unknown }
     }
 
     /// What is known once two lists whose order was not known have been walked, the second from a place on.

@@ -9,6 +9,7 @@ loop-place-preserved-then-place-reach c =
     record {
       begun = omega (arith, inv.begun);
       known = inv.known;
+      direction = inv.direction;
       reach = seen;
       rest = spans_go_on c.args.level c.args.start c.args.order.now c.loop-place.begin c.loop-place.place c.further-reach.result _ _ c.loop-place-test.true c.if-place-reach.true seen inv.rest;
     }
@@ -20,6 +21,7 @@ loop-place-preserved c =
     record {
       begun = omega arith;
       known = λ sure. c.merge_span-marked.ensures.order (inv.known sure);
+      direction = λ falls h. c.merge_span-marked.ensures.direction falls (inv.direction falls h);
       reach = seen;
       rest = spans_end c.args.level c.args.start c.args.order.now c.loop-place.begin c.loop-place.place c.further-reach.result _ _ _ c.loop-place-test.true c.if-place-reach.false seen c.merge_span-marked.ensures.merged inv.rest;
     }

@@ -1,21 +1,26 @@
-use Rattle.std.proofs.Common.{sym, ap, ◌∙◌, map}
+use Rattle.std.proofs.Common.{sym, ap, subst, ◌∙◌, ◌-◌, map}
 use Rattle.glyph_slices.specs.declared.sorting.Keyed.{Keyed}
 use Rattle.glyph_slices.specs.Sorting.{glyph_at}
-use Rattle.glyph_slices.proofs.Spans.{sorted_is, sort_marks}
+use Rattle.glyph_slices.proofs.Spans.{put_same, sorted_is, sort_marks}
 use Rattle.glyph_lists.specs.Items.{item_of, strip}
+use Rattle.glyph_lists.specs.Order.{IsInOrder}
 use Rattle.glyph_slices.proofs.SortedItems.{items_sorted}
 use Rattle.glyph_slices.proofs.sorting.sort.Goals as goal
 
 pub returns-clause-sorted : goal.returns-clause-sorted
 returns-clause-sorted g c = λ k same.
-    sorted_is c.args.level c.args.start c.args.end k c.args.glyphs.now c.merge_spans-marked.new.glyphs c.put_in_order.new.range c.deref-2.result.now c.in_ok-order.order.items c.deref.result.now c.merge_spans-marked.result
-    c.requires.ordered (c.in_ok-order.ensures.keys k same) (c.deref.ensures.value ∙ c.in_ok-sort_places.ensures.sorted) c.merge_spans-marked.ensures
-    (c.deref-2.ensures.value ∙ c.copy_from_slice.ensures.items) (c.put_in_order.ensures ∙ ap (map (λ (e : Keyed). glyph_at c.deref-2.result.now e.place)) (c.deref-3.ensures.value ∙ sym c.deref.ensures.value))
+    sorted_is c.args.level c.args.start c.args.end k c.args.glyphs.now c.merge_spans-marked.new.glyphs c.put_in_order-in_order.new.range c.deref-2.result.now c.in_ok-order.order.items c.deref.result.now c.merge_spans-marked.result
+    c.requires.ordered (c.in_ok-order.ensures.keys k same) (c.deref.ensures.value ∙ c.in_ok-sort_places.ensures.sorted) c.merge_spans-marked.ensures.merged
+    (c.deref-2.ensures.value ∙ c.copy_from_slice.ensures.items) (c.put_in_order-in_order.ensures.put ∙ ap (map (λ (e : Keyed). glyph_at c.deref-2.result.now e.place)) (c.deref-3.ensures.value ∙ sym c.deref.ensures.value))
 
 pub returns-clause-marked : goal.returns-clause-marked
 returns-clause-marked g c = λ k same.
     sort_marks c.args.level c.args.start c.args.end k c.args.glyphs.now c.merge_spans-marked.new.glyphs c.in_ok-order.order.items c.deref.result.now c.merge_spans-marked.result
-    (c.in_ok-order.ensures.keys k same) (c.deref.ensures.value ∙ c.in_ok-sort_places.ensures.sorted) c.merge_spans-marked.ensures
+    (c.in_ok-order.ensures.keys k same) (c.deref.ensures.value ∙ c.in_ok-sort_places.ensures.sorted) c.merge_spans-marked.ensures.merged
 
 pub returns-clause-items : goal.returns-clause-items
 returns-clause-items g c = λ k same. ap strip (returns-clause-sorted g c (λ h. k (item_of h)) same) ∙ items_sorted c.args.level c.args.start c.args.end k c.args.glyphs.now
+
+pub returns-clause-order : goal.returns-clause-order
+returns-clause-order g c = λ falls same ordered.
+    subst (IsInOrder falls) (sym (put_same c.args.start (c.args.end - c.args.start) c.merge_spans-marked.new.glyphs c.put_in_order-in_order.new.range (c.put_in_order-in_order.ensures.same same))) (c.merge_spans-marked.ensures.direction falls ordered)
