@@ -1,12 +1,14 @@
 -- What a buffer is once a glyph or a place that it lent comes back.
-use Rattle.std.specs.Prelude.{ℕ, ◌-◌, length, slice_set}
-use Rattle.std.specs.Borrow.{Lends, MutBor, Fml}
+use Rattle.std.specs.Prelude.{ℕ, ◌-◌, ◌++◌, List, length, take, drop, slice_set}
+use Rattle.std.specs.Borrow.{Lends, MutBor, Fml, Array}
 use Rattle.glyph_types.specs.declared.info.hb_glyph_info_t.{hb_glyph_info_t}
 use Rattle.glyph_types.specs.declared.position.GlyphPosition.{GlyphPosition}
 use Rattle.glyph_types.specs.contracts.info.hb_glyph_info_t.{the_row as info_row}
 use Rattle.glyph_types.specs.contracts.position.GlyphPosition.{the_row as place_row}
 use Rattle.glyph_buffer.specs.contracts.buffer.hb_buffer_t.{the_row}
-use Rattle.glyph_buffer.specs.Sides.{Sides}
+use Rattle.glyph_lists.specs.Items.{Place}
+use Rattle.glyph_buffer.specs.Merging.{with_glyphs}
+use Rattle.glyph_buffer.specs.Sides.{Sides, all_glyphs}
 
 -- another glyph at the i-th place from the cursor on
 abbrev pub with_glyph_ahead : ℕ → hb_glyph_info_t → Sides → Sides
@@ -20,6 +22,20 @@ with_current_place p s = record s { places = slice_set s.places s.read p }
 abbrev pub with_last_behind : hb_glyph_info_t → Sides → Sides
 with_last_behind g s = record s { behind = slice_set s.behind (length s.behind - 1) g }
 
+-- as many elements as there were: those that come back, and where they are fewer the old ones behind them
+abbrev pub refilled : {X : Type 0} → List X → List X → List X
+refilled new old = take (length old) (new ++ drop (length new) old)
+
+-- other glyphs, other glyphs of the output, other places
+abbrev pub with_refilled : List hb_glyph_info_t → Sides → Sides
+with_refilled gs s = with_glyphs (refilled gs (all_glyphs s)) s
+
+abbrev pub with_output_refilled : List hb_glyph_info_t → Sides → Sides
+with_output_refilled gs s = record s { behind = refilled gs s.behind }
+
+abbrev pub with_places_refilled : List Place → Sides → Sides
+with_places_refilled ps s = record s { places = refilled ps s.places }
+
 abbrev pub LendsGlyph : ℕ → MutBor Sides → MutBor hb_glyph_info_t → Fml
 LendsGlyph i s r = Lends the_row info_row s r (λ g. with_glyph_ahead i g s.now)
 
@@ -28,3 +44,12 @@ LendsPlace s r = Lends the_row place_row s r (λ p. with_current_place p s.now)
 
 abbrev pub LendsLast : MutBor Sides → MutBor hb_glyph_info_t → Fml
 LendsLast s r = Lends the_row info_row s r (λ g. with_last_behind g s.now)
+
+abbrev pub LendsGlyphs : MutBor Sides → MutBor (List hb_glyph_info_t) → Fml
+LendsGlyphs s r = Lends the_row (Array info_row 0) s r (λ gs. with_refilled gs s.now)
+
+abbrev pub LendsOutput : MutBor Sides → MutBor (List hb_glyph_info_t) → Fml
+LendsOutput s r = Lends the_row (Array info_row 0) s r (λ gs. with_output_refilled gs s.now)
+
+abbrev pub LendsPlaces : MutBor Sides → MutBor (List GlyphPosition) → Fml
+LendsPlaces s r = Lends the_row (Array place_row 0) s r (λ ps. with_places_refilled ps s.now)

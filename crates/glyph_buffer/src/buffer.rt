@@ -6,6 +6,7 @@ mod context;
 mod cursor;
 mod deletion;
 mod groups;
+mod lending;
 mod limits;
 mod marks;
 mod masks;

@@ -4,5 +4,4 @@ ghost use Rattle.glyph_buffer.specs.Laws.{ReverseTwice};
 #[tactic(auto, using(crate::proofs::Twice::reverse_twice))]
 pub fn reverse_twice()
     ensures { ReverseTwice }
-{
-}
+{}

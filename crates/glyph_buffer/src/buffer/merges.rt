@@ -4,13 +4,15 @@ ghost use Rattle.glyph_lists.specs.Events.{stretch};
 ghost use Rattle.glyph_lists.specs.Merges.{merged_at};
 ghost use Rattle.glyph_lists.specs.Order.{IsOrdered};
 ghost use Rattle.glyph_lists.specs.Glyphs.{beside_merged, flags_merged_at, glyphs_marked, glyphs_merged, glyphs_merged_at, is_marked_at, tells_apart};
+ghost use Rattle.glyph_slices.specs.Deleting.{recast};
 ghost use Rattle.glyph_buffer.specs.Sides.{all_glyphs, items_of};
 ghost use Rattle.glyph_buffer.specs.Merging.{place_of, telling_flags, with_merged};
 
 use super::hb_buffer_t;
 use super::marks::mark_in;
 use glyph_clusters::runs::{merge_beside, merge_within};
-use glyph_types::info::{UNSAFE_TO_BREAK, UNSAFE_TO_CONCAT, hb_glyph_info_t};
+use glyph_slices::deletion::set_cluster;
+use glyph_types::info::{UNSAFE_TO_BREAK, UNSAFE_TO_CONCAT, hb_glyph_info_t, hb_mask_t};
 use glyph_types::level::BufferClusterLevel;
 use shaping_text::constants::{HB_BUFFER_SCRATCH_FLAG_HAS_GLYPH_FLAGS, hb_buffer_scratch_flags_t};
 
@@ -42,6 +44,13 @@ impl hb_buffer_t {
         self.order = order.walked(&self.out_info, &self.info, from);
         self.lent = None;
         self.scratch_flags = telling_flags(marked, self.scratch_flags);
+    }
+
+    /// Puts the glyph into the cluster; where it was in another, the three glyph flags of `mask` take the place of its own.
+    pub fn set_cluster(info: &mut hb_glyph_info_t, cluster: u32, mask: hb_mask_t)
+        ensures { info.new ≡ recast cluster mask info.old }
+    {
+        set_cluster(info, cluster, mask);
     }
 
     /// Where in the input the glyphs ahead, or with no output open all glyphs, begin.

@@ -248,3 +248,45 @@ fn finds_and_turns_groups(rt: HostRuntime) -> Result<(), Fail> {
     holds(&rt, buffer.info_slice(), &[(3, 1, 0), (1, 0, 0), (2, 0, 0)]);
     Ok(())
 }
+
+#[test]
+fn sorts_a_range(rt: HostRuntime) -> Result<(), Fail> {
+    let mut buffer = hb_buffer_t::new(rt.alloc());
+    assert!(rt; buffer.add('\u{5}', 0)?);
+    assert!(rt; buffer.add('\u{7}', 1)?);
+    assert!(rt; buffer.add('\u{6}', 2)?);
+    assert!(rt; buffer.add('\u{7}', 3)?);
+    buffer.sort(rt.alloc(), 0, 4, |glyph| glyph.glyph_id)?;
+    let want = [(5, 0, 0), (6, 1, 0), (7, 1, 0), (7, 3, 0)];
+    holds(&rt, buffer.info_slice(), &want);
+    Ok(())
+}
+
+#[test]
+fn lends_whole_lists(rt: HostRuntime) -> Result<(), Fail> {
+    let mut buffer = hb_buffer_t::new(rt.alloc());
+    assert!(rt; buffer.add('a', 0)?);
+    if let Some(glyph) = buffer.info_slice_mut().first_mut() {
+        hb_buffer_t::set_cluster(glyph, 4, 1);
+    }
+    if let Some(place) = buffer.pos_slice_mut().first_mut() {
+        place.x_advance = 500;
+    }
+    holds(&rt, buffer.info_slice(), &[('a' as u32, 4, 1)]);
+    assert!(rt;
+        buffer
+            .pos_slice()
+            .iter()
+            .all(|place| place.x_advance == 500)
+    );
+    assert!(rt; buffer.clear_output()?);
+    if buffer.idx() < buffer.len() {
+        assert!(rt; buffer.next_glyph()?);
+    }
+    if let Some(glyph) = buffer.out_info_mut().first_mut() {
+        glyph.glyph_id = 9;
+    }
+    assert!(rt; buffer.sync()?);
+    holds(&rt, buffer.info_slice(), &[(9, 4, 1)]);
+    Ok(())
+}

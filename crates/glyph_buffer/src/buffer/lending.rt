@@ -1,0 +1,42 @@
+ghost use Rattle.std.specs.Prelude.{◌≡◌, false, true};
+ghost use Rattle.std.specs.Borrow.{sem};
+ghost use Rattle.glyph_buffer.specs.Sides.{all_glyphs};
+ghost use Rattle.glyph_buffer.specs.Lending.{LendsGlyphs, LendsOutput, LendsPlaces};
+
+use super::hb_buffer_t;
+use super::order::KnownOrder;
+use glyph_types::info::hb_glyph_info_t;
+use glyph_types::position::GlyphPosition;
+
+// Whole lists, to be written. As many glyphs come back as were lent.
+impl hb_buffer_t {
+    /// All glyphs, to be written, while no output is open.
+    pub fn info_slice_mut(&mut self) -> &mut [hb_glyph_info_t]
+        requires { self.old.is_open ≡ false }
+        ensures value { result.now ≡ all_glyphs self.old }
+        ensures* writes_back { sem 𝓛 (LendsGlyphs self.entry result) }
+    {
+        self.order = KnownOrder::Unknown;
+        self.lent = None;
+        &mut self.info
+    }
+
+    /// The glyphs of the output, to be written.
+    pub fn out_info_mut(&mut self) -> &mut [hb_glyph_info_t]
+        requires { self.old.is_open ≡ true }
+        ensures value { result.now ≡ self.old.behind }
+        ensures* writes_back { sem 𝓛 (LendsOutput self.entry result) }
+    {
+        self.order = KnownOrder::Unknown;
+        &mut self.out_info
+    }
+
+    /// The glyphs' places, to be written, while no output is open.
+    pub fn pos_slice_mut(&mut self) -> &mut [GlyphPosition]
+        requires { self.old.is_open ≡ false }
+        ensures value { result.now ≡ self.old.places }
+        ensures* writes_back { sem 𝓛 (LendsPlaces self.entry result) }
+    {
+        &mut self.pos
+    }
+}
