@@ -1,5 +1,5 @@
 -- A list that is turned round twice.
-use Rattle.std.proofs.Common.{◌≡◌, ◌+◌, ◌++◌, length, take, drop, reverse, refl, arith, sym}
+use Rattle.std.proofs.Common.{◌≡◌, length, reverse, refl}
 use Rattle.std.proofs.lemmas.List.{take-append-drop, reverse-reverse}
 use Rattle.std.proofs.Math.Seq.{take-append_seam, drop-append_seam}
 use Rattle.glyph_buffer.specs.Sides.{Sides, all_glyphs, reversed}

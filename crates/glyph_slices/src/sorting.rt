@@ -148,11 +148,7 @@ fn further(one: usize, other: usize) -> usize
 
 /// Each place of a range takes the glyph that stood at another place of it, as the order tells; answers whether each place
 /// has the cluster that it had.
-fn put_in_order(
-    range: &mut [hb_glyph_info_t],
-    copy: &[hb_glyph_info_t],
-    order: &[Keyed],
-) -> bool
+fn put_in_order(range: &mut [hb_glyph_info_t], copy: &[hb_glyph_info_t], order: &[Keyed]) -> bool
     requires { length order.now ≡ length range.old }
     ensures put { range.new ≡ map (λ e. glyph_at copy.now e.place) order.now }
     ensures same { result ≡ true → clusters range.new ≡ clusters range.old }

@@ -15,13 +15,13 @@ use crate::path::shape;
 use crate::waiting::waits;
 use font_json::{FontFace, read_face, read_tables};
 use glyph_buffer::buffer::hb_buffer_t;
-use text_buffers::glyphs::GlyphBuffer;
-use text_buffers::unicode_buffer::UnicodeBuffer;
 use glyph_types::flags::SerializeFlags;
 use run_options::fault::RunFault;
 use run_options::options::Options;
 use serde_json::Value;
 use std::alloc::{AllocError, Global};
+use text_buffers::glyphs::GlyphBuffer;
+use text_buffers::unicode_buffer::UnicodeBuffer;
 
 // The text of the bytes, where they are UTF-8.
 #[tactic(auto, using(crate::proofs::Bytes::is_text, crate::proofs::Bytes::is_no_text))]

@@ -6,8 +6,6 @@ pub use feature_text::feature::{
 };
 pub use feature_text::text_parser::TextParser;
 pub use glyph_buffer::buffer::hb_buffer_t;
-pub use text_buffers::glyphs::GlyphBuffer;
-pub use text_buffers::unicode_buffer::UnicodeBuffer;
 pub use glyph_text::serialize;
 pub use glyph_types::cause::ShapeCause;
 pub use glyph_types::flags::{GlyphPropsFlags, SerializeFlags, UnicodeProps};
@@ -29,6 +27,8 @@ pub use shaping_text::script::{InvalidScript, Script};
 pub use shaping_text::script_tags::tags_from_script_and_language;
 pub use shaping_text::tag::{Tag, TagExt, hb_tag_t};
 pub use shaping_text::{constants, script};
+pub use text_buffers::glyphs::GlyphBuffer;
+pub use text_buffers::unicode_buffer::UnicodeBuffer;
 pub use unicode_chars::{
     CharExt, GeneralCategoryExt, category, hb_unicode_general_category_t, space,
 };
