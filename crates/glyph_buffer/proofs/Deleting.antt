@@ -8,7 +8,7 @@ use Rattle.std.proofs.Math.Seq.{drop-append-add}
 use Rattle.glyph_types.specs.declared.info.hb_glyph_info_t.{hb_glyph_info_t as Glyph}
 use Rattle.glyph_types.specs.declared.level.BufferClusterLevel.{BufferClusterLevel as Level}
 use Rattle.glyph_types.specs.declared.level.BufferClusterLevel.TheVariants.{MonotoneGraphemes, MonotoneCharacters, Characters}
-use Rattle.glyph_lists.specs.Items.{clusters, item_of, strip}
+use Rattle.glyph_lists.specs.Items.{clusters, flags_of, glyph_flags, item_of, strip}
 use Rattle.glyph_lists.specs.Events.{Delete, first_of, last_of, is_number}
 use Rattle.glyph_lists.specs.Deletions.{deleted}
 use Rattle.glyph_lists.specs.Glyphs.{glyphs_merged_at, is_marked_at}
@@ -18,6 +18,7 @@ use Rattle.glyph_lists.specs.Lemmas.Deletions.{deletion_is_event, no_last}
 use Rattle.glyph_lists.specs.Lemmas.Events.{event_keeps_order}
 use Rattle.glyph_lists.specs.Lemmas.Glyphs.{length_merged_at}
 use Rattle.glyph_slices.specs.Deleted.{clusters_deleted, items_deleted}
+use Rattle.glyph_slices.specs.DeletedFlags.{flags_deleted, flags_after_deletion}
 use Rattle.glyph_slices.specs.Deleting.{Left, end_recast, glyphs_deleted, deletion_marks}
 use Rattle.glyph_slices.specs.DeletionWalk.{Deletes}
 use Rattle.glyph_buffer.specs.declared.buffer.hb_buffer_t.TheInside.{Inside}
@@ -192,3 +193,8 @@ left_numbers g back s =
     let left = glyphs_deleted s.level s.behind g back in
     let cluster_of : Glyph → ℕ = λ h. h.cluster in
     map-append cluster_of left.front left.back ∙ clusters_deleted s.level s.behind g back
+
+pub left_flags : (g : Glyph) (back : List Glyph) (s : Sides) → flags_of (all_glyphs (with_deleted g back s)) ≡ flags_deleted s.level s.behind g back
+left_flags g back s =
+    let left = glyphs_deleted s.level s.behind g back in
+    map-append glyph_flags left.front left.back ∙ flags_after_deletion s.level s.behind g back

@@ -16,3 +16,4 @@ pub mod Moved
 pub mod Twice
 pub mod Picked
 pub mod Deleting
+pub mod Resized

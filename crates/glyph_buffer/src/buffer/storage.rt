@@ -1,6 +1,7 @@
 ghost use Rattle.std.specs.Prelude.{◌≡◌, ◌+◌, ◌≤◌, ◌<◌, ◌^◌, ◌==◌, ◌++◌, ◌∷◌, [], length, nat_le, false, true, Ok, OnOk, OnErr, IfOk, IsTrue, vec_len, vec_capacity};
 ghost use Rattle.std.specs.Str.{chars};
-ghost use Rattle.glyph_buffer.specs.Sides.{all_glyphs, with_added, has_room, refused, zero_place, zero_places};
+ghost use Rattle.glyph_buffer.specs.Sides.{all_glyphs, items_of, with_added, has_room, refused, zero_place, zero_places};
+ghost use Rattle.glyph_lists.specs.Items.{clusters, flags_of, item_of};
 ghost use Rattle.glyph_buffer.specs.Text.{added_glyph, added_text, fits_text, offsets_fit};
 ghost use Rattle.glyph_buffer.specs.Moving.{of_length, with_len, zero_glyph};
 ghost use Rattle.glyph_buffer.specs.Appended.{IsAppended};
@@ -74,6 +75,9 @@ impl hb_buffer_t {
         requires { self.old.is_open ≡ false }
         ensures held { IfOk result (λ b. b ≡ nat_le n self.old.max_len) }
         ensures set { result ≡ Ok true → self.new ≡ with_len n self.old }
+        ensures items { result ≡ Ok true → items_of self.new ≡ of_length n (item_of zero_glyph) (items_of self.old) }
+        ensures clusters { result ≡ Ok true → clusters (all_glyphs self.new) ≡ of_length n 0 (clusters (all_glyphs self.old)) }
+        ensures flags { result ≡ Ok true → flags_of (all_glyphs self.new) ≡ of_length n 0 (flags_of (all_glyphs self.old)) }
         ensures full { result ≡ Ok false → self.new ≡ refused self.old }
         ensures err { OnErr result (self.new ≡ self.old) }
     {

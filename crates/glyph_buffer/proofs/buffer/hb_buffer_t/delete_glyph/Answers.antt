@@ -1,11 +1,11 @@
 use Rattle.std.proofs.Common.{None, ◌≡◌, ◌<◌, ◌+◌, ◌∷◌, true, length, drop, get_or, refl, rules, arith, sym, ap, ◌∙◌}
 use Rattle.std.proofs.lemmas.Grind.{common_steps}
 use Rattle.std.proofs.lemmas.List.{drop_more}
-use Rattle.glyph_lists.specs.Items.{clusters}
+use Rattle.glyph_lists.specs.Items.{clusters, flags_of}
 use Rattle.glyph_buffer.specs.Grouping.{with_deleted}
 use Rattle.glyph_buffer.specs.Moving.{zero_glyph}
 use Rattle.glyph_buffer.specs.Sides.{Sides, all_glyphs, items_of}
-use Rattle.glyph_buffer.proofs.Deleting.{deleted_view, left_items, left_numbers, order_gone}
+use Rattle.glyph_buffer.proofs.Deleting.{deleted_view, left_flags, left_items, left_numbers, order_gone}
 use Rattle.glyph_buffer.proofs.Ordered.{known_ordered, known_ahead, known_back}
 use Rattle.glyph_buffer.proofs.buffer.hb_buffer_t.delete_glyph.Goals as goal
 
@@ -37,6 +37,9 @@ returns-clause-items c =
 
 pub returns-clause-clusters : goal.returns-clause-clusters
 returns-clause-clusters c g back e = ap (λ (s : Sides). clusters (all_glyphs s)) (returns-clause-deleted c g back e) ∙ left_numbers g back c.args.self.now
+
+pub returns-clause-flags : goal.returns-clause-flags
+returns-clause-flags c g back e = ap (λ (s : Sides). flags_of (all_glyphs s)) (returns-clause-deleted c g back e) ∙ left_flags g back c.args.self.now
 
 pub invariant_of-self : goal.invariant_of-self
 invariant_of-self c =

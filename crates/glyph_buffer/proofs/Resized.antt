@@ -1,0 +1,39 @@
+-- A list that was cut or filled, seen without clusters, or as clusters or flags alone.
+use Rattle.std.specs.Prelude.{bit_and, replicate}
+use Rattle.std.proofs.Common.{ℕ, zero, suc, ◌≡◌, ◌-◌, ◌++◌, List, ◌∷◌, length, map, take, false, Option, refl, ap, sym, ◌∙◌, min}
+use Rattle.std.proofs.lemmas.List.{map-append, take-map, take-append-drop, length-map}
+use Rattle.std.specs.Global.{Vec}
+use Rattle.glyph_types.specs.declared.position.GlyphPosition.{GlyphPosition}
+use Rattle.glyph_buffer.specs.declared.buffer.hb_buffer_t.TheInside.{Inside}
+use Rattle.glyph_buffer.specs.declared.buffer.order.KnownOrder.{KnownOrder}
+use Rattle.glyph_buffer.specs.declared.buffer.order.Lent.{Lent}
+use Rattle.glyph_buffer.specs.Inside.{sides_of}
+use Rattle.glyph_types.specs.declared.info.hb_glyph_info_t.{hb_glyph_info_t}
+use Rattle.glyph_lists.specs.Items.{item_of, strip, clusters, flags_of}
+use Rattle.glyph_buffer.specs.Moving.{of_length, with_len, zero_glyph}
+use Rattle.glyph_buffer.specs.Sides.{Sides, all_glyphs, items_of, zero_place}
+
+map_copies : {X Y : Type 0} (v : X → Y) (n : ℕ) (x : X) → map v (replicate n x) ≡ replicate n (v x)
+map_copies v zero x = refl
+map_copies v (suc n) x = ap (λ ys. v x ∷ ys) (map_copies v n x)
+
+seen : {X Y : Type 0} (v : X → Y) (n : ℕ) (x : X) (xs : List X) → map v (of_length n x xs) ≡ of_length n (v x) (map v xs)
+seen v n x xs =
+    map-append v (take n xs) (replicate (n - length xs) x) ∙ ap (λ ys. ys ++ map v (replicate (n - length xs) x)) (sym (take-map v n xs))
+    ∙ ap (λ ys. take n (map v xs) ++ ys) (map_copies v (n - length xs) x ∙ ap (λ m. replicate (n - m) (v x)) (sym (length-map xs v)))
+
+all_of_len : (n : ℕ) (s : Sides) → all_glyphs (with_len n s) ≡ of_length n zero_glyph (all_glyphs s)
+all_of_len n s = take-append-drop (min s.read n) (of_length n zero_glyph (all_glyphs s))
+
+pub len_items : (n : ℕ) (s : Sides) → items_of (with_len n s) ≡ of_length n (item_of zero_glyph) (items_of s)
+len_items n s = ap strip (all_of_len n s) ∙ seen item_of n zero_glyph (all_glyphs s)
+
+pub len_clusters : (n : ℕ) (s : Sides) → clusters (all_glyphs (with_len n s)) ≡ of_length n 0 (clusters (all_glyphs s))
+len_clusters n s = ap clusters (all_of_len n s) ∙ seen (λ (g : hb_glyph_info_t). g.cluster) n zero_glyph (all_glyphs s)
+
+pub len_flags : (n : ℕ) (s : Sides) → flags_of (all_glyphs (with_len n s)) ≡ of_length n 0 (flags_of (all_glyphs s))
+len_flags n s = ap flags_of (all_of_len n s) ∙ seen (λ (g : hb_glyph_info_t). bit_and g.mask 7) n zero_glyph (all_glyphs s)
+
+pub resized_view : (b : Inside) (info : Vec hb_glyph_info_t) (places : Vec GlyphPosition) (order : KnownOrder) (lent : Option Lent) (idx n : ℕ) → b.have_output ≡ false → info.items ≡ of_length n zero_glyph b.info.items → places.items ≡ of_length n zero_place b.pos.items → idx ≡ min b.idx n
+    → sides_of (record b { info = info; pos = places; idx = idx; order = order; lent = lent }) ≡ with_len n (sides_of b)
+resized_view b info places order lent idx n h i p e = rw (h, i, p, e, take-append-drop b.idx b.info.items) refl

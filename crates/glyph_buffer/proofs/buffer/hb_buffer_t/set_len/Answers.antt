@@ -1,0 +1,23 @@
+use Rattle.std.proofs.Common.{None, ◌≡◌, false, ap, ◌∙◌}
+use Rattle.glyph_lists.specs.Items.{clusters, flags_of}
+use Rattle.glyph_buffer.specs.declared.buffer.order.KnownOrder.TheVariants.{Unknown}
+use Rattle.glyph_buffer.specs.Moving.{with_len}
+use Rattle.glyph_buffer.specs.Sides.{all_glyphs, items_of}
+use Rattle.glyph_buffer.proofs.Resized.{resized_view, len_items, len_clusters, len_flags}
+use Rattle.glyph_buffer.proofs.buffer.hb_buffer_t.set_len.Goals as goal
+
+pub returns-clause-set : goal.returns-clause-set
+returns-clause-set c = λ e.
+    let b = c.self.inside in
+    let closed : b.have_output ≡ false = rw (← c.self.view_is) at c.requires in
+    resized_view b c.resize_lists.new.glyphs c.resize_lists.new.places Unknown None c.min-self-inside.result c.args.n closed c.in_ok-resize_lists.ensures.glyphs_ok c.in_ok-resize_lists.ensures.places_ok c.min-self-inside.ensures
+    ∙ ap (with_len c.args.n) c.self.view_is
+
+pub returns-clause-items : goal.returns-clause-items
+returns-clause-items c = λ e. ap items_of (returns-clause-set c e) ∙ len_items c.args.n c.args.self.now
+
+pub returns-clause-clusters : goal.returns-clause-clusters
+returns-clause-clusters c = λ e. ap (λ s. clusters (all_glyphs s)) (returns-clause-set c e) ∙ len_clusters c.args.n c.args.self.now
+
+pub returns-clause-flags : goal.returns-clause-flags
+returns-clause-flags c = λ e. ap (λ s. flags_of (all_glyphs s)) (returns-clause-set c e) ∙ len_flags c.args.n c.args.self.now
