@@ -7,3 +7,4 @@ pub mod Dues
 pub mod Passing
 pub mod Spans
 pub mod SortedItems
+pub mod Kept

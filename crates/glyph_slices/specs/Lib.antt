@@ -7,3 +7,4 @@ pub mod DeletionWalk
 pub mod Sorting
 pub mod Laws
 pub mod Deleted
+pub mod Facts
