@@ -8,3 +8,5 @@ pub mod Passing
 pub mod Spans
 pub mod SortedItems
 pub mod Kept
+pub mod Stretches
+pub mod Regrouped
