@@ -22,7 +22,7 @@ groups_cut p x (y ∷ ys) =
     ∙ elim (p x y) as (λ t. (if t then (x ∷ y ∷ take j ys) ∷ groups p (drop j ys) else (x ∷ []) ∷ (y ∷ take j ys) ∷ groups p (drop j ys)) ≡ take (suc (if t then suc j else 0)) (x ∷ y ∷ ys) ∷ groups p (drop (suc (if t then suc j else 0)) (x ∷ y ∷ ys)))
     [ true ↦ refl | false ↦ ap (λ gss. (x ∷ []) ∷ gss) (sym rest) ]
 
-turned_onto : {X : Type 0} (p : X → X → Bool) (x : X) (xs : List X) → groups_turned p (x ∷ xs) ≡ groups_turned p (drop (group_length p (x ∷ xs)) (x ∷ xs)) ++ take (group_length p (x ∷ xs)) (x ∷ xs)
+pub turned_onto : {X : Type 0} (p : X → X → Bool) (x : X) (xs : List X) → groups_turned p (x ∷ xs) ≡ groups_turned p (drop (group_length p (x ∷ xs)) (x ∷ xs)) ++ take (group_length p (x ∷ xs)) (x ∷ xs)
 turned_onto p x xs =
     let n = group_length p (x ∷ xs) in
     let first = take n (x ∷ xs) in

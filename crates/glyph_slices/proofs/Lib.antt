@@ -7,3 +7,6 @@ pub mod Dues
 pub mod Passing
 pub mod Spans
 pub mod SortedItems
+pub mod Kept
+pub mod Stretches
+pub mod Regrouped

@@ -7,11 +7,16 @@ use Rattle.glyph_lists.specs.Items.{strip, clusters}
 use Rattle.glyph_lists.specs.Deletions.{deleted}
 use Rattle.glyph_slices.specs.Turning.{groups, groups_turned}
 use Rattle.glyph_slices.specs.Deleting.{glyphs_deleted}
+use Rattle.glyph_slices.specs.Facts.{numbers_deleted}
 
 -- the clusters that it leaves are those of the deletion of a number
 abbrev pub DeletesClusters : Type 0
 DeletesClusters = (level : BufferClusterLevel) (front : List hb_glyph_info_t) (g : hb_glyph_info_t) (back : List hb_glyph_info_t)
     → clusters (glyphs_deleted level front g back).front ++ clusters (glyphs_deleted level front g back).back ≡ deleted level (clusters front) g.cluster (clusters back)
+
+-- the numbers before one that went and those behind it are together what its deletion leaves
+abbrev pub DeletesNumbers : Type 0
+DeletesNumbers = (level : BufferClusterLevel) (front : List ℕ) (n : ℕ) (back : List ℕ) → (numbers_deleted level front n back).front ++ (numbers_deleted level front n back).back ≡ deleted level front n back
 
 -- all other items stay
 abbrev pub DeletesOneItem : Type 0

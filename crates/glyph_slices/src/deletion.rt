@@ -1,10 +1,11 @@
 ghost use Rattle.std.specs.Prelude.{◌≡◌, ◌<◌, ◌≤◌, Some, true, Bool, length, map, take};
 ghost use Rattle.glyph_types.specs.declared.info.hb_glyph_info_t.{hb_glyph_info_t as Glyph};
-ghost use Rattle.glyph_lists.specs.Items.{clusters};
+ghost use Rattle.glyph_lists.specs.Items.{Item, clusters, item_of, strip};
 ghost use Rattle.glyph_lists.specs.Events.{last_of};
 ghost use Rattle.glyph_lists.specs.Order.{IsOrdered};
 ghost use Rattle.glyph_slices.specs.Deleting.{recast, end_recast, IsEndRun};
 ghost use Rattle.glyph_slices.specs.DeletionWalk.{Tells, all_passed};
+ghost use Rattle.glyph_slices.specs.Facts.{clusters_kept, items_kept, places_kept};
 
 mod walk;
 
@@ -91,6 +92,9 @@ pub fn delete_within<F: Fn(&hb_glyph_info_t) -> bool>(
     ensures glyphs { (goes : Glyph → Bool) → Tells F.Fn filter goes → take result.0 glyphs.new ≡ (all_passed level goes glyphs.old places.old).kept }
     ensures places { (goes : Glyph → Bool) → Tells F.Fn filter goes → take result.0 places.new ≡ (all_passed level goes glyphs.old places.old).kept_places }
     ensures marked { (goes : Glyph → Bool) → Tells F.Fn filter goes → result.1 ≡ (all_passed level goes glyphs.old places.old).is_marked }
+    ensures items { (q : Item → Bool) → Tells F.Fn filter (λ g. q (item_of g)) → strip (take result.0 glyphs.new) ≡ items_kept q (strip glyphs.old) }
+    ensures kept_places { (q : Item → Bool) → Tells F.Fn filter (λ g. q (item_of g)) → take result.0 places.new ≡ places_kept q (strip glyphs.old) places.old }
+    ensures clusters { (q : Item → Bool) → Tells F.Fn filter (λ g. q (item_of g)) → clusters (take result.0 glyphs.new) ≡ clusters_kept level q (strip glyphs.old) (clusters glyphs.old) }
 {
     let mut walk = Walk {
         kept: 0,

@@ -1,8 +1,13 @@
-ghost use Rattle.glyph_slices.specs.Laws.{DeletesClusters, DeletesOneItem, GroupsAreAll, TurnsGroups};
+ghost use Rattle.glyph_slices.specs.Laws.{DeletesClusters, DeletesNumbers, DeletesOneItem, GroupsAreAll, TurnsGroups};
 
 /// A deletion leaves the clusters that the deletion of a number leaves of numbers.
 pub fn deletes_clusters()
     ensures { DeletesClusters }
+{}
+
+/// The numbers before one that went and those behind it are together what its deletion leaves.
+pub fn deletes_numbers()
+    ensures { DeletesNumbers }
 {}
 
 /// A deletion changes no other item.

@@ -1,8 +1,9 @@
 ghost use Rattle.std.specs.Prelude.{◌≡◌, ◌≤◌, ◌-◌, ◌||◌, true, false, Bool, length};
 ghost use Rattle.glyph_types.specs.declared.info.hb_glyph_info_t.{hb_glyph_info_t as Glyph};
-ghost use Rattle.glyph_lists.specs.Items.{clusters};
+ghost use Rattle.glyph_lists.specs.Items.{Item, clusters, item_of, strip};
 ghost use Rattle.glyph_lists.specs.Order.{IsOrdered};
 ghost use Rattle.glyph_lists.specs.Readings.{IsMonotone};
+ghost use Rattle.glyph_slices.specs.Facts.{clusters_turned, places_turned};
 ghost use Rattle.glyph_slices.specs.Groups.{Decides};
 ghost use Rattle.glyph_slices.specs.Turning.{first_turned, groups_turned, is_marked_if, merged_if, part_turned, turned, turning_at};
 
@@ -30,6 +31,9 @@ pub fn reverse_groups<F: Fn(&hb_glyph_info_t, &hb_glyph_info_t) -> bool>(
     ensures places { (joins : Glyph → Glyph → Bool) → Decides F.Fn group joins → places.new ≡ (turned merge level joins glyphs.old places.old).places }
     ensures plain { (joins : Glyph → Glyph → Bool) → Decides F.Fn group joins → merge ≡ false → glyphs.new ≡ groups_turned joins glyphs.old }
     ensures marked { (joins : Glyph → Glyph → Bool) → Decides F.Fn group joins → result ≡ (turned merge level joins glyphs.old places.old).is_marked }
+    ensures items { (q : Item → Item → Bool) → Decides F.Fn group (λ g h. q (item_of g) (item_of h)) → strip glyphs.new ≡ groups_turned q (strip glyphs.old) }
+    ensures turned_places { (q : Item → Item → Bool) → Decides F.Fn group (λ g h. q (item_of g) (item_of h)) → places.new ≡ places_turned q (strip glyphs.old) places.old }
+    ensures clusters { (q : Item → Item → Bool) → Decides F.Fn group (λ g h. q (item_of g) (item_of h)) → clusters glyphs.new ≡ clusters_turned merge level q (strip glyphs.old) (clusters glyphs.old) }
 {
     let mut marked = false;
     let mut start = 0;

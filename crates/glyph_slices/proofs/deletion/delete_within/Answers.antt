@@ -1,6 +1,8 @@
 use Rattle.std.proofs.Common.{arith, ap, ◌∙◌, ◌≤◌, length}
+use Rattle.glyph_lists.specs.Items.{clusters, item_of, strip}
 use Rattle.glyph_slices.specs.DeletionWalk.{Passed}
 use Rattle.glyph_slices.proofs.Walking.{settled_front}
+use Rattle.glyph_slices.proofs.Kept.{items_all, places_all, clusters_all}
 use Rattle.glyph_slices.proofs.Passing.{passes_on, passes_begin, passes_end}
 use Rattle.glyph_slices.proofs.deletion.delete_within.Goals as goal
 
@@ -21,14 +23,25 @@ loop-at-preserved g c =
           (omega arith) (omega arith) (c.pass_glyph-walk.ensures.passed goes same) (inv.rest goes same);
     }
 
-pub returns : goal.returns
-returns g c =
-    let inv = c.loop-at.invariant in
-    let few : c.loop-at.walk.kept ≤ length c.loop-at.glyphs = omega (arith, inv.sound.few) in
-    let end : length c.loop-at.glyphs ≤ c.loop-at.at = omega arith in
-    record {
-      within = omega (arith, inv.sound.few);
-      glyphs = λ goes same. settled_front c.loop-at.walk.due c.loop-at.walk.kept c.loop-at.glyphs c.settle.new.glyphs few c.settle.ensures ∙ ap (λ (w : Passed). w.kept) (passes_end c.args.level goes c.loop-at.at c.loop-at.walk c.loop-at.glyphs c.loop-at.places _ end (inv.rest goes same));
-      places = λ goes same. ap (λ (w : Passed). w.kept_places) (passes_end c.args.level goes c.loop-at.at c.loop-at.walk c.loop-at.glyphs c.loop-at.places _ end (inv.rest goes same));
-      marked = λ goes same. ap (λ (w : Passed). w.is_marked) (passes_end c.args.level goes c.loop-at.at c.loop-at.walk c.loop-at.glyphs c.loop-at.places _ end (inv.rest goes same));
-    }
+pub returns-clause-within : goal.returns-clause-within
+returns-clause-within g c = omega (arith, c.loop-at.invariant.sound.few)
+
+pub returns-clause-glyphs : goal.returns-clause-glyphs
+returns-clause-glyphs g c = λ goes same.
+    let few : c.loop-at.walk.kept ≤ length c.loop-at.glyphs = omega (arith, c.loop-at.invariant.sound.few) in
+    settled_front c.loop-at.walk.due c.loop-at.walk.kept c.loop-at.glyphs c.settle.new.glyphs few c.settle.ensures ∙ ap (λ (w : Passed). w.kept) (passes_end c.args.level goes c.loop-at.at c.loop-at.walk c.loop-at.glyphs c.loop-at.places _ (omega arith) (c.loop-at.invariant.rest goes same))
+
+pub returns-clause-places : goal.returns-clause-places
+returns-clause-places g c = λ goes same. ap (λ (w : Passed). w.kept_places) (passes_end c.args.level goes c.loop-at.at c.loop-at.walk c.loop-at.glyphs c.loop-at.places _ (omega arith) (c.loop-at.invariant.rest goes same))
+
+pub returns-clause-marked : goal.returns-clause-marked
+returns-clause-marked g c = λ goes same. ap (λ (w : Passed). w.is_marked) (passes_end c.args.level goes c.loop-at.at c.loop-at.walk c.loop-at.glyphs c.loop-at.places _ (omega arith) (c.loop-at.invariant.rest goes same))
+
+pub returns-clause-items : goal.returns-clause-items
+returns-clause-items g c = λ q same. ap strip (returns-clause-glyphs g c (λ h. q (item_of h)) same) ∙ items_all c.args.level q c.args.glyphs.now c.args.places.now
+
+pub returns-clause-kept_places : goal.returns-clause-kept_places
+returns-clause-kept_places g c = λ q same. returns-clause-places g c (λ h. q (item_of h)) same ∙ places_all c.args.level q c.args.glyphs.now c.args.places.now
+
+pub returns-clause-clusters : goal.returns-clause-clusters
+returns-clause-clusters g c = λ q same. ap clusters (returns-clause-glyphs g c (λ h. q (item_of h)) same) ∙ clusters_all c.args.level q c.args.glyphs.now c.args.places.now

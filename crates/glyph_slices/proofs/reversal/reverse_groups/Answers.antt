@@ -1,7 +1,9 @@
 use Rattle.std.proofs.Common.{arith, ◌||◌, ap, ◌∙◌}
+use Rattle.glyph_lists.specs.Items.{clusters, item_of, strip}
 use Rattle.glyph_slices.specs.Turning.{Turning, turned}
 use Rattle.glyph_slices.proofs.Turned.{rest_begins, rest_goes_on, rest_ends}
 use Rattle.glyph_slices.proofs.GroupsTurned.{turned_plain}
+use Rattle.glyph_slices.proofs.Regrouped.{items_turned, places_beside, clusters_beside}
 use Rattle.glyph_slices.proofs.reversal.reverse_groups.Goals as goal
 
 pub loop-start-init : goal.loop-start-init
@@ -24,13 +26,23 @@ loop-start-preserved g c =
           c.loop-start.marked (c.loop-start.marked || c.turn_group-marked.result) _ c.loop-start-test.true c.end_of_group-end.ensures.some (omega arith) (c.end_of_group-end.ensures.end joins same) (turn.turned c.loop-start.marked) (inv.rest joins same);
     }
 
-pub returns : goal.returns
-returns g c =
-    let inv = c.loop-start.invariant in
-    record {
-      glyphs = λ joins same. c.reverse.ensures.after ∙ ap (λ (t : Turning). t.glyphs) (rest_ends c.args.merge c.args.level joins c.loop-start.start c.loop-start.glyphs c.loop-start.places c.loop-start.marked _ c.loop-start-test.false inv.placed (inv.rest joins same));
-      places = λ joins same. c.reverse-2.ensures.after ∙ ap (λ (t : Turning). t.places) (rest_ends c.args.merge c.args.level joins c.loop-start.start c.loop-start.glyphs c.loop-start.places c.loop-start.marked _ c.loop-start-test.false inv.placed (inv.rest joins same));
-      marked = λ joins same. ap (λ (t : Turning). t.is_marked) (rest_ends c.args.merge c.args.level joins c.loop-start.start c.loop-start.glyphs c.loop-start.places c.loop-start.marked _ c.loop-start-test.false inv.placed (inv.rest joins same));
-      plain = λ joins same off. c.reverse.ensures.after ∙ ap (λ (t : Turning). t.glyphs) (rest_ends c.args.merge c.args.level joins c.loop-start.start c.loop-start.glyphs c.loop-start.places c.loop-start.marked _ c.loop-start-test.false inv.placed (inv.rest joins same))
-          ∙ ap (λ t. (turned t c.args.level joins c.args.glyphs.now c.args.places.now).glyphs) off ∙ turned_plain c.args.level joins c.args.glyphs.now c.args.places.now;
-    }
+pub returns-clause-glyphs : goal.returns-clause-glyphs
+returns-clause-glyphs g c = λ joins same. c.reverse.ensures.after ∙ ap (λ (t : Turning). t.glyphs) (rest_ends c.args.merge c.args.level joins c.loop-start.start c.loop-start.glyphs c.loop-start.places c.loop-start.marked _ c.loop-start-test.false c.loop-start.invariant.placed (c.loop-start.invariant.rest joins same))
+
+pub returns-clause-places : goal.returns-clause-places
+returns-clause-places g c = λ joins same. c.reverse-2.ensures.after ∙ ap (λ (t : Turning). t.places) (rest_ends c.args.merge c.args.level joins c.loop-start.start c.loop-start.glyphs c.loop-start.places c.loop-start.marked _ c.loop-start-test.false c.loop-start.invariant.placed (c.loop-start.invariant.rest joins same))
+
+pub returns-clause-marked : goal.returns-clause-marked
+returns-clause-marked g c = λ joins same. ap (λ (t : Turning). t.is_marked) (rest_ends c.args.merge c.args.level joins c.loop-start.start c.loop-start.glyphs c.loop-start.places c.loop-start.marked _ c.loop-start-test.false c.loop-start.invariant.placed (c.loop-start.invariant.rest joins same))
+
+pub returns-clause-plain : goal.returns-clause-plain
+returns-clause-plain g c = λ joins same off. returns-clause-glyphs g c joins same ∙ ap (λ t. (turned t c.args.level joins c.args.glyphs.now c.args.places.now).glyphs) off ∙ turned_plain c.args.level joins c.args.glyphs.now c.args.places.now
+
+pub returns-clause-items : goal.returns-clause-items
+returns-clause-items g c = λ q same. ap strip (returns-clause-glyphs g c (λ h k. q (item_of h) (item_of k)) same) ∙ items_turned c.args.merge c.args.level q c.args.glyphs.now c.args.places.now
+
+pub returns-clause-turned_places : goal.returns-clause-turned_places
+returns-clause-turned_places g c = λ q same. returns-clause-places g c (λ h k. q (item_of h) (item_of k)) same ∙ places_beside c.args.merge c.args.level q c.args.glyphs.now c.args.places.now
+
+pub returns-clause-clusters : goal.returns-clause-clusters
+returns-clause-clusters g c = λ q same. ap clusters (returns-clause-glyphs g c (λ h k. q (item_of h) (item_of k)) same) ∙ clusters_beside c.args.merge c.args.level q c.args.glyphs.now c.args.places.now
