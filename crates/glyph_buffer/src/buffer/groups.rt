@@ -2,10 +2,11 @@ ghost use Rattle.std.specs.Prelude.{◌≡◌, ◌+◌, ◌<◌, ◌≤◌, fals
 ghost use Rattle.glyph_types.specs.declared.info.hb_glyph_info_t.{hb_glyph_info_t as Glyph};
 ghost use Rattle.glyph_slices.specs.Groups.{Decides, group_length};
 ghost use Rattle.glyph_slices.specs.Runs.{grapheme_length, run_length};
-ghost use Rattle.glyph_buffer.specs.Sides.{all_glyphs};
-ghost use Rattle.glyph_lists.specs.Items.{clusters};
+ghost use Rattle.glyph_buffer.specs.Sides.{all_glyphs, items_of};
+ghost use Rattle.glyph_lists.specs.Items.{Item, clusters, item_of, strip};
 ghost use Rattle.glyph_lists.specs.Order.{IsOrdered};
-ghost use Rattle.glyph_slices.specs.Turning.{turned};
+ghost use Rattle.glyph_slices.specs.Turning.{groups_turned, turned};
+ghost use Rattle.glyph_slices.specs.Facts.{clusters_kept, clusters_turned, items_kept, places_kept, places_turned};
 ghost use Rattle.glyph_slices.specs.DeletionWalk.{Tells, all_passed};
 ghost use Rattle.glyph_buffer.specs.Grouping.{with_groups_turned, with_picked_deleted};
 
@@ -69,6 +70,9 @@ impl hb_buffer_t {
         requires callable { F.IsAlwaysCallable group }
         requires closed { self.old.is_open ≡ false }
         ensures turned { (joins : Glyph → Glyph → Bool) → Decides F.Fn group joins → self.new ≡ with_groups_turned merge joins self.old }
+        ensures items { (q : Item → Item → Bool) → Decides F.Fn group (λ g h. q (item_of g) (item_of h)) → items_of self.new ≡ groups_turned q (items_of self.old) }
+        ensures places { (q : Item → Item → Bool) → Decides F.Fn group (λ g h. q (item_of g) (item_of h)) → self.new.places ≡ places_turned q (items_of self.old) self.old.places }
+        ensures clusters { (q : Item → Item → Bool) → Decides F.Fn group (λ g h. q (item_of g) (item_of h)) → clusters (all_glyphs self.new) ≡ clusters_turned merge self.old.level q (items_of self.old) (clusters (all_glyphs self.old)) }
         ensures closed { self.new.is_open ≡ false }
         ensures count { length (all_glyphs self.new) ≡ length (all_glyphs self.old) }
     {
@@ -87,6 +91,9 @@ impl hb_buffer_t {
         requires callable { F.IsAlwaysCallable filter }
         requires closed { self.old.is_open ≡ false }
         ensures deleted { (goes : Glyph → Bool) → Tells F.Fn filter goes → self.new ≡ with_picked_deleted goes self.old }
+        ensures items { (q : Item → Bool) → Tells F.Fn filter (λ g. q (item_of g)) → items_of self.new ≡ items_kept q (items_of self.old) }
+        ensures places { (q : Item → Bool) → Tells F.Fn filter (λ g. q (item_of g)) → self.new.places ≡ places_kept q (items_of self.old) self.old.places }
+        ensures clusters { (q : Item → Bool) → Tells F.Fn filter (λ g. q (item_of g)) → clusters (all_glyphs self.new) ≡ clusters_kept self.old.level q (items_of self.old) (clusters (all_glyphs self.old)) }
         ensures closed { self.new.is_open ≡ false }
         ensures few { length (all_glyphs self.new) ≤ length (all_glyphs self.old) }
     {
@@ -114,6 +121,9 @@ fn turn_groups<F: Fn(&hb_glyph_info_t, &hb_glyph_info_t) -> bool>(
     ensures glyphs { (joins : Glyph → Glyph → Bool) → Decides F.Fn group joins → info.new.items ≡ (turned merge level joins info.old.items places.old.items).glyphs }
     ensures places { (joins : Glyph → Glyph → Bool) → Decides F.Fn group joins → places.new.items ≡ (turned merge level joins info.old.items places.old.items).places }
     ensures marked { (joins : Glyph → Glyph → Bool) → Decides F.Fn group joins → result ≡ (turned merge level joins info.old.items places.old.items).is_marked }
+    ensures items { (q : Item → Item → Bool) → Decides F.Fn group (λ g h. q (item_of g) (item_of h)) → strip info.new.items ≡ groups_turned q (strip info.old.items) }
+    ensures turned_places { (q : Item → Item → Bool) → Decides F.Fn group (λ g h. q (item_of g) (item_of h)) → places.new.items ≡ places_turned q (strip info.old.items) places.old.items }
+    ensures clusters { (q : Item → Item → Bool) → Decides F.Fn group (λ g h. q (item_of g) (item_of h)) → clusters info.new.items ≡ clusters_turned merge level q (strip info.old.items) (clusters info.old.items) }
     ensures info_len { vec_len info.new ≡ vec_len info.old }
     ensures places_len { vec_len places.new ≡ vec_len places.old }
 {
@@ -133,6 +143,9 @@ fn delete_picked<F: Fn(&hb_glyph_info_t) -> bool>(
     ensures glyphs { (goes : Glyph → Bool) → Tells F.Fn filter goes → info.new.items ≡ (all_passed level goes info.old.items places.old.items).kept }
     ensures places { (goes : Glyph → Bool) → Tells F.Fn filter goes → places.new.items ≡ (all_passed level goes info.old.items places.old.items).kept_places }
     ensures marked { (goes : Glyph → Bool) → Tells F.Fn filter goes → result ≡ (all_passed level goes info.old.items places.old.items).is_marked }
+    ensures items { (q : Item → Bool) → Tells F.Fn filter (λ g. q (item_of g)) → strip info.new.items ≡ items_kept q (strip info.old.items) }
+    ensures kept_places { (q : Item → Bool) → Tells F.Fn filter (λ g. q (item_of g)) → places.new.items ≡ places_kept q (strip info.old.items) places.old.items }
+    ensures clusters { (q : Item → Bool) → Tells F.Fn filter (λ g. q (item_of g)) → clusters info.new.items ≡ clusters_kept level q (strip info.old.items) (clusters info.old.items) }
     ensures few { vec_len info.new ≤ vec_len info.old }
     ensures even { vec_len places.new ≡ vec_len info.new }
 {
