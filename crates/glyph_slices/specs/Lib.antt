@@ -9,3 +9,4 @@ pub mod Laws
 pub mod Deleted
 pub mod DeletedFlags
 pub mod Facts
+pub mod SortedFacts

@@ -1,8 +1,9 @@
 ghost use Rattle.std.specs.Prelude.{◌≡◌, ◌≤◌, ◌++◌, ℕ, Bool, false, true, take, drop, length, slice_range, vec_len, IfOk, OnOk, OnErr};
 ghost use Rattle.glyph_types.specs.declared.info.hb_glyph_info_t.{hb_glyph_info_t as Glyph};
-ghost use Rattle.glyph_lists.specs.Items.{Item, clusters, item_of, strip};
+ghost use Rattle.glyph_lists.specs.Items.{Item, clusters, flags_of, item_of, strip};
 ghost use Rattle.glyph_lists.specs.Order.{IsInOrder, IsOrdered};
 ghost use Rattle.stable_order.specs.Keys.{key_order};
+ghost use Rattle.glyph_slices.specs.SortedFacts.{clusters_sorted, flags_sorted};
 ghost use Rattle.glyph_slices.specs.Sorting.{Gives, range_sorted};
 ghost use Rattle.glyph_buffer.specs.Sides.{all_glyphs, items_of};
 ghost use Rattle.glyph_buffer.specs.Sorting.{with_range_sorted};
@@ -31,6 +32,8 @@ impl hb_buffer_t {
         requires within { end ≤ length (all_glyphs self.old) }
         ensures sorted { (k : Glyph → ℕ) → Gives F.Fn key k → OnOk result (self.new ≡ with_range_sorted start end k self.old) }
         ensures items { (k : Item → ℕ) → Gives F.Fn key (λ g. k (item_of g)) → OnOk result (items_of self.new ≡ take start (items_of self.old) ++ key_order k (slice_range (items_of self.old) start end) ++ drop end (items_of self.old)) }
+        ensures clusters { (k : Item → ℕ) → Gives F.Fn key (λ g. k (item_of g)) → OnOk result (clusters (all_glyphs self.new) ≡ clusters_sorted self.old.level start end k (items_of self.old) (clusters (all_glyphs self.old))) }
+        ensures flags { (k : Glyph → ℕ) → Gives F.Fn key k → OnOk result (flags_of (all_glyphs self.new) ≡ flags_sorted self.old.level start end k (all_glyphs self.old)) }
         ensures closed { self.new.is_open ≡ false }
         ensures count { length (all_glyphs self.new) ≡ length (all_glyphs self.old) }
         ensures err { OnErr result (self.new ≡ self.old) }
@@ -61,6 +64,8 @@ fn sort_range<F: Fn(&hb_glyph_info_t) -> u32>(
     requires known { in_order ≡ true → IsOrdered (clusters info.old.items) }
     ensures sorted { (k : Glyph → ℕ) → Gives F.Fn key k → OnOk result (info.new.items ≡ (range_sorted level start end k info.old.items).glyphs) }
     ensures items { (k : Item → ℕ) → Gives F.Fn key (λ g. k (item_of g)) → OnOk result (strip info.new.items ≡ take start (strip info.old.items) ++ key_order k (slice_range (strip info.old.items) start end) ++ drop end (strip info.old.items)) }
+    ensures clusters { (k : Item → ℕ) → Gives F.Fn key (λ g. k (item_of g)) → OnOk result (clusters info.new.items ≡ clusters_sorted level start end k (strip info.old.items) (clusters info.old.items)) }
+    ensures flags { (k : Glyph → ℕ) → Gives F.Fn key k → OnOk result (flags_of info.new.items ≡ flags_sorted level start end k info.old.items) }
     ensures marked { (k : Glyph → ℕ) → Gives F.Fn key k → IfOk result (λ s. s.marked ≡ (range_sorted level start end k info.old.items).is_marked) }
     ensures order { (falls : Bool) → IfOk result (λ s. s.in_order ≡ true → IsInOrder falls (clusters info.old.items) → IsInOrder falls (clusters info.new.items)) }
     ensures len { vec_len info.new ≡ vec_len info.old }

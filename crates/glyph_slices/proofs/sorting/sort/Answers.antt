@@ -2,8 +2,9 @@ use Rattle.std.proofs.Common.{sym, ap, subst, ◌∙◌, ◌-◌, map}
 use Rattle.glyph_slices.specs.declared.sorting.Keyed.{Keyed}
 use Rattle.glyph_slices.specs.Sorting.{glyph_at}
 use Rattle.glyph_slices.proofs.Spans.{put_same, sorted_is, sort_marks}
-use Rattle.glyph_lists.specs.Items.{item_of, strip}
+use Rattle.glyph_lists.specs.Items.{item_of, strip, clusters, flags_of}
 use Rattle.glyph_lists.specs.Order.{IsInOrder}
+use Rattle.glyph_slices.proofs.SortedNumbers.{sorted_clusters, sorted_flags}
 use Rattle.glyph_slices.proofs.SortedItems.{items_sorted}
 use Rattle.glyph_slices.proofs.sorting.sort.Goals as goal
 
@@ -20,6 +21,12 @@ returns-clause-marked g c = λ k same.
 
 pub returns-clause-items : goal.returns-clause-items
 returns-clause-items g c = λ k same. ap strip (returns-clause-sorted g c (λ h. k (item_of h)) same) ∙ items_sorted c.args.level c.args.start c.args.end k c.args.glyphs.now
+
+pub returns-clause-clusters : goal.returns-clause-clusters
+returns-clause-clusters g c = λ k same. ap clusters (returns-clause-sorted g c (λ h. k (item_of h)) same) ∙ sorted_clusters c.args.level c.args.start c.args.end k c.args.glyphs.now
+
+pub returns-clause-flags : goal.returns-clause-flags
+returns-clause-flags g c = λ k same. ap flags_of (returns-clause-sorted g c k same) ∙ sorted_flags c.args.level c.args.start c.args.end k c.args.glyphs.now
 
 pub returns-clause-order : goal.returns-clause-order
 returns-clause-order g c = λ falls same ordered.
