@@ -10,3 +10,4 @@ pub mod SortedItems
 pub mod Kept
 pub mod Stretches
 pub mod Regrouped
+pub mod RegroupedFlags

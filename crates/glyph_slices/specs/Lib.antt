@@ -8,3 +8,4 @@ pub mod Sorting
 pub mod Laws
 pub mod Deleted
 pub mod Facts
+pub mod Flags
