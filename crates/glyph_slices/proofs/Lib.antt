@@ -11,3 +11,4 @@ pub mod Kept
 pub mod Stretches
 pub mod Regrouped
 pub mod RegroupedFlags
+pub mod KeptFlags

@@ -108,7 +108,7 @@ cast_many (suc n) q gs ps pa m (x ∷ xs) le =
     ∙ sym (append_assoc (stretches_turned lens (drop k all)) (take k all) (map (cast whole) gs))
     ∙ ap (λ ks. stretches_turned ks (map (cast (beside_all l ks ns)) (x ∷ xs)) ++ map (cast (beside_all l ks ns)) gs) (sym (lengths_ahead true l q x xs))
 
-flags_cast : (f : ℕ → ℕ) (gs : List Glyph) → flags_of (map (cast f) gs) ≡ flags_where_same 0 (clusters gs) (map f (clusters gs)) (flags_of gs)
+pub flags_cast : (f : ℕ → ℕ) (gs : List Glyph) → flags_of (map (cast f) gs) ≡ flags_where_same 0 (clusters gs) (map f (clusters gs)) (flags_of gs)
 flags_cast f [] = refl
 flags_cast f (g ∷ gs) = ap (λ k. k ∷ flags_of (map (cast f) gs)) (flags_in_cluster (f g.cluster) g) ∙ ap (λ ks. (if g.cluster == f g.cluster then glyph_flags g else 0) ∷ ks) (flags_cast f gs)
 
