@@ -14,7 +14,7 @@ use Rattle.glyph_slices.specs.DeletionWalk.{Passed, with_glyph, without_glyph, m
 use Rattle.glyph_slices.specs.Laws.{DeletesNumbers}
 use Rattle.glyph_slices.specs.Facts.{items_kept, places_kept, numbers_deleted_alone, numbers_deleted, numbers_kept, clusters_kept}
 
-back_length : (level : Level) (front : List Glyph) (g : Glyph) (back : List Glyph) → length (glyphs_deleted level front g back).back ≡ length back
+pub back_length : (level : Level) (front : List Glyph) (g : Glyph) (back : List Glyph) → length (glyphs_deleted level front g back).back ≡ length back
 back_length level front g back = sym (length-map (glyphs_deleted level front g back).back item_of) ∙ ap length (items_deleted level front g back).1 ∙ length-map back item_of
 
 items_many : (n : ℕ) (level : Level) (q : Item → Bool) (ks : List Glyph) (kp : List Place) (ahead : List Glyph) (pa : List Place) (m : Bool) → length ahead ≤ n
@@ -71,7 +71,7 @@ alone_apart level None front g back e =
     (refl, sym (drop-map f 1 (glyphs_merged_at level 0 2 (g ∷ back))) ∙ ap (drop 1) (clusters_merged_at level 0 2 (g ∷ back) (omega arith)))
 
 -- the clusters before a glyph that went and behind it are those of the deletion of a number
-clusters_apart : (level : Level) (front : List Glyph) (g : Glyph) (back : List Glyph)
+pub clusters_apart : (level : Level) (front : List Glyph) (g : Glyph) (back : List Glyph)
     → (clusters (glyphs_deleted level front g back).front ≡ (numbers_deleted level (clusters front) g.cluster (clusters back)).front) × (clusters (glyphs_deleted level front g back).back ≡ (numbers_deleted level (clusters front) g.cluster (clusters back)).back)
 clusters_apart level front g back =
     let n = g.cluster in

@@ -11,3 +11,5 @@ pub mod Kept
 pub mod Stretches
 pub mod Regrouped
 pub mod SortedNumbers
+pub mod RegroupedFlags
+pub mod KeptFlags

@@ -16,7 +16,7 @@ use Rattle.glyph_slices.proofs.Stretches.{beside_number, beside_all, total, firs
 use Rattle.glyph_slices.proofs.Turned.{all_idle}
 
 -- a test of items, asked of glyphs
-abbrev of_items : (Item → Item → Bool) → Glyph → Glyph → Bool
+abbrev pub of_items : (Item → Item → Bool) → Glyph → Glyph → Bool
 of_items q g h = q (item_of g) (item_of h)
 
 joined_items : (q : Item → Item → Bool) (g : Glyph) (gs : List Glyph) → joined_behind (of_items q) g gs ≡ joined_behind q (item_of g) (strip gs)
@@ -50,7 +50,7 @@ beside_clusters true Characters range gs = sym (map-id (clusters gs))
 ahead_items : (merge : Bool) (level : Level) (n : ℕ) (gs : List Glyph) → strip (drop n (merged_if merge level 0 n gs)) ≡ drop n (strip gs)
 ahead_items merge level n gs = sym (drop-map item_of n (merged_if merge level 0 n gs)) ∙ ap (drop n) (merged_items merge level n gs)
 
-few_ahead : (merge : Bool) (level : Level) (n m : ℕ) (g : Glyph) (gs : List Glyph) → length (g ∷ gs) ≤ suc m → length (drop (suc n) (merged_if merge level 0 (suc n) (g ∷ gs))) ≤ m
+pub few_ahead : (merge : Bool) (level : Level) (n m : ℕ) (g : Glyph) (gs : List Glyph) → length (g ∷ gs) ≤ suc m → length (drop (suc n) (merged_if merge level 0 (suc n) (g ∷ gs))) ≤ m
 few_ahead merge level n m g gs le =
     let seen = ap length (ahead_items merge level (suc n) (g ∷ gs)) in
     omega (arith, seen, le, length-map (drop (suc n) (merged_if merge level 0 (suc n) (g ∷ gs))) item_of, length-drop (suc n) (strip (g ∷ gs)), length-map gs item_of)
@@ -82,7 +82,7 @@ pub items_turned : (merge : Bool) (level : Level) (q : Item → Item → Bool) (
 items_turned merge level q gs ps = items_many (length gs) merge level q [] [] ps false gs (omega arith) ∙ append-nil (groups_turned q (strip gs))
 
 -- the lengths of the groups of items, by that of the first group of glyphs
-lengths_ahead : (merge : Bool) (level : Level) (q : Item → Item → Bool) (x : Glyph) (xs : List Glyph) → let k = group_length (of_items q) (x ∷ xs) in
+pub lengths_ahead : (merge : Bool) (level : Level) (q : Item → Item → Bool) (x : Glyph) (xs : List Glyph) → let k = group_length (of_items q) (x ∷ xs) in
     group_lengths q (strip (x ∷ xs)) ≡ k ∷ group_lengths q (strip (drop k (merged_if merge level 0 k (x ∷ xs))))
 lengths_ahead merge level q x xs =
     let k = group_length (of_items q) (x ∷ xs) in
@@ -112,7 +112,7 @@ first_clusters merge level n range ahead gs =
     map-append f (take n (merged_if merge level 0 n ahead)) (beside_if merge level range gs) ∙ ap (λ ns. clusters (take n (merged_if merge level 0 n ahead)) ++ ns) (beside_clusters merge level range gs)
     ∙ ap (λ ns. ns ++ map (beside_number (told merge level) range) (clusters gs)) (sym (take-map f n (merged_if merge level 0 n ahead)) ∙ ap (take n) (merged_clusters merge level n ahead))
 
-ahead_clusters : (merge : Bool) (level : Level) (n : ℕ) (gs : List Glyph) → clusters (drop n (merged_if merge level 0 n gs)) ≡ drop n (merged_at (told merge level) 0 n (clusters gs))
+pub ahead_clusters : (merge : Bool) (level : Level) (n : ℕ) (gs : List Glyph) → clusters (drop n (merged_if merge level 0 n gs)) ≡ drop n (merged_at (told merge level) 0 n (clusters gs))
 ahead_clusters merge level n gs =
     let f : Glyph → ℕ = λ g. g.cluster in
     sym (drop-map f n (merged_if merge level 0 n gs)) ∙ ap (drop n) (merged_clusters merge level n gs)

@@ -26,7 +26,7 @@ abbrev pub total : List ℕ → ℕ
 total [] = 0
 total (n ∷ lens) = n + total lens
 
-map_twice : {X Y Z : Type 0} (g : Y → Z) (f : X → Y) (xs : List X) → map g (map f xs) ≡ map (λ x. g (f x)) xs
+pub map_twice : {X Y Z : Type 0} (g : Y → Z) (f : X → Y) (xs : List X) → map g (map f xs) ≡ map (λ x. g (f x)) xs
 map_twice g f [] = refl
 map_twice g f (x ∷ xs) = ap (λ ys. g (f x) ∷ ys) (map_twice g f xs)
 
@@ -75,6 +75,18 @@ all_behind level (n ∷ lens) front ns le =
     whole ∙ ap (λ ms. ms ++ after) (map-append f (map b front) (take n m) ∙ ap (λ ms. ms ++ map f (take n m)) (map_twice f b front))
     ∙ append_assoc (map (beside_all level (n ∷ lens) ns) front) (map f (take n m)) after ∙ ap (λ ms. map (beside_all level (n ∷ lens) ns) front ++ ms) (sym behind)
 
+-- at a monotone level merges of stretches take each number to what they make of it, wherever it is
+pub all_mapped : (lens ns : List ℕ) → total lens ≤ length ns → stretches_merged MonotoneGraphemes lens 0 ns ≡ map (beside_all MonotoneGraphemes lens ns) ns
+all_mapped [] ns le = sym (map-id ns)
+all_mapped (n ∷ lens) ns le =
+    let l = MonotoneGraphemes in
+    let m = merged_at l 0 n ns in
+    let f : ℕ → ℕ = beside_all l lens (drop n m) in
+    let fits : n + total lens ≤ length ns = le in
+    let rest : total lens ≤ length (drop n m) = omega (arith, length-drop n m, merged_length l 0 n ns) in
+    first_cut l n lens ns (omega arith) ∙ all_behind l lens (take n m) (drop n m) rest ∙ ap (λ ms. map f (take n m) ++ ms) (all_mapped lens (drop n m) rest)
+    ∙ sym (map-append f (take n m) (drop n m)) ∙ ap (map f) (take-append-drop n m) ∙ map_twice f (merged (stretch 0 n ns)) ns
+
 -- what comes first was merged and goes in front of what was turned before: the others go before it
 pub first_stretch : (level : Level) (n : ℕ) (lens ns turned : List ℕ) → n + total lens ≤ length ns
     → stretches_turned lens (stretches_merged level lens 0 (drop n (merged_at level 0 n ns))) ++ map (beside_all level lens (drop n (merged_at level 0 n ns))) (take n (merged_at level 0 n ns) ++ map (beside_number level (stretch 0 n ns)) turned)
@@ -96,7 +108,7 @@ first_stretch level n lens ns turned fits =
     ap (λ ms. stretches_turned lens after ++ ms) (map-append f (take n m) (map b turned) ∙ ap (λ ms. first ++ ms) (map_twice f b turned))
     ∙ sym (append_assoc (stretches_turned lens after) first (map (beside_all level (n ∷ lens) ns) turned)) ∙ ap (λ ms. ms ++ map (beside_all level (n ∷ lens) ns) turned) (sym right)
 
-joined_within : {X : Type 0} (p : X → X → Bool) (x : X) (xs : List X) → joined_behind p x xs ≤ length xs
+pub joined_within : {X : Type 0} (p : X → X → Bool) (x : X) (xs : List X) → joined_behind p x xs ≤ length xs
 joined_within p x [] = omega arith
 joined_within p x (y ∷ ys) = let rest = joined_within p y ys in elim (p x y) as (λ t. (if t then suc (joined_behind p y ys) else 0) ≤ suc (length ys)) [ true ↦ omega (arith, rest) | false ↦ omega arith ]
 

@@ -147,7 +147,7 @@ group_ordered true level start end gs mid new le m n asked mono o =
 same_cluster : (g : Glyph) → in_cluster g.cluster g ≡ g
 same_cluster g = let same : (g.cluster == g.cluster) ≡ true = grind (arith, common_steps) in rw same refl
 
-nothing_merged : (gs : List Glyph) → glyphs_merged [] gs ≡ gs
+pub nothing_merged : (gs : List Glyph) → glyphs_merged [] gs ≡ gs
 nothing_merged [] = refl
 nothing_merged (g ∷ gs) = rw (same_cluster g, nothing_merged gs) refl
 

@@ -41,7 +41,7 @@ recast_items : (c mask : ℕ) (gs : List Glyph) → strip (map (recast c mask) g
 recast_items c mask [] = refl
 recast_items c mask (g ∷ gs) = rw (recast_item c mask g, recast_items c mask gs) refl
 
-all_of : (p : ℕ) (gs : List Glyph) → list_all (λ (k : Glyph). k.cluster == p) gs ≡ list_all (λ k. k == p) (clusters gs)
+pub all_of : (p : ℕ) (gs : List Glyph) → list_all (λ (k : Glyph). k.cluster == p) gs ≡ list_all (λ k. k == p) (clusters gs)
 all_of p [] = refl
 all_of p (g ∷ gs) = ap (λ t. (g.cluster == p) && t) (all_of p gs)
 

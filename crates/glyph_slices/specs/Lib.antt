@@ -10,3 +10,4 @@ pub mod Deleted
 pub mod DeletedFlags
 pub mod Facts
 pub mod SortedFacts
+pub mod Flags

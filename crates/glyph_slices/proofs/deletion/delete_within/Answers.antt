@@ -1,8 +1,9 @@
 use Rattle.std.proofs.Common.{arith, ap, ◌∙◌, ◌≤◌, length}
-use Rattle.glyph_lists.specs.Items.{clusters, item_of, strip}
+use Rattle.glyph_lists.specs.Items.{clusters, flags_of, item_of, strip}
 use Rattle.glyph_slices.specs.DeletionWalk.{Passed}
 use Rattle.glyph_slices.proofs.Walking.{settled_front}
 use Rattle.glyph_slices.proofs.Kept.{items_all, places_all, clusters_all}
+use Rattle.glyph_slices.proofs.KeptFlags.{flags_all}
 use Rattle.glyph_slices.proofs.Passing.{passes_on, passes_begin, passes_end}
 use Rattle.glyph_slices.proofs.deletion.delete_within.Goals as goal
 
@@ -45,3 +46,6 @@ returns-clause-kept_places g c = λ q same. returns-clause-places g c (λ h. q (
 
 pub returns-clause-clusters : goal.returns-clause-clusters
 returns-clause-clusters g c = λ q same. ap clusters (returns-clause-glyphs g c (λ h. q (item_of h)) same) ∙ clusters_all c.args.level q c.args.glyphs.now c.args.places.now
+
+pub returns-clause-flags : goal.returns-clause-flags
+returns-clause-flags g c = λ q same. ap flags_of (returns-clause-glyphs g c (λ h. q (item_of h)) same) ∙ flags_all c.args.level q c.args.glyphs.now c.args.places.now

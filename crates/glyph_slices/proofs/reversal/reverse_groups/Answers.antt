@@ -1,9 +1,10 @@
 use Rattle.std.proofs.Common.{arith, ◌||◌, ap, ◌∙◌}
-use Rattle.glyph_lists.specs.Items.{clusters, item_of, strip}
+use Rattle.glyph_lists.specs.Items.{clusters, flags_of, item_of, strip}
 use Rattle.glyph_slices.specs.Turning.{Turning, turned}
 use Rattle.glyph_slices.proofs.Turned.{rest_begins, rest_goes_on, rest_ends}
 use Rattle.glyph_slices.proofs.GroupsTurned.{turned_plain}
 use Rattle.glyph_slices.proofs.Regrouped.{items_turned, places_beside, clusters_beside}
+use Rattle.glyph_slices.proofs.RegroupedFlags.{flags_beside}
 use Rattle.glyph_slices.proofs.reversal.reverse_groups.Goals as goal
 
 pub loop-start-init : goal.loop-start-init
@@ -46,3 +47,6 @@ returns-clause-turned_places g c = λ q same. returns-clause-places g c (λ h k.
 
 pub returns-clause-clusters : goal.returns-clause-clusters
 returns-clause-clusters g c = λ q same. ap clusters (returns-clause-glyphs g c (λ h k. q (item_of h) (item_of k)) same) ∙ clusters_beside c.args.merge c.args.level q c.args.glyphs.now c.args.places.now
+
+pub returns-clause-flags : goal.returns-clause-flags
+returns-clause-flags g c = λ q same. ap flags_of (returns-clause-glyphs g c (λ h k. q (item_of h) (item_of k)) same) ∙ flags_beside c.args.merge c.args.level q c.args.glyphs.now c.args.places.now
