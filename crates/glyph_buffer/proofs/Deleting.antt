@@ -18,7 +18,9 @@ use Rattle.glyph_lists.specs.Lemmas.Deletions.{deletion_is_event, no_last}
 use Rattle.glyph_lists.specs.Lemmas.Events.{event_keeps_order}
 use Rattle.glyph_lists.specs.Lemmas.Glyphs.{length_merged_at}
 use Rattle.glyph_slices.specs.Deleted.{clusters_deleted, items_deleted}
-use Rattle.glyph_slices.specs.DeletedFlags.{flags_deleted, flags_after_deletion}
+use Rattle.glyph_slices.specs.Facts.{together}
+use Rattle.glyph_slices.specs.Flags.{flags_deleted}
+use Rattle.glyph_slices.proofs.KeptFlags.{front_flags, back_flags}
 use Rattle.glyph_slices.specs.Deleting.{Left, end_recast, glyphs_deleted, deletion_marks}
 use Rattle.glyph_slices.specs.DeletionWalk.{Deletes}
 use Rattle.glyph_buffer.specs.declared.buffer.hb_buffer_t.TheInside.{Inside}
@@ -194,7 +196,9 @@ left_numbers g back s =
     let cluster_of : Glyph → ℕ = λ h. h.cluster in
     map-append cluster_of left.front left.back ∙ clusters_deleted s.level s.behind g back
 
-pub left_flags : (g : Glyph) (back : List Glyph) (s : Sides) → flags_of (all_glyphs (with_deleted g back s)) ≡ flags_deleted s.level s.behind g back
+pub left_flags : (g : Glyph) (back : List Glyph) (s : Sides)
+    → flags_of (all_glyphs (with_deleted g back s)) ≡ together (flags_deleted s.level (clusters s.behind) g.cluster (clusters back) (flags_of s.behind) (glyph_flags g) (flags_of back))
 left_flags g back s =
     let left = glyphs_deleted s.level s.behind g back in
-    map-append glyph_flags left.front left.back ∙ flags_after_deletion s.level s.behind g back
+    let flags = flags_deleted s.level (clusters s.behind) g.cluster (clusters back) (flags_of s.behind) (glyph_flags g) (flags_of back) in
+    map-append glyph_flags left.front left.back ∙ ap (λ fs. fs ++ flags_of left.back) (front_flags s.level s.behind g back) ∙ ap (λ fs. flags.front ++ fs) (back_flags s.level s.behind g back)

@@ -68,7 +68,7 @@ alone_front level (Some p) front g back e =
 alone_front level None front g back e = sym (all_stay (glyph_flags g) front)
 
 -- the flags before a glyph that went
-front_flags : (level : Level) (front : List Glyph) (g : Glyph) (back : List Glyph)
+pub front_flags : (level : Level) (front : List Glyph) (g : Glyph) (back : List Glyph)
     → flags_of (glyphs_deleted level front g back).front ≡ (flags_deleted level (clusters front) g.cluster (clusters back) (flags_of front) (glyph_flags g) (flags_of back)).front
 front_flags level front g back =
     let n = g.cluster in
@@ -146,7 +146,7 @@ first_back g (h ∷ hs) = by_test (h.cluster == g.cluster) refl
     by_test false e = ap (λ k. k ∷ flags_of hs) (flags_of_outside 3 (min g.cluster h.cluster) h (omega arith) ∙ marks_next g.cluster h.cluster (glyph_flags h)) ∙ ap (next_marked Characters [] g.cluster (clusters (h ∷ hs))) (sym (all_stay 0 (h ∷ hs)))
 
 -- the flags behind a glyph that went
-back_flags : (level : Level) (front : List Glyph) (g : Glyph) (back : List Glyph)
+pub back_flags : (level : Level) (front : List Glyph) (g : Glyph) (back : List Glyph)
     → flags_of (glyphs_deleted level front g back).back ≡ (flags_deleted level (clusters front) g.cluster (clusters back) (flags_of front) (glyph_flags g) (flags_of back)).back
 back_flags MonotoneGraphemes front g back = merged_back front g back
 back_flags MonotoneCharacters front g back = rw (alike_glyphs front g back, alike_numbers (clusters front) g.cluster (clusters back)) (merged_back front g back)

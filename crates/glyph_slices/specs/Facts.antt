@@ -22,6 +22,10 @@ pub record Beside : Type 0 where
   pub front : List ℕ
   pub back : List ℕ
 
+-- all that are left
+abbrev pub together : Beside → List ℕ
+together b = b.front ++ b.back
+
 -- a number goes that neither neighbour has: the run before it takes it if it is less; where none stands before, it is merged with the next
 abbrev pub numbers_deleted_alone : BufferClusterLevel → Option ℕ → List ℕ → ℕ → List ℕ → Beside
 numbers_deleted_alone level (Some p) front n back = record { front = (if nat_lt n p then end_renumbered p n front else front); back = back }

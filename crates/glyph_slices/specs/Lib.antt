@@ -7,7 +7,6 @@ pub mod DeletionWalk
 pub mod Sorting
 pub mod Laws
 pub mod Deleted
-pub mod DeletedFlags
 pub mod Facts
 pub mod SortedFacts
 pub mod Flags

@@ -1,12 +1,13 @@
 ghost use Rattle.std.specs.Prelude.{◌≡◌, ◌+◌, ◌<◌, ◌≤◌, ◌++◌, ◌∷◌, [], Some, true, false, List, length, drop, vec_len};
 ghost use Rattle.glyph_types.specs.declared.info.hb_glyph_info_t.{hb_glyph_info_t as Glyph};
 ghost use Rattle.glyph_types.specs.declared.level.BufferClusterLevel.{BufferClusterLevel as Level};
-ghost use Rattle.glyph_lists.specs.Items.{clusters, flags_of, strip};
+ghost use Rattle.glyph_lists.specs.Items.{clusters, flags_of, glyph_flags, strip};
 ghost use Rattle.glyph_lists.specs.Deletions.{deleted};
 ghost use Rattle.glyph_lists.specs.Events.{first_of, is_number, last_of};
 ghost use Rattle.glyph_lists.specs.Order.{IsOrdered};
 ghost use Rattle.glyph_slices.specs.Deleting.{end_recast};
-ghost use Rattle.glyph_slices.specs.DeletedFlags.{flags_deleted};
+ghost use Rattle.glyph_slices.specs.Facts.{together};
+ghost use Rattle.glyph_slices.specs.Flags.{flags_deleted};
 ghost use Rattle.glyph_slices.specs.DeletionWalk.{Deletes};
 ghost use Rattle.glyph_buffer.specs.Sides.{all_glyphs, items_of};
 ghost use Rattle.glyph_buffer.specs.Grouping.{with_deleted};
@@ -32,7 +33,7 @@ impl hb_buffer_t {
         ensures ahead { length self.new.ahead + 1 ≡ length self.old.ahead }
         ensures items { items_of self.new ≡ strip self.old.behind ++ drop 1 (strip self.old.ahead) }
         ensures clusters { (g : Glyph) (back : List Glyph) → self.old.ahead ≡ g ∷ back → clusters (all_glyphs self.new) ≡ deleted self.old.level (clusters self.old.behind) g.cluster (clusters back) }
-        ensures flags { (g : Glyph) (back : List Glyph) → self.old.ahead ≡ g ∷ back → flags_of (all_glyphs self.new) ≡ flags_deleted self.old.level self.old.behind g back }
+        ensures flags { (g : Glyph) (back : List Glyph) → self.old.ahead ≡ g ∷ back → flags_of (all_glyphs self.new) ≡ together (flags_deleted self.old.level (clusters self.old.behind) g.cluster (clusters back) (flags_of self.old.behind) (glyph_flags g) (flags_of back)) }
     {
         let order = self.order.settled(self.lent, &self.info);
         let level = self.cluster_level;

@@ -3,9 +3,10 @@ ghost use Rattle.glyph_types.specs.declared.info.hb_glyph_info_t.{hb_glyph_info_
 ghost use Rattle.glyph_slices.specs.Groups.{Decides, group_length};
 ghost use Rattle.glyph_slices.specs.Runs.{grapheme_length, run_length};
 ghost use Rattle.glyph_buffer.specs.Sides.{all_glyphs, items_of};
-ghost use Rattle.glyph_lists.specs.Items.{Item, clusters, item_of, strip};
+ghost use Rattle.glyph_lists.specs.Items.{Item, clusters, flags_of, item_of, strip};
 ghost use Rattle.glyph_lists.specs.Order.{IsOrdered};
 ghost use Rattle.glyph_slices.specs.Turning.{groups_turned, turned};
+ghost use Rattle.glyph_slices.specs.Flags.{flags_kept, flags_turned};
 ghost use Rattle.glyph_slices.specs.Facts.{clusters_kept, clusters_turned, items_kept, places_kept, places_turned};
 ghost use Rattle.glyph_slices.specs.DeletionWalk.{Tells, all_passed};
 ghost use Rattle.glyph_buffer.specs.Grouping.{with_groups_turned, with_picked_deleted};
@@ -73,6 +74,7 @@ impl hb_buffer_t {
         ensures items { (q : Item → Item → Bool) → Decides F.Fn group (λ g h. q (item_of g) (item_of h)) → items_of self.new ≡ groups_turned q (items_of self.old) }
         ensures places { (q : Item → Item → Bool) → Decides F.Fn group (λ g h. q (item_of g) (item_of h)) → self.new.places ≡ places_turned q (items_of self.old) self.old.places }
         ensures clusters { (q : Item → Item → Bool) → Decides F.Fn group (λ g h. q (item_of g) (item_of h)) → clusters (all_glyphs self.new) ≡ clusters_turned merge self.old.level q (items_of self.old) (clusters (all_glyphs self.old)) }
+        ensures flags { (q : Item → Item → Bool) → Decides F.Fn group (λ g h. q (item_of g) (item_of h)) → flags_of (all_glyphs self.new) ≡ flags_turned merge self.old.level q (items_of self.old) (clusters (all_glyphs self.old)) (flags_of (all_glyphs self.old)) }
         ensures closed { self.new.is_open ≡ false }
         ensures count { length (all_glyphs self.new) ≡ length (all_glyphs self.old) }
     {
@@ -94,6 +96,7 @@ impl hb_buffer_t {
         ensures items { (q : Item → Bool) → Tells F.Fn filter (λ g. q (item_of g)) → items_of self.new ≡ items_kept q (items_of self.old) }
         ensures places { (q : Item → Bool) → Tells F.Fn filter (λ g. q (item_of g)) → self.new.places ≡ places_kept q (items_of self.old) self.old.places }
         ensures clusters { (q : Item → Bool) → Tells F.Fn filter (λ g. q (item_of g)) → clusters (all_glyphs self.new) ≡ clusters_kept self.old.level q (items_of self.old) (clusters (all_glyphs self.old)) }
+        ensures flags { (q : Item → Bool) → Tells F.Fn filter (λ g. q (item_of g)) → flags_of (all_glyphs self.new) ≡ flags_kept self.old.level q (items_of self.old) (clusters (all_glyphs self.old)) (flags_of (all_glyphs self.old)) }
         ensures closed { self.new.is_open ≡ false }
         ensures few { length (all_glyphs self.new) ≤ length (all_glyphs self.old) }
     {
@@ -124,6 +127,7 @@ fn turn_groups<F: Fn(&hb_glyph_info_t, &hb_glyph_info_t) -> bool>(
     ensures items { (q : Item → Item → Bool) → Decides F.Fn group (λ g h. q (item_of g) (item_of h)) → strip info.new.items ≡ groups_turned q (strip info.old.items) }
     ensures turned_places { (q : Item → Item → Bool) → Decides F.Fn group (λ g h. q (item_of g) (item_of h)) → places.new.items ≡ places_turned q (strip info.old.items) places.old.items }
     ensures clusters { (q : Item → Item → Bool) → Decides F.Fn group (λ g h. q (item_of g) (item_of h)) → clusters info.new.items ≡ clusters_turned merge level q (strip info.old.items) (clusters info.old.items) }
+    ensures flags { (q : Item → Item → Bool) → Decides F.Fn group (λ g h. q (item_of g) (item_of h)) → flags_of info.new.items ≡ flags_turned merge level q (strip info.old.items) (clusters info.old.items) (flags_of info.old.items) }
     ensures info_len { vec_len info.new ≡ vec_len info.old }
     ensures places_len { vec_len places.new ≡ vec_len places.old }
 {
@@ -146,6 +150,7 @@ fn delete_picked<F: Fn(&hb_glyph_info_t) -> bool>(
     ensures items { (q : Item → Bool) → Tells F.Fn filter (λ g. q (item_of g)) → strip info.new.items ≡ items_kept q (strip info.old.items) }
     ensures kept_places { (q : Item → Bool) → Tells F.Fn filter (λ g. q (item_of g)) → places.new.items ≡ places_kept q (strip info.old.items) places.old.items }
     ensures clusters { (q : Item → Bool) → Tells F.Fn filter (λ g. q (item_of g)) → clusters info.new.items ≡ clusters_kept level q (strip info.old.items) (clusters info.old.items) }
+    ensures flags { (q : Item → Bool) → Tells F.Fn filter (λ g. q (item_of g)) → flags_of info.new.items ≡ flags_kept level q (strip info.old.items) (clusters info.old.items) (flags_of info.old.items) }
     ensures few { vec_len info.new ≤ vec_len info.old }
     ensures even { vec_len places.new ≡ vec_len info.new }
 {
