@@ -5,7 +5,7 @@ use Rattle.std.specs.Int.RustNames.{bit_and}
 use Rattle.std.proofs.lemmas.List.{map-append, take-map, drop-map}
 use Rattle.glyph_types.specs.declared.info.hb_glyph_info_t.{hb_glyph_info_t as Glyph}
 use Rattle.glyph_types.specs.declared.level.BufferClusterLevel.{BufferClusterLevel as Level}
-use Rattle.glyph_lists.specs.Items.{Item, item_of, strip, clusters, flags_of, glyph_flags}
+use Rattle.glyph_lists.specs.Items.{Item, item_of, strip, clusters, flags_of}
 use Rattle.glyph_lists.specs.Merges.{merged_at}
 use Rattle.glyph_lists.specs.Glyphs.{glyphs_merged_at, is_marked_at}
 use Rattle.glyph_lists.specs.Lists.{seen_at}
