@@ -8,7 +8,7 @@ use Rattle.stable_order.specs.Keys.{key_order}
 use Rattle.glyph_slices.specs.declared.sorting.Keyed.{Keyed}
 use Rattle.glyph_slices.specs.Sorting.{is_seam, places_by_key, range_spanned}
 
--- the key and the place of each item, places counted from one
+-- the key and the place of each item; places are counted from i
 abbrev pub items_keyed_from : (Item → ℕ) → ℕ → List Item → List Keyed
 items_keyed_from k i [] = []
 items_keyed_from k i (x ∷ xs) = record { key = k x; place = i } ∷ items_keyed_from k (i + 1) xs

@@ -14,7 +14,7 @@ use Rattle.glyph_slices.specs.declared.sorting.Keyed.{Keyed}
 abbrev pub Gives : {F : Type 0} → Shared F (Bor hb_glyph_info_t × Unit {0}) ℕ → F → (hb_glyph_info_t → ℕ) → Type 0
 Gives calls f k = (g : hb_glyph_info_t) (n : ℕ) → FnReturnsAt calls f g n → n ≡ k g
 
--- the key and the place of each glyph, places counted from one
+-- the key and the place of each glyph; places are counted from i
 abbrev pub keyed_from : (hb_glyph_info_t → ℕ) → ℕ → List hb_glyph_info_t → List Keyed
 keyed_from k i [] = []
 keyed_from k i (g ∷ gs) = record { key = k g; place = i } ∷ keyed_from k (i + 1) gs
