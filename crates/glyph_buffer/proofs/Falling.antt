@@ -1,5 +1,5 @@
 -- Clusters that are seen to fall, one after another.
-use Rattle.std.proofs.Common.{ℕ, ◌≡◌, ◌≤◌, ◌<◌, ◌+◌, List, [], ◌∷◌, ◌++◌, length, take, get_or, arith, refl, ap, ◌∙◌}
+use Rattle.std.proofs.Common.{ℕ, suc, ◌≡◌, ◌≤◌, ◌<◌, ◌+◌, ◌-◌, List, [], ◌∷◌, ◌++◌, length, take, get_or, arith, refl, ap, subst, ◌∙◌}
 use Rattle.std.proofs.lemmas.List.{take_more, map-append}
 use Rattle.glyph_types.specs.declared.info.hb_glyph_info_t.{hb_glyph_info_t}
 use Rattle.glyph_lists.specs.Items.{clusters}
@@ -23,6 +23,26 @@ falling_push x n (y ∷ ys) h le =
     let first : y ≤ x = h.0.0 in
     let last : last_from y ys ≤ y = down_to y ys h.1 in
     (all_most x n (y ∷ ys) (omega (arith, first, last, le)) h.0, rest)
+
+last_got : (g : hb_glyph_info_t) (gs : List hb_glyph_info_t) (d : hb_glyph_info_t) → (get_or (g ∷ gs) (length gs) d).cluster ≡ last_from g.cluster (clusters gs)
+last_got g [] d = refl
+last_got g (h ∷ hs) d = last_got h hs d
+
+pub falls_behind : (gs : List hb_glyph_info_t) (d : hb_glyph_info_t) (c : ℕ) → 1 ≤ length gs → c ≤ (get_or gs (length gs - 1) d).cluster → IsFalling (clusters gs) → IsFalling (clusters gs ++ c ∷ [])
+falls_behind [] d c le last h = absurd (omega arith)
+falls_behind (g ∷ gs) d c le last h =
+    let less : suc (length gs) - 1 ≡ length gs = omega arith in
+    let seen : c ≤ last_from g.cluster (clusters gs) = subst (λ (n : ℕ). c ≤ n) (last_got g gs d) (subst (λ (n : ℕ). c ≤ (get_or (g ∷ gs) n d).cluster) less last) in
+    falling_push g.cluster c (clusters gs) h seen
+
+-- a glyph that is not below the first of others
+from_front : (c n : ℕ) (ns : List ℕ) → n ≤ c → AllFrom (λ x y. y ≤ x) n ns → AllFrom (λ x y. y ≤ x) c ns
+from_front c n [] le h = tt
+from_front c n (m ∷ ms) le h = (omega (arith, le, h.0), from_front c n ms le h.1)
+
+pub falls_front : (gs : List hb_glyph_info_t) (d : hb_glyph_info_t) (c : ℕ) → 1 ≤ length gs → (get_or gs 0 d).cluster ≤ c → IsFalling (clusters gs) → IsFalling (c ∷ clusters gs)
+falls_front [] d c le first h = absurd (omega arith)
+falls_front (g ∷ gs) d c le first h = ((first, from_front c g.cluster (clusters gs) first h.0), h)
 
 last_append : (x n : ℕ) (xs : List ℕ) → last_from x (xs ++ n ∷ []) ≡ n
 last_append x n [] = refl

@@ -1,5 +1,5 @@
 -- What is known of the order of clusters, and stays known.
-use Rattle.std.proofs.Common.{ℕ, suc, ◌≡◌, ◌≤◌, ◌<◌, ◌+◌, ◌-◌, true, false, List, [], ◌∷◌, ◌++◌, Some, length, take, reverse, get_or, set, arith, refl, ap, sym, subst, ◌∙◌}
+use Rattle.std.proofs.Common.{ℕ, suc, ◌≡◌, ◌≤◌, ◌<◌, ◌+◌, ◌-◌, true, false, List, [], ◌∷◌, ◌++◌, length, take, reverse, get_or, set, arith, refl, ap, sym, subst, ◌∙◌}
 use Rattle.std.proofs.lemmas.List.{set-get_or, get_or-map, take_more, map-append}
 use Rattle.std.specs.Char.{len_utf8}
 use Rattle.std.specs.Str.{chars}
@@ -8,16 +8,17 @@ use Rattle.glyph_lists.specs.Items.{clusters}
 use Rattle.glyph_lists.specs.Events.{Reverse, last_from}
 use Rattle.glyph_lists.specs.Order.{AllFrom, IsInOrder, IsRising}
 use Rattle.glyph_lists.specs.Lemmas.Events.{event_keeps_order}
-use Rattle.glyph_buffer.specs.declared.buffer.order.Lent.{Lent}
-use Rattle.glyph_buffer.specs.Known.{IsRisingTo, put_back}
+use Rattle.glyph_buffer.specs.declared.buffer.order.KnownOrder.{KnownOrder}
+use Rattle.glyph_buffer.specs.declared.buffer.order.KnownOrder.TheVariants.{Unknown, Rising, Falling}
+use Rattle.glyph_buffer.specs.Known.{HasOrder, IsRisingTo}
 use Rattle.glyph_buffer.specs.Text.{added_from, added_text}
 
--- a lent glyph with the cluster that it had
-pub back_in_place : (l : Lent) (gs : List hb_glyph_info_t) (d : hb_glyph_info_t) → l.at < length gs → (get_or gs l.at d).cluster ≡ l.cluster → put_back (Some l) (clusters gs) ≡ clusters gs
-back_in_place l gs d lt e =
+-- a number that is put where it stands
+pub back_in_place : (gs : List hb_glyph_info_t) (i c : ℕ) (d : hb_glyph_info_t) → i < length gs → (get_or gs i d).cluster ≡ c → set (clusters gs) i c ≡ clusters gs
+back_in_place gs i c d lt e =
     let cluster_of : hb_glyph_info_t → ℕ = λ g. g.cluster in
-    let seen : get_or (clusters gs) l.at l.cluster ≡ l.cluster = get_or-map cluster_of gs l.at d l.cluster lt ∙ e in
-    ap (set (clusters gs) l.at) (sym seen) ∙ set-get_or (clusters gs) l.at l.cluster
+    let seen : get_or (clusters gs) i c ≡ c = get_or-map cluster_of gs i d c lt ∙ e in
+    ap (set (clusters gs) i) (sym seen) ∙ set-get_or (clusters gs) i c
 
 pub rises_turned : (ns : List ℕ) → IsInOrder false ns → IsInOrder true (reverse ns)
 rises_turned ns h = event_keeps_order Reverse false ns h
@@ -59,9 +60,28 @@ last_got : (g : hb_glyph_info_t) (gs : List hb_glyph_info_t) (d : hb_glyph_info_
 last_got g [] d = refl
 last_got g (h ∷ hs) d = last_got h hs d
 
-pub rises_alone : (gs : List hb_glyph_info_t) (c : ℕ) → length gs < 1 → IsRising (clusters gs ++ c ∷ [])
-rises_alone [] c lt = (tt, tt)
-rises_alone (g ∷ gs) c lt = absurd (omega arith)
+-- a number alone
+pub known_alone : (o : KnownOrder) (n : ℕ) → HasOrder o (n ∷ [])
+known_alone Unknown n = tt
+known_alone Rising n = (tt, tt)
+known_alone Falling n = (tt, tt)
+
+pub known_last_alone : (o : KnownOrder) (gs : List hb_glyph_info_t) (c : ℕ) → length gs < 1 → HasOrder o (clusters gs ++ c ∷ [])
+known_last_alone o [] c lt = known_alone o c
+known_last_alone o (g ∷ gs) c lt = absurd (omega arith)
+
+pub known_first_alone : (o : KnownOrder) (gs : List hb_glyph_info_t) (c : ℕ) → length gs < 1 → HasOrder o (c ∷ clusters gs)
+known_first_alone o [] c lt = known_alone o c
+known_first_alone o (g ∷ gs) c lt = absurd (omega arith)
+
+-- a glyph that is not above the first of others
+from_front : (c n : ℕ) (ns : List ℕ) → c ≤ n → AllFrom (λ x y. x ≤ y) n ns → AllFrom (λ x y. x ≤ y) c ns
+from_front c n [] le h = tt
+from_front c n (m ∷ ms) le h = (omega (arith, le, h.0), from_front c n ms le h.1)
+
+pub rises_front : (gs : List hb_glyph_info_t) (d : hb_glyph_info_t) (c : ℕ) → 1 ≤ length gs → c ≤ (get_or gs 0 d).cluster → IsRising (clusters gs) → IsRising (c ∷ clusters gs)
+rises_front [] d c le first h = absurd (omega arith)
+rises_front (g ∷ gs) d c le first h = ((first, from_front c g.cluster (clusters gs) first h.0), h)
 
 pub rises_behind : (gs : List hb_glyph_info_t) (d : hb_glyph_info_t) (c : ℕ) → 1 ≤ length gs → (get_or gs (length gs - 1) d).cluster ≤ c → IsRising (clusters gs) → IsRising (clusters gs ++ c ∷ [])
 rises_behind [] d c le last h = absurd (omega arith)

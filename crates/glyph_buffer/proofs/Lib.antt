@@ -17,3 +17,4 @@ pub mod Twice
 pub mod Picked
 pub mod Deleting
 pub mod Resized
+pub mod Apart

@@ -37,7 +37,7 @@ replaced_view b info out order lent taken flags numbers h i o f =
     let marks = f ∙ ap (λ any. telling_flags any b.scratch_flags) (same_marks b.cluster_level 0 taken (length b.out_info.items) (length b.out_info.items + taken) (clusters (drop b.idx b.info.items)) (clusters (b.out_info.items ++ drop b.idx b.info.items)) m.range_is) in
     rw (h, o, ← drop-drop taken b.idx info.items, i, m.ahead_is, m.behind_is, marks) refl
 
-all_copied : (taken : ℕ) (numbers : List ℕ) (s : Sides) → all_glyphs (with_copied taken numbers s) ≡ glyphs_replaced (length s.behind) taken numbers (all_glyphs s)
+pub all_copied : (taken : ℕ) (numbers : List ℕ) (s : Sides) → all_glyphs (with_copied taken numbers s) ≡ glyphs_replaced (length s.behind) taken numbers (all_glyphs s)
 all_copied taken numbers s = rw (take-append_seam s.behind s.ahead, drop-append_seam s.behind s.ahead, drop-append-add s.behind s.ahead taken) refl
 
 length_behind : (taken : ℕ) (s : Sides) → length (with_merged (length s.behind) (length s.behind + taken) s).behind ≡ length s.behind

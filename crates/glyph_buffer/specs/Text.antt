@@ -1,8 +1,9 @@
 -- The characters of a text as glyphs, each with the byte where it begins as its cluster.
-use Rattle.std.specs.Prelude.{ℕ, ◌+◌, ◌&&◌, Bool, true, nat_le, List, [], ◌∷◌, length}
+use Rattle.std.specs.Prelude.{ℕ, ◌+◌, ◌&&◌, Bool, true, nat_le, List, [], ◌∷◌, length, map}
 use Rattle.std.specs.Char.{len_utf8}
 use Rattle.std.specs.Str.{chars}
 use Rattle.glyph_types.specs.declared.info.hb_glyph_info_t.{hb_glyph_info_t}
+use Rattle.glyph_lists.specs.Items.{Item, item_of}
 use Rattle.glyph_buffer.specs.Sides.{Sides, has_room}
 
 -- a character that was just added
@@ -29,6 +30,15 @@ added_from at (c ∷ cs) = added_glyph c at ∷ added_from (at + len_utf8 c) cs
 -- the characters of a text
 abbrev pub added_text : List ℕ → List hb_glyph_info_t
 added_text text = added_from 0 (chars text)
+
+-- their items
+abbrev pub text_items : List ℕ → List Item
+text_items text = map (λ c. item_of (added_glyph c 0)) (chars text)
+
+-- where each of some characters from a byte on begins
+abbrev pub offsets_from : ℕ → List ℕ → List ℕ
+offsets_from at [] = []
+offsets_from at (c ∷ cs) = at ∷ offsets_from (at + len_utf8 c) cs
 
 -- whether each character from a byte on begins at a byte that 32 bits can tell
 abbrev pub offsets_fit : ℕ → List ℕ → Bool

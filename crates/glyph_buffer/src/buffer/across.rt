@@ -42,7 +42,7 @@ impl hb_buffer_t {
         requires within { end ≤ length self.old.behind }
         ensures { self.new ≡ with_glyphs (glyphs_merged (stretch start end (clusters (all_glyphs self.old))) (all_glyphs self.old)) self.old }
     {
-        let order = self.order.settled(self.lent, &self.info);
+        let order = self.order.settled(self.lent, &self.out_info, &self.info);
         let in_order = order.is_known();
         let out = &mut self.out_info;
         merge_range(out, &mut self.info, self.idx, start, end, in_order);
@@ -100,7 +100,7 @@ impl hb_buffer_t {
         ensures clusters { clusters (all_glyphs self.new) ≡ clusters (all_glyphs self.old) }
         ensures flags { flags_of (all_glyphs self.new) ≡ flags_marked flags start (place_of end self.old) (all_glyphs self.old) }
     {
-        let order = self.order.settled(self.lent, &self.info);
+        let order = self.order.settled(self.lent, &self.out_info, &self.info);
         let out = &mut self.out_info;
         let any = mark_lists(out, &mut self.info, start, self.idx, end, flags);
         self.order = order;
@@ -119,7 +119,7 @@ impl hb_buffer_t {
         ensures clusters { clusters (all_glyphs self.new) ≡ clusters (all_glyphs self.old) }
         ensures flags { flags_of (all_glyphs self.new) ≡ flags_flagged flags start (place_of end self.old) (all_glyphs self.old) }
     {
-        let order = self.order.settled(self.lent, &self.info);
+        let order = self.order.settled(self.lent, &self.out_info, &self.info);
         let out = &mut self.out_info;
         let any = flag_lists(out, &mut self.info, start, self.idx, end, flags);
         self.order = order;

@@ -1,11 +1,10 @@
 ghost use Rattle.std.specs.Prelude.{◌≡◌, ◌<◌, ◌≤◌, ◌+◌, ◌-◌, length, true, false, Some, OnErr, IfOk, slice_get, slice_index_or};
 ghost use Rattle.std.specs.Borrow.{sem};
 ghost use Rattle.glyph_buffer.specs.Sides.{all_glyphs, with_output, moved_on, fits_next, fits_joined, synced, refused};
-ghost use Rattle.glyph_buffer.specs.Merging.{with_skipped};
 ghost use Rattle.glyph_buffer.specs.Lending.{LendsGlyph, LendsLast, LendsPlace};
 
 use super::hb_buffer_t;
-use super::order::{KnownOrder, Lent};
+use super::order::Lent;
 use glyph_types::info::hb_glyph_info_t;
 use glyph_types::position::GlyphPosition;
 use std::alloc::AllocError;
@@ -22,13 +21,6 @@ impl hb_buffer_t {
         self.have_output = true;
         self.idx = 0;
         Ok(true)
-    }
-
-    /// How many glyphs were read since the output was opened; with none open, how many the cursor has passed.
-    pub fn idx(&self) -> usize
-        ensures { result ≡ self.now.read }
-    {
-        self.idx
     }
 
     /// How many glyphs stand behind the cursor: those of the output while one is open.
@@ -59,7 +51,12 @@ impl hb_buffer_t {
         ensures* writes_back { sem 𝓛 (LendsLast self.entry result) }
     {
         let last = self.out_info.len() - 1;
-        self.order = KnownOrder::Unknown;
+        self.order = self.order.settled(self.lent, &self.out_info, &self.info);
+        self.lent = Some(Lent {
+            in_output: true,
+            at: last,
+            cluster: self.out_info[last].cluster,
+        });
         &mut self.out_info[last]
     }
 
@@ -87,8 +84,9 @@ impl hb_buffer_t {
         ensures* writes_back { sem 𝓛 (LendsGlyph i self.entry result) }
     {
         let at = self.idx + i;
-        self.order = self.order.settled(self.lent, &self.info);
+        self.order = self.order.settled(self.lent, &self.out_info, &self.info);
         self.lent = Some(Lent {
+            in_output: false,
             at,
             cluster: self.info[at].cluster,
         });
@@ -125,51 +123,12 @@ impl hb_buffer_t {
             self.successful = false;
             return Ok(false);
         }
+        let order = self.order.settled(self.lent, &self.out_info, &self.info);
         self.out_info.push(self.info[self.idx])?;
-        self.order = self.order.settled(self.lent, &self.info);
+        self.order = order;
         self.lent = None;
         self.idx += 1;
         Ok(true)
-    }
-
-    /// Moves the cursor over so many glyphs, which go behind the output where one is open; answers false, and moves nothing,
-    /// where the output would have more than it may.
-    #[tactic(auto, using(crate::proofs::Kept::moved_all))]
-    pub fn next_glyphs(&mut self, count: usize) -> Result<bool, AllocError>
-        requires { count ≤ length self.old.ahead }
-        ensures held { IfOk result (λ b. b ≡ fits_next count self.old) }
-        ensures moved { result ≡ Ok true → self.new ≡ moved_on count self.old }
-        ensures kept { all_glyphs self.new ≡ all_glyphs self.old }
-        ensures full { result ≡ Ok false → self.new ≡ refused self.old }
-        ensures err { OnErr result (self.new ≡ self.old) }
-        ensures in_place { self.old.is_open ≡ false → result ≡ Ok true }
-    {
-        if !self.have_output {
-            self.idx += count;
-            return Ok(true);
-        }
-        if self.max_len - self.out_info.len() < count {
-            self.successful = false;
-            return Ok(false);
-        }
-        self.out_info
-            .extend_from_slice(&self.info[self.idx..self.idx + count])?;
-        self.order = self.order.settled(self.lent, &self.info);
-        self.lent = None;
-        self.idx += count;
-        Ok(true)
-    }
-
-    /// The glyph at the cursor goes. It takes no memory.
-    #[tactic(auto, using(glyph_lists::specs::Lists::drop_next))]
-    pub fn skip_glyph(&mut self)
-        requires open { self.old.is_open ≡ true }
-        requires there { 0 < length self.old.ahead }
-        ensures { self.new ≡ with_skipped self.old }
-    {
-        self.order = self.order.settled(self.lent, &self.info);
-        self.lent = None;
-        self.idx += 1;
     }
 
     /// Puts what is ahead of the cursor behind the output, which becomes the list, with places of nothing and the cursor
@@ -189,13 +148,14 @@ impl hb_buffer_t {
             return Ok(false);
         }
         let count = self.out_info.len() + rest;
+        let order = self.order.settled(self.lent, &self.out_info, &self.info);
         self.out_info.reserve(rest)?;
         self.pos.clear();
         self.pos.resize(count, GlyphPosition::default())?;
         self.out_info
             .extend_from_slice(&self.info[self.idx..])
             .unwrap();
-        self.order = self.order.settled(self.lent, &self.info);
+        self.order = order;
         self.lent = None;
         mem::swap(&mut self.info, &mut self.out_info);
         self.out_info.clear();

@@ -35,7 +35,7 @@ impl hb_buffer_t {
         ensures clusters { (g : Glyph) (back : List Glyph) → self.old.ahead ≡ g ∷ back → clusters (all_glyphs self.new) ≡ deleted self.old.level (clusters self.old.behind) g.cluster (clusters back) }
         ensures flags { (g : Glyph) (back : List Glyph) → self.old.ahead ≡ g ∷ back → flags_of (all_glyphs self.new) ≡ together (flags_deleted self.old.level (clusters self.old.behind) g.cluster (clusters back) (flags_of self.old.behind) (glyph_flags g) (flags_of back)) }
     {
-        let order = self.order.settled(self.lent, &self.info);
+        let order = self.order.settled(self.lent, &self.out_info, &self.info);
         let level = self.cluster_level;
         let in_order = order.is_known();
         let out = &mut self.out_info;

@@ -78,7 +78,10 @@ impl hb_buffer_t {
         ensures closed { self.new.is_open ≡ false }
         ensures count { length (all_glyphs self.new) ≡ length (all_glyphs self.old) }
     {
-        let in_order = self.order.settled(self.lent, &self.info).is_known();
+        let in_order = self
+            .order
+            .settled(self.lent, &self.out_info, &self.info)
+            .is_known();
         self.order = KnownOrder::Unknown;
         self.lent = None;
         let level = self.cluster_level;
@@ -100,7 +103,10 @@ impl hb_buffer_t {
         ensures closed { self.new.is_open ≡ false }
         ensures few { length (all_glyphs self.new) ≤ length (all_glyphs self.old) }
     {
-        let in_order = self.order.settled(self.lent, &self.info).is_known();
+        let in_order = self
+            .order
+            .settled(self.lent, &self.out_info, &self.info)
+            .is_known();
         self.order = KnownOrder::Unknown;
         self.lent = None;
         let level = self.cluster_level;

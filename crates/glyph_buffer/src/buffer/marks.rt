@@ -93,7 +93,7 @@ impl hb_buffer_t {
         ensures clusters { clusters (all_glyphs self.new) ≡ clusters (all_glyphs self.old) }
         ensures flags { flags_of (all_glyphs self.new) ≡ flags_marked flags (place_of start self.old) (place_of end self.old) (all_glyphs self.old) }
     {
-        let order = self.order.settled(self.lent, &self.info);
+        let order = self.order.settled(self.lent, &self.out_info, &self.info);
         let from = self.first_of_input();
         let any = mark_in(&mut self.info, from, start, end, flags);
         self.order = order;
@@ -111,7 +111,7 @@ impl hb_buffer_t {
         ensures clusters { clusters (all_glyphs self.new) ≡ clusters (all_glyphs self.old) }
         ensures flags { flags_of (all_glyphs self.new) ≡ flags_flagged flags (place_of start self.old) (place_of end self.old) (all_glyphs self.old) }
     {
-        let order = self.order.settled(self.lent, &self.info);
+        let order = self.order.settled(self.lent, &self.out_info, &self.info);
         let from = self.first_of_input();
         flag_in(&mut self.info, from, start, end, flags);
         self.order = order;

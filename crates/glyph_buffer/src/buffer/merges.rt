@@ -30,7 +30,7 @@ impl hb_buffer_t {
         ensures clusters { clusters (all_glyphs self.new) ≡ merged_at self.old.level (place_of start self.old) (place_of end self.old) (clusters (all_glyphs self.old)) }
         ensures flags { flags_of (all_glyphs self.new) ≡ flags_merged_at self.old.level (place_of start self.old) (place_of end self.old) (all_glyphs self.old) }
     {
-        let order = self.order.settled(self.lent, &self.info);
+        let order = self.order.settled(self.lent, &self.out_info, &self.info);
         let from = self.first_of_input();
         let marked = merge_lists(
             &mut self.info,

@@ -1,5 +1,7 @@
-ghost use Rattle.std.specs.Prelude.{◌≡◌, ◌≤◌, ◌+◌, ◌-◌, ◌++◌, length, drop, nat_le, true, false, Ok, OnErr, IfOk, vec_len, vec_capacity};
-ghost use Rattle.glyph_buffer.specs.Sides.{all_glyphs, refused};
+ghost use Rattle.std.specs.Prelude.{◌≡◌, ◌<◌, ◌≤◌, ◌+◌, ◌-◌, ◌++◌, length, drop, nat_le, true, false, Ok, OnErr, IfOk, vec_len, vec_capacity};
+ghost use Rattle.glyph_lists.specs.Items.{clusters, flags_of, strip};
+ghost use Rattle.glyph_buffer.specs.Sides.{all_glyphs, fits_next, items_of, moved_on, refused};
+ghost use Rattle.glyph_buffer.specs.Merging.{with_skipped};
 ghost use Rattle.glyph_buffer.specs.Moving.{fits_moved, moved_to};
 
 use super::hb_buffer_t;
@@ -7,6 +9,50 @@ use glyph_types::info::hb_glyph_info_t;
 use std::alloc::AllocError;
 
 impl hb_buffer_t {
+    /// Moves the cursor over so many glyphs, which go behind the output where one is open; answers false, and moves nothing,
+    /// where the output would have more than it may.
+    #[tactic(auto, using(crate::proofs::Kept::moved_all))]
+    pub fn next_glyphs(&mut self, count: usize) -> Result<bool, AllocError>
+        requires { count ≤ length self.old.ahead }
+        ensures held { IfOk result (λ b. b ≡ fits_next count self.old) }
+        ensures moved { result ≡ Ok true → self.new ≡ moved_on count self.old }
+        ensures kept { all_glyphs self.new ≡ all_glyphs self.old }
+        ensures full { result ≡ Ok false → self.new ≡ refused self.old }
+        ensures err { OnErr result (self.new ≡ self.old) }
+        ensures in_place { self.old.is_open ≡ false → result ≡ Ok true }
+    {
+        if !self.have_output {
+            self.idx += count;
+            return Ok(true);
+        }
+        if self.max_len - self.out_info.len() < count {
+            self.successful = false;
+            return Ok(false);
+        }
+        let order = self.order.settled(self.lent, &self.out_info, &self.info);
+        self.out_info
+            .extend_from_slice(&self.info[self.idx..self.idx + count])?;
+        self.order = order;
+        self.lent = None;
+        self.idx += count;
+        Ok(true)
+    }
+
+    /// The glyph at the cursor goes. It takes no memory.
+    #[tactic(auto, using(glyph_lists::specs::Lists::drop_next))]
+    pub fn skip_glyph(&mut self)
+        requires open { self.old.is_open ≡ true }
+        requires there { 0 < length self.old.ahead }
+        ensures skipped { self.new ≡ with_skipped self.old }
+        ensures items { items_of self.new ≡ strip self.old.behind ++ drop 1 (strip self.old.ahead) }
+        ensures clusters { clusters (all_glyphs self.new) ≡ clusters self.old.behind ++ drop 1 (clusters self.old.ahead) }
+        ensures flags { flags_of (all_glyphs self.new) ≡ flags_of self.old.behind ++ drop 1 (flags_of self.old.ahead) }
+    {
+        self.order = self.order.settled(self.lent, &self.out_info, &self.info);
+        self.lent = None;
+        self.idx += 1;
+    }
+
     /// Moves the cursor in front of the i-th of all glyphs. While an output is open, glyphs go from the one side to the other;
     /// it answers false, and moves nothing, where a call before was refused for length, or the side that grows would have
     /// more than it may.
@@ -48,7 +94,7 @@ impl hb_buffer_t {
             self.successful = false;
             return Ok(false);
         }
-        let order = self.order.settled(self.lent, &self.info);
+        let order = self.order.settled(self.lent, &self.out_info, &self.info);
         let first = put_in_front(&mut self.info, self.idx, &self.out_info[i..])?;
         self.idx = first;
         self.out_info.truncate(i);

@@ -1,9 +1,9 @@
-ghost use Rattle.std.specs.Prelude.{◌≡◌, ◌++◌, ◌∷◌, [], ℕ, Bool, List, Some, true, reverse, drop, length, ◌≤◌, IfSome};
+ghost use Rattle.std.specs.Prelude.{◌≡◌, ◌++◌, ◌∷◌, [], ℕ, Bool, List, Some, true, slice_set, reverse, drop, length, ◌≤◌, IfSome};
 ghost use Rattle.glyph_lists.specs.Items.{clusters};
 ghost use Rattle.glyph_lists.specs.Order.{IsInOrder, IsRising, IsFalling};
 ghost use Rattle.glyph_lists.specs.Events.{last_of};
 ghost use Rattle.glyph_buffer.specs.Text.{added_text};
-ghost use Rattle.glyph_buffer.specs.Known.{HasOrder, IsFallingTo, IsRisingTo, is_known, put_back};
+ghost use Rattle.glyph_buffer.specs.Known.{HasOrder, IsFallingTo, IsRisingTo, is_known, put_back_ahead, put_back_behind};
 
 use glyph_types::info::hb_glyph_info_t;
 
@@ -17,13 +17,37 @@ pub(super) enum KnownOrder {
     Falling,
 }
 
-/// A glyph of the input that was lent to be written.
+/// A glyph that was lent to be written.
 #[derive(Clone, Copy, PartialEq, Eq, Debug)]
 pub(super) struct Lent {
-    /// Where it stands in the input.
+    /// Whether it stands in the output; else it stands in the input.
+    pub(super) in_output: bool,
+    /// Where it stands there.
     pub(super) at: usize,
     /// The cluster that it had.
     pub(super) cluster: u32,
+}
+
+impl Lent {
+    /// Whether the glyph is of the cluster that it had.
+    fn is_as_it_was(self, output: &[hb_glyph_info_t], input: &[hb_glyph_info_t]) -> bool
+        ensures output { result ≡ true → put_back_behind (Some self) (clusters output.now) ≡ clusters output.now }
+        ensures input { result ≡ true → put_back_ahead (Some self) (clusters input.now) ≡ clusters input.now }
+    {
+        if self.in_output {
+            has_cluster(output, self.at, self.cluster)
+        } else {
+            has_cluster(input, self.at, self.cluster)
+        }
+    }
+}
+
+/// Whether there is a glyph at a place, and it is of the cluster.
+#[tactic(auto, using(crate::proofs::Known::back_in_place))]
+fn has_cluster(glyphs: &[hb_glyph_info_t], at: usize, cluster: u32) -> bool
+    ensures { result ≡ true → slice_set (clusters glyphs.now) at cluster ≡ clusters glyphs.now }
+{
+    at < glyphs.len() && glyphs[at].cluster == cluster
 }
 
 impl KnownOrder {
@@ -37,19 +61,17 @@ impl KnownOrder {
     }
 
     /// What is known once a glyph that was lent is back.
-    #[tactic(auto, using(crate::proofs::Known::back_in_place))]
-    pub(super) fn settled(self, lent: Option<Lent>, glyphs: &[hb_glyph_info_t]) -> KnownOrder
-        ensures { (front : List ℕ) (n : ℕ) → HasOrder self (front ++ drop n (put_back lent (clusters glyphs.now))) → HasOrder result (front ++ drop n (clusters glyphs.now)) }
+    pub(super) fn settled(
+        self,
+        lent: Option<Lent>,
+        output: &[hb_glyph_info_t],
+        input: &[hb_glyph_info_t],
+    ) -> KnownOrder
+        ensures { (n : ℕ) → HasOrder self (put_back_behind lent (clusters output.now) ++ drop n (put_back_ahead lent (clusters input.now))) → HasOrder result (clusters output.now ++ drop n (clusters input.now)) }
     {
         match lent {
-            None => self,
-            Some(lent) => {
-                if lent.at < glyphs.len() && glyphs[lent.at].cluster == lent.cluster {
-                    self
-                } else {
-                    KnownOrder::Unknown
-                }
-            }
+            Some(lent) if !lent.is_as_it_was(output, input) => KnownOrder::Unknown,
+            _ => self,
         }
     }
 
@@ -57,10 +79,50 @@ impl KnownOrder {
     pub(super) fn with_last(self, glyphs: &[hb_glyph_info_t], cluster: u32) -> KnownOrder
         ensures { HasOrder self (clusters glyphs.now) → HasOrder result (clusters glyphs.now ++ cluster ∷ []) }
     {
+        if self.holds_behind(glyphs, cluster) {
+            self
+        } else {
+            KnownOrder::Unknown
+        }
+    }
+
+    /// What is known with a glyph of the cluster between two lists.
+    pub(super) fn with_between(
+        self,
+        behind: &[hb_glyph_info_t],
+        cluster: u32,
+        ahead: &[hb_glyph_info_t],
+    ) -> KnownOrder
+        ensures { HasOrder self (clusters behind.now ++ clusters ahead.now) → HasOrder result (clusters behind.now ++ cluster ∷ clusters ahead.now) }
+    {
+        if self.holds_behind(behind, cluster) && self.holds_in_front(cluster, ahead) {
+            self
+        } else {
+            KnownOrder::Unknown
+        }
+    }
+
+    /// Whether a glyph of the cluster may stand behind the others.
+    #[tactic(auto, using(crate::proofs::Known::known_last_alone))]
+    fn holds_behind(self, glyphs: &[hb_glyph_info_t], cluster: u32) -> bool
+        ensures { result ≡ true → HasOrder self (clusters glyphs.now) → HasOrder self (clusters glyphs.now ++ cluster ∷ []) }
+    {
         match (self, glyphs) {
-            (KnownOrder::Rising, []) => KnownOrder::Rising,
-            (KnownOrder::Rising, [.., last]) if last.cluster <= cluster => KnownOrder::Rising,
-            _ => KnownOrder::Unknown,
+            (KnownOrder::Unknown, _) | (_, []) => true,
+            (KnownOrder::Rising, [.., last]) => last.cluster <= cluster,
+            (KnownOrder::Falling, [.., last]) => cluster <= last.cluster,
+        }
+    }
+
+    /// Whether a glyph of the cluster may stand in front of the others.
+    #[tactic(auto, using(crate::proofs::Known::known_first_alone))]
+    fn holds_in_front(self, cluster: u32, glyphs: &[hb_glyph_info_t]) -> bool
+        ensures { result ≡ true → HasOrder self (clusters glyphs.now) → HasOrder self (cluster ∷ clusters glyphs.now) }
+    {
+        match (self, glyphs) {
+            (KnownOrder::Unknown, _) | (_, []) => true,
+            (KnownOrder::Rising, [first, ..]) => cluster <= first.cluster,
+            (KnownOrder::Falling, [first, ..]) => first.cluster <= cluster,
         }
     }
 

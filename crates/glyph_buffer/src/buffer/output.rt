@@ -1,12 +1,11 @@
 ghost use Rattle.std.specs.Prelude.{◌≡◌, ◌<◌, ◌≤◌, ◌+◌, ◌++◌, ◌∷◌, [], drop, vec_len, vec_capacity, length, true, false, Ok, OnErr, IfOk};
-ghost use Rattle.glyph_lists.specs.Items.{clusters, flags_of};
-ghost use Rattle.glyph_lists.specs.Events.{first_of, last_of, or};
-ghost use Rattle.glyph_lists.specs.Replacements.{copied, glyph_numbered};
-ghost use Rattle.glyph_buffer.specs.Sides.{all_glyphs, has_output_room, refused};
+ghost use Rattle.glyph_lists.specs.Items.{clusters, flags_of, glyph_flags, item_of, strip};
+ghost use Rattle.glyph_lists.specs.Events.{first_of, last_of, or, replaced};
+ghost use Rattle.glyph_lists.specs.Replacements.{copied, glyph_numbered, items_replaced};
+ghost use Rattle.glyph_buffer.specs.Sides.{all_glyphs, has_output_room, items_of, refused};
 ghost use Rattle.glyph_buffer.specs.Merging.{fits_copies, with_copy, with_put, with_renumbered};
 
 use super::hb_buffer_t;
-use super::order::KnownOrder;
 use super::replacement::{model_of, push_copies};
 use glyph_types::info::hb_glyph_info_t;
 use std::alloc::AllocError;
@@ -15,10 +14,14 @@ impl hb_buffer_t {
     /// Puts a copy of the glyph at the cursor behind the output under another number; where the cursor is past the end, a
     /// copy of the output's last, and with neither none. It answers false, and puts none, where the output would have more
     /// than it may.
+    #[tactic(auto, using(crate::proofs::Apart::copy_items, crate::proofs::Apart::copy_clusters, crate::proofs::Apart::copy_flags))]
     pub fn output_glyph(&mut self, glyph_index: u32) -> Result<bool, AllocError>
         requires { self.old.is_open ≡ true }
         ensures held { IfOk result (λ b. b ≡ fits_copies 1 self.old) }
         ensures put { result ≡ Ok true → self.new ≡ with_copy glyph_index self.old }
+        ensures items { result ≡ Ok true → items_of self.new ≡ items_replaced (length self.old.behind) 0 (glyph_index ∷ []) (items_of self.old) }
+        ensures clusters { result ≡ Ok true → clusters (all_glyphs self.new) ≡ replaced (length self.old.behind) 0 1 (clusters (all_glyphs self.old)) }
+        ensures flags { result ≡ Ok true → flags_of (all_glyphs self.new) ≡ replaced (length self.old.behind) 0 1 (flags_of (all_glyphs self.old)) }
         ensures full { result ≡ Ok false → self.new ≡ refused self.old }
         ensures err { OnErr result (self.new ≡ self.old) }
     {
@@ -26,18 +29,23 @@ impl hb_buffer_t {
             self.successful = false;
             return Ok(false);
         }
+        let order = self.order.settled(self.lent, &self.out_info, &self.info);
         self.out_info.reserve(1)?;
-        self.order = self.order.settled(self.lent, &self.info);
+        self.order = order;
         self.lent = None;
         push_copy(&mut self.out_info, &self.info, self.idx, glyph_index);
         Ok(true)
     }
 
     /// Puts a glyph behind the output; answers false, and puts none, where the output has as many as it may.
+    #[tactic(auto, using(crate::proofs::Apart::put_items, crate::proofs::Apart::put_clusters, crate::proofs::Apart::put_flags))]
     pub fn output_info(&mut self, glyph_info: hb_glyph_info_t) -> Result<bool, AllocError>
         requires { self.old.is_open ≡ true }
         ensures held { IfOk result (λ b. b ≡ has_output_room 1 self.old) }
         ensures put { result ≡ Ok true → self.new ≡ with_put glyph_info self.old }
+        ensures items { result ≡ Ok true → items_of self.new ≡ strip self.old.behind ++ item_of glyph_info ∷ strip self.old.ahead }
+        ensures clusters { result ≡ Ok true → clusters (all_glyphs self.new) ≡ clusters self.old.behind ++ glyph_info.cluster ∷ clusters self.old.ahead }
+        ensures flags { result ≡ Ok true → flags_of (all_glyphs self.new) ≡ flags_of self.old.behind ++ glyph_flags glyph_info ∷ flags_of self.old.ahead }
         ensures full { result ≡ Ok false → self.new ≡ refused self.old }
         ensures err { OnErr result (self.new ≡ self.old) }
     {
@@ -45,8 +53,11 @@ impl hb_buffer_t {
             self.successful = false;
             return Ok(false);
         }
+        let order = self.order.settled(self.lent, &self.out_info, &self.info);
+        let rest = &self.info[self.idx..];
+        let order = order.with_between(&self.out_info, glyph_info.cluster, rest);
         self.out_info.push(glyph_info)?;
-        self.order = KnownOrder::Unknown;
+        self.order = order;
         self.lent = None;
         Ok(true)
     }
@@ -59,6 +70,7 @@ impl hb_buffer_t {
         requires there { 0 < length self.old.ahead }
         ensures held { IfOk result (λ b. b ≡ has_output_room 1 self.old) }
         ensures replaced { result ≡ Ok true → self.new ≡ with_renumbered glyph_index self.old }
+        ensures items { result ≡ Ok true → items_of self.new ≡ items_replaced (length self.old.behind) 1 (glyph_index ∷ []) (items_of self.old) }
         ensures full { result ≡ Ok false → self.new ≡ refused self.old }
         ensures err { OnErr result (self.new ≡ self.old) }
         ensures clusters { clusters (all_glyphs self.new) ≡ clusters (all_glyphs self.old) }
@@ -68,11 +80,12 @@ impl hb_buffer_t {
             self.successful = false;
             return Ok(false);
         }
+        let order = self.order.settled(self.lent, &self.out_info, &self.info);
         self.out_info.push(hb_glyph_info_t {
             glyph_id: glyph_index,
             ..self.info[self.idx]
         })?;
-        self.order = self.order.settled(self.lent, &self.info);
+        self.order = order;
         self.lent = None;
         self.idx += 1;
         Ok(true)

@@ -39,8 +39,8 @@ impl hb_buffer_t {
             self.successful = false;
             return Ok(false);
         }
+        let order = self.order.settled(self.lent, &self.out_info, &self.info);
         self.out_info.reserve(num_out)?;
-        let order = self.order.settled(self.lent, &self.info);
         let marked = replace_lists(
             &mut self.info,
             &mut self.out_info,

@@ -17,7 +17,10 @@ impl hb_buffer_t {
         ensures parts { clusters (all_glyphs self.new) ≡ reverse (clusters (all_glyphs self.old)) }
         ensures flags { flags_of (all_glyphs self.new) ≡ reverse (flags_of (all_glyphs self.old)) }
     {
-        self.order = self.order.settled(self.lent, &self.info).turned();
+        self.order = self
+            .order
+            .settled(self.lent, &self.out_info, &self.info)
+            .turned();
         self.lent = None;
         self.info.reverse();
         self.pos.reverse();

@@ -1,8 +1,8 @@
-ghost use Rattle.std.specs.Prelude.{◌≡◌, ◌+◌, ◌≤◌, ◌<◌, ◌^◌, ◌==◌, ◌++◌, ◌∷◌, [], length, nat_le, false, true, Ok, OnOk, OnErr, IfOk, IsTrue, vec_len, vec_capacity};
+ghost use Rattle.std.specs.Prelude.{◌≡◌, ◌+◌, ◌≤◌, ◌<◌, ◌^◌, ◌==◌, ◌++◌, ◌∷◌, [], length, replicate, nat_le, false, true, Ok, OnOk, OnErr, IfOk, IsTrue, vec_len, vec_capacity};
 ghost use Rattle.std.specs.Str.{chars};
 ghost use Rattle.glyph_buffer.specs.Sides.{all_glyphs, items_of, with_added, has_room, refused, zero_place, zero_places};
 ghost use Rattle.glyph_lists.specs.Items.{clusters, flags_of, item_of};
-ghost use Rattle.glyph_buffer.specs.Text.{added_glyph, added_text, fits_text, offsets_fit};
+ghost use Rattle.glyph_buffer.specs.Text.{added_glyph, added_text, fits_text, offsets_fit, offsets_from, text_items};
 ghost use Rattle.glyph_buffer.specs.Moving.{of_length, with_len, zero_glyph};
 ghost use Rattle.glyph_buffer.specs.Appended.{IsAppended};
 
@@ -30,6 +30,13 @@ impl hb_buffer_t {
         self.info.is_empty()
     }
 
+    /// How many glyphs were read since the output was opened; with none open, how many the cursor has passed.
+    pub fn idx(&self) -> usize
+        ensures { result ≡ self.now.read }
+    {
+        self.idx
+    }
+
     /// All glyphs while no output is open.
     pub fn info_slice(&self) -> &[hb_glyph_info_t]
         requires { self.now.is_open ≡ false }
@@ -47,11 +54,15 @@ impl hb_buffer_t {
         &self.pos
     }
 
+    #[tactic(auto, using(crate::proofs::Apart::added_items, crate::proofs::Apart::added_clusters, crate::proofs::Apart::added_flags))]
     /// Adds a character; answers false, and adds nothing, where the list has as many as it may.
     pub fn add(&mut self, codepoint: char, cluster: u32) -> Result<bool, AllocError>
         requires { self.old.is_open ≡ false }
         ensures held { IfOk result (λ b. b ≡ has_room 1 self.old) }
         ensures added { result ≡ Ok true → self.new ≡ with_added (added_glyph codepoint cluster ∷ []) self.old }
+        ensures items { result ≡ Ok true → items_of self.new ≡ items_of self.old ++ item_of (added_glyph codepoint 0) ∷ [] }
+        ensures clusters { result ≡ Ok true → clusters (all_glyphs self.new) ≡ clusters (all_glyphs self.old) ++ cluster ∷ [] }
+        ensures flags { result ≡ Ok true → flags_of (all_glyphs self.new) ≡ flags_of (all_glyphs self.old) ++ 0 ∷ [] }
         ensures full { result ≡ Ok false → self.new ≡ self.old }
         ensures err { OnErr result (self.new ≡ self.old) }
     {
@@ -62,7 +73,7 @@ impl hb_buffer_t {
         self.pos.push(GlyphPosition::default())?;
         self.order = self
             .order
-            .settled(self.lent, &self.info)
+            .settled(self.lent, &self.out_info, &self.info)
             .with_last(&self.info, cluster);
         self.lent = None;
         self.info.push(added(codepoint, cluster)).unwrap();
@@ -99,6 +110,9 @@ impl hb_buffer_t {
         requires { self.old.is_open ≡ false }
         ensures held { IfOk result (λ b. b ≡ fits_text text.now self.old) }
         ensures added { result ≡ Ok true → self.new ≡ with_added (added_text text.now) self.old }
+        ensures items { result ≡ Ok true → items_of self.new ≡ items_of self.old ++ text_items text.now }
+        ensures clusters { result ≡ Ok true → clusters (all_glyphs self.new) ≡ clusters (all_glyphs self.old) ++ offsets_from 0 (chars text.now) }
+        ensures flags { result ≡ Ok true → flags_of (all_glyphs self.new) ≡ flags_of (all_glyphs self.old) ++ replicate (length (chars text.now)) 0 }
         ensures full { result ≡ Ok false → self.new ≡ self.old }
         ensures err { OnErr result (self.new ≡ self.old) }
     {

@@ -1,6 +1,5 @@
 use Rattle.std.proofs.Common.{None, ◌≡◌, ◌≤◌, ◌+◌, ◌-◌, ◌++◌, refl, true, length, drop, rules, arith, ap, ◌∙◌}
 use Rattle.std.proofs.lemmas.Grind.{common_steps}
-use Rattle.glyph_lists.specs.Items.{clusters}
 use Rattle.glyph_buffer.specs.Sides.{all_glyphs}
 use Rattle.glyph_buffer.specs.Moving.{moved_to}
 use Rattle.glyph_buffer.proofs.Moved.{moved_back, moved_to_all, order_back}
@@ -23,7 +22,7 @@ invariant_of-self-2 c =
     let b = c.self.inside in
     let open_now : b.have_output ≡ true = rw (← c.self.view_is) at c.requires.open in
     let before = rw open_now at c.self.invariant.ordered in
-    let known = (rw c.deref.ensures.value at (c.settled-order.ensures (clusters b.out_info.items) b.idx)) before in
+    let known = (rw (c.deref.ensures.value, c.deref-2.ensures.value) at (c.settled-order.ensures b.idx)) before in
     let there : c.args.i ≤ length b.out_info.items = grind (arith, common_steps) in
     let first : c.in_ok-first.first ≡ b.idx - (length b.out_info.items - c.args.i) = first_of (search rules, grind (arith, common_steps)) in
     let input : drop c.in_ok-first.first c.put_in_front.new.info.items ≡ drop c.args.i b.out_info.items ++ drop b.idx b.info.items = first_of (search rules, grind (arith, common_steps)) in
