@@ -10,3 +10,4 @@ pub mod Deleted
 pub mod Facts
 pub mod SortedFacts
 pub mod Flags
+pub mod NoNewNumbers

@@ -1,9 +1,11 @@
-use Rattle.std.proofs.Common.{sym, ap, subst, ◌∙◌, ◌-◌, map}
+use Rattle.std.proofs.Common.{sym, ap, subst, ◌∙◌, ◌-◌, List, map}
+use Rattle.glyph_types.specs.declared.info.hb_glyph_info_t.{hb_glyph_info_t as Glyph}
 use Rattle.glyph_slices.specs.declared.sorting.Keyed.{Keyed}
 use Rattle.glyph_slices.specs.Sorting.{glyph_at}
 use Rattle.glyph_slices.proofs.Spans.{put_same, sorted_is, sort_marks}
 use Rattle.glyph_lists.specs.Items.{item_of, strip, clusters, flags_of}
-use Rattle.glyph_lists.specs.Order.{IsInOrder}
+use Rattle.glyph_lists.specs.Order.{BringsNone, IsInOrder}
+use Rattle.glyph_slices.specs.NoNewNumbers.{sorting_brings_none}
 use Rattle.glyph_slices.proofs.SortedNumbers.{sorted_clusters, sorted_flags}
 use Rattle.glyph_slices.proofs.SortedItems.{items_sorted}
 use Rattle.glyph_slices.proofs.sorting.sort.Goals as goal
@@ -31,3 +33,7 @@ returns-clause-flags g c = λ k same. ap flags_of (returns-clause-sorted g c k s
 pub returns-clause-order : goal.returns-clause-order
 returns-clause-order g c = λ falls same ordered.
     subst (IsInOrder falls) (sym (put_same c.args.start (c.args.end - c.args.start) c.merge_spans-marked.new.glyphs c.put_in_order-in_order.new.range (c.put_in_order-in_order.ensures.same same))) (c.merge_spans-marked.ensures.direction falls ordered)
+
+pub returns-clause-numbers : goal.returns-clause-numbers
+returns-clause-numbers g c = λ k same.
+    subst (λ (gs : List Glyph). BringsNone (clusters c.args.glyphs.now) (clusters gs)) (sym (returns-clause-sorted g c k same)) (sorting_brings_none c.args.level c.args.start c.args.end k c.args.glyphs.now)
