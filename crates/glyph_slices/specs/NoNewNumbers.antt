@@ -14,7 +14,7 @@ use Rattle.glyph_lists.specs.Lemmas.Deletions.{deletion_brings_none}
 use Rattle.glyph_lists.specs.Lemmas.Glyphs.{clusters_merged_at, length_merged_at, merged_at_beyond}
 use Rattle.glyph_lists.specs.Lemmas.Merges.{merged_at_brings}
 use Rattle.glyph_lists.specs.Lemmas.Numbers.{Has, has_here, has_more, has_cases, has_left, has_right, has_either, has_take, has_drop}
-use Rattle.stable_order.specs.Keys.{by_key, of_key, key_bound}
+use Rattle.stable_order.specs.Keys.{by_key, of_key, key_bound, key_order}
 use Rattle.glyph_slices.specs.declared.sorting.Keyed.{Keyed}
 use Rattle.glyph_slices.specs.Deleting.{glyphs_deleted}
 use Rattle.glyph_slices.specs.Deleted.{clusters_deleted}
@@ -121,13 +121,16 @@ all_by_key : {X : Type 0} (P : X → Type 0) (key : X → ℕ) (n : ℕ) (xs : L
 all_by_key P key zero xs h = All-nil P
 all_by_key P key (suc n) xs h = All-append P (by_key key n xs) (of_key key n xs) (all_by_key P key n xs h) (All-filter (λ x. key x == n) P xs h)
 
+pub all_in_order : {X : Type 0} (P : X → Type 0) (key : X → ℕ) (xs : List X) → All P xs → All P (key_order key xs)
+all_in_order P key xs h = all_by_key P key (key_bound key xs) xs h
+
 all_keyed : (k : Glyph → ℕ) (i n : ℕ) (gs : List Glyph) → i + length gs ≤ n → All (λ (e : Keyed). e.place < n) (keyed_from k i gs)
 all_keyed k i n [] le = All-nil (λ (e : Keyed). e.place < n)
 all_keyed k i n (g ∷ gs) le = All-cons (λ (e : Keyed). e.place < n) (record { key = k g; place = i }) (keyed_from k (i + 1) gs) (omega arith) (all_keyed k (i + 1) n gs (omega arith))
 
 -- the places of a range are within it
 pub places_within : (k : Glyph → ℕ) (gs : List Glyph) → All (λ (e : Keyed). e.place < length gs) (places_by_key k gs)
-places_within k gs = let keyed = keyed_from k 0 gs in all_by_key (λ (e : Keyed). e.place < length gs) (λ (e : Keyed). e.key) (key_bound (λ (e : Keyed). e.key) keyed) keyed (all_keyed k 0 (length gs) gs (omega arith))
+places_within k gs = all_in_order (λ (e : Keyed). e.place < length gs) (λ (e : Keyed). e.key) (keyed_from k 0 gs) (all_keyed k 0 (length gs) gs (omega arith))
 
 has_at : (gs : List Glyph) (i : ℕ) → i < length gs → HasCluster gs (glyph_at gs i).cluster
 has_at [] i lt = absurd (omega arith)
@@ -155,7 +158,7 @@ put_brings start end order gs within n h =
       | inr behind ↦ cluster_drop n end gs behind
     ]
 
-range_length : (start end : ℕ) (gs hs : List Glyph) → length hs ≡ length gs → length (slice_range hs start end) ≡ length (slice_range gs start end)
+pub range_length : (start end : ℕ) (gs hs : List Glyph) → length hs ≡ length gs → length (slice_range hs start end) ≡ length (slice_range gs start end)
 range_length start end gs hs e =
     length-take (end - start) (drop start hs) ∙ ap (min (end - start)) (length-drop start hs ∙ ap (λ n. n - start) e ∙ sym (length-drop start gs)) ∙ sym (length-take (end - start) (drop start gs))
 
