@@ -1,6 +1,6 @@
 -- What holds of each deletion, of groups and of walks.
-use Rattle.std.specs.Prelude.{ℕ, ◌≡◌, Bool, List, [], ◌∷◌, ◌++◌, length, map, take, drop, reverse}
-use Rattle.std.specs.List.{flat_map}
+use Rattle.std.specs.Prelude.{ℕ, ◌≡◌, ◌≤◌, ◌↔◌, Bool, IsTrue, List, [], ◌∷◌, ◌++◌, length, map, take, drop, reverse}
+use Rattle.std.specs.List.{All, flat_map}
 use Rattle.glyph_types.specs.declared.info.hb_glyph_info_t.{hb_glyph_info_t}
 use Rattle.glyph_types.specs.declared.level.BufferClusterLevel.{BufferClusterLevel}
 use Rattle.glyph_lists.specs.Items.{Place, strip, clusters}
@@ -10,7 +10,7 @@ use Rattle.glyph_slices.specs.Turning.{groups, groups_turned, turned}
 use Rattle.glyph_slices.specs.Deleting.{glyphs_deleted}
 use Rattle.glyph_slices.specs.DeletionWalk.{all_passed}
 use Rattle.glyph_slices.specs.Facts.{numbers_deleted}
-use Rattle.glyph_slices.specs.Sorting.{range_sorted}
+use Rattle.glyph_slices.specs.Sorting.{is_seam, places_by_key, range_sorted}
 
 -- the clusters that it leaves are those of the deletion of a number
 abbrev pub DeletesClusters : Type 0
@@ -50,3 +50,7 @@ DeletingBringsNone = (level : BufferClusterLevel) (goes : hb_glyph_info_t → Bo
 -- a sort of a range brings none
 abbrev pub SortingBringsNone : Type 0
 SortingBringsNone = (level : BufferClusterLevel) (start end : ℕ) (k : hb_glyph_info_t → ℕ) (gs : List hb_glyph_info_t) → BringsNone (clusters gs) (clusters (range_sorted level start end k gs).glyphs)
+
+-- a place is a seam of the order by a key exactly where no glyph before it has a greater key than one from it on
+abbrev pub SeamParts : Type 0
+SeamParts = (k : hb_glyph_info_t → ℕ) (gs : List hb_glyph_info_t) (i : ℕ) → i ≤ length gs → let order = places_by_key k gs in IsTrue (is_seam order i) ↔ All (λ g. All (λ h. k g ≤ k h) (drop i gs)) (take i gs)

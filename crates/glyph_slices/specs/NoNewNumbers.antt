@@ -1,9 +1,9 @@
 -- No walk over glyphs brings a cluster number that they did not have.
 use Rattle.std.specs.Prelude.{slice_range}
 use Rattle.std.specs.List.{All}
-use Rattle.std.proofs.Common.{ℕ, suc, zero, ◌≡◌, ◌≤◌, ◌<◌, ◌+◌, ◌-◌, ◌==◌, ◌⊎◌, inl, inr, ◌||◌, nat_lt, min, Bool, true, false, if◌then◌else◌, List, [], ◌∷◌, ◌++◌, length, map, take, drop, arith, refl, ap, sym, subst, ◌∙◌, append_assoc}
-use Rattle.std.proofs.lemmas.List.{map-append, take-map, drop-map, length-drop, length-take}
-use Rattle.std.proofs.lemmas.List.Elements.{All-nil, All-cons, All-head, All-tail, All-append, All-filter}
+use Rattle.std.proofs.Common.{ℕ, suc, zero, ◌≡◌, ◌≤◌, ◌<◌, ◌+◌, ◌-◌, ◌⊎◌, inl, inr, ◌||◌, nat_lt, Bool, true, false, if◌then◌else◌, List, [], ◌∷◌, ◌++◌, length, map, take, drop, arith, refl, sym, subst, ◌∙◌, append_assoc}
+use Rattle.std.proofs.lemmas.List.{map-append, take-map, drop-map}
+use Rattle.std.proofs.lemmas.List.Elements.{All-head, All-tail}
 use Rattle.glyph_types.specs.declared.info.hb_glyph_info_t.{hb_glyph_info_t as Glyph}
 use Rattle.glyph_types.specs.declared.level.BufferClusterLevel.{BufferClusterLevel as Level}
 use Rattle.glyph_lists.specs.Items.{clusters}
@@ -14,14 +14,14 @@ use Rattle.glyph_lists.specs.Lemmas.Deletions.{deletion_brings_none}
 use Rattle.glyph_lists.specs.Lemmas.Glyphs.{clusters_merged_at, length_merged_at, merged_at_beyond}
 use Rattle.glyph_lists.specs.Lemmas.Merges.{merged_at_brings}
 use Rattle.glyph_lists.specs.Lemmas.Numbers.{Has, has_here, has_more, has_cases, has_left, has_right, has_either, has_take, has_drop}
-use Rattle.stable_order.specs.Keys.{by_key, of_key, key_bound, key_order}
 use Rattle.glyph_slices.specs.declared.sorting.Keyed.{Keyed}
 use Rattle.glyph_slices.specs.Deleting.{glyphs_deleted}
 use Rattle.glyph_slices.specs.Deleted.{clusters_deleted}
 use Rattle.glyph_slices.specs.DeletionWalk.{Passed, with_glyph, without_glyph, passed_of, first_passed, many_passed, all_passed}
 use Rattle.glyph_slices.specs.Groups.{group_length}
+use Rattle.glyph_slices.specs.Places.{places_within, range_length}
 use Rattle.glyph_slices.specs.Laws.{TurningBringsNone, DeletingBringsNone, SortingBringsNone}
-use Rattle.glyph_slices.specs.Sorting.{keyed_from, places_by_key, is_seam, Spanned, span_merged, spans_merged, range_spanned, glyph_at, put_in_order}
+use Rattle.glyph_slices.specs.Sorting.{places_by_key, is_seam, Spanned, span_merged, spans_merged, range_spanned, glyph_at, put_in_order}
 use Rattle.glyph_slices.specs.Turning.{Turning, merged_if, beside_if, first_turned, group_turned, all_turned, turned}
 
 abbrev HasCluster : List Glyph → ℕ → Type 0
@@ -116,22 +116,6 @@ spans_keep P level keeps start order (suc left) begin place s le h =
     by_seam true on off = off
     by_seam false on off = on
 
--- what holds of each element holds of each in the order by a key
-all_by_key : {X : Type 0} (P : X → Type 0) (key : X → ℕ) (n : ℕ) (xs : List X) → All P xs → All P (by_key key n xs)
-all_by_key P key zero xs h = All-nil P
-all_by_key P key (suc n) xs h = All-append P (by_key key n xs) (of_key key n xs) (all_by_key P key n xs h) (All-filter (λ x. key x == n) P xs h)
-
-pub all_in_order : {X : Type 0} (P : X → Type 0) (key : X → ℕ) (xs : List X) → All P xs → All P (key_order key xs)
-all_in_order P key xs h = all_by_key P key (key_bound key xs) xs h
-
-all_keyed : (k : Glyph → ℕ) (i n : ℕ) (gs : List Glyph) → i + length gs ≤ n → All (λ (e : Keyed). e.place < n) (keyed_from k i gs)
-all_keyed k i n [] le = All-nil (λ (e : Keyed). e.place < n)
-all_keyed k i n (g ∷ gs) le = All-cons (λ (e : Keyed). e.place < n) (record { key = k g; place = i }) (keyed_from k (i + 1) gs) (omega arith) (all_keyed k (i + 1) n gs (omega arith))
-
--- the places of a range are within it
-pub places_within : (k : Glyph → ℕ) (gs : List Glyph) → All (λ (e : Keyed). e.place < length gs) (places_by_key k gs)
-places_within k gs = all_in_order (λ (e : Keyed). e.place < length gs) (λ (e : Keyed). e.key) (keyed_from k 0 gs) (all_keyed k 0 (length gs) gs (omega arith))
-
 has_at : (gs : List Glyph) (i : ℕ) → i < length gs → HasCluster gs (glyph_at gs i).cluster
 has_at [] i lt = absurd (omega arith)
 has_at (g ∷ gs) zero lt = has_here g.cluster (clusters gs)
@@ -157,10 +141,6 @@ put_brings start end order gs within n h =
       ]
       | inr behind ↦ cluster_drop n end gs behind
     ]
-
-pub range_length : (start end : ℕ) (gs hs : List Glyph) → length hs ≡ length gs → length (slice_range hs start end) ≡ length (slice_range gs start end)
-range_length start end gs hs e =
-    length-take (end - start) (drop start hs) ∙ ap (min (end - start)) (length-drop start hs ∙ ap (λ n. n - start) e ∙ sym (length-drop start gs)) ∙ sym (length-take (end - start) (drop start gs))
 
 pub sorting_brings_none : SortingBringsNone
 sorting_brings_none level start end k gs n h =

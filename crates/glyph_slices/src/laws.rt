@@ -1,4 +1,4 @@
-ghost use Rattle.glyph_slices.specs.Laws.{DeletesClusters, DeletesNumbers, DeletesOneItem, DeletingBringsNone, GroupsAreAll, SortingBringsNone, TurningBringsNone, TurnsGroups};
+ghost use Rattle.glyph_slices.specs.Laws.{DeletesClusters, DeletesNumbers, DeletesOneItem, DeletingBringsNone, GroupsAreAll, SeamParts, SortingBringsNone, TurningBringsNone, TurnsGroups};
 
 /// A deletion leaves the clusters that the deletion of a number leaves of numbers.
 pub fn deletes_clusters()
@@ -38,4 +38,9 @@ pub fn deleting_brings_none()
 /// Nor does a sort of a range.
 pub fn sorting_brings_none()
     ensures { SortingBringsNone }
+{}
+
+/// A place is a seam of the order by a key exactly where no key before it is greater than one from it on.
+pub fn seam_parts()
+    ensures { SeamParts }
 {}

@@ -8,7 +8,8 @@ use Rattle.glyph_slices.specs.Sorting.{glyph_at, range_merged}
 use Rattle.glyph_slices.proofs.Spans.{put_same, same_put, merged_is, sorted_is, sort_marks}
 use Rattle.glyph_lists.specs.Items.{item_of, strip, clusters, flags_of}
 use Rattle.glyph_lists.specs.Order.{BringsNone, IsInOrder}
-use Rattle.glyph_slices.specs.NoNewNumbers.{all_in_order, range_length, sorting_brings_none}
+use Rattle.glyph_slices.specs.NoNewNumbers.{sorting_brings_none}
+use Rattle.glyph_slices.specs.Places.{all_in_order, range_length}
 use Rattle.glyph_slices.proofs.SortedNumbers.{sorted_clusters, sorted_flags}
 use Rattle.glyph_slices.proofs.SortedItems.{items_sorted}
 use Rattle.glyph_slices.proofs.sorting.sort.Goals as goal
