@@ -13,3 +13,4 @@ pub mod Regrouped
 pub mod SortedNumbers
 pub mod RegroupedFlags
 pub mod KeptFlags
+pub mod Seams

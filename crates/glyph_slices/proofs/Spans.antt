@@ -1,18 +1,20 @@
 -- Steps of a sort of a range.
 use Rattle.std.proofs.Common.{ℕ, suc, ◌≡◌, ◌≤◌, ◌<◌, ◌+◌, ◌-◌, ◌&&◌, nat_lt, max, ◌==◌, Bool, true, false, if◌then◌else◌, List, [], ◌∷◌, ◌++◌, length, map, take, drop, get_or, set, arith, refl, ap, sym, ◌∙◌, append_assoc}
-use Rattle.std.specs.Prelude.{slice_range}
+use Rattle.std.specs.Prelude.{slice_range, ◌↔◌, IsTrue}
 use borrow.Rule.Slice.PartMut.{put_mid}
 use Rattle.std.specs.List.{list_all}
+use Rattle.std.specs.Ordering.{nat_cmp, ord_max}
 use Rattle.stable_order.specs.Keys.{key_order}
 use Rattle.std.proofs.lemmas.Bool.Decides.{nat_tests}
 use Rattle.std.proofs.lemmas.Grind.{common_steps}
-use Rattle.std.proofs.lemmas.List.{drop_more, drop-drop, take_more, map-append, length-map, length-take-le, take-append-drop}
-use Rattle.std.proofs.Math.Seq.{set-append_seam, map-set_same}
+use Rattle.std.proofs.lemmas.List.{drop_more, drop-drop, take_more, map-append, length-append, length-map, length-take-le, length-drop, take-append-drop, get_or_at, get_or-set_same}
+use Rattle.std.proofs.Math.Seq.{set-append_seam, map-set_same, take-append_seam, drop-append_seam}
 use Rattle.glyph_lists.specs.Items.{clusters}
+use Rattle.glyph_lists.specs.Lists.{seen_at}
 use Rattle.glyph_types.specs.declared.info.hb_glyph_info_t.{hb_glyph_info_t as Glyph}
 use Rattle.glyph_types.specs.declared.level.BufferClusterLevel.{BufferClusterLevel as Level}
 use Rattle.glyph_slices.specs.declared.sorting.Keyed.{Keyed}
-use Rattle.glyph_slices.specs.Sorting.{keyed_from, places_by_key, is_seam, Spanned, span_merged, spans_merged, range_spanned, range_sorted, glyph_at, put_in_order}
+use Rattle.glyph_slices.specs.Sorting.{keyed_from, places_by_key, is_seam, Spanned, span_merged, spans_merged, range_spanned, range_merged, range_sorted, glyph_at, put_in_order}
 
 -- what an index past the end would give
 abbrev pub no_place : Keyed
@@ -39,6 +41,9 @@ and_true false = refl
 
 max_less : (m n i : ℕ) → (nat_lt m i && nat_lt n i) ≡ nat_lt (max m n) i
 max_less m n i = grind (arith, nat_tests, common_steps)
+
+pub max_is : (m n : ℕ) → ord_max nat_cmp m n ≡ max m n
+max_is m n = grind (arith, nat_tests, common_steps)
 
 -- one place more came
 pub reach_more : (order : List Keyed) (place reach : ℕ) (d : Keyed) → place < length order → ((i : ℕ) → 0 < i → list_all (λ (e : Keyed). nat_lt e.place i) (take place order) ≡ nat_lt reach i)
@@ -81,11 +86,30 @@ put_step f order old range i d z g lt long before e =
     ap (λ hs. set hs i z) cut ∙ ap (λ n. set (map f (take i order) ++ get_or old i g ∷ drop (i + 1) old) n z) (sym at) ∙ set-append_seam (map f (take i order)) (get_or old i g) (drop (i + 1) old) z
     ∙ ap (λ (h : Glyph). map f (take i order) ++ h ∷ drop (i + 1) old) e ∙ sym (append_assoc (map f (take i order)) (f (get_or order i d) ∷ []) (drop (i + 1) old)) ∙ ap (λ hs. hs ++ drop (i + 1) old) (sym more)
 
--- a place that takes a glyph of the cluster that it had
-pub same_step : (range old : List Glyph) (i : ℕ) (z d : Glyph) (s : Bool) → (s ≡ true → clusters range ≡ clusters old) → (s && ((get_or range i d).cluster == z.cluster)) ≡ true → clusters (set range i z) ≡ clusters old
-same_step range old i z d s before both =
-    let alike : z.cluster ≡ (get_or range i d).cluster = grind (arith, nat_tests, common_steps, both) in
-    map-set_same (λ (g : Glyph). g.cluster) range i z d alike ∙ before (grind (arith, nat_tests, common_steps, both))
+-- what a place past those that were put has
+still_there : (f : Keyed → Glyph) (order : List Keyed) (old range : List Glyph) (i : ℕ) (d : Glyph) → i < length order → length order ≡ length old → range ≡ map f (take i order) ++ drop i old → get_or range i d ≡ get_or old i d
+still_there f order old range i d lt long before =
+    let at : length (map f (take i order)) ≡ i = length-map (take i order) f ∙ length-take-le i order (omega arith) in
+    ap (λ hs. get_or hs i d) (before ∙ ap (λ hs. map f (take i order) ++ hs) (drop_more old i d (omega arith))) ∙ get_or_at (map f (take i order)) (get_or old i d) (drop (i + 1) old) d i at
+
+-- the clusters are as they were just where they were so before, and the next place takes a glyph of the cluster that it has
+pub same_step : (f : Keyed → Glyph) (order : List Keyed) (old range : List Glyph) (i : ℕ) (z d : Glyph) (s : Bool) → i < length order → length order ≡ length old → range ≡ map f (take i order) ++ drop i old
+    → IsTrue s ↔ (clusters range ≡ clusters old) → IsTrue (s && ((get_or range i d).cluster == z.cluster)) ↔ (clusters (set range i z) ≡ clusters old)
+same_step f order old range i z d s lt long before same = (there, back)
+  where
+    there : (s && ((get_or range i d).cluster == z.cluster)) ≡ true → clusters (set range i z) ≡ clusters old
+    there both =
+        let alike : z.cluster ≡ (get_or range i d).cluster = grind (arith, nat_tests, common_steps, both) in
+        map-set_same (λ (g : Glyph). g.cluster) range i z d alike ∙ same.0 (grind (arith, nat_tests, common_steps, both))
+
+    back : clusters (set range i z) ≡ clusters old → (s && ((get_or range i d).cluster == z.cluster)) ≡ true
+    back e =
+        let v : Glyph → ℕ = λ g. g.cluster in
+        let within : i < length range = omega (arith, ap length before, length-append (map f (take i order)) (drop i old), length-map (take i order) f, length-take-le i order (omega arith), length-drop i old) in
+        let alike : z.cluster ≡ (get_or range i d).cluster =
+        sym (seen_at v (set range i z) i d ∙ ap v (get_or-set_same range i z d within)) ∙ ap (λ ns. get_or ns i d.cluster) e ∙ seen_at v old i d ∙ ap v (sym (still_there f order old range i d lt long before)) in
+        let known : s ≡ true = same.1 (sym (map-set_same v range i z d alike) ∙ e) in
+        grind (arith, nat_tests, common_steps, known, alike)
 
 -- a range was put in order once its spans were merged
 put_range : (start end : ℕ) (order : List Keyed) (mid range : List Glyph) → start ≤ end → range ≡ map (λ (e : Keyed). glyph_at (slice_range mid start end) e.place) order → put_mid start (end - start) mid range ≡ put_in_order start end order mid
@@ -97,13 +121,18 @@ put_range start end order mid range le e =
 order_is : (k : Glyph → ℕ) (gs : List Glyph) (keyed order : List Keyed) → keyed ≡ keyed_from k 0 gs → order ≡ key_order (λ (e : Keyed). e.key) keyed → order ≡ places_by_key k gs
 order_is k gs keyed order e o = o ∙ ap (key_order (λ (e : Keyed). e.key)) e
 
+-- the glyphs that were put in order
+pub merged_is : (level : Level) (start end : ℕ) (k : Glyph → ℕ) (gs mid : List Glyph) (keyed order : List Keyed) (marked : Bool) → keyed ≡ keyed_from k 0 (slice_range gs start end) → order ≡ key_order (λ (e : Keyed). e.key) keyed
+    → record { glyphs = mid; is_marked = marked } ≡ range_spanned level start order gs → mid ≡ range_merged level start end k gs
+merged_is level start end k gs mid keyed order marked e o spanned =
+    ap (λ (s : Spanned). s.glyphs) spanned ∙ ap (λ es. (range_spanned level start es gs).glyphs) (order_is k (slice_range gs start end) keyed order e o)
+
 pub sorted_is : (level : Level) (start end : ℕ) (k : Glyph → ℕ) (gs mid range copy : List Glyph) (keyed order : List Keyed) (marked : Bool) → start ≤ end → keyed ≡ keyed_from k 0 (slice_range gs start end) → order ≡ key_order (λ (e : Keyed). e.key) keyed
     → record { glyphs = mid; is_marked = marked } ≡ range_spanned level start order gs → copy ≡ slice_range mid start end → range ≡ map (λ (e : Keyed). glyph_at copy e.place) order
     → put_mid start (end - start) mid range ≡ (range_sorted level start end k gs).glyphs
 sorted_is level start end k gs mid range copy keyed order marked le e o spanned c r =
     let is = order_is k (slice_range gs start end) keyed order e o in
-    let all : mid ≡ (range_spanned level start (places_by_key k (slice_range gs start end)) gs).glyphs = ap (λ (s : Spanned). s.glyphs) spanned ∙ ap (λ es. (range_spanned level start es gs).glyphs) is in
-    put_range start end order mid range le (r ∙ ap (λ hs. map (λ (e : Keyed). glyph_at hs e.place) order) c) ∙ ap (λ es. put_in_order start end es mid) is ∙ ap (put_in_order start end (places_by_key k (slice_range gs start end))) all
+    put_range start end order mid range le (r ∙ ap (λ hs. map (λ (e : Keyed). glyph_at hs e.place) order) c) ∙ ap (λ es. put_in_order start end es mid) is ∙ ap (put_in_order start end (places_by_key k (slice_range gs start end))) (merged_is level start end k gs mid keyed order marked e o spanned)
 
 pub sort_marks : (level : Level) (start end : ℕ) (k : Glyph → ℕ) (gs mid : List Glyph) (keyed order : List Keyed) (marked : Bool) → keyed ≡ keyed_from k 0 (slice_range gs start end) → order ≡ key_order (λ (e : Keyed). e.key) keyed
     → record { glyphs = mid; is_marked = marked } ≡ range_spanned level start order gs → marked ≡ (range_sorted level start end k gs).is_marked
@@ -118,3 +147,16 @@ put_same start n mid range e =
     map-append f (take start mid) (range ++ back)
     ∙ ap (λ ns. clusters (take start mid) ++ ns) (map-append f range back ∙ ap (λ ns. ns ++ clusters back) e ∙ sym (map-append f (take n (drop start mid)) back) ∙ ap clusters (take-append-drop n (drop start mid)))
     ∙ sym (map-append f (take start mid) (drop start mid)) ∙ ap clusters (take-append-drop start mid)
+
+-- and the other way round
+pub same_put : (start n : ℕ) (mid range : List Glyph) → length range ≡ length (take n (drop start mid)) → clusters (put_mid start n mid range) ≡ clusters mid → clusters range ≡ clusters (take n (drop start mid))
+same_put start n mid range long e =
+    let f : Glyph → ℕ = λ g. g.cluster in
+    let back : List Glyph = drop n (drop start mid) in
+    let parts : clusters (take start mid) ++ (clusters range ++ clusters back) ≡ clusters (take start mid) ++ (clusters (take n (drop start mid)) ++ clusters back) =
+    sym (map-append f (take start mid) (range ++ back) ∙ ap (λ ns. clusters (take start mid) ++ ns) (map-append f range back)) ∙ e
+    ∙ sym (sym (map-append f (take start mid) (take n (drop start mid) ++ back) ∙ ap (λ ns. clusters (take start mid) ++ ns) (map-append f (take n (drop start mid)) back)) ∙ ap clusters (ap (λ hs. take start mid ++ hs) (take-append-drop n (drop start mid)) ∙ take-append-drop start mid)) in
+    let behind : clusters range ++ clusters back ≡ clusters (take n (drop start mid)) ++ clusters back =
+    sym (drop-append_seam (clusters (take start mid)) (clusters range ++ clusters back)) ∙ ap (drop (length (clusters (take start mid)))) parts ∙ drop-append_seam (clusters (take start mid)) (clusters (take n (drop start mid)) ++ clusters back) in
+    let wide : length (clusters range) ≡ length (clusters (take n (drop start mid))) = length-map range f ∙ long ∙ sym (length-map (take n (drop start mid)) f) in
+    sym (take-append_seam (clusters range) (clusters back)) ∙ ap (take (length (clusters range))) behind ∙ ap (λ m. take m (clusters (take n (drop start mid)) ++ clusters back)) wide ∙ take-append_seam (clusters (take n (drop start mid))) (clusters back)

@@ -10,3 +10,5 @@ pub mod Deleted
 pub mod Facts
 pub mod SortedFacts
 pub mod Flags
+pub mod Places
+pub mod NoNewNumbers

@@ -48,6 +48,10 @@ spans_merged level start order begin place (suc left) s =
 abbrev pub range_spanned : BufferClusterLevel → ℕ → List Keyed → List hb_glyph_info_t → Spanned
 range_spanned level start order gs = spans_merged level start order 0 0 (length order) (record { glyphs = gs; is_marked = false })
 
+-- a range once each span of its stable order by a key was merged, before it is put in that order
+abbrev pub range_merged : BufferClusterLevel → ℕ → ℕ → (hb_glyph_info_t → ℕ) → List hb_glyph_info_t → List hb_glyph_info_t
+range_merged level start end k gs = (range_spanned level start (places_by_key k (slice_range gs start end)) gs).glyphs
+
 -- the glyph at a place, nothing past the end
 abbrev pub glyph_at : List hb_glyph_info_t → ℕ → hb_glyph_info_t
 glyph_at gs i = slice_index_or gs i (record { glyph_id = 0; mask = 0; cluster = 0; glyph_index = 0; unicode_props = record { 0 = 0 }; modified_combining_class = 0; glyph_props = record { 0 = 0 }; lig_props = 0; syllable = 0; category = 0; auxiliary = 0 })

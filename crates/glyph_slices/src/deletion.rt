@@ -2,7 +2,7 @@ ghost use Rattle.std.specs.Prelude.{◌≡◌, ◌<◌, ◌≤◌, Some, true, B
 ghost use Rattle.glyph_types.specs.declared.info.hb_glyph_info_t.{hb_glyph_info_t as Glyph};
 ghost use Rattle.glyph_lists.specs.Items.{Item, clusters, flags_of, item_of, strip};
 ghost use Rattle.glyph_lists.specs.Events.{last_of};
-ghost use Rattle.glyph_lists.specs.Order.{IsOrdered};
+ghost use Rattle.glyph_lists.specs.Order.{BringsNone, IsOrdered};
 ghost use Rattle.glyph_slices.specs.Deleting.{recast, end_recast, IsEndRun};
 ghost use Rattle.glyph_slices.specs.DeletionWalk.{Tells, all_passed};
 ghost use Rattle.glyph_slices.specs.Facts.{clusters_kept, items_kept, places_kept};
@@ -96,6 +96,7 @@ pub fn delete_within<F: Fn(&hb_glyph_info_t) -> bool>(
     ensures items { (q : Item → Bool) → Tells F.Fn filter (λ g. q (item_of g)) → strip (take result.0 glyphs.new) ≡ items_kept q (strip glyphs.old) }
     ensures kept_places { (q : Item → Bool) → Tells F.Fn filter (λ g. q (item_of g)) → take result.0 places.new ≡ places_kept q (strip glyphs.old) places.old }
     ensures clusters { (q : Item → Bool) → Tells F.Fn filter (λ g. q (item_of g)) → clusters (take result.0 glyphs.new) ≡ clusters_kept level q (strip glyphs.old) (clusters glyphs.old) }
+    ensures numbers { (goes : Glyph → Bool) → Tells F.Fn filter goes → BringsNone (clusters glyphs.old) (clusters (take result.0 glyphs.new)) }
     ensures flags { (q : Item → Bool) → Tells F.Fn filter (λ g. q (item_of g)) → flags_of (take result.0 glyphs.new) ≡ flags_kept level q (strip glyphs.old) (clusters glyphs.old) (flags_of glyphs.old) }
 {
     let mut walk = Walk {

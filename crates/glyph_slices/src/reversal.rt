@@ -1,7 +1,7 @@
 ghost use Rattle.std.specs.Prelude.{◌≡◌, ◌≤◌, ◌-◌, ◌||◌, true, false, Bool, length};
 ghost use Rattle.glyph_types.specs.declared.info.hb_glyph_info_t.{hb_glyph_info_t as Glyph};
 ghost use Rattle.glyph_lists.specs.Items.{Item, clusters, flags_of, item_of, strip};
-ghost use Rattle.glyph_lists.specs.Order.{IsOrdered};
+ghost use Rattle.glyph_lists.specs.Order.{BringsNone, IsOrdered};
 ghost use Rattle.glyph_lists.specs.Readings.{IsMonotone};
 ghost use Rattle.glyph_slices.specs.Facts.{clusters_turned, places_turned};
 ghost use Rattle.glyph_slices.specs.Flags.{flags_turned};
@@ -35,6 +35,7 @@ pub fn reverse_groups<F: Fn(&hb_glyph_info_t, &hb_glyph_info_t) -> bool>(
     ensures items { (q : Item → Item → Bool) → Decides F.Fn group (λ g h. q (item_of g) (item_of h)) → strip glyphs.new ≡ groups_turned q (strip glyphs.old) }
     ensures turned_places { (q : Item → Item → Bool) → Decides F.Fn group (λ g h. q (item_of g) (item_of h)) → places.new ≡ places_turned q (strip glyphs.old) places.old }
     ensures clusters { (q : Item → Item → Bool) → Decides F.Fn group (λ g h. q (item_of g) (item_of h)) → clusters glyphs.new ≡ clusters_turned merge level q (strip glyphs.old) (clusters glyphs.old) }
+    ensures numbers { (joins : Glyph → Glyph → Bool) → Decides F.Fn group joins → BringsNone (clusters glyphs.old) (clusters glyphs.new) }
     ensures flags { (q : Item → Item → Bool) → Decides F.Fn group (λ g h. q (item_of g) (item_of h)) → flags_of glyphs.new ≡ flags_turned merge level q (strip glyphs.old) (clusters glyphs.old) (flags_of glyphs.old) }
 {
     let mut marked = false;

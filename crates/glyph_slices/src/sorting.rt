@@ -1,10 +1,11 @@
-ghost use Rattle.std.specs.Prelude.{◌≡◌, ◌+◌, ◌-◌, ◌≤◌, ◌++◌, ℕ, Bool, true, take, drop, length, map, max, vec_len, IfOk, OnOk, OnErr, slice_range};
+ghost use Rattle.std.specs.Prelude.{◌≡◌, ◌+◌, ◌-◌, ◌<◌, ◌≤◌, ◌↔◌, ◌++◌, ℕ, Bool, IsTrue, true, take, drop, length, map, vec_len, IfOk, OnOk, OnErr, slice_range};
+ghost use Rattle.std.specs.List.{All};
 ghost use Rattle.glyph_types.specs.declared.info.hb_glyph_info_t.{hb_glyph_info_t as Glyph};
 ghost use Rattle.glyph_lists.specs.Items.{Item, clusters, flags_of, item_of, strip};
-ghost use Rattle.glyph_lists.specs.Order.{IsInOrder, IsOrdered};
+ghost use Rattle.glyph_lists.specs.Order.{BringsNone, IsInOrder, IsOrdered};
 ghost use Rattle.stable_order.specs.Keys.{key_order};
 ghost use Rattle.glyph_slices.specs.SortedFacts.{clusters_sorted, flags_sorted};
-ghost use Rattle.glyph_slices.specs.Sorting.{Gives, Spanned, glyph_at, keyed_from, put_in_order, range_sorted, range_spanned, span_merged};
+ghost use Rattle.glyph_slices.specs.Sorting.{Gives, Spanned, glyph_at, keyed_from, put_in_order, range_merged, range_sorted, range_spanned, span_merged};
 
 use crate::merges::merge_range;
 use glyph_types::info::hb_glyph_info_t;
@@ -31,8 +32,10 @@ pub fn sort<F: Fn(&hb_glyph_info_t) -> u32>(
     ensures sorted { (k : Glyph → ℕ) → Gives F.Fn key k → OnOk result (glyphs.new ≡ (range_sorted level start end k glyphs.old).glyphs) }
     ensures items { (k : Item → ℕ) → Gives F.Fn key (λ g. k (item_of g)) → OnOk result (strip glyphs.new ≡ take start (strip glyphs.old) ++ key_order k (slice_range (strip glyphs.old) start end) ++ drop end (strip glyphs.old)) }
     ensures clusters { (k : Item → ℕ) → Gives F.Fn key (λ g. k (item_of g)) → OnOk result (clusters glyphs.new ≡ clusters_sorted level start end k (strip glyphs.old) (clusters glyphs.old)) }
+    ensures numbers { (k : Glyph → ℕ) → Gives F.Fn key k → OnOk result (BringsNone (clusters glyphs.old) (clusters glyphs.new)) }
     ensures flags { (k : Glyph → ℕ) → Gives F.Fn key k → OnOk result (flags_of glyphs.new ≡ flags_sorted level start end k glyphs.old) }
     ensures marked { (k : Glyph → ℕ) → Gives F.Fn key k → IfOk result (λ s. s.marked ≡ (range_sorted level start end k glyphs.old).is_marked) }
+    ensures same { (k : Glyph → ℕ) → Gives F.Fn key k → IfOk result (λ s. IsTrue s.in_order ↔ (clusters glyphs.new ≡ clusters (range_merged level start end k glyphs.old))) }
     ensures order { (falls : Bool) → IfOk result (λ s. s.in_order ≡ true → IsInOrder falls (clusters glyphs.old) → IsInOrder falls (clusters glyphs.new)) }
     ensures err { OnErr result (glyphs.new ≡ glyphs.old) }
 {
@@ -70,6 +73,7 @@ fn keyed_places<F: Fn(&hb_glyph_info_t) -> u32>(
 ) -> Result<Vec<Keyed>, AllocError>
     requires { F.IsAlwaysCallable key.now }
     ensures keys { (k : Glyph → ℕ) → Gives F.Fn key.now k → IfOk result (λ v. v.items ≡ keyed_from k 0 glyphs.now) }
+    ensures within { IfOk result (λ v. All (λ e. e.place < length glyphs.now) v.items) }
     ensures len { IfOk result (λ v. vec_len v ≡ length glyphs.now) }
 {
     let mut places = Vec::new(alloc);
@@ -132,7 +136,7 @@ fn merge_spans(
     let mut begin = 0;
     let mut reach = 0;
     for place in 0..order.len() {
-        reach = further(reach, order[place].place);
+        reach = reach.max(order[place].place);
         if place < reach {
             continue;
         }
@@ -143,33 +147,19 @@ fn merge_spans(
     marked
 }
 
-fn further(one: usize, other: usize) -> usize
-    ensures { result ≡ max one other }
-{
-    if one < other { other } else { one }
-}
-
 /// Each place of a range takes the glyph that stood at another place of it, as the order tells; answers whether each place
 /// has the cluster that it had.
 fn put_in_order(range: &mut [hb_glyph_info_t], copy: &[hb_glyph_info_t], order: &[Keyed]) -> bool
-    requires { length order.now ≡ length range.old }
+    requires long { length order.now ≡ length range.old }
+    requires within { All (λ e. e.place < length copy.now) order.now }
     ensures put { range.new ≡ map (λ e. glyph_at copy.now e.place) order.now }
-    ensures same { result ≡ true → clusters range.new ≡ clusters range.old }
+    ensures same { IsTrue result ↔ (clusters range.new ≡ clusters range.old) }
 {
     let mut same = true;
     for place in 0..order.len() {
-        let glyph = glyph_at(copy, order[place].place);
+        let glyph = copy[order[place].place];
         same &= range[place].cluster == glyph.cluster;
         range[place] = glyph;
     }
     same
-}
-
-fn glyph_at(glyphs: &[hb_glyph_info_t], place: usize) -> hb_glyph_info_t
-    ensures { result ≡ glyph_at glyphs.now place }
-{
-    match glyphs.get(place) {
-        Some(glyph) => *glyph,
-        None => hb_glyph_info_t::default(),
-    }
 }

@@ -1,5 +1,8 @@
-use Rattle.std.proofs.Common.{arith, ap, ◌∙◌, ◌≤◌, length}
+use Rattle.std.proofs.Common.{arith, ap, subst, sym, List, ◌∙◌, ◌≤◌, length}
+use Rattle.glyph_types.specs.declared.info.hb_glyph_info_t.{hb_glyph_info_t as Glyph}
 use Rattle.glyph_lists.specs.Items.{clusters, flags_of, item_of, strip}
+use Rattle.glyph_lists.specs.Order.{BringsNone}
+use Rattle.glyph_slices.specs.NoNewNumbers.{deleting_brings_none}
 use Rattle.glyph_slices.specs.DeletionWalk.{Passed}
 use Rattle.glyph_slices.proofs.Walking.{settled_front}
 use Rattle.glyph_slices.proofs.Kept.{items_all, places_all, clusters_all}
@@ -49,3 +52,7 @@ returns-clause-clusters g c = λ q same. ap clusters (returns-clause-glyphs g c 
 
 pub returns-clause-flags : goal.returns-clause-flags
 returns-clause-flags g c = λ q same. ap flags_of (returns-clause-glyphs g c (λ h. q (item_of h)) same) ∙ flags_all c.args.level q c.args.glyphs.now c.args.places.now
+
+pub returns-clause-numbers : goal.returns-clause-numbers
+returns-clause-numbers g c = λ goes same.
+    subst (λ (gs : List Glyph). BringsNone (clusters c.args.glyphs.now) (clusters gs)) (sym (returns-clause-glyphs g c goes same)) (deleting_brings_none c.args.level goes c.args.glyphs.now c.args.places.now)

@@ -1,5 +1,8 @@
-use Rattle.std.proofs.Common.{arith, ◌||◌, ap, ◌∙◌}
+use Rattle.std.proofs.Common.{arith, ◌||◌, ap, subst, sym, List, ◌∙◌}
+use Rattle.glyph_types.specs.declared.info.hb_glyph_info_t.{hb_glyph_info_t as Glyph}
 use Rattle.glyph_lists.specs.Items.{clusters, flags_of, item_of, strip}
+use Rattle.glyph_lists.specs.Order.{BringsNone}
+use Rattle.glyph_slices.specs.NoNewNumbers.{turning_brings_none}
 use Rattle.glyph_slices.specs.Turning.{Turning, turned}
 use Rattle.glyph_slices.proofs.Turned.{rest_begins, rest_goes_on, rest_ends}
 use Rattle.glyph_slices.proofs.GroupsTurned.{turned_plain}
@@ -50,3 +53,7 @@ returns-clause-clusters g c = λ q same. ap clusters (returns-clause-glyphs g c 
 
 pub returns-clause-flags : goal.returns-clause-flags
 returns-clause-flags g c = λ q same. ap flags_of (returns-clause-glyphs g c (λ h k. q (item_of h) (item_of k)) same) ∙ flags_beside c.args.merge c.args.level q c.args.glyphs.now c.args.places.now
+
+pub returns-clause-numbers : goal.returns-clause-numbers
+returns-clause-numbers g c = λ joins same.
+    subst (λ (gs : List Glyph). BringsNone (clusters c.args.glyphs.now) (clusters gs)) (sym (returns-clause-glyphs g c joins same)) (turning_brings_none c.args.merge c.args.level joins c.args.glyphs.now c.args.places.now)

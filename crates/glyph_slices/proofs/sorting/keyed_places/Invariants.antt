@@ -1,5 +1,7 @@
-use Rattle.std.proofs.Common.{◌≡◌, ◌++◌, ℕ, drop, vec_len}
+use Rattle.std.specs.List.{All}
+use Rattle.std.proofs.Common.{◌≡◌, ◌<◌, ◌++◌, ℕ, drop, length, vec_len}
 use Rattle.glyph_types.specs.declared.info.hb_glyph_info_t.{hb_glyph_info_t as Glyph}
+use Rattle.glyph_slices.specs.declared.sorting.Keyed.{Keyed}
 use Rattle.glyph_slices.specs.Sorting.{Gives, keyed_from}
 use Rattle.glyph_slices.proofs.sorting.keyed_places.Given as goal
 
@@ -7,5 +9,6 @@ use Rattle.glyph_slices.proofs.sorting.keyed_places.Given as goal
 abbrev pub invariant-loop-place : goal.invariant-loop-place
 invariant-loop-place g l = record {
   keys : (k : Glyph → ℕ) → Gives g.F.Fn l.key k → l.places.items ++ keyed_from k l.place (drop l.place l.glyphs) ≡ keyed_from k 0 l.glyphs;
+  within : All (λ (e : Keyed). e.place < length l.glyphs) l.places.items;
   len : vec_len l.places ≡ l.place;
 }

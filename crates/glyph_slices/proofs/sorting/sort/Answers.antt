@@ -1,9 +1,15 @@
-use Rattle.std.proofs.Common.{sym, ap, subst, ◌∙◌, ◌-◌, map}
+use Rattle.std.specs.Prelude.{slice_range}
+use Rattle.std.specs.List.{All}
+use Rattle.std.proofs.Common.{ℕ, ◌≡◌, ◌<◌, ◌-◌, List, length, map, take, drop, arith, sym, ap, subst, ◌∙◌}
+use Rattle.std.proofs.lemmas.List.Elements.{All-same}
+use Rattle.glyph_types.specs.declared.info.hb_glyph_info_t.{hb_glyph_info_t as Glyph}
 use Rattle.glyph_slices.specs.declared.sorting.Keyed.{Keyed}
-use Rattle.glyph_slices.specs.Sorting.{glyph_at}
-use Rattle.glyph_slices.proofs.Spans.{put_same, sorted_is, sort_marks}
+use Rattle.glyph_slices.specs.Sorting.{glyph_at, range_merged}
+use Rattle.glyph_slices.proofs.Spans.{put_same, same_put, merged_is, sorted_is, sort_marks}
 use Rattle.glyph_lists.specs.Items.{item_of, strip, clusters, flags_of}
-use Rattle.glyph_lists.specs.Order.{IsInOrder}
+use Rattle.glyph_lists.specs.Order.{BringsNone, IsInOrder}
+use Rattle.glyph_slices.specs.NoNewNumbers.{sorting_brings_none}
+use Rattle.glyph_slices.specs.Places.{all_in_order, range_length}
 use Rattle.glyph_slices.proofs.SortedNumbers.{sorted_clusters, sorted_flags}
 use Rattle.glyph_slices.proofs.SortedItems.{items_sorted}
 use Rattle.glyph_slices.proofs.sorting.sort.Goals as goal
@@ -30,4 +36,29 @@ returns-clause-flags g c = λ k same. ap flags_of (returns-clause-sorted g c k s
 
 pub returns-clause-order : goal.returns-clause-order
 returns-clause-order g c = λ falls same ordered.
-    subst (IsInOrder falls) (sym (put_same c.args.start (c.args.end - c.args.start) c.merge_spans-marked.new.glyphs c.put_in_order-in_order.new.range (c.put_in_order-in_order.ensures.same same))) (c.merge_spans-marked.ensures.direction falls ordered)
+    subst (IsInOrder falls) (sym (put_same c.args.start (c.args.end - c.args.start) c.merge_spans-marked.new.glyphs c.put_in_order-in_order.new.range (c.put_in_order-in_order.ensures.same.0 same))) (c.merge_spans-marked.ensures.direction falls ordered)
+
+pub returns-clause-numbers : goal.returns-clause-numbers
+returns-clause-numbers g c = λ k same.
+    subst (λ (gs : List Glyph). BringsNone (clusters c.args.glyphs.now) (clusters gs)) (sym (returns-clause-sorted g c k same)) (sorting_brings_none c.args.level c.args.start c.args.end k c.args.glyphs.now)
+
+pub put_in_order-in_order-requires-clause-within : goal.put_in_order-in_order-requires-clause-within
+put_in_order-in_order-requires-clause-within g c =
+    let P : Keyed → Type 0 = λ e. e.place < length c.deref-2.result.now in
+    let keyed = c.in_ok-order.order.items in
+    let mid = c.merge_spans-marked.new.glyphs in
+    let copied : c.deref-2.result.now ≡ slice_range mid c.args.start c.args.end = c.deref-2.ensures.value ∙ c.copy_from_slice.ensures.items in
+    let long = sym (ap length copied ∙ range_length c.args.start c.args.end c.args.glyphs.now mid c.merge_spans-marked.auto.glyphs) in
+    All-same P c.deref-3.result.now _ (c.deref-3.ensures.value ∙ c.in_ok-sort_places.ensures.sorted)
+    (all_in_order P (λ (e : Keyed). e.key) keyed (subst (λ (n : ℕ). All (λ (e : Keyed). e.place < n) keyed) long c.in_ok-order.ensures.within))
+
+pub returns-clause-same : goal.returns-clause-same
+returns-clause-same g c = λ k same.
+    let mid = c.merge_spans-marked.new.glyphs in
+    let range = c.put_in_order-in_order.new.range in
+    let wide = c.args.end - c.args.start in
+    let kept = c.put_in_order-in_order.ensures.same in
+    let is : mid ≡ range_merged c.args.level c.args.start c.args.end k c.args.glyphs.now =
+    merged_is c.args.level c.args.start c.args.end k c.args.glyphs.now mid c.in_ok-order.order.items c.deref.result.now c.merge_spans-marked.result (c.in_ok-order.ensures.keys k same) (c.deref.ensures.value ∙ c.in_ok-sort_places.ensures.sorted) c.merge_spans-marked.ensures.merged in
+    let long : length range ≡ length (take wide (drop c.args.start mid)) = omega arith in
+    (λ t. put_same c.args.start wide mid range (kept.0 t) ∙ ap clusters is, λ e. kept.1 (same_put c.args.start wide mid range long (e ∙ sym (ap clusters is))))

@@ -1,0 +1,31 @@
+-- The places of a range in the order by a key.
+use Rattle.std.specs.Prelude.{slice_range}
+use Rattle.std.specs.List.{All}
+use Rattle.std.proofs.Common.{ℕ, suc, zero, ◌≡◌, ◌≤◌, ◌<◌, ◌+◌, ◌-◌, ◌==◌, min, List, [], ◌∷◌, length, drop, arith, ap, sym, ◌∙◌}
+use Rattle.std.proofs.lemmas.List.{length-drop, length-take}
+use Rattle.std.proofs.lemmas.List.Elements.{All-nil, All-cons, All-append, All-filter}
+use Rattle.glyph_types.specs.declared.info.hb_glyph_info_t.{hb_glyph_info_t as Glyph}
+use Rattle.stable_order.specs.Keys.{by_key, of_key, key_bound, key_order}
+use Rattle.glyph_slices.specs.declared.sorting.Keyed.{Keyed}
+use Rattle.glyph_slices.specs.Sorting.{keyed_from, places_by_key}
+
+-- what holds of each element holds of each in the order by a key
+pub all_by_key : {X : Type 0} (P : X → Type 0) (key : X → ℕ) (n : ℕ) (xs : List X) → All P xs → All P (by_key key n xs)
+all_by_key P key zero xs h = All-nil P
+all_by_key P key (suc n) xs h = All-append P (by_key key n xs) (of_key key n xs) (all_by_key P key n xs h) (All-filter (λ x. key x == n) P xs h)
+
+pub all_in_order : {X : Type 0} (P : X → Type 0) (key : X → ℕ) (xs : List X) → All P xs → All P (key_order key xs)
+all_in_order P key xs h = all_by_key P key (key_bound key xs) xs h
+
+pub all_keyed : (k : Glyph → ℕ) (i n : ℕ) (gs : List Glyph) → i + length gs ≤ n → All (λ (e : Keyed). e.place < n) (keyed_from k i gs)
+all_keyed k i n [] le = All-nil (λ (e : Keyed). e.place < n)
+all_keyed k i n (g ∷ gs) le = All-cons (λ (e : Keyed). e.place < n) (record { key = k g; place = i }) (keyed_from k (i + 1) gs) (omega arith) (all_keyed k (i + 1) n gs (omega arith))
+
+-- the places of a range are within it
+pub places_within : (k : Glyph → ℕ) (gs : List Glyph) → All (λ (e : Keyed). e.place < length gs) (places_by_key k gs)
+places_within k gs = all_in_order (λ (e : Keyed). e.place < length gs) (λ (e : Keyed). e.key) (keyed_from k 0 gs) (all_keyed k 0 (length gs) gs (omega arith))
+
+-- a range of a list is as long as that of another of its length
+pub range_length : (start end : ℕ) (gs hs : List Glyph) → length hs ≡ length gs → length (slice_range hs start end) ≡ length (slice_range gs start end)
+range_length start end gs hs e =
+    length-take (end - start) (drop start hs) ∙ ap (min (end - start)) (length-drop start hs ∙ ap (λ n. n - start) e ∙ sym (length-drop start gs)) ∙ sym (length-take (end - start) (drop start gs))
