@@ -18,3 +18,4 @@ pub mod Picked
 pub mod Deleting
 pub mod Resized
 pub mod Apart
+pub mod Brings

@@ -106,7 +106,7 @@ follows_merge from to xs ps old new le items places level merged =
 replacement_parts : (level : BufferClusterLevel) (at taken given : ℕ) (ns : List ℕ) → IsMonotone level → IsOrdered ns → replaced_at level at taken given ns ≡ after_event ns (Replace at taken given)
 replacement_parts level at taken given ns m o = ap (replaced at taken given) (merge_joins level at (at + taken) ns (omega arith) m o)
 
-replacement_brings : (level : BufferClusterLevel) (at taken given : ℕ) (ns : List ℕ) → BringsNone ns (replaced_at level at taken given ns)
+pub replacement_brings : (level : BufferClusterLevel) (at taken given : ℕ) (ns : List ℕ) → BringsNone ns (replaced_at level at taken given ns)
 replacement_brings level at taken given ns n h =
     let mid = merged_at level at (at + taken) ns in
     merged_at_brings level at (at + taken) ns n (drawn_brings (drawn_replaced at taken given mid) n h)

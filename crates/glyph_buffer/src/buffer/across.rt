@@ -2,7 +2,7 @@ ghost use Rattle.std.specs.Prelude.{◌≡◌, ◌+◌, ◌-◌, ◌≤◌, ◌<
 ghost use Rattle.glyph_lists.specs.Items.{clusters, flags_of};
 ghost use Rattle.glyph_lists.specs.Events.{stretch};
 ghost use Rattle.glyph_lists.specs.Merges.{least_number, merged_at};
-ghost use Rattle.glyph_lists.specs.Order.{IsOrdered};
+ghost use Rattle.glyph_lists.specs.Order.{BringsNone, IsOrdered};
 ghost use Rattle.glyph_lists.specs.Glyphs.{flagged, flags_flagged, flags_marked, glyphs_merged, marked_outside, tells_apart};
 ghost use Rattle.glyph_buffer.specs.Sides.{all_glyphs, items_of};
 ghost use Rattle.glyph_buffer.specs.Merging.{flags_output_merged_at, place_of, with_glyphs, with_output_merged};
@@ -26,6 +26,7 @@ impl hb_buffer_t {
         ensures merged { self.new ≡ with_output_merged start end self.old }
         ensures items { items_of self.new ≡ items_of self.old }
         ensures clusters { clusters (all_glyphs self.new) ≡ merged_at self.old.level start end (clusters (all_glyphs self.old)) }
+        ensures numbers { BringsNone (clusters (all_glyphs self.old)) (clusters (all_glyphs self.new)) }
         ensures flags { flags_of (all_glyphs self.new) ≡ flags_output_merged_at self.old.level start end (all_glyphs self.old) }
     {
         match self.cluster_level {

@@ -4,7 +4,7 @@ ghost use Rattle.glyph_types.specs.declared.level.BufferClusterLevel.{BufferClus
 ghost use Rattle.glyph_lists.specs.Items.{clusters, flags_of, glyph_flags, strip};
 ghost use Rattle.glyph_lists.specs.Deletions.{deleted};
 ghost use Rattle.glyph_lists.specs.Events.{first_of, is_number, last_of};
-ghost use Rattle.glyph_lists.specs.Order.{IsOrdered};
+ghost use Rattle.glyph_lists.specs.Order.{BringsNone, IsOrdered};
 ghost use Rattle.glyph_slices.specs.Deleting.{end_recast};
 ghost use Rattle.glyph_slices.specs.Facts.{together};
 ghost use Rattle.glyph_slices.specs.Flags.{flags_deleted};
@@ -33,6 +33,7 @@ impl hb_buffer_t {
         ensures ahead { length self.new.ahead + 1 ≡ length self.old.ahead }
         ensures items { items_of self.new ≡ strip self.old.behind ++ drop 1 (strip self.old.ahead) }
         ensures clusters { (g : Glyph) (back : List Glyph) → self.old.ahead ≡ g ∷ back → clusters (all_glyphs self.new) ≡ deleted self.old.level (clusters self.old.behind) g.cluster (clusters back) }
+        ensures numbers { BringsNone (clusters (all_glyphs self.old)) (clusters (all_glyphs self.new)) }
         ensures flags { (g : Glyph) (back : List Glyph) → self.old.ahead ≡ g ∷ back → flags_of (all_glyphs self.new) ≡ together (flags_deleted self.old.level (clusters self.old.behind) g.cluster (clusters back) (flags_of self.old.behind) (glyph_flags g) (flags_of back)) }
     {
         let order = self.order.settled(self.lent, &self.out_info, &self.info);

@@ -4,7 +4,7 @@ ghost use Rattle.glyph_slices.specs.Groups.{Decides, group_length};
 ghost use Rattle.glyph_slices.specs.Runs.{grapheme_length, run_length};
 ghost use Rattle.glyph_buffer.specs.Sides.{all_glyphs, items_of};
 ghost use Rattle.glyph_lists.specs.Items.{Item, clusters, flags_of, item_of, strip};
-ghost use Rattle.glyph_lists.specs.Order.{IsOrdered};
+ghost use Rattle.glyph_lists.specs.Order.{BringsNone, IsOrdered};
 ghost use Rattle.glyph_slices.specs.Turning.{groups_turned, turned};
 ghost use Rattle.glyph_slices.specs.Flags.{flags_kept, flags_turned};
 ghost use Rattle.glyph_slices.specs.Facts.{clusters_kept, clusters_turned, items_kept, places_kept, places_turned};
@@ -74,6 +74,7 @@ impl hb_buffer_t {
         ensures items { (q : Item → Item → Bool) → Decides F.Fn group (λ g h. q (item_of g) (item_of h)) → items_of self.new ≡ groups_turned q (items_of self.old) }
         ensures places { (q : Item → Item → Bool) → Decides F.Fn group (λ g h. q (item_of g) (item_of h)) → self.new.places ≡ places_turned q (items_of self.old) self.old.places }
         ensures clusters { (q : Item → Item → Bool) → Decides F.Fn group (λ g h. q (item_of g) (item_of h)) → clusters (all_glyphs self.new) ≡ clusters_turned merge self.old.level q (items_of self.old) (clusters (all_glyphs self.old)) }
+        ensures numbers { (joins : Glyph → Glyph → Bool) → Decides F.Fn group joins → BringsNone (clusters (all_glyphs self.old)) (clusters (all_glyphs self.new)) }
         ensures flags { (q : Item → Item → Bool) → Decides F.Fn group (λ g h. q (item_of g) (item_of h)) → flags_of (all_glyphs self.new) ≡ flags_turned merge self.old.level q (items_of self.old) (clusters (all_glyphs self.old)) (flags_of (all_glyphs self.old)) }
         ensures closed { self.new.is_open ≡ false }
         ensures count { length (all_glyphs self.new) ≡ length (all_glyphs self.old) }
@@ -99,6 +100,7 @@ impl hb_buffer_t {
         ensures items { (q : Item → Bool) → Tells F.Fn filter (λ g. q (item_of g)) → items_of self.new ≡ items_kept q (items_of self.old) }
         ensures places { (q : Item → Bool) → Tells F.Fn filter (λ g. q (item_of g)) → self.new.places ≡ places_kept q (items_of self.old) self.old.places }
         ensures clusters { (q : Item → Bool) → Tells F.Fn filter (λ g. q (item_of g)) → clusters (all_glyphs self.new) ≡ clusters_kept self.old.level q (items_of self.old) (clusters (all_glyphs self.old)) }
+        ensures numbers { (goes : Glyph → Bool) → Tells F.Fn filter goes → BringsNone (clusters (all_glyphs self.old)) (clusters (all_glyphs self.new)) }
         ensures flags { (q : Item → Bool) → Tells F.Fn filter (λ g. q (item_of g)) → flags_of (all_glyphs self.new) ≡ flags_kept self.old.level q (items_of self.old) (clusters (all_glyphs self.old)) (flags_of (all_glyphs self.old)) }
         ensures closed { self.new.is_open ≡ false }
         ensures few { length (all_glyphs self.new) ≤ length (all_glyphs self.old) }

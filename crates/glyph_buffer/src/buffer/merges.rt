@@ -2,7 +2,7 @@ ghost use Rattle.std.specs.Prelude.{◌≡◌, ◌+◌, ◌-◌, ◌≤◌, ◌+
 ghost use Rattle.glyph_lists.specs.Items.{clusters, flags_of};
 ghost use Rattle.glyph_lists.specs.Events.{stretch};
 ghost use Rattle.glyph_lists.specs.Merges.{merged_at};
-ghost use Rattle.glyph_lists.specs.Order.{IsOrdered};
+ghost use Rattle.glyph_lists.specs.Order.{BringsNone, IsOrdered};
 ghost use Rattle.glyph_lists.specs.Glyphs.{beside_merged, flags_merged_at, glyphs_marked, glyphs_merged, glyphs_merged_at, is_marked_at, tells_apart};
 ghost use Rattle.glyph_slices.specs.Deleting.{recast};
 ghost use Rattle.glyph_buffer.specs.Sides.{all_glyphs, items_of};
@@ -28,6 +28,7 @@ impl hb_buffer_t {
         ensures merged { self.new ≡ with_merged (place_of start self.old) (place_of end self.old) self.old }
         ensures items { items_of self.new ≡ items_of self.old }
         ensures clusters { clusters (all_glyphs self.new) ≡ merged_at self.old.level (place_of start self.old) (place_of end self.old) (clusters (all_glyphs self.old)) }
+        ensures numbers { BringsNone (clusters (all_glyphs self.old)) (clusters (all_glyphs self.new)) }
         ensures flags { flags_of (all_glyphs self.new) ≡ flags_merged_at self.old.level (place_of start self.old) (place_of end self.old) (all_glyphs self.old) }
     {
         let order = self.order.settled(self.lent, &self.out_info, &self.info);

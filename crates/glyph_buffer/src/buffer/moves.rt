@@ -1,5 +1,6 @@
 ghost use Rattle.std.specs.Prelude.{◌≡◌, ◌<◌, ◌≤◌, ◌+◌, ◌-◌, ◌++◌, length, drop, nat_le, true, false, Ok, OnErr, IfOk, vec_len, vec_capacity};
 ghost use Rattle.glyph_lists.specs.Items.{clusters, flags_of, strip};
+ghost use Rattle.glyph_lists.specs.Order.{BringsNone};
 ghost use Rattle.glyph_buffer.specs.Sides.{all_glyphs, fits_next, items_of, moved_on, refused};
 ghost use Rattle.glyph_buffer.specs.Merging.{with_skipped};
 ghost use Rattle.glyph_buffer.specs.Moving.{fits_moved, moved_to};
@@ -46,6 +47,7 @@ impl hb_buffer_t {
         ensures skipped { self.new ≡ with_skipped self.old }
         ensures items { items_of self.new ≡ strip self.old.behind ++ drop 1 (strip self.old.ahead) }
         ensures clusters { clusters (all_glyphs self.new) ≡ clusters self.old.behind ++ drop 1 (clusters self.old.ahead) }
+        ensures numbers { BringsNone (clusters (all_glyphs self.old)) (clusters (all_glyphs self.new)) }
         ensures flags { flags_of (all_glyphs self.new) ≡ flags_of self.old.behind ++ drop 1 (flags_of self.old.ahead) }
     {
         self.order = self.order.settled(self.lent, &self.out_info, &self.info);

@@ -2,6 +2,7 @@ ghost use Rattle.std.specs.Prelude.{◌≡◌, ◌<◌, ◌≤◌, ◌+◌, ◌+
 ghost use Rattle.glyph_lists.specs.Items.{clusters, flags_of, glyph_flags, item_of, strip};
 ghost use Rattle.glyph_lists.specs.Events.{first_of, last_of, or, replaced};
 ghost use Rattle.glyph_lists.specs.Replacements.{copied, glyph_numbered, items_replaced};
+ghost use Rattle.glyph_lists.specs.Order.{BringsNone};
 ghost use Rattle.glyph_buffer.specs.Sides.{all_glyphs, has_output_room, items_of, refused};
 ghost use Rattle.glyph_buffer.specs.Merging.{fits_copies, with_copy, with_put, with_renumbered};
 
@@ -14,13 +15,14 @@ impl hb_buffer_t {
     /// Puts a copy of the glyph at the cursor behind the output under another number; where the cursor is past the end, a
     /// copy of the output's last, and with neither none. It answers false, and puts none, where the output would have more
     /// than it may.
-    #[tactic(auto, using(crate::proofs::Apart::copy_items, crate::proofs::Apart::copy_clusters, crate::proofs::Apart::copy_flags))]
+    #[tactic(auto, using(crate::proofs::Apart::copy_items, crate::proofs::Apart::copy_clusters, crate::proofs::Apart::copy_flags, crate::proofs::Brings::copied_brings))]
     pub fn output_glyph(&mut self, glyph_index: u32) -> Result<bool, AllocError>
         requires { self.old.is_open ≡ true }
         ensures held { IfOk result (λ b. b ≡ fits_copies 1 self.old) }
         ensures put { result ≡ Ok true → self.new ≡ with_copy glyph_index self.old }
         ensures items { result ≡ Ok true → items_of self.new ≡ items_replaced (length self.old.behind) 0 (glyph_index ∷ []) (items_of self.old) }
         ensures clusters { result ≡ Ok true → clusters (all_glyphs self.new) ≡ replaced (length self.old.behind) 0 1 (clusters (all_glyphs self.old)) }
+        ensures numbers { result ≡ Ok true → BringsNone (clusters (all_glyphs self.old)) (clusters (all_glyphs self.new)) }
         ensures flags { result ≡ Ok true → flags_of (all_glyphs self.new) ≡ replaced (length self.old.behind) 0 1 (flags_of (all_glyphs self.old)) }
         ensures full { result ≡ Ok false → self.new ≡ refused self.old }
         ensures err { OnErr result (self.new ≡ self.old) }

@@ -2,7 +2,7 @@ ghost use Rattle.std.specs.Prelude.{◌≡◌, ◌+◌, ◌≤◌, ◌++◌, not
 ghost use Rattle.glyph_lists.specs.Items.{clusters, flags_of};
 ghost use Rattle.glyph_lists.specs.Events.{first_of, last_of, or, replaced, stretch};
 ghost use Rattle.glyph_lists.specs.Merges.{replaced_at};
-ghost use Rattle.glyph_lists.specs.Order.{IsOrdered};
+ghost use Rattle.glyph_lists.specs.Order.{BringsNone, IsOrdered};
 ghost use Rattle.glyph_lists.specs.Glyphs.{beside_merged, flags_merged_at, glyphs_merged_at, is_marked_at};
 ghost use Rattle.glyph_lists.specs.Replacements.{copied, glyph_numbered, items_replaced};
 ghost use Rattle.glyph_buffer.specs.Sides.{all_glyphs, items_of, refused};
@@ -31,6 +31,7 @@ impl hb_buffer_t {
         ensures replaced { result ≡ Ok true → self.new ≡ with_replaced num_in glyph_data.now self.old }
         ensures items { result ≡ Ok true → items_of self.new ≡ items_replaced (length self.old.behind) num_in glyph_data.now (items_of self.old) }
         ensures clusters { result ≡ Ok true → clusters (all_glyphs self.new) ≡ replaced_at self.old.level (length self.old.behind) num_in num_out (clusters (all_glyphs self.old)) }
+        ensures numbers { result ≡ Ok true → BringsNone (clusters (all_glyphs self.old)) (clusters (all_glyphs self.new)) }
         ensures flags { result ≡ Ok true → flags_of (all_glyphs self.new) ≡ replaced (length self.old.behind) num_in num_out (flags_merged_at self.old.level (length self.old.behind) (length self.old.behind + num_in) (all_glyphs self.old)) }
         ensures full { result ≡ Ok false → self.new ≡ refused self.old }
         ensures err { OnErr result (self.new ≡ self.old) }

@@ -1,5 +1,6 @@
 ghost use Rattle.std.specs.Prelude.{◌≡◌, ◌≤◌, false, length, reverse, vec_len};
 ghost use Rattle.glyph_lists.specs.Items.{clusters};
+ghost use Rattle.glyph_lists.specs.Order.{BringsNone, BringsNone};
 ghost use Rattle.glyph_buffer.specs.Sides.{all_glyphs, flags_of, items_of, reversed, with_cleared_places};
 ghost use Rattle.glyph_buffer.specs.Moving.{range_reversed, with_range_reversed};
 
@@ -15,6 +16,7 @@ impl hb_buffer_t {
         ensures turned { self.new ≡ reversed self.old }
         ensures items { items_of self.new ≡ reverse (items_of self.old) }
         ensures parts { clusters (all_glyphs self.new) ≡ reverse (clusters (all_glyphs self.old)) }
+        ensures numbers { BringsNone (clusters (all_glyphs self.old)) (clusters (all_glyphs self.new)) }
         ensures flags { flags_of (all_glyphs self.new) ≡ reverse (flags_of (all_glyphs self.old)) }
     {
         self.order = self
@@ -34,6 +36,7 @@ impl hb_buffer_t {
         ensures turned { self.new ≡ with_range_reversed start end self.old }
         ensures items { items_of self.new ≡ range_reversed start end (items_of self.old) }
         ensures clusters { clusters (all_glyphs self.new) ≡ range_reversed start end (clusters (all_glyphs self.old)) }
+        ensures numbers { BringsNone (clusters (all_glyphs self.old)) (clusters (all_glyphs self.new)) }
         ensures flags { flags_of (all_glyphs self.new) ≡ range_reversed start end (flags_of (all_glyphs self.old)) }
     {
         self.order = KnownOrder::Unknown;

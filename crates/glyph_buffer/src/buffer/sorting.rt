@@ -1,7 +1,7 @@
 ghost use Rattle.std.specs.Prelude.{◌≡◌, ◌≤◌, ◌++◌, ℕ, Bool, false, true, take, drop, length, slice_range, vec_len, IfOk, OnOk, OnErr};
 ghost use Rattle.glyph_types.specs.declared.info.hb_glyph_info_t.{hb_glyph_info_t as Glyph};
 ghost use Rattle.glyph_lists.specs.Items.{Item, clusters, flags_of, item_of, strip};
-ghost use Rattle.glyph_lists.specs.Order.{IsInOrder, IsOrdered};
+ghost use Rattle.glyph_lists.specs.Order.{BringsNone, IsInOrder, IsOrdered};
 ghost use Rattle.stable_order.specs.Keys.{key_order};
 ghost use Rattle.glyph_slices.specs.SortedFacts.{clusters_sorted, flags_sorted};
 ghost use Rattle.glyph_slices.specs.Sorting.{Gives, range_sorted};
@@ -33,6 +33,7 @@ impl hb_buffer_t {
         ensures sorted { (k : Glyph → ℕ) → Gives F.Fn key k → OnOk result (self.new ≡ with_range_sorted start end k self.old) }
         ensures items { (k : Item → ℕ) → Gives F.Fn key (λ g. k (item_of g)) → OnOk result (items_of self.new ≡ take start (items_of self.old) ++ key_order k (slice_range (items_of self.old) start end) ++ drop end (items_of self.old)) }
         ensures clusters { (k : Item → ℕ) → Gives F.Fn key (λ g. k (item_of g)) → OnOk result (clusters (all_glyphs self.new) ≡ clusters_sorted self.old.level start end k (items_of self.old) (clusters (all_glyphs self.old))) }
+        ensures numbers { (k : Glyph → ℕ) → Gives F.Fn key k → OnOk result (BringsNone (clusters (all_glyphs self.old)) (clusters (all_glyphs self.new))) }
         ensures flags { (k : Glyph → ℕ) → Gives F.Fn key k → OnOk result (flags_of (all_glyphs self.new) ≡ flags_sorted self.old.level start end k (all_glyphs self.old)) }
         ensures closed { self.new.is_open ≡ false }
         ensures count { length (all_glyphs self.new) ≡ length (all_glyphs self.old) }

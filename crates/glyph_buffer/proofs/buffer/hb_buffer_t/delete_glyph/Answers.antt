@@ -7,6 +7,7 @@ use Rattle.glyph_buffer.specs.Moving.{zero_glyph}
 use Rattle.glyph_buffer.specs.Sides.{Sides, all_glyphs, items_of}
 use Rattle.glyph_buffer.proofs.Deleting.{deleted_view, left_flags, left_items, left_numbers, order_gone}
 use Rattle.glyph_buffer.proofs.Ordered.{known_ordered, known_ahead, known_back}
+use Rattle.glyph_buffer.proofs.Brings.{delete_brings}
 use Rattle.glyph_buffer.proofs.buffer.hb_buffer_t.delete_glyph.Goals as goal
 
 pub delete_at-marked-requires-clause-known : goal.delete_at-marked-requires-clause-known
@@ -37,6 +38,9 @@ returns-clause-items c =
 
 pub returns-clause-clusters : goal.returns-clause-clusters
 returns-clause-clusters c g back e = ap (λ (s : Sides). clusters (all_glyphs s)) (returns-clause-deleted c g back e) ∙ left_numbers g back c.args.self.now
+
+pub returns-clause-numbers : goal.returns-clause-numbers
+returns-clause-numbers c = delete_brings c.args.self.now.level c.args.self.now.behind c.args.self.now.ahead _ c.requires.there (λ g back e. returns-clause-clusters c g back e)
 
 pub returns-clause-flags : goal.returns-clause-flags
 returns-clause-flags c g back e = ap (λ (s : Sides). flags_of (all_glyphs s)) (returns-clause-deleted c g back e) ∙ left_flags g back c.args.self.now

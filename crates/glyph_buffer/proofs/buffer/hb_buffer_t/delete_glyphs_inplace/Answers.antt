@@ -4,6 +4,9 @@ use Rattle.glyph_buffer.specs.declared.buffer.order.KnownOrder.TheVariants.{Unkn
 use Rattle.glyph_buffer.specs.Grouping.{with_picked_deleted}
 use Rattle.glyph_buffer.specs.Merging.{telling_flags}
 use Rattle.glyph_buffer.proofs.Picked.{picked_view}
+use Rattle.glyph_lists.specs.Items.{clusters}
+use Rattle.glyph_buffer.specs.Sides.{Sides, all_glyphs}
+use Rattle.glyph_buffer.proofs.Brings.{brings_same, picked_brings}
 use Rattle.glyph_buffer.proofs.buffer.hb_buffer_t.delete_glyphs_inplace.Goals as goal
 
 pub returns-clause-deleted : goal.returns-clause-deleted
@@ -15,3 +18,6 @@ returns-clause-deleted g c goes tells =
     let flags = c.telling_flags-self-inside.ensures ∙ ap (λ any. telling_flags any b.scratch_flags) (picked.ensures.marked goes tells) in
     picked_view b picked.new.info picked.new.places Unknown None goes c.min-self-inside.result _ closed (picked.ensures.glyphs goes tells) (picked.ensures.places goes tells) (c.min-self-inside.ensures ∙ ap (min b.idx) count) flags
     ∙ ap (with_picked_deleted goes) c.self.view_is
+
+pub returns-clause-numbers : goal.returns-clause-numbers
+returns-clause-numbers g c goes tells = brings_same _ _ _ (ap (λ (s : Sides). clusters (all_glyphs s)) (returns-clause-deleted g c goes tells)) (picked_brings goes c.args.self.now)

@@ -6,6 +6,8 @@ use Rattle.glyph_lists.specs.Items.{clusters, flags_of}
 use Rattle.glyph_buffer.specs.Sides.{Sides, all_glyphs, items_of}
 use Rattle.glyph_buffer.specs.Merging.{place_of, telling_flags, with_merged}
 use Rattle.glyph_buffer.proofs.Merged.{merged_view, merged_items, merged_clusters, merged_flags}
+use Rattle.glyph_lists.specs.Lemmas.Merges.{merged_at_brings}
+use Rattle.glyph_buffer.proofs.Brings.{brings_same}
 use Rattle.glyph_buffer.proofs.buffer.hb_buffer_t.merge_clusters.Goals as goal
 
 pub returns-clause-merged : goal.returns-clause-merged
@@ -19,6 +21,9 @@ returns-clause-items c = ap items_of (returns-clause-merged c) ∙ merged_items 
 
 pub returns-clause-clusters : goal.returns-clause-clusters
 returns-clause-clusters c = ap (λ (s : Sides). clusters (all_glyphs s)) (returns-clause-merged c) ∙ merged_clusters c.args.start c.args.end c.args.self.now c.requires.ordered
+
+pub returns-clause-numbers : goal.returns-clause-numbers
+returns-clause-numbers c = brings_same _ _ _ (returns-clause-clusters c) (merged_at_brings c.args.self.now.level _ _ _)
 
 pub returns-clause-flags : goal.returns-clause-flags
 returns-clause-flags c = ap (λ (s : Sides). flags_of (all_glyphs s)) (returns-clause-merged c) ∙ merged_flags c.args.start c.args.end c.args.self.now

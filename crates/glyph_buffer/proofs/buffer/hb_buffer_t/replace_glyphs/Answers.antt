@@ -10,6 +10,8 @@ use Rattle.glyph_lists.specs.Merges.{replaced_at}
 use Rattle.glyph_buffer.specs.Sides.{Sides, all_glyphs, items_of}
 use Rattle.glyph_buffer.specs.Merging.{telling_flags, with_replaced}
 use Rattle.glyph_buffer.proofs.Replaced.{replaced_within, room_is, replaced_view, replaced_items, replaced_clusters, replaced_flags}
+use Rattle.glyph_lists.specs.Steps.{replacement_brings}
+use Rattle.glyph_buffer.proofs.Brings.{brings_same}
 use Rattle.glyph_buffer.proofs.buffer.hb_buffer_t.replace_glyphs.Goals as goal
 
 pub returns-clause-replaced : goal.returns-clause-replaced
@@ -26,6 +28,9 @@ pub returns-clause-clusters : goal.returns-clause-clusters
 returns-clause-clusters c e =
     ap (λ (s : Sides). clusters (all_glyphs s)) (returns-clause-replaced c e) ∙ replaced_clusters c.args.num_in c.args.glyph_data.now c.args.self.now
     ∙ ap (λ n. replaced_at c.args.self.now.level (length c.args.self.now.behind) c.args.num_in n (clusters (all_glyphs c.args.self.now))) (sym c.requires.given)
+
+pub returns-clause-numbers : goal.returns-clause-numbers
+returns-clause-numbers c e = brings_same _ _ _ (returns-clause-clusters c e) (replacement_brings c.args.self.now.level (length c.args.self.now.behind) c.args.num_in c.args.num_out _)
 
 pub returns-clause-flags : goal.returns-clause-flags
 returns-clause-flags c e =

@@ -5,6 +5,7 @@ use Rattle.glyph_buffer.specs.Merging.{with_skipped}
 use Rattle.glyph_buffer.specs.Sides.{Sides, all_glyphs, items_of}
 use Rattle.glyph_buffer.proofs.Apart.{skipped_view, skipped_items, skipped_clusters, skipped_flags}
 use Rattle.glyph_buffer.proofs.Ordered.{order_skipped}
+use Rattle.glyph_buffer.proofs.Brings.{brings_same, skip_brings}
 use Rattle.glyph_buffer.proofs.buffer.hb_buffer_t.skip_glyph.Goals as goal
 
 pub returns-clause-skipped : goal.returns-clause-skipped
@@ -15,6 +16,9 @@ returns-clause-items c = ap items_of (returns-clause-skipped c) ∙ skipped_item
 
 pub returns-clause-clusters : goal.returns-clause-clusters
 returns-clause-clusters c = ap (λ (s : Sides). clusters (all_glyphs s)) (returns-clause-skipped c) ∙ skipped_clusters c.args.self.now
+
+pub returns-clause-numbers : goal.returns-clause-numbers
+returns-clause-numbers c = brings_same _ _ _ (returns-clause-clusters c) (skip_brings c.args.self.now.behind c.args.self.now.ahead)
 
 pub returns-clause-flags : goal.returns-clause-flags
 returns-clause-flags c = ap (λ (s : Sides). flags_of (all_glyphs s)) (returns-clause-skipped c) ∙ skipped_flags c.args.self.now
