@@ -1,25 +1,24 @@
 -- A run that takes the cluster of one glyph after another takes that of the last.
-use Rattle.std.proofs.Common.{ℕ, ◌≡◌, ◌≢◌, ◌≤◌, ◌<◌, ◌+◌, ◌-◌, ◌==◌, ◌&&◌, inl, inr, nat_lt, Bool, true, false, if◌then◌else◌, List, [], ◌∷◌, ◌++◌, Option, Some, None, length, map, arith, refl, ap, sym, subst, ◌∙◌}
+use Rattle.std.proofs.Common.{ℕ, ◌≡◌, ◌≢◌, ◌≤◌, ◌<◌, ◌+◌, ◌-◌, ◌==◌, ◌&&◌, inl, inr, Bool, true, false, if◌then◌else◌, List, [], ◌∷◌, ◌++◌, Option, Some, None, length, map, arith, refl, ap, sym, subst, ◌∙◌}
 use Rattle.std.specs.List.{list_all}
-use Rattle.std.proofs.lemmas.Bool.Decides.{nat_tests}
 use Rattle.std.proofs.lemmas.Grind.{common_steps}
 use Rattle.std.proofs.lemmas.Nat.{and_mask}
 use Rattle.std.proofs.lemmas.List.{length-map}
 use Rattle.std.specs.Int.RustNames.{bit_and}
 use Rattle.glyph_types.specs.declared.info.hb_glyph_info_t.{hb_glyph_info_t as Glyph}
-use Rattle.glyph_types.specs.declared.level.BufferClusterLevel.{BufferClusterLevel as Level}
 use Rattle.glyph_lists.specs.Items.{clusters, without_flags}
-use Rattle.glyph_lists.specs.Events.{first_of, last_of, last_from, is_number}
+use Rattle.glyph_lists.specs.Events.{last_of, last_from}
 use Rattle.glyph_lists.specs.Order.{IsOrdered}
 use Rattle.glyph_lists.specs.Lemmas.Numbers.{Has, has_here, has_more, has_last_from}
 use Rattle.glyph_lists.specs.Lemmas.Events.{Stands, stands_self}
 use Rattle.glyph_lists.specs.Lemmas.Ends.{to_last}
 use Rattle.glyph_lists.specs.Lemmas.Merges.{chain_left, chain_across}
 use Rattle.glyph_lists.specs.Lemmas.Deletions.{last_is}
-use Rattle.glyph_slices.specs.Deleting.{recast, end_recast_from, end_recast, Left, glyphs_deleted, deletion_marks}
+use Rattle.glyph_slices.specs.Deleting.{recast, end_recast_from, end_recast}
 use Rattle.glyph_slices.specs.Deleted.{recast_cluster}
-use Rattle.glyph_slices.specs.DeletionWalk.{Deletes, IsDue, settled}
-use Rattle.glyph_slices.proofs.Walking.{has_last, last_recast}
+use Rattle.glyph_slices.specs.DeletionWalk.{IsDue, settled}
+use Rattle.glyph_slices.specs.OneDeleted.{has_last}
+use Rattle.glyph_slices.proofs.Walking.{last_recast}
 
 equal_test : (m n : ℕ) → m ≡ n → (m == n) ≡ true
 equal_test m n e = grind (arith, common_steps, e)
@@ -121,30 +120,3 @@ due_new (Some d) in_order g hs back p sure some is o last lt =
   where
     some_is : {m n : ℕ} → Some m ≡ Some n → m ≡ n
     some_is e = cc
-
--- a glyph of a lesser cluster than the last before it, and of another than the next
-pub deletes_less : (level : Level) (front ahead new : List Glyph) (g : Glyph) (rest : List Glyph) (p : ℕ) → ahead ≡ g ∷ rest → last_of (clusters front) ≡ Some p → g.cluster < p → is_number (first_of (clusters rest)) g.cluster ≡ false → new ≡ end_recast g front
-    → Deletes level front ahead new rest false
-deletes_less level front ahead new g rest p a last lt next n = record {
-  front_is = λ h back e. n ∙ sym (ap (λ (l : Left). l.front) (found h back e));
-  back_is = λ h back e. sym (ap (λ (l : Left). l.back) (found h back e));
-  marked_is = λ h back e. let same : g ≡ h = cc in let tail : rest ≡ back = cc in subst (λ (k : Glyph). false ≡ deletion_marks level (clusters front) k.cluster (clusters back)) same (subst (λ (ks : List Glyph). false ≡ deletion_marks level (clusters front) g.cluster (clusters ks)) tail none);
-}
-  where
-    apart : is_number (Some p) g.cluster ≡ false
-    apart = apart_test p g.cluster (λ same. absurd (omega (arith, same, lt)))
-
-    less : nat_lt g.cluster p ≡ true
-    less = grind (arith, nat_tests, common_steps)
-
-    is : glyphs_deleted level front g rest ≡ record { front = end_recast g front; back = rest }
-    is = let one = apart in let two = less in rw (last, one, next, two) (ap (λ (hs : List Glyph). record { front = hs; back = rest }) (rw last refl))
-
-    none : false ≡ deletion_marks level (clusters front) g.cluster (clusters rest)
-    none = let one = apart in rw (last, one, next) refl
-
-    found : (h : Glyph) (back : List Glyph) → ahead ≡ h ∷ back → glyphs_deleted level front h back ≡ record { front = end_recast g front; back = rest }
-    found h back e =
-        let same : g ≡ h = cc in
-        let tail : rest ≡ back = cc in
-        subst (λ (k : Glyph). glyphs_deleted level front k back ≡ record { front = end_recast g front; back = rest }) same (subst (λ (ks : List Glyph). glyphs_deleted level front g ks ≡ record { front = end_recast g front; back = rest }) tail is)

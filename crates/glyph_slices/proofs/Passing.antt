@@ -1,20 +1,13 @@
 -- A walk of deletions passes one glyph.
-use Rattle.std.proofs.Common.{ℕ, suc, ◌≡◌, ◌≤◌, ◌<◌, ◌+◌, ◌-◌, ◌||◌, inl, inr, Bool, true, false, if◌then◌else◌, List, [], ◌∷◌, ◌++◌, Option, Some, None, length, take, drop, get_or, arith, refl, ap, sym, subst, ◌∙◌, append_assoc}
+use Rattle.std.proofs.Common.{ℕ, suc, ◌≡◌, ◌≤◌, ◌<◌, ◌+◌, ◌-◌, ◌||◌, Bool, true, false, if◌then◌else◌, List, [], ◌∷◌, ◌++◌, Option, Some, None, length, take, drop, get_or, arith, refl, ap, sym, subst, ◌∙◌, append_assoc}
 use Rattle.std.proofs.lemmas.List.{drop_more, map-append, take-append-drop, drop-drop, length-take-le}
 use Rattle.std.proofs.Math.Seq.{drop-append-add}
 use Rattle.glyph_types.specs.declared.info.hb_glyph_info_t.{hb_glyph_info_t as Glyph}
 use Rattle.glyph_types.specs.declared.level.BufferClusterLevel.{BufferClusterLevel as Level}
-use Rattle.glyph_types.specs.declared.level.BufferClusterLevel.TheVariants.{MonotoneGraphemes, MonotoneCharacters, Characters}
 use Rattle.glyph_lists.specs.Items.{Place, clusters}
-use Rattle.glyph_lists.specs.Events.{Delete, first_of, last_of, is_number}
-use Rattle.glyph_lists.specs.Order.{IsInOrder, IsOrdered}
-use Rattle.glyph_lists.specs.Readings.{IsMonotone}
-use Rattle.glyph_lists.specs.Deletions.{deleted}
-use Rattle.glyph_lists.specs.Lemmas.Deletions.{deletion_is_event, no_last}
-use Rattle.glyph_lists.specs.Lemmas.Events.{event_keeps_order}
+use Rattle.glyph_lists.specs.Order.{IsOrdered}
 use Rattle.glyph_slices.specs.declared.deletion.walk.Walk.{Walk}
-use Rattle.glyph_slices.specs.Deleting.{glyphs_deleted}
-use Rattle.glyph_slices.specs.Deleted.{clusters_deleted}
+use Rattle.glyph_slices.specs.OneDeleted.{left_clusters, ordered_deleted}
 use Rattle.glyph_slices.specs.DeletionWalk.{Deletes, IsDue, IsWalk, Passed, all_passed, many_passed, settled, passed_at, passed_of, first_passed, with_glyph, without_glyph}
 use Rattle.glyph_slices.proofs.Neighbours.{no_glyph}
 
@@ -26,34 +19,6 @@ pub behind_front : (at : ℕ) (gs ys : List Glyph) → at ≤ length gs → drop
 behind_front at gs ys le =
     let long : length (take at gs) ≡ at = length-take-le at gs le in
     ap (λ n. drop (n + 1) (take at gs ++ ys)) (sym long) ∙ drop-append-add (take at gs) ys 1
-
-order_at : (falls : Bool) (level : Level) (front : List ℕ) (n : ℕ) (back : List ℕ) → IsMonotone level → IsInOrder falls (front ++ n ∷ back) → IsInOrder falls (deleted level front n back)
-order_at falls level front n back mono o = subst (IsInOrder falls) (sym (deletion_is_event level falls front n back mono o)) (event_keeps_order (Delete (length front)) falls (front ++ n ∷ back) o)
-
-order_monotone : (level : Level) (front : List ℕ) (n : ℕ) (back : List ℕ) → IsMonotone level → IsOrdered (front ++ n ∷ back) → IsOrdered (deleted level front n back)
-order_monotone level front n back mono o = elim o [ inl rises ↦ inl (order_at false level front n back mono rises) | inr falls ↦ inr (order_at true level front n back mono falls) ]
-
-order_tail : (n : ℕ) (ns : List ℕ) → IsOrdered (n ∷ ns) → IsOrdered ns
-order_tail n ns o = elim o [ inl rises ↦ inl rises.1 | inr falls ↦ inr falls.1 ]
-
--- a deletion keeps the order
-order_deleted : (level : Level) (front : List ℕ) (n : ℕ) (back : List ℕ) → IsOrdered (front ++ n ∷ back) → IsOrdered (deleted level front n back)
-order_deleted MonotoneGraphemes front n back o = order_monotone MonotoneGraphemes front n back tt o
-order_deleted MonotoneCharacters front n back o = order_monotone MonotoneCharacters front n back tt o
-order_deleted Characters front n back o = by_last (last_of front) refl
-  where
-    alike : (p : ℕ) → last_of front ≡ Some p → deleted MonotoneGraphemes front n back ≡ deleted Characters front n back
-    alike p e = rw e refl
-
-    none : front ≡ [] → deleted Characters front n back ≡ back
-    none e = rw e (elim (is_number (first_of back) n) as (λ t. (if t then back else back) ≡ back) [ true ↦ refl | false ↦ refl ])
-
-    by_last : (l : Option ℕ) → last_of front ≡ l → IsOrdered (deleted Characters front n back)
-    by_last (Some p) e = subst IsOrdered (alike p e) (order_monotone MonotoneGraphemes front n back tt o)
-    by_last None e =
-        let empty = no_last front e in
-        let all : IsOrdered (n ∷ back) = subst (λ (ms : List ℕ). IsOrdered (ms ++ n ∷ back)) empty o in
-        subst IsOrdered (sym (none empty)) (order_tail n back all)
 
 pub passed_without : (level : Level) (at : ℕ) (w v : Walk) (gs new : List Glyph) (ps : List Place) (g : Glyph) (back : List Glyph) (m : Bool)
     → Deletes level (settled w.due (take w.kept gs)) (drop at gs) (settled v.due (take v.kept new)) (drop (at + 1) new) m → v.kept ≡ w.kept → v.marked ≡ (w.marked || m) → drop at gs ≡ g ∷ back
@@ -83,9 +48,8 @@ walk_without level in_order at w v gs new m lt gone kept due sound = record {
         let back = drop (at + 1) gs in
         let before = settled w.due (take w.kept gs) in
         let old : IsOrdered (clusters before ++ clusters (h ∷ back)) = subst (λ (hs : List Glyph). IsOrdered (clusters before ++ clusters hs)) cut (sound.known sure) in
-        let after = order_deleted level (clusters before) h.cluster (clusters back) old in
-        let seen : clusters (settled v.due (take v.kept new)) ++ clusters (drop (at + 1) new) ≡ deleted level (clusters before) h.cluster (clusters back) =
-        ap (λ hs. clusters hs ++ clusters (drop (at + 1) new)) (gone.front_is h back cut) ∙ ap (λ hs. clusters (glyphs_deleted level before h back).front ++ clusters hs) (gone.back_is h back cut) ∙ clusters_deleted level before h back in
+        let after = ordered_deleted level (clusters before) h.cluster (clusters back) old in
+        let seen = left_clusters level before (drop at gs) (settled v.due (take v.kept new)) (drop (at + 1) new) m h back cut gone in
         subst IsOrdered (sym seen) after
 
 -- with none that stays before it

@@ -11,12 +11,13 @@ use Rattle.glyph_lists.specs.Events.{stretch}
 use Rattle.glyph_lists.specs.Merges.{least_number, merged, merged_at}
 use Rattle.glyph_lists.specs.Order.{has_number}
 use Rattle.glyph_lists.specs.Glyphs.{in_cluster, marked_outside, flags_outside, glyphs_marked}
-use Rattle.glyph_lists.specs.Lemmas.Glyphs.{flags_in_cluster, flags_of_outside, without_flags_again}
+use Rattle.glyph_lists.specs.Lemmas.Glyphs.{flags_of_outside, without_flags_again}
 use Rattle.glyph_lists.specs.Lemmas.Merges.{least_number_is}
 use Rattle.glyph_slices.specs.Groups.{joined_behind, group_length}
 use Rattle.glyph_slices.specs.Turning.{Turning, all_turned, group_turned, turned}
 use Rattle.glyph_slices.specs.Facts.{group_lengths, stretches_merged, stretches_turned}
 use Rattle.glyph_slices.specs.Flags.{flags_where_same, flags_outside_of, stretches_marked, flags_turned}
+use Rattle.glyph_slices.specs.DeletedFlags.{cast, flags_cast}
 use Rattle.glyph_slices.proofs.Stretches.{beside_all, total, joined_within, total_lengths, all_mapped}
 use Rattle.glyph_slices.proofs.Regrouped.{of_items, few_ahead, lengths_ahead, ahead_clusters}
 use Rattle.glyph_slices.proofs.Turned.{all_idle, nothing_merged}
@@ -33,10 +34,6 @@ merged_falls (x ∷ xs) n = by_test (has_number (x ∷ xs) n) refl
 beside_falls : (lens ns : List ℕ) (m : ℕ) → beside_all MonotoneGraphemes lens ns m ≤ m
 beside_falls [] ns m = omega arith
 beside_falls (n ∷ lens) ns m = omega (arith, beside_falls lens (drop n (merged_at MonotoneGraphemes 0 n ns)) (merged (stretch 0 n ns) m), merged_falls (stretch 0 n ns) m)
-
--- a glyph in the cluster that f gives for its own
-abbrev cast : (ℕ → ℕ) → Glyph → Glyph
-cast f g = in_cluster (f g.cluster) g
 
 cast_twice : (a b : ℕ → ℕ) (g : Glyph) → a g.cluster ≤ g.cluster → b (a g.cluster) ≤ a g.cluster → cast b (cast a g) ≡ cast (λ n. b (a n)) g
 cast_twice a b g low lower = by_first (g.cluster == a g.cluster) refl
@@ -107,10 +104,6 @@ cast_many (suc n) q gs ps pa m (x ∷ xs) le =
     ∙ ap (λ hs. stretches_turned lens (drop k all) ++ hs) (map-append (cast f) (take k now) (map (cast b) gs) ∙ ap (λ hs. hs ++ map (cast f) (map (cast b) gs)) first ∙ ap (λ hs. take k all ++ hs) (twice gs))
     ∙ sym (append_assoc (stretches_turned lens (drop k all)) (take k all) (map (cast whole) gs))
     ∙ ap (λ ks. stretches_turned ks (map (cast (beside_all l ks ns)) (x ∷ xs)) ++ map (cast (beside_all l ks ns)) gs) (sym (lengths_ahead true l q x xs))
-
-pub flags_cast : (f : ℕ → ℕ) (gs : List Glyph) → flags_of (map (cast f) gs) ≡ flags_where_same 0 (clusters gs) (map f (clusters gs)) (flags_of gs)
-flags_cast f [] = refl
-flags_cast f (g ∷ gs) = ap (λ k. k ∷ flags_of (map (cast f) gs)) (flags_in_cluster (f g.cluster) g) ∙ ap (λ ks. (if g.cluster == f g.cluster then glyph_flags g else 0) ∷ ks) (flags_cast f gs)
 
 merged_flags : (q : Item → Item → Bool) (gs : List Glyph) (ps : List Place) → flags_of (turned true MonotoneGraphemes (of_items q) gs ps).glyphs ≡ flags_turned true MonotoneGraphemes q (strip gs) (clusters gs) (flags_of gs)
 merged_flags q gs ps =

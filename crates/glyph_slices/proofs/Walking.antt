@@ -1,6 +1,6 @@
 -- Steps of a walk of deletions.
 use borrow.Rule.Slice.PartMut.{put_mid}
-use Rattle.std.proofs.Common.{ℕ, ◌≡◌, ◌≢◌, ◌≤◌, ◌<◌, ◌+◌, ◌-◌, ◌==◌, Bool, true, false, if◌then◌else◌, List, [], ◌∷◌, ◌++◌, Option, Some, None, length, map, take, drop, get_or, set, arith, refl, ap, sym, subst, ◌∙◌}
+use Rattle.std.proofs.Common.{ℕ, ◌≡◌, ◌≢◌, ◌≤◌, ◌<◌, ◌+◌, ◌-◌, ◌==◌, Bool, true, false, if◌then◌else◌, List, [], ◌∷◌, ◌++◌, Option, Some, None, length, map, take, drop, get_or, set, arith, refl, ap, sym, ◌∙◌}
 use Rattle.std.proofs.lemmas.Grind.{common_steps}
 use Rattle.std.proofs.lemmas.List.{drop_more, drop_all, drop-drop, length-take-le, length-map, take_more_set, drop-set-lt}
 use Rattle.std.proofs.Math.Seq.{take-append_seam, drop-append-add}
@@ -9,15 +9,15 @@ use Rattle.glyph_types.specs.declared.info.hb_glyph_info_t.{hb_glyph_info_t as G
 use Rattle.glyph_types.specs.declared.level.BufferClusterLevel.{BufferClusterLevel}
 use Rattle.glyph_types.specs.declared.level.BufferClusterLevel.TheVariants.{MonotoneGraphemes, MonotoneCharacters, Characters}
 use Rattle.glyph_lists.specs.Items.{clusters}
-use Rattle.glyph_lists.specs.Events.{first_of, last_of, last_from, is_number}
+use Rattle.glyph_lists.specs.Events.{first_of, last_of, is_number}
 use Rattle.glyph_lists.specs.Deletions.{end_renumbered}
 use Rattle.glyph_lists.specs.Lemmas.Drawn.{last_more}
-use Rattle.glyph_lists.specs.Lemmas.Deletions.{last_is}
 use Rattle.glyph_lists.specs.Glyphs.{glyphs_merged_at, is_marked_at}
 use Rattle.glyph_lists.specs.Lemmas.Glyphs.{length_merged_at}
-use Rattle.glyph_slices.specs.Deleting.{end_recast, Left, glyphs_deleted_alone, glyphs_deleted, deletion_marks}
+use Rattle.glyph_slices.specs.Deleting.{end_recast}
 use Rattle.glyph_slices.specs.Deleted.{end_clusters, end_length}
 use Rattle.glyph_slices.specs.DeletionWalk.{Deletes, settled}
+use Rattle.glyph_slices.specs.OneDeleted.{deletes_as, has_last}
 
 pub settled_put : (kept : ℕ) (g : Glyph) (gs range : List Glyph) → range ≡ end_recast g (take kept gs) → put_mid 0 kept gs range ≡ end_recast g (take kept gs) ++ drop kept gs
 settled_put kept g gs range e = rw e refl
@@ -58,74 +58,30 @@ none_apart MonotoneGraphemes n = refl
 none_apart MonotoneCharacters n = refl
 none_apart Characters n = let same : (n == n) ≡ true = grind (arith, common_steps) in rw same refl
 
-lone : (level : BufferClusterLevel) (g : Glyph) → [] ≡ drop 1 (glyphs_merged_at level 0 2 (g ∷ []))
-lone level g = sym (drop_all 1 (glyphs_merged_at level 0 2 (g ∷ [])) (omega (arith, length_merged_at level 0 2 (g ∷ []) (omega arith))))
-
-tail_is : {X : Type 0} (xs ys : List X) (x : X) → xs ≡ x ∷ ys → drop 1 xs ≡ ys
-tail_is xs ys x e = ap (drop 1) e
+lone : (level : BufferClusterLevel) (g : Glyph) → drop 1 (glyphs_merged_at level 0 2 (g ∷ [])) ≡ []
+lone level g = drop_all 1 (glyphs_merged_at level 0 2 (g ∷ [])) (omega (arith, length_merged_at level 0 2 (g ∷ []) (omega arith)))
 
 -- one glyph alone
-pub first_alone : (level : BufferClusterLevel) (rest : List Glyph) → length rest < 2 → Deletes level [] rest [] (drop 1 rest) false
-first_alone level rest lt = record {
-  front_is = λ g back e. front g back;
-  back_is = λ g back e. tail_is rest back g e ∙ behind g back (few g back e);
-  marked_is = λ g back e. none g back (few g back e);
-}
-  where
-    few : (g : Glyph) (back : List Glyph) → rest ≡ g ∷ back → length back < 1
-    few g back e = omega (arith, ap length e)
+pub first_alone : (level : BufferClusterLevel) (ahead : List Glyph) → length ahead < 2 → Deletes level [] ahead [] (drop 1 ahead) false
+first_alone level [] lt = record { front_is = λ g back e. cc; back_is = λ g back e. cc; marked_is = λ g back e. cc }
+first_alone level (g ∷ []) lt = deletes_as level [] (g ∷ []) g [] [] [] false refl (ap (λ (hs : List Glyph). record { front = []; back = hs }) (lone level g)) (none_apart level g.cluster)
+first_alone level (g ∷ h ∷ hs) lt = absurd (omega arith)
 
-    front : (g : Glyph) (back : List Glyph) → [] ≡ (glyphs_deleted level [] g back).front
-    front g back = elim (is_number (first_of (clusters back)) g.cluster) as (λ t. [] ≡ (if t then record { front = []; back = back } else glyphs_deleted_alone level None [] g back).front) [ true ↦ refl | false ↦ refl ]
-
-    behind : (g : Glyph) (back : List Glyph) → length back < 1 → back ≡ (glyphs_deleted level [] g back).back
-    behind g [] h = lone level g
-    behind g (k ∷ ks) h = absurd (omega arith)
-
-    none : (g : Glyph) (back : List Glyph) → length back < 1 → false ≡ deletion_marks level [] g.cluster (clusters back)
-    none g [] h = none_apart level g.cluster
-    none g (k ∷ ks) h = absurd (omega arith)
-
--- the next has its cluster
-pub first_same : (level : BufferClusterLevel) (rest : List Glyph) (d : Glyph) → 2 ≤ length rest → (get_or rest 0 d).cluster ≡ (get_or rest 1 d).cluster → Deletes level [] rest [] (drop 1 rest) false
+-- the next is of its cluster
+pub first_same : (level : BufferClusterLevel) (ahead : List Glyph) (d : Glyph) → 2 ≤ length ahead → (get_or ahead 0 d).cluster ≡ (get_or ahead 1 d).cluster → Deletes level [] ahead [] (drop 1 ahead) false
 first_same level [] d le same = absurd (omega arith)
 first_same level (x ∷ []) d le same = absurd (omega arith)
-first_same level (x ∷ y ∷ ys) d le same = record {
-  front_is = λ g back e. sym (ap (λ (l : Left). l.front) (found g back e));
-  back_is = λ g back e. tail_is (x ∷ y ∷ ys) back g e ∙ sym (ap (λ (l : Left). l.back) (found g back e));
-  marked_is = λ g back e. let t = number g back e in rw t refl;
-}
-  where
-    number : (g : Glyph) (back : List Glyph) → x ∷ y ∷ ys ≡ g ∷ back → is_number (first_of (clusters back)) g.cluster ≡ true
-    number g back e =
-        let first : x ≡ g = cc in
-        let rest : y ∷ ys ≡ back = cc in
-        let equal : (y.cluster == x.cluster) ≡ true = grind (arith, common_steps, same) in
-        subst (λ (hs : List Glyph). is_number (first_of (clusters hs)) g.cluster ≡ true) rest (subst (λ (h : Glyph). (y.cluster == h.cluster) ≡ true) first equal)
+first_same level (x ∷ y ∷ ys) d le same =
+    let equal : (y.cluster == x.cluster) ≡ true = grind (arith, common_steps, same) in
+    deletes_as level [] (x ∷ y ∷ ys) x (y ∷ ys) [] (y ∷ ys) false refl (rw equal refl) (rw equal refl)
 
-    found : (g : Glyph) (back : List Glyph) → x ∷ y ∷ ys ≡ g ∷ back → glyphs_deleted level [] g back ≡ record { front = []; back = back }
-    found g back e = let t = number g back e in rw t refl
-
--- the next has another
-pub first_other : (level : BufferClusterLevel) (rest new : List Glyph) (marked : Bool) (d : Glyph) → 2 ≤ length rest → (get_or rest 0 d).cluster ≢ (get_or rest 1 d).cluster → new ≡ glyphs_merged_at level 0 2 rest → marked ≡ is_marked_at level 0 2 (clusters rest)
-    → Deletes level [] rest [] (drop 1 new) marked
+pub first_other : (level : BufferClusterLevel) (ahead new : List Glyph) (marked : Bool) (d : Glyph) → 2 ≤ length ahead → (get_or ahead 0 d).cluster ≢ (get_or ahead 1 d).cluster → new ≡ glyphs_merged_at level 0 2 ahead → marked ≡ is_marked_at level 0 2 (clusters ahead)
+    → Deletes level [] ahead [] (drop 1 new) marked
 first_other level [] new marked d le other n m = absurd (omega arith)
 first_other level (x ∷ []) new marked d le other n m = absurd (omega arith)
-first_other level (x ∷ y ∷ ys) new marked d le other n m = record {
-  front_is = λ g back e. sym (ap (λ (l : Left). l.front) (found g back e));
-  back_is = λ g back e. ap (drop 1) (n ∙ ap (glyphs_merged_at level 0 2) e) ∙ sym (ap (λ (l : Left). l.back) (found g back e));
-  marked_is = λ g back e. let t = number g back e in rw t (m ∙ ap (λ hs. is_marked_at level 0 2 (clusters hs)) e);
-}
-  where
-    number : (g : Glyph) (back : List Glyph) → x ∷ y ∷ ys ≡ g ∷ back → is_number (first_of (clusters back)) g.cluster ≡ false
-    number g back e =
-        let first : x ≡ g = cc in
-        let rest : y ∷ ys ≡ back = cc in
-        let apart : (y.cluster == x.cluster) ≡ false = grind (arith, common_steps, other) in
-        subst (λ (hs : List Glyph). is_number (first_of (clusters hs)) g.cluster ≡ false) rest (subst (λ (h : Glyph). (y.cluster == h.cluster) ≡ false) first apart)
-
-    found : (g : Glyph) (back : List Glyph) → x ∷ y ∷ ys ≡ g ∷ back → glyphs_deleted level [] g back ≡ record { front = []; back = drop 1 (glyphs_merged_at level 0 2 (g ∷ back)) }
-    found g back e = let t = number g back e in rw t refl
+first_other level (x ∷ y ∷ ys) new marked d le other n m =
+    let apart : (y.cluster == x.cluster) ≡ false = grind (arith, common_steps, other) in
+    deletes_as level [] (x ∷ y ∷ ys) x (y ∷ ys) [] (drop 1 new) marked refl (rw apart (ap (λ (hs : List Glyph). record { front = []; back = drop 1 hs }) (sym n))) (rw apart m)
 
 pub next_is : (gs : List Glyph) (at c : ℕ) (d : Glyph) → at < length gs → ((get_or gs at d).cluster == c) ≡ is_number (first_of (clusters (drop at gs))) c
 next_is gs at c d lt = rw (drop_more gs at d lt) refl
@@ -154,10 +110,6 @@ last_renumbered p n (m ∷ k ∷ ks) e =
     behind : (a : ℕ) (js : List ℕ) → last_of js ≡ Some n → last_of (a ∷ js) ≡ Some n
     behind a [] h = cc
     behind a (b ∷ bs) h = last_more a b bs ∙ h
-
-pub has_last : (ns : List ℕ) → 0 < length ns → (p : ℕ) × (last_of ns ≡ Some p)
-has_last [] lt = absurd (omega arith)
-has_last (x ∷ xs) lt = (last_from x xs, last_is x xs)
 
 pub last_recast : (g : Glyph) (gs : List Glyph) → 0 < length gs → last_of (clusters (end_recast g gs)) ≡ Some g.cluster
 last_recast g gs lt =

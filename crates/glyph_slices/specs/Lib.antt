@@ -12,3 +12,5 @@ pub mod SortedFacts
 pub mod Flags
 pub mod Places
 pub mod NoNewNumbers
+pub mod OneDeleted
+pub mod DeletedFlags

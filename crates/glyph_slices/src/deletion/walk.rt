@@ -7,8 +7,7 @@ ghost use Rattle.glyph_lists.specs.Order.{IsOrdered};
 ghost use Rattle.glyph_slices.specs.Deleting.{Left, deletion_marks, end_recast, glyphs_deleted};
 ghost use Rattle.glyph_slices.specs.DeletionWalk.{Deletes, IsDue, IsWalk, Tells, first_passed, passed_at, settled, without_glyph};
 
-use super::{last_cluster, recast_end};
-use crate::merges::merge_at;
+use super::{delete_at_front, last_cluster, next_has, recast_end};
 use glyph_types::info::hb_glyph_info_t;
 use glyph_types::level::BufferClusterLevel;
 use glyph_types::position::GlyphPosition;
@@ -83,22 +82,6 @@ fn move_place(places: &mut [GlyphPosition], to: usize, from: usize)
     places[to] = places[from];
 }
 
-/// The first of some glyphs goes, with none before it; answers whether another was marked.
-#[tactic(auto, using(crate::proofs::Walking::first_alone, crate::proofs::Walking::first_same, crate::proofs::Walking::first_other))]
-fn delete_first(rest: &mut [hb_glyph_info_t], level: BufferClusterLevel, in_order: bool) -> bool
-    requires some { 0 < length rest.old }
-    requires known { in_order ≡ true → IsOrdered (clusters rest.old) }
-    ensures { Deletes level [] rest.old [] (drop 1 rest.new) result }
-{
-    if rest.len() < 2 {
-        return false;
-    }
-    if rest[0].cluster == rest[1].cluster {
-        return false;
-    }
-    merge_at(rest, level, 0, 2, in_order)
-}
-
 /// The cluster of the last glyph that stays, once it took what is due.
 #[tactic(auto, using(crate::proofs::Walking::last_settled))]
 fn last_kept(glyphs: &[hb_glyph_info_t], kept: usize, due: Option<hb_glyph_info_t>) -> u32
@@ -110,17 +93,6 @@ fn last_kept(glyphs: &[hb_glyph_info_t], kept: usize, due: Option<hb_glyph_info_
         Some(glyph) => glyph.cluster,
         None => last_cluster(&glyphs[..kept]),
     }
-}
-
-/// Whether there is a glyph at `at`, of the cluster.
-#[tactic(auto, using(crate::proofs::Walking::next_is, crate::proofs::Walking::next_none))]
-fn next_has(glyphs: &[hb_glyph_info_t], at: usize, cluster: u32) -> bool
-    ensures { result ≡ is_number (first_of (clusters (drop at glyphs.now))) cluster }
-{
-    if glyphs.len() <= at {
-        return false;
-    }
-    glyphs[at].cluster == cluster
 }
 
 /// The glyph at `at` goes, with others before it that stay.
@@ -149,21 +121,6 @@ fn delete_behind(glyphs: &mut [hb_glyph_info_t], at: usize, walk: Walk, in_order
     }
     settle(glyphs, walk.kept, Some(glyph));
     Walk { due: None, ..walk }
-}
-
-/// The glyph at `at` goes, the first of all.
-fn delete_at_front(
-    glyphs: &mut [hb_glyph_info_t],
-    at: usize,
-    level: BufferClusterLevel,
-    in_order: bool,
-) -> bool
-    requires within { at < length glyphs.old }
-    requires known { in_order ≡ true → IsOrdered (clusters (drop at glyphs.old)) }
-    ensures { Deletes level [] (drop at glyphs.old) [] (drop (at + 1) glyphs.new) result }
-{
-    let (_, rest) = glyphs.split_at_mut(at);
-    delete_first(rest, level, in_order)
 }
 
 /// The glyph at `at` goes.

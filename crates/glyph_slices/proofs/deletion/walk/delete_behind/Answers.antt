@@ -3,14 +3,15 @@ use Rattle.std.proofs.lemmas.List.{drop_more, length-take-le}
 use Rattle.glyph_slices.specs.DeletionWalk.{Deletes, settled}
 use Rattle.glyph_lists.specs.Items.{clusters}
 use Rattle.glyph_lists.specs.Order.{IsOrdered}
+use Rattle.glyph_slices.specs.OneDeleted.{taken_less}
 use Rattle.glyph_slices.proofs.Neighbours.{no_glyph}
 use Rattle.glyph_slices.proofs.Walking.{settled_front, settled_back}
-use Rattle.glyph_slices.proofs.Dues.{recast_due, due_new, deletes_less}
+use Rattle.glyph_slices.proofs.Dues.{recast_due, due_new}
 use Rattle.glyph_slices.proofs.deletion.walk.delete_behind.Goals as goal
 
 pub returns-then-in_order-clause-deletes : goal.returns-then-in_order-clause-deletes
 returns-then-in_order-clause-deletes c = λ level.
-    deletes_less level _ _ _ (get_or c.args.glyphs.now c.args.at no_glyph) _ c.last_kept-last.result (drop_more c.args.glyphs.now c.args.at no_glyph c.requires.within) c.last_kept-last.ensures c.if-last-glyph.false (sym c.next_has.ensures ∙ c.if-next_has.false)
+    taken_less level _ _ _ (get_or c.args.glyphs.now c.args.at no_glyph) _ c.last_kept-last.result (drop_more c.args.glyphs.now c.args.at no_glyph c.requires.within) c.last_kept-last.ensures c.if-last-glyph.false (sym c.next_has.ensures ∙ c.if-next_has.false)
     (recast_due c.args.walk.due c.args.in_order _ _ _ c.requires.sound.due c.last_kept-last.ensures c.if-last-glyph.false)
 
 pub returns-then-in_order-clause-due : goal.returns-then-in_order-clause-due
@@ -31,6 +32,6 @@ returns-clause-deletes c = λ level.
     let front = settled_front (Some g) c.args.walk.kept c.args.glyphs.now c.settle.new.glyphs within c.settle.ensures in
     let back = settled_back (Some g) c.args.walk.kept (c.args.at + 1) c.args.glyphs.now c.settle.new.glyphs (omega (arith, c.requires.sound.few)) within c.settle.ensures in
     subst (λ hs. Deletes level (settled c.args.walk.due kept) (drop c.args.at c.args.glyphs.now) (take c.args.walk.kept c.settle.new.glyphs) hs false) (sym back)
-    (deletes_less level (settled c.args.walk.due kept) (drop c.args.at c.args.glyphs.now) (take c.args.walk.kept c.settle.new.glyphs) g (drop (c.args.at + 1) c.args.glyphs.now) c.last_kept-last.result
+    (taken_less level (settled c.args.walk.due kept) (drop c.args.at c.args.glyphs.now) (take c.args.walk.kept c.settle.new.glyphs) g (drop (c.args.at + 1) c.args.glyphs.now) c.last_kept-last.result
     (drop_more c.args.glyphs.now c.args.at no_glyph c.requires.within) c.last_kept-last.ensures c.if-last-glyph.false (sym c.next_has.ensures ∙ c.if-next_has.false)
     (front ∙ recast_due c.args.walk.due c.args.in_order g kept c.last_kept-last.result c.requires.sound.due c.last_kept-last.ensures c.if-last-glyph.false))

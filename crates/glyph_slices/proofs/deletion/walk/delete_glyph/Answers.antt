@@ -4,7 +4,7 @@ use Rattle.glyph_slices.proofs.deletion.walk.delete_glyph.Goals as goal
 
 pub returns-then-walk-eq0 : goal.returns-then-walk-eq0
 returns-then-walk-eq0 c =
-    let gone = front_deletes c.args.level c.args.at c.args.walk c.args.glyphs.now c.delete_at_front-marked.new.glyphs _ c.if-walk-eq0.true c.delete_at_front-marked.ensures in
+    let gone = front_deletes c.args.level c.args.at c.args.walk c.args.glyphs.now c.delete_at_front-marked.new.glyphs _ c.if-walk-eq0.true c.delete_at_front-marked.ensures.deletes in
     record {
       passed = λ ps g back e. passed_without c.args.level c.args.at c.args.walk (record { kept = 0; due = None; marked = c.args.walk.marked || c.delete_at_front-marked.result }) c.args.glyphs.now c.delete_at_front-marked.new.glyphs ps g back c.delete_at_front-marked.result gone (sym c.if-walk-eq0.true) refl e;
       sound = walk_without c.args.level c.args.in_order c.args.at c.args.walk (record { kept = 0; due = None; marked = c.args.walk.marked || c.delete_at_front-marked.result }) c.args.glyphs.now c.delete_at_front-marked.new.glyphs c.delete_at_front-marked.result c.requires.within gone (sym c.if-walk-eq0.true) tt c.requires.sound;
