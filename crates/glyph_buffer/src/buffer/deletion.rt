@@ -14,8 +14,7 @@ ghost use Rattle.glyph_buffer.specs.Grouping.{with_deleted};
 
 use super::hb_buffer_t;
 use super::merges::telling_flags;
-use glyph_slices::deletion::recast_end;
-use glyph_slices::merges::merge_range;
+use glyph_slices::deletion::{delete_at_front, last_cluster, next_has, recast_end};
 use glyph_types::info::hb_glyph_info_t;
 use glyph_types::level::BufferClusterLevel;
 
@@ -81,36 +80,7 @@ fn delete_first(
     ensures deletes { Deletes level [] (drop at info.old.items) [] (drop (at + 1) info.new.items) result }
     ensures len { vec_len info.new ≡ vec_len info.old }
 {
-    delete_front(info, at, level, in_order)
-}
-
-fn delete_front(
-    glyphs: &mut [hb_glyph_info_t],
-    at: usize,
-    level: BufferClusterLevel,
-    in_order: bool,
-) -> bool
-    requires within { at < length glyphs.old }
-    requires known { in_order ≡ true → IsOrdered (clusters (drop at glyphs.old)) }
-    ensures { Deletes level [] (drop at glyphs.old) [] (drop (at + 1) glyphs.new) result }
-{
-    let (_, ahead) = glyphs.split_at_mut(at);
-    delete_alone(ahead, level, in_order)
-}
-
-#[tactic(auto, using(crate::proofs::Deleting::first_alone, crate::proofs::Deleting::first_same, crate::proofs::Deleting::first_other))]
-fn delete_alone(ahead: &mut [hb_glyph_info_t], level: BufferClusterLevel, in_order: bool) -> bool
-    requires some { 0 < length ahead.old }
-    requires known { in_order ≡ true → IsOrdered (clusters ahead.old) }
-    ensures { Deletes level [] ahead.old [] (drop 1 ahead.new) result }
-{
-    if ahead.len() < 2 {
-        return false;
-    }
-    if ahead[0].cluster == ahead[1].cluster {
-        return false;
-    }
-    merge_range(ahead, level, 0, 2, in_order)
+    delete_at_front(info, at, level, in_order)
 }
 
 /// The glyph at a place of the input goes, with others before it in the output.
@@ -136,23 +106,4 @@ fn recast_last(glyphs: &mut Vec<hb_glyph_info_t>, glyph: &hb_glyph_info_t)
     ensures len { vec_len glyphs.new ≡ vec_len glyphs.old }
 {
     recast_end(glyphs, glyph);
-}
-
-#[tactic(auto, using(crate::proofs::Deleting::last_cluster_is))]
-fn last_cluster(glyphs: &[hb_glyph_info_t]) -> u32
-    requires { 0 < length glyphs.now }
-    ensures { last_of (clusters glyphs.now) ≡ Some result }
-{
-    glyphs[glyphs.len() - 1].cluster
-}
-
-/// Whether there is a glyph at a place, of the cluster.
-#[tactic(auto, using(crate::proofs::Deleting::next_is, crate::proofs::Deleting::next_none))]
-fn next_has(glyphs: &[hb_glyph_info_t], at: usize, cluster: u32) -> bool
-    ensures { result ≡ is_number (first_of (clusters (drop at glyphs.now))) cluster }
-{
-    if glyphs.len() <= at {
-        return false;
-    }
-    glyphs[at].cluster == cluster
 }

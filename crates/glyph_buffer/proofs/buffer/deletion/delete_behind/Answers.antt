@@ -1,7 +1,7 @@
 use Rattle.std.proofs.Common.{get_or, drop, ◌+◌, sym, ◌∙◌}
 use Rattle.std.proofs.lemmas.List.{drop_more}
 use Rattle.glyph_buffer.specs.Moving.{zero_glyph}
-use Rattle.glyph_buffer.proofs.Deleting.{kept_least, kept_next, taken_less}
+use Rattle.glyph_slices.specs.OneDeleted.{kept_least, kept_next, taken_less}
 use Rattle.glyph_buffer.proofs.buffer.deletion.delete_behind.Goals as goal
 
 pub returns-then-last-glyph-clause-deletes : goal.returns-then-last-glyph-clause-deletes
