@@ -1,5 +1,5 @@
-// buffer_bench: walks a buffer of a million glyphs, glyph by glyph and by ligatures, and tells on standard error how long
-// a glyph took.
+// buffer_bench: walks a buffer of a million glyphs, glyph by glyph, by ligatures, and by pairs that are merged in the
+// output, and tells on standard error how long a glyph took.
 #![tactic(auto)]
 
 ghost use Rattle.std.specs.Prelude.{◌≡◌, true, false, OnOk, IfOk};
@@ -54,6 +54,41 @@ fn ligate(buffer: &mut hb_buffer_t) -> Result<(), AllocError>
     Ok(())
 }
 
+/// Writes each second glyph once it is in the output, and merges it with the one before it.
+fn compose(buffer: &mut hb_buffer_t) -> Result<(), AllocError>
+    requires { buffer.old.is_open ≡ true }
+{
+    for _ in 0..COUNT {
+        if buffer.len() - buffer.idx() < 2 {
+            break;
+        }
+        if !buffer.next_glyphs(2)? {
+            break;
+        }
+        write_last(buffer);
+        merge_last_two(buffer);
+    }
+    buffer.sync()?;
+    Ok(())
+}
+
+fn write_last(buffer: &mut hb_buffer_t)
+    requires open { buffer.old.is_open ≡ true }
+    ensures open { buffer.new.is_open ≡ true }
+{
+    if buffer.out_len() > 0 {
+        buffer.prev_mut().glyph_id = 7;
+    }
+}
+
+fn merge_last_two(buffer: &mut hb_buffer_t)
+    requires open { buffer.old.is_open ≡ true }
+    ensures open { buffer.new.is_open ≡ true }
+{
+    let end = buffer.out_len();
+    buffer.merge_out_clusters(end.saturating_sub(2), end);
+}
+
 fn tell(rt: &HostRuntime, name: &str, start: Instant, left: usize) -> io::Result<()> {
     let nanoseconds = start.elapsed(rt)?.as_nanos() / COUNT as u128;
     println!(rt; "{name}: {left} glyphs")?;
@@ -68,7 +103,11 @@ fn run(rt: &HostRuntime) -> io::Result<()> {
     let mut buffer = filled(rt.alloc())?;
     let start = Instant::now(rt)?;
     ligate(&mut buffer)?;
-    tell(rt, "replace_glyphs", start, buffer.len())
+    tell(rt, "replace_glyphs", start, buffer.len())?;
+    let mut buffer = filled(rt.alloc())?;
+    let start = Instant::now(rt)?;
+    compose(&mut buffer)?;
+    tell(rt, "prev_mut, merge_out_clusters", start, buffer.len())
 }
 
 fn main(rt: HostRuntime) -> io::Result<ExitCode> {
