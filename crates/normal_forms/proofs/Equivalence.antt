@@ -3,7 +3,8 @@ use Rattle.std.proofs.Common.{ℕ, zero, suc, ◌≡◌, ◌≢◌, ◌≤◌, �
 use Rattle.std.proofs.lemmas.Bool.{cases_Bool, cases_eq, cases_order, cond-true, cond-false}
 use Rattle.std.proofs.lemmas.Bool.Decides.{nat_tests}
 use Rattle.std.proofs.lemmas.List.{append-nil}
-use Rattle.unicode_tables.specs.ClassOrder.{of_class, by_class, class_bound, run_order, order_after}
+use Rattle.stable_order.specs.Keys.{of_key, by_key, key_bound}
+use Rattle.unicode_tables.specs.ClassOrder.{run_order, order_after}
 use Rattle.unicode_tables.specs.Expansion.{followed_by, by_parts, expanded}
 use Rattle.unicode_tables.specs.Lawful.{IsLawful}
 use Rattle.unicode_tables.specs.Orders.{IsRun}
@@ -93,7 +94,7 @@ passes t z (w ∷ ws) back n h =
 abbrev at_least : (ℕ → ℕ) → ℕ → List ℕ → List ℕ
 at_least class n xs = filter (λ x. nat_le n (class x)) xs
 
-apart_of_class : (class : ℕ → ℕ) (n k : ℕ) (zs : List ℕ) → IsRun class zs → n ≢ k → AreApart class k (of_class class n zs)
+apart_of_class : (class : ℕ → ℕ) (n k : ℕ) (zs : List ℕ) → IsRun class zs → n ≢ k → AreApart class k (of_key class n zs)
 apart_of_class class n k [] r apart = tt
 apart_of_class class n k (z ∷ zs) r apart =
     elim (cases_eq (class z) n) [
@@ -108,7 +109,7 @@ apart_of_class class n k (z ∷ zs) r apart =
     ]
 
 -- the marks of the least class come first
-least_first : (t : Tables) (n : ℕ) (zs : List ℕ) → IsRun (class_of t) zs → AreEquivalent t (at_least (class_of t) n zs) (of_class (class_of t) n zs ++ at_least (class_of t) (suc n) zs)
+least_first : (t : Tables) (n : ℕ) (zs : List ℕ) → IsRun (class_of t) zs → AreEquivalent t (at_least (class_of t) n zs) (of_key (class_of t) n zs ++ at_least (class_of t) (suc n) zs)
 least_first t n [] r = same
 least_first t n (z ∷ zs) r =
     let ih = least_first t n zs r.1 in
@@ -129,33 +130,33 @@ least_first t n (z ∷ zs) r =
           let high : nat_le (suc n) (class_of t z) ≡ true = grind (arith, nat_tests, above) in
           let apart : n ≢ class_of t z = omega (arith, above) in
           rw (low, at, high)
-          (then_all t _ _ _ (behind t (z ∷ []) _ _ ih) (passes t z (of_class (class_of t) n zs) (at_least (class_of t) (suc n) zs) r.0 (apart_of_class (class_of t) n (class_of t z) zs r.1 apart)))
+          (then_all t _ _ _ (behind t (z ∷ []) _ _ ih) (passes t z (of_key (class_of t) n zs) (at_least (class_of t) (suc n) zs) r.0 (apart_of_class (class_of t) n (class_of t z) zs r.1 apart)))
     ]
 
 all_at_least : (class : ℕ → ℕ) (zs : List ℕ) → at_least class 0 zs ≡ zs
 all_at_least class [] = refl
 all_at_least class (z ∷ zs) = let at : nat_le 0 (class z) ≡ true = grind (arith, nat_tests) in rw at (ap (λ ys. z ∷ ys) (all_at_least class zs))
 
-none_at_least : (class : ℕ → ℕ) (n : ℕ) (zs : List ℕ) → class_bound class zs ≤ n → at_least class n zs ≡ []
+none_at_least : (class : ℕ → ℕ) (n : ℕ) (zs : List ℕ) → key_bound class zs ≤ n → at_least class n zs ≡ []
 none_at_least class n [] h = refl
 none_at_least class n (z ∷ zs) h =
     let below : class z < n = omega (arith, h) in
     let off : nat_le n (class z) ≡ false = grind (arith, nat_tests, below) in
     rw off (none_at_least class n zs (omega (arith, h)))
 
-sorted_below : (t : Tables) (n : ℕ) (run : List ℕ) → IsRun (class_of t) run → AreEquivalent t run (by_class (class_of t) n run ++ at_least (class_of t) n run)
+sorted_below : (t : Tables) (n : ℕ) (run : List ℕ) → IsRun (class_of t) run → AreEquivalent t run (by_key (class_of t) n run ++ at_least (class_of t) n run)
 sorted_below t zero run r = let all : at_least (class_of t) 0 run ≡ run = all_at_least (class_of t) run in rw all same
 sorted_below t (suc n) run r =
-    let joined = append_assoc (by_class (class_of t) n run) (of_class (class_of t) n run) (at_least (class_of t) (suc n) run) in
-    rw joined (then_all t _ _ _ (sorted_below t n run r) (behind t (by_class (class_of t) n run) _ _ (least_first t n run r)))
+    let joined = append_assoc (by_key (class_of t) n run) (of_key (class_of t) n run) (at_least (class_of t) (suc n) run) in
+    rw joined (then_all t _ _ _ (sorted_below t n run r) (behind t (by_key (class_of t) n run) _ _ (least_first t n run r)))
 
 run_sorted : (t : Tables) (run : List ℕ) → IsRun (class_of t) run → AreEquivalent t run (run_order (class_of t) run)
 unfolding run_order
 run_sorted t run r =
-    let n = class_bound (class_of t) run in
-    let none : at_least (class_of t) (class_bound (class_of t) run) run ≡ [] = none_at_least (class_of t) (class_bound (class_of t) run) run (omega arith) in
-    let end : by_class (class_of t) (class_bound (class_of t) run) run ++ at_least (class_of t) (class_bound (class_of t) run) run ≡ by_class (class_of t) (class_bound (class_of t) run) run = ap (λ zs. by_class (class_of t) (class_bound (class_of t) run) run ++ zs) none ∙ append-nil _ in
-    subst (λ (ys : List ℕ). AreEquivalent t run ys) end (sorted_below t (class_bound (class_of t) run) run r)
+    let n = key_bound (class_of t) run in
+    let none : at_least (class_of t) (key_bound (class_of t) run) run ≡ [] = none_at_least (class_of t) (key_bound (class_of t) run) run (omega arith) in
+    let end : by_key (class_of t) (key_bound (class_of t) run) run ++ at_least (class_of t) (key_bound (class_of t) run) run ≡ by_key (class_of t) (key_bound (class_of t) run) run = ap (λ zs. by_key (class_of t) (key_bound (class_of t) run) run ++ zs) none ∙ append-nil _ in
+    subst (λ (ys : List ℕ). AreEquivalent t run ys) end (sorted_below t (key_bound (class_of t) run) run r)
 
 sorted_after : (t : Tables) (run xs : List ℕ) → IsRun (class_of t) run → AreEquivalent t (run ++ xs) (order_after (class_of t) run xs)
 sorted_after t run [] r = let end : run ++ [] ≡ run = append-nil run in rw end (run_sorted t run r)

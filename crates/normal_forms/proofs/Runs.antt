@@ -4,7 +4,8 @@ use Rattle.std.proofs.lemmas.Bool.{cases_Bool, cases_eq, cases_order, cond-true,
 use Rattle.std.proofs.lemmas.Bool.Decides.{nat_tests}
 use Rattle.std.proofs.lemmas.List.{append-nil, length-append, length_push}
 use Rattle.std.specs.List.{flat_map}
-use Rattle.unicode_tables.specs.ClassOrder.{of_class, by_class, class_bound, run_order, order_after, class_order}
+use Rattle.stable_order.specs.Keys.{of_key, by_key, key_bound}
+use Rattle.unicode_tables.specs.ClassOrder.{run_order, order_after, class_order}
 use Rattle.unicode_tables.specs.Orders.{IsRun}
 use Rattle.glyph_lists.specs.Items.{Item}
 use Rattle.normal_forms.specs.Arranged.{items, Arranged, kept}
@@ -18,7 +19,7 @@ abbrev count_below : {X : Type 0} → (X → ℕ) → ℕ → List X → ℕ
 count_below class n [] = 0
 count_below class n (x ∷ xs) = (if nat_lt (class x) n then 1 else 0) + count_below class n xs
 
-count_step : {X : Type 0} (class : X → ℕ) (n : ℕ) (xs : List X) → count_below class (suc n) xs ≡ count_below class n xs + length (of_class class n xs)
+count_step : {X : Type 0} (class : X → ℕ) (n : ℕ) (xs : List X) → count_below class (suc n) xs ≡ count_below class n xs + length (of_key class n xs)
 count_step class n [] = refl
 count_step class n (x ∷ xs) =
     let ih = count_step class n xs in
@@ -44,7 +45,7 @@ count_zero : {X : Type 0} (class : X → ℕ) (xs : List X) → count_below clas
 count_zero class [] = refl
 count_zero class (x ∷ xs) = let none : nat_lt (class x) 0 ≡ false = grind (arith, nat_tests) in rw (none, count_zero class xs) refl
 
-count_all : {X : Type 0} (class : X → ℕ) (n : ℕ) (xs : List X) → class_bound class xs ≤ n → count_below class n xs ≡ length xs
+count_all : {X : Type 0} (class : X → ℕ) (n : ℕ) (xs : List X) → key_bound class xs ≤ n → count_below class n xs ≡ length xs
 count_all class n [] h = refl
 count_all class n (x ∷ xs) h =
     let below : class x < n = omega (arith, h) in
@@ -52,35 +53,35 @@ count_all class n (x ∷ xs) h =
     let ih = count_all class n xs (omega (arith, h)) in
     rw at (omega (arith, ih))
 
-length_by_class : {X : Type 0} (class : X → ℕ) (n : ℕ) (xs : List X) → length (by_class class n xs) ≡ count_below class n xs
+length_by_class : {X : Type 0} (class : X → ℕ) (n : ℕ) (xs : List X) → length (by_key class n xs) ≡ count_below class n xs
 length_by_class class zero xs = sym (count_zero class xs)
 length_by_class class (suc n) xs =
-    length-append (by_class class n xs) (of_class class n xs)
-    ∙ (ap (λ k. k + length (of_class class n xs)) (length_by_class class n xs) ∙ sym (count_step class n xs))
+    length-append (by_key class n xs) (of_key class n xs)
+    ∙ (ap (λ k. k + length (of_key class n xs)) (length_by_class class n xs) ∙ sym (count_step class n xs))
 
 pub length_run_order : {X : Type 0} (class : X → ℕ) (run : List X) → length (run_order class run) ≡ length run
 unfolding run_order
-length_run_order class run = length_by_class class (class_bound class run) run ∙ count_all class (class_bound class run) run (omega arith)
+length_run_order class run = length_by_class class (key_bound class run) run ∙ count_all class (key_bound class run) run (omega arith)
 
 pub run_append : {X : Type 0} (class : X → ℕ) (xs ys : List X) → IsRun class xs → IsRun class ys → IsRun class (xs ++ ys)
 run_append class [] ys r s = s
 run_append class (x ∷ xs) ys r s = (r.0, run_append class xs ys r.1 s)
 
-pub run_of_class : {X : Type 0} (class : X → ℕ) (c : ℕ) (run : List X) → IsRun class run → IsRun class (of_class class c run)
+pub run_of_class : {X : Type 0} (class : X → ℕ) (c : ℕ) (run : List X) → IsRun class run → IsRun class (of_key class c run)
 run_of_class class c [] r = tt
 run_of_class class c (x ∷ xs) r =
-    elim (class x == c) as (λ b. IsRun class (if b then x ∷ of_class class c xs else of_class class c xs)) [
+    elim (class x == c) as (λ b. IsRun class (if b then x ∷ of_key class c xs else of_key class c xs)) [
       | true ↦ (r.0, run_of_class class c xs r.1)
       | false ↦ run_of_class class c xs r.1
     ]
 
-run_by_class : {X : Type 0} (class : X → ℕ) (n : ℕ) (run : List X) → IsRun class run → IsRun class (by_class class n run)
+run_by_class : {X : Type 0} (class : X → ℕ) (n : ℕ) (run : List X) → IsRun class run → IsRun class (by_key class n run)
 run_by_class class zero run r = tt
-run_by_class class (suc n) run r = run_append class (by_class class n run) (of_class class n run) (run_by_class class n run r) (run_of_class class n run r)
+run_by_class class (suc n) run r = run_append class (by_key class n run) (of_key class n run) (run_by_class class n run r) (run_of_class class n run r)
 
 pub run_in_order : {X : Type 0} (class : X → ℕ) (run : List X) → IsRun class run → IsRun class (run_order class run)
 unfolding run_order
-run_in_order class run r = run_by_class class (class_bound class run) run r
+run_in_order class run r = run_by_class class (key_bound class run) run r
 
 -- what f makes of each run, and the starters between them
 abbrev pub by_runs : {X : Type 0} → (X → ℕ) → (List X → List X) → List X → List X → List X

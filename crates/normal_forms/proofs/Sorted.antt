@@ -5,7 +5,8 @@ use Rattle.std.proofs.lemmas.List.{map-append}
 use Rattle.std.proofs.lemmas.Nat.{and_mask}
 use Rattle.std.proofs.lemmas.Nat.Bits.{and_high}
 use Rattle.std.specs.Int.RustNames.{bit_and}
-use Rattle.unicode_tables.specs.ClassOrder.{of_class, by_class, class_bound, run_order, order_after, class_order}
+use Rattle.stable_order.specs.Keys.{of_key, by_key, key_bound}
+use Rattle.unicode_tables.specs.ClassOrder.{run_order, order_after, class_order}
 use Rattle.unicode_tables.specs.Tables.{Tables, class_of}
 use Rattle.unicode_tables.specs.Texts.{AreEquivalent, same}
 use Rattle.glyph_lists.specs.Items.{Item}
@@ -18,7 +19,7 @@ use Rattle.normal_forms.proofs.Kept.{AreOfTables, of_tables_append, Keeps}
 characters_append : (xs ys : List Item) → characters_of (xs ++ ys) ≡ characters_of xs ++ characters_of ys
 characters_append xs ys = map-append (λ (x : Item). x.number) xs ys
 
-characters_of_class : (t : Tables) (k : ℕ) (zs : List Item) → AreOfTables t zs → characters_of (of_class mark_class k zs) ≡ of_class (class_of t) k (characters_of zs)
+characters_of_class : (t : Tables) (k : ℕ) (zs : List Item) → AreOfTables t zs → characters_of (of_key mark_class k zs) ≡ of_key (class_of t) k (characters_of zs)
 characters_of_class t k [] h = refl
 characters_of_class t k (z ∷ zs) h =
     let same_test : (mark_class z == k) ≡ (class_of t z.number == k) = ap (λ n. n == k) h.0 in
@@ -27,17 +28,17 @@ characters_of_class t k (z ∷ zs) h =
       | inr off ↦ ap characters_of (cond-false _ _ _ (same_test ∙ off)) ∙ (characters_of_class t k zs h.1 ∙ sym (cond-false _ _ _ off))
     ]
 
-characters_by_class : (t : Tables) (n : ℕ) (zs : List Item) → AreOfTables t zs → characters_of (by_class mark_class n zs) ≡ by_class (class_of t) n (characters_of zs)
+characters_by_class : (t : Tables) (n : ℕ) (zs : List Item) → AreOfTables t zs → characters_of (by_key mark_class n zs) ≡ by_key (class_of t) n (characters_of zs)
 characters_by_class t zero zs h = refl
-characters_by_class t (suc n) zs h = characters_append (by_class mark_class n zs) (of_class mark_class n zs) ∙ ap₂ (λ a b. a ++ b) (characters_by_class t n zs h) (characters_of_class t n zs h)
+characters_by_class t (suc n) zs h = characters_append (by_key mark_class n zs) (of_key mark_class n zs) ∙ ap₂ (λ a b. a ++ b) (characters_by_class t n zs h) (characters_of_class t n zs h)
 
-bound_of_characters : (t : Tables) (zs : List Item) → AreOfTables t zs → class_bound mark_class zs ≡ class_bound (class_of t) (characters_of zs)
+bound_of_characters : (t : Tables) (zs : List Item) → AreOfTables t zs → key_bound mark_class zs ≡ key_bound (class_of t) (characters_of zs)
 bound_of_characters t [] h = refl
 bound_of_characters t (z ∷ zs) h = ap₂ (λ a b. max (a + 1) b) h.0 (bound_of_characters t zs h.1)
 
 characters_of_run : (t : Tables) (run : List Item) → AreOfTables t run → characters_of (run_order mark_class run) ≡ run_order (class_of t) (characters_of run)
 unfolding run_order
-characters_of_run t run h = characters_by_class t (class_bound mark_class run) run h ∙ ap (λ n. by_class (class_of t) n (characters_of run)) (bound_of_characters t run h)
+characters_of_run t run h = characters_by_class t (key_bound mark_class run) run h ∙ ap (λ n. by_key (class_of t) n (characters_of run)) (bound_of_characters t run h)
 
 characters_in_order : (t : Tables) (run xs : List Item) → AreOfTables t run → AreOfTables t xs → characters_of (order_after mark_class run xs) ≡ order_after (class_of t) (characters_of run) (characters_of xs)
 characters_in_order t run [] r h = characters_of_run t run r
@@ -55,21 +56,21 @@ characters_in_order t run (x ∷ xs) r h =
           ∙ (ap (λ us. order_after (class_of t) us (characters_of xs)) (characters_append run (x ∷ [])) ∙ sym (cond-false _ _ _ off)))
     ]
 
-of_tables_of_class : (t : Tables) (k : ℕ) (zs : List Item) → AreOfTables t zs → AreOfTables t (of_class mark_class k zs)
+of_tables_of_class : (t : Tables) (k : ℕ) (zs : List Item) → AreOfTables t zs → AreOfTables t (of_key mark_class k zs)
 of_tables_of_class t k [] h = tt
 of_tables_of_class t k (z ∷ zs) h =
-    elim (mark_class z == k) as (λ b. AreOfTables t (if b then z ∷ of_class mark_class k zs else of_class mark_class k zs)) [
+    elim (mark_class z == k) as (λ b. AreOfTables t (if b then z ∷ of_key mark_class k zs else of_key mark_class k zs)) [
       | true ↦ (h.0, of_tables_of_class t k zs h.1)
       | false ↦ of_tables_of_class t k zs h.1
     ]
 
-of_tables_by_class : (t : Tables) (n : ℕ) (zs : List Item) → AreOfTables t zs → AreOfTables t (by_class mark_class n zs)
+of_tables_by_class : (t : Tables) (n : ℕ) (zs : List Item) → AreOfTables t zs → AreOfTables t (by_key mark_class n zs)
 of_tables_by_class t zero zs h = tt
-of_tables_by_class t (suc n) zs h = of_tables_append t (by_class mark_class n zs) (of_class mark_class n zs) (of_tables_by_class t n zs h) (of_tables_of_class t n zs h)
+of_tables_by_class t (suc n) zs h = of_tables_append t (by_key mark_class n zs) (of_key mark_class n zs) (of_tables_by_class t n zs h) (of_tables_of_class t n zs h)
 
 of_tables_in_run : (t : Tables) (run : List Item) → AreOfTables t run → AreOfTables t (run_order mark_class run)
 unfolding run_order
-of_tables_in_run t run h = of_tables_by_class t (class_bound mark_class run) run h
+of_tables_in_run t run h = of_tables_by_class t (key_bound mark_class run) run h
 
 of_tables_in_order : (t : Tables) (run xs : List Item) → AreOfTables t run → AreOfTables t xs → AreOfTables t (order_after mark_class run xs)
 of_tables_in_order t run [] r h = of_tables_in_run t run r
@@ -103,29 +104,29 @@ record RisesTo (k n : ℕ) (xs : List Item) : Type 0 where
   rises : IsRisingAfter k xs
   last : last_class k xs ≤ n
 
-rises_of_class : (k n : ℕ) (zs : List Item) → k ≤ n → RisesTo k n (of_class mark_class n zs)
+rises_of_class : (k n : ℕ) (zs : List Item) → k ≤ n → RisesTo k n (of_key mark_class n zs)
 rises_of_class k n [] le = record { rises = tt; last = le }
 rises_of_class k n (z ∷ zs) le =
     elim (cases_Bool (mark_class z == n)) [
       | inl at ↦
           let e : mark_class z ≡ n = eqb-true (mark_class z) n at in
           let rest = rises_of_class (mark_class z) n zs (omega (arith, e)) in
-          let whole : RisesTo k n (z ∷ of_class mark_class n zs) = record { rises = ((λ m. omega (arith, e, le)), rest.rises); last = rest.last } in
+          let whole : RisesTo k n (z ∷ of_key mark_class n zs) = record { rises = ((λ m. omega (arith, e, le)), rest.rises); last = rest.last } in
           subst (RisesTo k n) (sym (cond-true _ _ _ at)) whole
       | inr off ↦ subst (RisesTo k n) (sym (cond-false _ _ _ off)) (rises_of_class k n zs le)
     ]
 
-rises_by_class : (n : ℕ) (zs : List Item) → RisesTo 0 n (by_class mark_class n zs)
+rises_by_class : (n : ℕ) (zs : List Item) → RisesTo 0 n (by_key mark_class n zs)
 rises_by_class zero zs = record { rises = tt; last = omega arith }
 rises_by_class (suc n) zs =
     let front = rises_by_class n zs in
-    let back = rises_of_class (last_class 0 (by_class mark_class n zs)) n zs front.last in
-    let e = last_append 0 (by_class mark_class n zs) (of_class mark_class n zs) in
-    record { rises = rising_append 0 (by_class mark_class n zs) (of_class mark_class n zs) front.rises back.rises; last = let l = back.last in omega (arith, e, l) }
+    let back = rises_of_class (last_class 0 (by_key mark_class n zs)) n zs front.last in
+    let e = last_append 0 (by_key mark_class n zs) (of_key mark_class n zs) in
+    record { rises = rising_append 0 (by_key mark_class n zs) (of_key mark_class n zs) front.rises back.rises; last = let l = back.last in omega (arith, e, l) }
 
 rising_run : (run : List Item) → IsRisingAfter 0 (run_order mark_class run)
 unfolding run_order
-rising_run run = let all = rises_by_class (class_bound mark_class run) run in all.rises
+rising_run run = let all = rises_by_class (key_bound mark_class run) run in all.rises
 
 -- the class order rises
 pub rising_order : (run xs : List Item) → IsRisingAfter 0 (order_after mark_class run xs)

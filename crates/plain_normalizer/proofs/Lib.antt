@@ -2,5 +2,4 @@ pub mod Bits
 pub mod Supported
 pub mod Groups
 pub mod Runs
-pub mod StableSort
 pub mod Between

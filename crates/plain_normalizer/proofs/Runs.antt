@@ -2,7 +2,8 @@
 use Rattle.std.proofs.Common.{ℕ, zero, suc, ◌≡◌, ◌≢◌, ◌≤◌, ◌<◌, ◌+◌, ◌==◌, List, [], ◌∷◌, ◌++◌, length, max, refl, sym, ap, ap₂, ◌∙◌, arith, inl, inr, le-leb}
 use Rattle.std.proofs.lemmas.Bool.{cases_Bool, cond-true, cond-false, lt-leb}
 use Rattle.std.proofs.lemmas.List.{append-nil, map-append}
-use Rattle.unicode_tables.specs.ClassOrder.{of_class, by_class, class_bound, run_order}
+use Rattle.stable_order.specs.Keys.{of_key, by_key, key_bound}
+use Rattle.unicode_tables.specs.ClassOrder.{run_order}
 use Rattle.glyph_lists.specs.Items.{Item}
 use Rattle.normal_forms.specs.Arranged.{Arranged, items}
 use Rattle.normal_forms.specs.Characters.{mark_class}
@@ -16,7 +17,7 @@ use Rattle.plain_normalizer.specs.PlainItems.{seen, seen_all}
 abbrev pub plain_class : PlainItem → ℕ
 plain_class p = mark_class (seen p)
 
-seen_of_class : (k : ℕ) (ps : List PlainItem) → seen_all (of_class plain_class k ps) ≡ of_class mark_class k (seen_all ps)
+seen_of_class : (k : ℕ) (ps : List PlainItem) → seen_all (of_key plain_class k ps) ≡ of_key mark_class k (seen_all ps)
 seen_of_class k [] = refl
 seen_of_class k (p ∷ ps) =
     elim (cases_Bool (plain_class p == k)) [
@@ -24,18 +25,18 @@ seen_of_class k (p ∷ ps) =
       | inr off ↦ ap seen_all (cond-false _ _ _ off) ∙ (seen_of_class k ps ∙ sym (cond-false _ _ _ off))
     ]
 
-seen_by_class : (n : ℕ) (ps : List PlainItem) → seen_all (by_class plain_class n ps) ≡ by_class mark_class n (seen_all ps)
+seen_by_class : (n : ℕ) (ps : List PlainItem) → seen_all (by_key plain_class n ps) ≡ by_key mark_class n (seen_all ps)
 seen_by_class zero ps = refl
-seen_by_class (suc n) ps = map-append seen (by_class plain_class n ps) (of_class plain_class n ps) ∙ ap₂ (λ a b. a ++ b) (seen_by_class n ps) (seen_of_class n ps)
+seen_by_class (suc n) ps = map-append seen (by_key plain_class n ps) (of_key plain_class n ps) ∙ ap₂ (λ a b. a ++ b) (seen_by_class n ps) (seen_of_class n ps)
 
-seen_bound : (ps : List PlainItem) → class_bound plain_class ps ≡ class_bound mark_class (seen_all ps)
+seen_bound : (ps : List PlainItem) → key_bound plain_class ps ≡ key_bound mark_class (seen_all ps)
 seen_bound [] = refl
 seen_bound (p ∷ ps) = ap (λ k. max (plain_class p + 1) k) (seen_bound ps)
 
 -- a run in the order of its classes, seen as items
-pub seen_run_order : (ps : List PlainItem) → seen_all (by_class plain_class (class_bound plain_class ps) ps) ≡ run_order mark_class (seen_all ps)
+pub seen_run_order : (ps : List PlainItem) → seen_all (by_key plain_class (key_bound plain_class ps) ps) ≡ run_order mark_class (seen_all ps)
 unfolding run_order
-seen_run_order ps = seen_by_class (class_bound plain_class ps) ps ∙ ap (λ n. by_class mark_class n (seen_all ps)) (seen_bound ps)
+seen_run_order ps = seen_by_class (key_bound plain_class ps) ps ∙ ap (λ n. by_key mark_class n (seen_all ps)) (seen_bound ps)
 
 length_seen : (ps : List PlainItem) → length (seen_all ps) ≡ length ps
 length_seen [] = refl

@@ -6,13 +6,13 @@ use Rattle.std.proofs.lemmas.List.Elements.{filter-append}
 use Rattle.std.proofs.lemmas.Bool.Decides.{nat_tests}
 use Rattle.stable_order.specs.Keys.{of_key, by_key, key_bound, key_order}
 
-none_beyond : {X : Type 0} (key : X → ℕ) (c : ℕ) (xs : List X) → key_bound key xs ≤ c → of_key key c xs ≡ []
+pub none_beyond : {X : Type 0} (key : X → ℕ) (c : ℕ) (xs : List X) → key_bound key xs ≤ c → of_key key c xs ≡ []
 none_beyond key c [] h = refl
 none_beyond key c (x ∷ xs) h =
     let apart : key x ≢ c = omega (arith, h) in
     cond-false _ _ _ (ne_eqb _ c apart) ∙ none_beyond key c xs (omega (arith, h))
 
-same_key_twice : {X : Type 0} (key : X → ℕ) (c : ℕ) (xs : List X) → of_key key c (of_key key c xs) ≡ of_key key c xs
+pub same_key_twice : {X : Type 0} (key : X → ℕ) (c : ℕ) (xs : List X) → of_key key c (of_key key c xs) ≡ of_key key c xs
 same_key_twice key c [] = refl
 same_key_twice key c (x ∷ xs) =
     elim (cases_Bool (key x == c)) [
@@ -20,7 +20,7 @@ same_key_twice key c (x ∷ xs) =
       | inr off ↦ rw (off, same_key_twice key c xs) refl
     ]
 
-two_keys : {X : Type 0} (key : X → ℕ) (c d : ℕ) (xs : List X) → c ≢ d → of_key key c (of_key key d xs) ≡ []
+pub two_keys : {X : Type 0} (key : X → ℕ) (c d : ℕ) (xs : List X) → c ≢ d → of_key key c (of_key key d xs) ≡ []
 two_keys key c d [] apart = refl
 two_keys key c d (x ∷ xs) apart =
     elim (cases_Bool (key x == d)) [

@@ -1,23 +1,10 @@
 -- The order of marks by their combining classes (UAX 15, canonical ordering).
-use Rattle.std.specs.Prelude.{ℕ, zero, suc, ◌≡◌, ◌↔◌, ◌==◌, ◌+◌, ◌||◌, if◌then◌else◌, List, [], ◌∷◌, ◌++◌, filter, max}
-
--- the elements of one class, in order
-abbrev pub of_class : {X : Type 0} → (X → ℕ) → ℕ → List X → List X
-of_class class c xs = filter (λ x. class x == c) xs
-
--- the elements of a class below n, class by class
-abbrev pub by_class : {X : Type 0} → (X → ℕ) → ℕ → List X → List X
-by_class class zero xs = []
-by_class class (suc n) xs = by_class class n xs ++ of_class class n xs
-
--- one more than the greatest class
-abbrev pub class_bound : {X : Type 0} → (X → ℕ) → List X → ℕ
-class_bound class [] = 0
-class_bound class (x ∷ xs) = max (class x + 1) (class_bound class xs)
+use Rattle.std.specs.Prelude.{ℕ, ◌≡◌, ◌↔◌, ◌==◌, ◌||◌, if◌then◌else◌, List, [], ◌∷◌, ◌++◌, filter}
+use Rattle.stable_order.specs.Keys.{key_order}
 
 -- a run rearranged so that classes never fall and elements of one class keep their order
 unfoldable pub run_order : {X : Type 0} → (X → ℕ) → List X → List X
-run_order class run = by_class class (class_bound class run) run
+run_order class run = key_order class run
 
 -- the order of a list behind the nonzero run that was met last
 abbrev pub order_after : {X : Type 0} → (X → ℕ) → List X → List X → List X

@@ -1,10 +1,12 @@
 -- The class order and the elements of each class.
-use Rattle.std.proofs.Common.{ℕ, zero, suc, ◌≡◌, ◌≢◌, ◌≤◌, ◌==◌, ◌||◌, nat_lt, true, false, if◌then◌else◌, List, [], ◌∷◌, ◌++◌, max, refl, sym, ap, ap₂, ◌∙◌, arith, inl, inr, append_assoc, eqb-true, ne_eqb, eq-eqb, lt-ltb, le-ltb}
-use Rattle.std.proofs.lemmas.Bool.{cases_eq, cases_lt, cases_order, cases_Bool, cond-true, cond-false}
+use Rattle.std.proofs.Common.{ℕ, zero, suc, ◌≡◌, ◌≢◌, ◌≤◌, ◌==◌, ◌||◌, nat_lt, true, false, if◌then◌else◌, List, [], ◌∷◌, ◌++◌, max, refl, sym, ap, ap₂, ◌∙◌, arith, inl, inr, append_assoc, ne_eqb, eq-eqb, lt-ltb, le-ltb}
+use Rattle.std.proofs.lemmas.Bool.{cases_eq, cases_lt, cases_order, cond-true, cond-false}
 use Rattle.std.proofs.lemmas.List.{append-nil}
 use Rattle.std.proofs.lemmas.List.Elements.{filter-append}
 use Rattle.std.proofs.lemmas.Bool.Decides.{nat_tests}
-use Rattle.unicode_tables.specs.ClassOrder.{of_class, by_class, class_bound, run_order, order_after, class_order, beside_starters, OrderIsByClasses}
+use Rattle.stable_order.specs.Orders.{none_beyond, same_key_twice, two_keys}
+use Rattle.stable_order.specs.Keys.{of_key, by_key, key_bound}
+use Rattle.unicode_tables.specs.ClassOrder.{run_order, order_after, class_order, beside_starters, OrderIsByClasses}
 
 -- a run has no starters
 abbrev pub IsRun : {X : Type 0} → (X → ℕ) → List X → Type 0
@@ -15,69 +17,44 @@ run_push : {X : Type 0} (class : X → ℕ) (run : List X) (x : X) → IsRun cla
 run_push class [] x r n = (n, tt)
 run_push class (y ∷ ys) x r n = (r.0, run_push class ys x r.1 n)
 
-of_class-append : {X : Type 0} (class : X → ℕ) (c : ℕ) (xs ys : List X) → of_class class c (xs ++ ys) ≡ of_class class c xs ++ of_class class c ys
-of_class-append class c xs ys = filter-append (λ x. class x == c) xs ys
+of_key-append : {X : Type 0} (class : X → ℕ) (c : ℕ) (xs ys : List X) → of_key class c (xs ++ ys) ≡ of_key class c xs ++ of_key class c ys
+of_key-append class c xs ys = filter-append (λ x. class x == c) xs ys
 
 pub beside_starters-append : {X : Type 0} (class : X → ℕ) (c : ℕ) (xs ys : List X) → beside_starters class c (xs ++ ys) ≡ beside_starters class c xs ++ beside_starters class c ys
 beside_starters-append class c xs ys = filter-append (λ x. class x == 0 || class x == c) xs ys
 
 -- in a run, the elements beside starters are those of the class
-beside_in_run : {X : Type 0} (class : X → ℕ) (c : ℕ) (run : List X) → IsRun class run → beside_starters class c run ≡ of_class class c run
+beside_in_run : {X : Type 0} (class : X → ℕ) (c : ℕ) (run : List X) → IsRun class run → beside_starters class c run ≡ of_key class c run
 beside_in_run class c [] r = refl
 beside_in_run class c (x ∷ xs) r =
     let off : (class x == 0) ≡ false = ne_eqb _ 0 r.0 in
     rw (off, beside_in_run class c xs r.1) refl
 
-no_starter_class : {X : Type 0} (class : X → ℕ) (run : List X) → IsRun class run → of_class class 0 run ≡ []
+no_starter_class : {X : Type 0} (class : X → ℕ) (run : List X) → IsRun class run → of_key class 0 run ≡ []
 no_starter_class class [] r = refl
 no_starter_class class (x ∷ xs) r = cond-false _ _ _ (ne_eqb _ 0 r.0) ∙ no_starter_class class xs r.1
 
-none_beyond : {X : Type 0} (class : X → ℕ) (c : ℕ) (xs : List X) → class_bound class xs ≤ c → of_class class c xs ≡ []
-none_beyond class c [] h = refl
-none_beyond class c (x ∷ xs) h =
-    let apart : class x ≢ c = omega (arith, h) in
-    cond-false _ _ _ (ne_eqb _ c apart) ∙ none_beyond class c xs (omega (arith, h))
-
-run_of_class : {X : Type 0} (class : X → ℕ) (c : ℕ) (run : List X) → IsRun class run → IsRun class (of_class class c run)
+run_of_class : {X : Type 0} (class : X → ℕ) (c : ℕ) (run : List X) → IsRun class run → IsRun class (of_key class c run)
 run_of_class class c [] r = tt
 run_of_class class c (x ∷ xs) r =
-    elim (class x == c) as (λ b. IsRun class (if b then x ∷ of_class class c xs else of_class class c xs)) [
+    elim (class x == c) as (λ b. IsRun class (if b then x ∷ of_key class c xs else of_key class c xs)) [
       | true ↦ (r.0, run_of_class class c xs r.1)
       | false ↦ run_of_class class c xs r.1
     ]
 
-same_class_twice : {X : Type 0} (class : X → ℕ) (c : ℕ) (xs : List X) → of_class class c (of_class class c xs) ≡ of_class class c xs
-same_class_twice class c [] = refl
-same_class_twice class c (x ∷ xs) =
-    elim (cases_Bool (class x == c)) [
-      | inl at ↦ rw (at, at, same_class_twice class c xs) refl
-      | inr off ↦ rw (off, same_class_twice class c xs) refl
-    ]
+beside_own : {X : Type 0} (class : X → ℕ) (c : ℕ) (run : List X) → IsRun class run → beside_starters class c (of_key class c run) ≡ of_key class c run
+beside_own class c run r = beside_in_run class c (of_key class c run) (run_of_class class c run r) ∙ same_key_twice class c run
 
-two_classes : {X : Type 0} (class : X → ℕ) (c d : ℕ) (xs : List X) → c ≢ d → of_class class c (of_class class d xs) ≡ []
-two_classes class c d [] apart = refl
-two_classes class c d (x ∷ xs) apart =
-    elim (cases_Bool (class x == d)) [
-      | inl at ↦
-          let same : class x ≡ d = eqb-true (class x) d at in
-          let other : (class x == c) ≡ false = ne_eqb (class x) c (λ e. apart (sym e ∙ same)) in
-          rw (at, other, two_classes class c d xs apart) refl
-      | inr off ↦ rw (off, two_classes class c d xs apart) refl
-    ]
-
-beside_own : {X : Type 0} (class : X → ℕ) (c : ℕ) (run : List X) → IsRun class run → beside_starters class c (of_class class c run) ≡ of_class class c run
-beside_own class c run r = beside_in_run class c (of_class class c run) (run_of_class class c run r) ∙ same_class_twice class c run
-
-beside_other : {X : Type 0} (class : X → ℕ) (c d : ℕ) (run : List X) → IsRun class run → c ≢ d → beside_starters class c (of_class class d run) ≡ []
-beside_other class c d run r apart = beside_in_run class c (of_class class d run) (run_of_class class d run r) ∙ two_classes class c d run apart
+beside_other : {X : Type 0} (class : X → ℕ) (c d : ℕ) (run : List X) → IsRun class run → c ≢ d → beside_starters class c (of_key class d run) ≡ []
+beside_other class c d run r apart = beside_in_run class c (of_key class d run) (run_of_class class d run r) ∙ two_keys class c d run apart
 
 -- the class orders of a run have the elements of a class below the bound, and no other beside starters
 beside_in_order : {X : Type 0} (class : X → ℕ) (c n : ℕ) (run : List X) → IsRun class run
-    → beside_starters class c (by_class class n run) ≡ (if nat_lt c n then of_class class c run else [])
+    → beside_starters class c (by_key class n run) ≡ (if nat_lt c n then of_key class c run else [])
 beside_in_order class c zero run r = let off : nat_lt c 0 ≡ false = grind (arith, nat_tests) in rw off refl
 beside_in_order class c (suc m) run r =
     let front = beside_in_order class c m run r in
-    let split = beside_starters-append class c (by_class class m run) (of_class class m run) in
+    let split = beside_starters-append class c (by_key class m run) (of_key class m run) in
     elim (cases_order c m) [
       | inl same ↦
           let low : nat_lt c m ≡ false = grind (arith, nat_tests, same) in
@@ -96,13 +73,13 @@ beside_in_order class c (suc m) run r =
           rw (split, front, low, high, other) refl
     ]
 
-beside_run_order : {X : Type 0} (class : X → ℕ) (c : ℕ) (run : List X) → IsRun class run → beside_starters class c (run_order class run) ≡ of_class class c run
+beside_run_order : {X : Type 0} (class : X → ℕ) (c : ℕ) (run : List X) → IsRun class run → beside_starters class c (run_order class run) ≡ of_key class c run
 unfolding run_order
 beside_run_order class c run r =
-    let all = beside_in_order class c (class_bound class run) run r in
-    elim (cases_lt c (class_bound class run)) [
-      | inl below ↦ all ∙ cond-true _ _ _ (lt-ltb c (class_bound class run) below)
-      | inr above ↦ all ∙ (cond-false _ _ _ (le-ltb c (class_bound class run) above) ∙ sym (none_beyond class c run above))
+    let all = beside_in_order class c (key_bound class run) run r in
+    elim (cases_lt c (key_bound class run)) [
+      | inl below ↦ all ∙ cond-true _ _ _ (lt-ltb c (key_bound class run) below)
+      | inr above ↦ all ∙ (cond-false _ _ _ (le-ltb c (key_bound class run) above) ∙ sym (none_beyond class c run above))
     ]
 
 starter_stays : {X : Type 0} (class : X → ℕ) (c : ℕ) (x : X) (xs : List X) → class x ≡ 0 → beside_starters class c (x ∷ xs) ≡ x ∷ beside_starters class c xs
@@ -129,24 +106,24 @@ beside_order_after class c run (x ∷ xs) r =
 pub beside_order : {X : Type 0} (class : X → ℕ) (c : ℕ) (xs : List X) → beside_starters class c (class_order class xs) ≡ beside_starters class c xs
 beside_order class c xs = beside_order_after class c [] xs tt
 
-by_class_same : {X : Type 0} (class : X → ℕ) (n : ℕ) (xs ys : List X) → ((c : ℕ) → of_class class c xs ≡ of_class class c ys) → by_class class n xs ≡ by_class class n ys
+by_class_same : {X : Type 0} (class : X → ℕ) (n : ℕ) (xs ys : List X) → ((c : ℕ) → of_key class c xs ≡ of_key class c ys) → by_key class n xs ≡ by_key class n ys
 by_class_same class zero xs ys h = refl
 by_class_same class (suc m) xs ys h = ap₂ (λ a b. a ++ b) (by_class_same class m xs ys h) (h m)
 
-by_class_enough : {X : Type 0} (class : X → ℕ) (n : ℕ) (xs : List X) → class_bound class xs ≤ n → by_class class n xs ≡ by_class class (class_bound class xs) xs
-by_class_enough class zero xs h = let e : class_bound class xs ≡ 0 = omega (arith, h) in rw e refl
+by_class_enough : {X : Type 0} (class : X → ℕ) (n : ℕ) (xs : List X) → key_bound class xs ≤ n → by_key class n xs ≡ by_key class (key_bound class xs) xs
+by_class_enough class zero xs h = let e : key_bound class xs ≡ 0 = omega (arith, h) in rw e refl
 by_class_enough class (suc m) xs h =
-    elim (cases_lt m (class_bound class xs)) [
-      | inl at ↦ let e : class_bound class xs ≡ suc m = omega (arith, h, at) in rw e refl
-      | inr beyond ↦ ap₂ (λ a b. a ++ b) (by_class_enough class m xs beyond) (none_beyond class m xs beyond) ∙ append-nil (by_class class (class_bound class xs) xs)
+    elim (cases_lt m (key_bound class xs)) [
+      | inl at ↦ let e : key_bound class xs ≡ suc m = omega (arith, h, at) in rw e refl
+      | inr beyond ↦ ap₂ (λ a b. a ++ b) (by_class_enough class m xs beyond) (none_beyond class m xs beyond) ∙ append-nil (by_key class (key_bound class xs) xs)
     ]
 
-run_order_same : {X : Type 0} (class : X → ℕ) (xs ys : List X) → ((c : ℕ) → of_class class c xs ≡ of_class class c ys) → run_order class xs ≡ run_order class ys
+run_order_same : {X : Type 0} (class : X → ℕ) (xs ys : List X) → ((c : ℕ) → of_key class c xs ≡ of_key class c ys) → run_order class xs ≡ run_order class ys
 unfolding run_order
 run_order_same class xs ys h =
-    let n = max (class_bound class xs) (class_bound class ys) in
-    sym (by_class_enough class (max (class_bound class xs) (class_bound class ys)) xs (omega arith))
-    ∙ (by_class_same class (max (class_bound class xs) (class_bound class ys)) xs ys h ∙ by_class_enough class (max (class_bound class xs) (class_bound class ys)) ys (omega arith))
+    let n = max (key_bound class xs) (key_bound class ys) in
+    sym (by_class_enough class (max (key_bound class xs) (key_bound class ys)) xs (omega arith))
+    ∙ (by_class_same class (max (key_bound class xs) (key_bound class ys)) xs ys h ∙ by_class_enough class (max (key_bound class xs) (key_bound class ys)) ys (omega arith))
 
 no_starters : {X : Type 0} (class : X → ℕ) (xs : List X) → beside_starters class 0 xs ≡ [] → IsRun class xs
 no_starters class [] h = tt
@@ -202,8 +179,8 @@ starter_met class r x xs s (y ∷ ys) z rr rs later h =
     elim (cases_eq (class y) 0) [
       | inl zy ↦
           let at : (class y == 0) ≡ true = eq-eqb (class y) 0 zy in
-          let parts : (c : ℕ) → SameParts (of_class class c r) (of_class class c s) x y (beside_starters class c xs) (beside_starters class c ys) =
-          λ c. first_starter class (of_class class c r) (of_class class c s) x y (beside_starters class c xs) (beside_starters class c ys) (run_of_class class c r rr) (run_of_class class c s rs) z zy
+          let parts : (c : ℕ) → SameParts (of_key class c r) (of_key class c s) x y (beside_starters class c xs) (beside_starters class c ys) =
+          λ c. first_starter class (of_key class c r) (of_key class c s) x y (beside_starters class c xs) (beside_starters class c ys) (run_of_class class c r rr) (run_of_class class c s rs) z zy
           (ap₂ (λ a b. a ++ b) (sym (beside_in_run class c r rr)) (sym (starter_stays class c x xs z))
           ∙ (sym (beside_starters-append class c r (x ∷ xs))
           ∙ (h c

@@ -3,7 +3,7 @@ use Rattle.std.proofs.lemmas.List.Sorted.{IsNonDecreasingBy-from_sort_by_key, an
 use Rattle.plain_normalizer.specs.declared.item.PlainItem.{PlainItem}
 use Rattle.plain_normalizer.specs.PlainItems.{seen_all}
 use Rattle.plain_normalizer.proofs.Runs.{plain_class, seen_run_order}
-use Rattle.plain_normalizer.proofs.StableSort.{stable_sort_is}
+use Rattle.stable_order.specs.StableSort.{stable_sort_is}
 use Rattle.plain_normalizer.proofs.ordering.sort_run.Goals as goal
 
 -- a mark of each class
