@@ -1,5 +1,6 @@
 pub mod Neighbours
 pub mod Ends
+pub mod Carried
 pub mod Turned
 pub mod GroupsTurned
 pub mod Walking
