@@ -112,16 +112,16 @@ take_sum (suc m) zero [] = let e : suc m + 0 ≡ suc (m + 0) = omega arith in rw
 take_sum (suc m) (suc n) [] = let e : suc m + suc n ≡ suc (m + suc n) = omega arith in rw e refl
 take_sum (suc m) n (x ∷ xs) = let e : suc m + n ≡ suc (m + n) = omega arith in ap (λ k. take k (x ∷ xs)) e ∙ ap (λ ys. x ∷ ys) (take_sum m n xs)
 
-drop_beyond : {X : Type 0} (i j : ℕ) (xs : List X) → i ≤ j → drop (j - i) (drop i xs) ≡ drop j xs
+pub drop_beyond : {X : Type 0} (i j : ℕ) (xs : List X) → i ≤ j → drop (j - i) (drop i xs) ≡ drop j xs
 drop_beyond i j xs le = let there : i + (j - i) ≡ j = omega arith in drop-drop (j - i) i xs ∙ ap (λ n. drop n xs) there
 
 -- a range in two parts
-two_ranges : {X : Type 0} (i j k : ℕ) (xs : List X) → i ≤ j → j ≤ k → slice_range xs i k ≡ slice_range xs i j ++ slice_range xs j k
+pub two_ranges : {X : Type 0} (i j k : ℕ) (xs : List X) → i ≤ j → j ≤ k → slice_range xs i k ≡ slice_range xs i j ++ slice_range xs j k
 two_ranges i j k xs le less =
     let there : k - i ≡ (j - i) + (k - j) = omega arith in
     ap (λ n. take n (drop i xs)) there ∙ take_sum (j - i) (k - j) (drop i xs) ∙ ap (λ ys. slice_range xs i j ++ take (k - j) ys) (drop_beyond i j xs le)
 
-take_to : {X : Type 0} (i j : ℕ) (xs : List X) → i ≤ j → take j xs ≡ take i xs ++ slice_range xs i j
+pub take_to : {X : Type 0} (i j : ℕ) (xs : List X) → i ≤ j → take j xs ≡ take i xs ++ slice_range xs i j
 take_to i j xs le = let there : j ≡ i + (j - i) = omega arith in ap (λ n. take n xs) there ∙ take_sum i (j - i) xs
 
 -- the first cluster of a range
@@ -177,30 +177,30 @@ merged_alone gs start end a xs is falling alone =
     by_test n false e inner = refl
 
 -- what is carried out, part by part
-range_long : (d : Due) (gs : List Glyph) → d.from ≤ d.to → d.to ≤ length gs → length (map (in_cluster d.cluster) (slice_range gs d.from d.to)) ≡ d.to - d.from
+pub range_long : (d : Due) (gs : List Glyph) → d.from ≤ d.to → d.to ≤ length gs → length (map (in_cluster d.cluster) (slice_range gs d.from d.to)) ≡ d.to - d.from
 range_long d gs le within = length-map (slice_range gs d.from d.to) (in_cluster d.cluster) ∙ length-take-le (d.to - d.from) (drop d.from gs) (omega (arith, length-drop d.from gs))
 
-front_long : (d : Due) (gs : List Glyph) → d.from ≤ d.to → d.to ≤ length gs → length (take d.from gs ++ map (in_cluster d.cluster) (slice_range gs d.from d.to)) ≡ d.to
+pub front_long : (d : Due) (gs : List Glyph) → d.from ≤ d.to → d.to ≤ length gs → length (take d.from gs ++ map (in_cluster d.cluster) (slice_range gs d.from d.to)) ≡ d.to
 front_long d gs le within = omega (arith, length-append (take d.from gs) (map (in_cluster d.cluster) (slice_range gs d.from d.to)), length-take-le d.from gs (omega arith), range_long d gs le within)
 
-take_carried : (d : Due) (gs : List Glyph) → d.from ≤ d.to → d.to ≤ length gs → take d.to (carried d gs) ≡ take d.from gs ++ map (in_cluster d.cluster) (slice_range gs d.from d.to)
+pub take_carried : (d : Due) (gs : List Glyph) → d.from ≤ d.to → d.to ≤ length gs → take d.to (carried d gs) ≡ take d.from gs ++ map (in_cluster d.cluster) (slice_range gs d.from d.to)
 take_carried d gs le within =
     let f = take d.from gs ++ map (in_cluster d.cluster) (slice_range gs d.from d.to) in
     ap (λ n. take n (f ++ drop d.to gs)) (sym (front_long d gs le within)) ∙ take-append_seam f (drop d.to gs)
 
-drop_carried : (d : Due) (gs : List Glyph) (at : ℕ) → d.from ≤ d.to → d.to ≤ length gs → d.to ≤ at → drop at (carried d gs) ≡ drop at gs
+pub drop_carried : (d : Due) (gs : List Glyph) (at : ℕ) → d.from ≤ d.to → d.to ≤ length gs → d.to ≤ at → drop at (carried d gs) ≡ drop at gs
 drop_carried d gs at le within behind =
     let f = take d.from gs ++ map (in_cluster d.cluster) (slice_range gs d.from d.to) in
     let here : drop d.to (carried d gs) ≡ drop d.to gs = ap (λ n. drop n (f ++ drop d.to gs)) (sym (front_long d gs le within)) ∙ drop-append_seam f (drop d.to gs) in
     sym (drop_beyond d.to at (carried d gs) behind) ∙ ap (drop (at - d.to)) here ∙ drop_beyond d.to at gs behind
 
-from_carried : (d : Due) (gs : List Glyph) → d.from ≤ d.to → d.to ≤ length gs → take d.from (carried d gs) ≡ take d.from gs
+pub from_carried : (d : Due) (gs : List Glyph) → d.from ≤ d.to → d.to ≤ length gs → take d.from (carried d gs) ≡ take d.from gs
 from_carried d gs le within =
     let m = map (in_cluster d.cluster) (slice_range gs d.from d.to) in
     let long : length (take d.from gs) ≡ d.from = length-take-le d.from gs (omega arith) in
     ap (take d.from) (append_assoc (take d.from gs) m (drop d.to gs)) ∙ ap (λ n. take n (take d.from gs ++ (m ++ drop d.to gs))) (sym long) ∙ take-append_seam (take d.from gs) (m ++ drop d.to gs)
 
-range_carried : (d : Due) (gs : List Glyph) → d.from ≤ d.to → d.to ≤ length gs → slice_range (carried d gs) d.from d.to ≡ map (in_cluster d.cluster) (slice_range gs d.from d.to)
+pub range_carried : (d : Due) (gs : List Glyph) → d.from ≤ d.to → d.to ≤ length gs → slice_range (carried d gs) d.from d.to ≡ map (in_cluster d.cluster) (slice_range gs d.from d.to)
 range_carried d gs le within =
     let m = map (in_cluster d.cluster) (slice_range gs d.from d.to) in
     let long : length (take d.from gs) ≡ d.from = length-take-le d.from gs (omega arith) in
@@ -224,7 +224,7 @@ all_twice c z (g ∷ gs) other off =
     ∙ ap (λ hs. in_cluster z g ∷ hs) (all_twice c z gs other (λ n h. off n (has_more g.cluster n (clusters gs) h)))
 
 -- behind what is due nothing changes
-same_range : (d : Due) (gs : List Glyph) (i j : ℕ) → d.from ≤ d.to → d.to ≤ length gs → d.to ≤ i → slice_range (carried d gs) i j ≡ slice_range gs i j
+pub same_range : (d : Due) (gs : List Glyph) (i j : ℕ) → d.from ≤ d.to → d.to ≤ length gs → d.to ≤ i → slice_range (carried d gs) i j ≡ slice_range gs i j
 same_range d gs i j le within behind = ap (take (j - i)) (drop_carried d gs i le within behind)
 
 has_before : (gs : List Glyph) (i j n : ℕ) → i ≤ j → Has (clusters (take i gs)) n → Has (clusters (take j gs)) n

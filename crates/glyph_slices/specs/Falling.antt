@@ -1,5 +1,5 @@
 -- Merges over falling clusters, of which the last is still to be carried out.
-use Rattle.std.specs.Prelude.{ℕ, ◌≤◌, ◌<◌, List, ◌++◌, Option, Some, None, map, take, drop, slice_range}
+use Rattle.std.specs.Prelude.{ℕ, ◌≡◌, ◌⊎◌, ◌≤◌, ◌<◌, List, ◌++◌, Option, Some, None, map, take, drop, slice_range}
 use Rattle.glyph_types.specs.declared.info.hb_glyph_info_t.{hb_glyph_info_t}
 use Rattle.glyph_types.specs.declared.level.BufferClusterLevel.{BufferClusterLevel}
 use Rattle.glyph_lists.specs.Items.{clusters}
@@ -36,3 +36,11 @@ MayBeDue level at (Some d) gs = IsMonotone level × IsDueBefore at d gs
 abbrev pub IsWithin : ℕ → Option Due → Type 0
 IsWithin n None = Unit {0}
 IsWithin n (Some d) = (d.from ≤ d.to) × (d.to ≤ n)
+
+-- what is due ends before a range, or has all of it at its end
+abbrev pub IsRound : ℕ → ℕ → Due → Type 0
+IsRound start end d = (d.to ≤ start) ⊎ ((d.from ≤ start) × (d.to ≡ end))
+
+abbrev pub MayBeRound : ℕ → ℕ → Option Due → Type 0
+MayBeRound start end None = Unit {0}
+MayBeRound start end (Some d) = IsRound start end d

@@ -1,11 +1,11 @@
-ghost use Rattle.std.specs.Prelude.{◌≡◌, ◌≤◌, ◌<◌, ◌||◌, true, false, Bool, length, map};
+ghost use Rattle.std.specs.Prelude.{◌≡◌, ◌≤◌, ◌<◌, ◌||◌, None, true, false, Bool, length, map};
 ghost use Rattle.glyph_types.specs.declared.info.hb_glyph_info_t.{hb_glyph_info_t as Glyph};
 ghost use Rattle.glyph_lists.specs.Items.{clusters};
 ghost use Rattle.glyph_lists.specs.Events.{stretch};
 ghost use Rattle.glyph_lists.specs.Order.{IsFalling, IsOrdered};
 ghost use Rattle.glyph_lists.specs.Readings.{IsMonotone};
 ghost use Rattle.glyph_lists.specs.Glyphs.{glyphs_merged, glyphs_merged_at, in_cluster, is_marked_at};
-ghost use Rattle.glyph_slices.specs.Falling.{IsDueBefore, IsWithin, MayBeDue, carried, meant};
+ghost use Rattle.glyph_slices.specs.Falling.{IsDueBefore, IsRound, IsWithin, MayBeDue, MayBeRound, carried, meant};
 
 use crate::deletion::end_run;
 use crate::merges::merge_at;
@@ -49,6 +49,7 @@ fn merge_falling(glyphs: &mut [hb_glyph_info_t], due: Due, start: usize, end: us
     requires due { IsDueBefore start due glyphs.old }
     ensures merged { carried result glyphs.new ≡ glyphs_merged (stretch start end (clusters (carried due glyphs.old))) (carried due glyphs.old) }
     ensures due { IsDueBefore end result glyphs.new }
+    ensures round { IsRound start end result }
 {
     let cluster = glyphs[start].cluster;
     let low = least_cluster(&glyphs[start..end]);
@@ -90,6 +91,7 @@ pub(crate) fn no_merges(
     ensures due { MayBeDue level 0 result.due glyphs.now }
     ensures meant { meant result.due glyphs.now ≡ glyphs.now }
     ensures marked { result.marked ≡ false }
+    ensures none { in_order ≡ false → result.due ≡ None }
 {
     Merges {
         marked: false,
@@ -101,6 +103,7 @@ fn no_due(glyphs: &[hb_glyph_info_t], level: BufferClusterLevel, in_order: bool)
     requires known { in_order ≡ true → IsMonotone level → IsOrdered (clusters glyphs.now) }
     ensures due { MayBeDue level 0 result glyphs.now }
     ensures meant { meant result glyphs.now ≡ glyphs.now }
+    ensures none { in_order ≡ false → result ≡ None }
 {
     match level {
         BufferClusterLevel::Characters => None,
@@ -145,6 +148,7 @@ pub(crate) fn merge_next(
     ensures merged { meant result.due glyphs.new ≡ glyphs_merged_at level start end (meant merges.due glyphs.old) }
     ensures marked { result.marked ≡ (merges.marked || is_marked_at level start end (clusters (meant merges.due glyphs.old))) }
     ensures due { MayBeDue level end result.due glyphs.new }
+    ensures round { MayBeRound start end result.due }
 {
     match merges.due {
         Some(due) => Merges {

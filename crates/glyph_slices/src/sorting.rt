@@ -15,8 +15,8 @@ use std::alloc::{AllocError, Global};
 
 /// Puts the glyphs from `start` up to before `end` in stable order by the keys that they have, and merges each smallest
 /// span that the order permutes: one of more than one glyph, between places before which all came from before them. The
-/// merges come first, on the glyphs as they stood, so that where all clusters are known to stand in order each costs its
-/// span and the runs at its ends. Where memory is short the slice stays as it was.
+/// merges come first, on the glyphs as they stood, so that where all clusters are known to stand in order they take linear
+/// time in all. Where memory is short the slice stays as it was.
 pub fn sort<F: Fn(&hb_glyph_info_t) -> u32>(
     alloc: Global,
     glyphs: &mut [hb_glyph_info_t],

@@ -325,3 +325,59 @@ fn sorts_spans_apart_in_falling_clusters(rt: HostRuntime) -> Result<(), Fail> {
     );
     Ok(())
 }
+
+#[test]
+fn merges_groups_that_share_falling_clusters(rt: HostRuntime) -> Result<(), Fail> {
+    let mut glyphs = [
+        glyph(1, 9, 9),
+        glyph(1, 8, 9),
+        glyph(2, 5, 9),
+        glyph(2, 4, 9),
+        glyph(3, 4, 9),
+        glyph(3, 3, 9),
+        glyph(4, 1, 9),
+    ];
+    let mut places = [
+        place(10),
+        place(20),
+        place(30),
+        place(40),
+        place(50),
+        place(60),
+        place(70),
+    ];
+    let marked = reverse_groups(
+        &mut glyphs,
+        &mut places,
+        BufferClusterLevel::MonotoneGraphemes,
+        true,
+        true,
+        |before, after| before.glyph_id == after.glyph_id,
+    );
+    assert!(&rt; !marked);
+    assert_eq!(&rt;
+        glyphs,
+        [
+            glyph(4, 1, 9),
+            glyph(3, 3, 8),
+            glyph(3, 3, 9),
+            glyph(2, 3, 8),
+            glyph(2, 3, 8),
+            glyph(1, 8, 8),
+            glyph(1, 8, 9)
+        ]
+    );
+    assert_eq!(&rt;
+        places,
+        [
+            place(70),
+            place(50),
+            place(60),
+            place(30),
+            place(40),
+            place(10),
+            place(20)
+        ]
+    );
+    Ok(())
+}
