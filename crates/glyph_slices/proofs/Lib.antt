@@ -1,5 +1,7 @@
 pub mod Neighbours
 pub mod Ends
+pub mod Carried
+pub mod CarriedTurned
 pub mod Turned
 pub mod GroupsTurned
 pub mod Walking

@@ -26,7 +26,7 @@ turned_put start end xs range le e =
     let behind : drop (end - start) (drop start xs) ≡ drop end xs = drop-drop (end - start) start xs ∙ ap (λ n. drop n xs) there in
     rw (e, behind) (sym (append_assoc (take start xs) (reverse (slice_range xs start end)) (drop end xs)))
 
-part_front : {X : Type 0} (start end : ℕ) (xs : List X) → start ≤ end → end ≤ length xs → length (take start xs ++ reverse (slice_range xs start end)) ≡ end
+pub part_front : {X : Type 0} (start end : ℕ) (xs : List X) → start ≤ end → end ≤ length xs → length (take start xs ++ reverse (slice_range xs start end)) ≡ end
 part_front start end xs le within =
     omega (arith, length-append (take start xs) (reverse (slice_range xs start end)), length-take-le start xs (omega arith), length-reverse (slice_range xs start end), length-take-le (end - start) (drop start xs) (omega (arith, length-drop start xs)))
 
@@ -37,7 +37,7 @@ part_before start end xs le within =
     let cut : take end (front ++ drop end xs) ≡ front = ap (λ n. take n (front ++ drop end xs)) (sym long) ∙ take-append_seam front (drop end xs) in
     ap reverse cut ∙ reverse-append (take start xs) (reverse (slice_range xs start end)) ∙ ap (λ ys. ys ++ reverse (take start xs)) (reverse-reverse (slice_range xs start end))
 
-part_behind : {X : Type 0} (start end : ℕ) (xs : List X) → start ≤ end → end ≤ length xs → drop end (part_turned start end xs) ≡ drop (end - start) (drop start xs)
+pub part_behind : {X : Type 0} (start end : ℕ) (xs : List X) → start ≤ end → end ≤ length xs → drop end (part_turned start end xs) ≡ drop (end - start) (drop start xs)
 part_behind start end xs le within =
     let front = take start xs ++ reverse (slice_range xs start end) in
     let long : length front ≡ end = part_front start end xs le within in
@@ -130,19 +130,22 @@ merged_stretch Characters start end gs mono le = absurd mono
 merged_stretch MonotoneGraphemes start end gs mono le = in_range start end gs
 merged_stretch MonotoneCharacters start end gs mono le = in_range start end gs
 
--- turned round, they leave the order as it is
-pub group_ordered : (merge : Bool) (level : BufferClusterLevel) (start end : ℕ) (gs mid new : List Glyph) → start ≤ end → mid ≡ merged_if merge level start end gs → new ≡ part_turned start end mid
-    → merge ≡ true → IsMonotone level → IsOrdered (clusters gs) → IsOrdered (clusters new)
-group_ordered false level start end gs mid new le m n asked mono o = cc
-group_ordered true level start end gs mid new le m n asked mono o =
+-- turned round, they leave the clusters as they are
+pub clusters_part : (level : BufferClusterLevel) (start end : ℕ) (gs mid : List Glyph) → IsMonotone level → start ≤ end → mid ≡ glyphs_merged_at level start end gs → clusters (part_turned start end mid) ≡ clusters mid
+clusters_part level start end gs mid mono le m =
     let f : Glyph → ℕ = λ g. g.cluster in
     let range = slice_range mid start end in
     let same : reverse (clusters range) ≡ clusters range = rw m (merged_stretch level start end gs mono le) in
     let turned : clusters (reverse range) ≡ clusters range = map-reverse f range ∙ same in
-    let whole : clusters (part_turned start end mid) ≡ clusters mid =
-    map-append f (take start mid ++ reverse range) (drop end mid) ∙ ap (λ ns. ns ++ clusters (drop end mid)) (map-append f (take start mid) (reverse range) ∙ ap (λ ns. clusters (take start mid) ++ ns) turned ∙ sym (map-append f (take start mid) range)) ∙ sym (map-append f (take start mid ++ range) (drop end mid)) ∙ ap clusters (cut_out start end mid le) in
+    map-append f (take start mid ++ reverse range) (drop end mid) ∙ ap (λ ns. ns ++ clusters (drop end mid)) (map-append f (take start mid) (reverse range) ∙ ap (λ ns. clusters (take start mid) ++ ns) turned ∙ sym (map-append f (take start mid) range)) ∙ sym (map-append f (take start mid ++ range) (drop end mid)) ∙ ap clusters (cut_out start end mid le)
+
+-- and so the order
+pub group_ordered : (merge : Bool) (level : BufferClusterLevel) (start end : ℕ) (gs mid new : List Glyph) → start ≤ end → mid ≡ merged_if merge level start end gs → new ≡ part_turned start end mid
+    → merge ≡ true → IsMonotone level → IsOrdered (clusters gs) → IsOrdered (clusters new)
+group_ordered false level start end gs mid new le m n asked mono o = cc
+group_ordered true level start end gs mid new le m n asked mono o =
     let P : List ℕ → Type 0 = IsOrdered in
-    subst P (sym (ap clusters n ∙ whole)) (order_merged level start end gs mid le m o)
+    subst P (sym (ap clusters n ∙ clusters_part level start end gs mid mono le m)) (order_merged level start end gs mid le m o)
 
 same_cluster : (g : Glyph) → in_cluster g.cluster g ≡ g
 same_cluster g = let same : (g.cluster == g.cluster) ≡ true = grind (arith, common_steps) in rw same refl

@@ -1,6 +1,7 @@
 pub mod Groups
 pub mod Runs
 pub mod Merging
+pub mod Falling
 pub mod Turning
 pub mod Deleting
 pub mod DeletionWalk

@@ -60,7 +60,7 @@ pub fn next_has(glyphs: &[hb_glyph_info_t], at: usize, cluster: u32) -> bool
 }
 
 /// Where the glyphs of the cluster at the end begin.
-fn end_run(glyphs: &[hb_glyph_info_t], cluster: u32) -> usize
+pub(crate) fn end_run(glyphs: &[hb_glyph_info_t], cluster: u32) -> usize
     ensures within { result ≤ length glyphs.now }
     ensures begins { IsEndRun cluster result glyphs.now }
 {

@@ -2,6 +2,7 @@
 #![tactic(auto)]
 
 pub mod deletion;
+mod falling;
 pub mod groups;
 pub mod laws;
 pub mod merges;

@@ -1,22 +1,23 @@
-ghost use Rattle.std.specs.Prelude.{◌≡◌, ◌≤◌, ◌-◌, ◌||◌, true, false, Bool, length};
+ghost use Rattle.std.specs.Prelude.{◌≡◌, ◌<◌, ◌≤◌, None, ◌-◌, ◌||◌, true, false, Bool, length};
 ghost use Rattle.glyph_types.specs.declared.info.hb_glyph_info_t.{hb_glyph_info_t as Glyph};
 ghost use Rattle.glyph_lists.specs.Items.{Item, clusters, flags_of, item_of, strip};
 ghost use Rattle.glyph_lists.specs.Order.{BringsNone, IsOrdered};
 ghost use Rattle.glyph_lists.specs.Readings.{IsMonotone};
 ghost use Rattle.glyph_slices.specs.Facts.{clusters_turned, places_turned};
+ghost use Rattle.glyph_slices.specs.Falling.{MayBeDue, MayBeRound, meant};
 ghost use Rattle.glyph_slices.specs.Flags.{flags_turned};
 ghost use Rattle.glyph_slices.specs.Groups.{Decides};
 ghost use Rattle.glyph_slices.specs.Turning.{first_turned, groups_turned, is_marked_if, merged_if, part_turned, turned, turning_at};
 
+use crate::falling::{Merges, merge_next, no_merges, settle};
 use crate::groups::end_of_group;
-use crate::merges::merge_at;
 use glyph_types::info::hb_glyph_info_t;
 use glyph_types::level::BufferClusterLevel;
 use glyph_types::position::GlyphPosition;
 
 /// Turns round the order of the groups, and keeps the order within each; places go with their glyphs. The groups are found
 /// from the left; where `merge` is told, each is merged before the next is looked for. Answers whether a merge marked a
-/// glyph. Where all clusters are known to stand in order a merge costs its range and the runs at its ends.
+/// glyph. Where all clusters are known to stand in order the merges take linear time in all.
 pub fn reverse_groups<F: Fn(&hb_glyph_info_t, &hb_glyph_info_t) -> bool>(
     glyphs: &mut [hb_glyph_info_t],
     places: &mut [GlyphPosition],
@@ -38,20 +39,20 @@ pub fn reverse_groups<F: Fn(&hb_glyph_info_t, &hb_glyph_info_t) -> bool>(
     ensures numbers { (joins : Glyph → Glyph → Bool) → Decides F.Fn group joins → BringsNone (clusters glyphs.old) (clusters glyphs.new) }
     ensures flags { (q : Item → Item → Bool) → Decides F.Fn group (λ g h. q (item_of g) (item_of h)) → flags_of glyphs.new ≡ flags_turned merge level q (strip glyphs.old) (clusters glyphs.old) (flags_of glyphs.old) }
 {
-    let mut marked = false;
+    let mut merges = no_merges(glyphs, level, merge && in_order);
     let mut start = 0;
     while start < glyphs.len() {
         let end = end_of_group(glyphs, start, &group);
-        marked |= turn_group(glyphs, places, level, in_order, merge, start, end);
+        merges = turn_group(glyphs, places, level, in_order, merge, start, end, merges);
         start = end;
     }
+    settle(glyphs, merges.due);
     glyphs.reverse();
     places.reverse();
-    marked
+    merges.marked
 }
 
-/// Merges a group where that is asked for, and turns round its glyphs and places; answers whether a glyph was marked.
-#[tactic(auto, using(crate::proofs::Turned::group_placed, crate::proofs::Turned::group_ordered))]
+/// Merges a group where that is asked for, and turns round its glyphs and places.
 fn turn_group(
     glyphs: &mut [hb_glyph_info_t],
     places: &mut [GlyphPosition],
@@ -60,18 +61,23 @@ fn turn_group(
     merge: bool,
     start: usize,
     end: usize,
-) -> bool
-    requires ordered { start ≤ end }
+    merges: Merges,
+) -> Merges
+    requires some { start < end }
     requires within { end ≤ length glyphs.old }
     requires placed { length places.old ≡ length glyphs.old }
-    requires known { merge ≡ true → in_order ≡ true → IsMonotone level → IsOrdered (clusters glyphs.old) }
-    ensures turned { (before : Bool) → turning_at end glyphs.new places.new (before || result) ≡ first_turned merge level (end - start) (turning_at start glyphs.old places.old before) }
-    ensures order { merge ≡ true → IsMonotone level → IsOrdered (clusters glyphs.old) → IsOrdered (clusters glyphs.new) }
+    requires known { merge ≡ true → in_order ≡ true → IsMonotone level → IsOrdered (clusters (meant merges.due glyphs.old)) }
+    requires due { MayBeDue level start merges.due glyphs.old }
+    requires plain { merge ≡ false → merges.due ≡ None }
+    ensures turned { turning_at end (meant result.due glyphs.new) places.new result.marked ≡ first_turned merge level (end - start) (turning_at start (meant merges.due glyphs.old) places.old merges.marked) }
+    ensures order { merge ≡ true → IsMonotone level → IsOrdered (clusters (meant merges.due glyphs.old)) → IsOrdered (clusters (meant result.due glyphs.new)) }
+    ensures due { MayBeDue level end result.due glyphs.new }
+    ensures plain { merge ≡ false → result.due ≡ None }
 {
-    let marked = merge_group(glyphs, level, in_order, merge, start, end);
+    let merged = merge_group(glyphs, level, in_order, merge, start, end, merges);
     turn_part(glyphs, start, end);
     turn_part(places, start, end);
-    marked
+    merged
 }
 
 fn merge_group(
@@ -81,17 +87,23 @@ fn merge_group(
     merge: bool,
     start: usize,
     end: usize,
-) -> bool
-    requires ordered { start ≤ end }
+    merges: Merges,
+) -> Merges
+    requires some { start < end }
     requires within { end ≤ length glyphs.old }
-    requires known { merge ≡ true → in_order ≡ true → IsMonotone level → IsOrdered (clusters glyphs.old) }
-    ensures merged { glyphs.new ≡ merged_if merge level start end glyphs.old }
-    ensures marked { result ≡ is_marked_if merge level start end (clusters glyphs.old) }
+    requires known { merge ≡ true → in_order ≡ true → IsMonotone level → IsOrdered (clusters (meant merges.due glyphs.old)) }
+    requires due { MayBeDue level start merges.due glyphs.old }
+    requires plain { merge ≡ false → merges.due ≡ None }
+    ensures merged { meant result.due glyphs.new ≡ merged_if merge level start end (meant merges.due glyphs.old) }
+    ensures marked { result.marked ≡ (merges.marked || is_marked_if merge level start end (clusters (meant merges.due glyphs.old))) }
+    ensures due { MayBeDue level end result.due glyphs.new }
+    ensures round { MayBeRound start end result.due }
+    ensures plain { merge ≡ false → result.due ≡ None }
 {
     if merge {
-        merge_at(glyphs, level, start, end, in_order)
+        merge_next(glyphs, level, in_order, start, end, merges)
     } else {
-        false
+        merges
     }
 }
 

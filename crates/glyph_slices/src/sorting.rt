@@ -4,18 +4,19 @@ ghost use Rattle.glyph_types.specs.declared.info.hb_glyph_info_t.{hb_glyph_info_
 ghost use Rattle.glyph_lists.specs.Items.{Item, clusters, flags_of, item_of, strip};
 ghost use Rattle.glyph_lists.specs.Order.{BringsNone, IsInOrder, IsOrdered};
 ghost use Rattle.stable_order.specs.Keys.{key_order};
+ghost use Rattle.glyph_slices.specs.Falling.{MayBeDue, meant};
 ghost use Rattle.glyph_slices.specs.SortedFacts.{clusters_sorted, flags_sorted};
 ghost use Rattle.glyph_slices.specs.Sorting.{Gives, Spanned, glyph_at, keyed_from, put_in_order, range_merged, range_sorted, range_spanned, span_merged};
 
-use crate::merges::merge_range;
+use crate::falling::{Merges, merge_next, no_merges, settle};
 use glyph_types::info::hb_glyph_info_t;
 use glyph_types::level::BufferClusterLevel;
 use std::alloc::{AllocError, Global};
 
 /// Puts the glyphs from `start` up to before `end` in stable order by the keys that they have, and merges each smallest
 /// span that the order permutes: one of more than one glyph, between places before which all came from before them. The
-/// merges come first, on the glyphs as they stood, so that where all clusters are known to stand in order each costs its
-/// span and the runs at its ends. Where memory is short the slice stays as it was.
+/// merges come first, on the glyphs as they stood, so that where all clusters are known to stand in order they take linear
+/// time in all. Where memory is short the slice stays as it was.
 pub fn sort<F: Fn(&hb_glyph_info_t) -> u32>(
     alloc: Global,
     glyphs: &mut [hb_glyph_info_t],
@@ -96,27 +97,27 @@ fn sort_places(places: &mut Vec<Keyed>) -> Result<(), AllocError>
     Ok(())
 }
 
-/// Merges the glyphs from `start` up to before `end` where there are several; answers whether one was marked.
+/// Merges the glyphs from `start` up to before `end` where there are several.
+#[tactic(auto, using(crate::proofs::Carried::due_later))]
 fn merge_span(
     glyphs: &mut [hb_glyph_info_t],
     level: BufferClusterLevel,
     in_order: bool,
     start: usize,
     end: usize,
-    marked: bool,
-) -> bool
+    merges: Merges,
+) -> Merges
     requires ordered { start ≤ end }
     requires within { end ≤ length glyphs.old }
-    requires known { in_order ≡ true → IsOrdered (clusters glyphs.old) }
-    ensures merged { record { glyphs = glyphs.new; is_marked = result } ≡ span_merged level start end (record { glyphs = glyphs.old; is_marked = marked }) }
-    ensures order { IsOrdered (clusters glyphs.old) → IsOrdered (clusters glyphs.new) }
-    ensures direction { (falls : Bool) → IsInOrder falls (clusters glyphs.old) → IsInOrder falls (clusters glyphs.new) }
+    requires known { in_order ≡ true → IsOrdered (clusters (meant merges.due glyphs.old)) }
+    requires due { MayBeDue level start merges.due glyphs.old }
+    ensures merged { record { glyphs = meant result.due glyphs.new; is_marked = result.marked } ≡ span_merged level start end (record { glyphs = meant merges.due glyphs.old; is_marked = merges.marked }) }
+    ensures due { MayBeDue level end result.due glyphs.new }
 {
     if end - start < 2 {
-        return marked;
+        return merges;
     }
-    let merged = merge_range(glyphs, level, start, end, in_order);
-    marked | merged
+    merge_next(glyphs, level, in_order, start, end, merges)
 }
 
 /// Merges the spans of a range that begins at `start`; answers whether a glyph was marked.
@@ -132,7 +133,7 @@ fn merge_spans(
     ensures merged { record { glyphs = glyphs.new; is_marked = result } ≡ range_spanned level start order.now glyphs.old }
     ensures direction { (falls : Bool) → IsInOrder falls (clusters glyphs.old) → IsInOrder falls (clusters glyphs.new) }
 {
-    let mut marked = false;
+    let mut merges = no_merges(glyphs, level, in_order);
     let mut begin = 0;
     let mut reach = 0;
     for place in 0..order.len() {
@@ -141,10 +142,11 @@ fn merge_spans(
             continue;
         }
         let end = place + 1;
-        marked = merge_span(glyphs, level, in_order, start + begin, start + end, marked);
+        merges = merge_span(glyphs, level, in_order, start + begin, start + end, merges);
         begin = end;
     }
-    marked
+    settle(glyphs, merges.due);
+    merges.marked
 }
 
 /// Each place of a range takes the glyph that stood at another place of it, as the order tells; answers whether each place

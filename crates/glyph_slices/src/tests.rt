@@ -255,3 +255,129 @@ fn sorting_marks_where_characters_are_kept_apart(rt: HostRuntime) -> Result<(), 
     assert_eq!(&rt; glyphs, [glyph(1, 1, 3), glyph(2, 0, 0), glyph(0, 2, 0)]);
     Ok(())
 }
+
+#[test]
+fn sorts_spans_that_share_falling_clusters(rt: HostRuntime) -> Result<(), Fail> {
+    let mut glyphs = [
+        glyph(2, 5, 9),
+        glyph(1, 4, 9),
+        glyph(4, 4, 9),
+        glyph(3, 3, 9),
+        glyph(6, 3, 9),
+        glyph(5, 2, 9),
+    ];
+    let sorted = sort(
+        rt.alloc(),
+        &mut glyphs,
+        BufferClusterLevel::MonotoneGraphemes,
+        true,
+        0,
+        6,
+        |info| info.glyph_id,
+    )?;
+    assert!(&rt; !sorted.marked);
+    assert!(&rt; sorted.in_order);
+    assert_eq!(&rt;
+        glyphs,
+        [
+            glyph(1, 2, 8),
+            glyph(2, 2, 8),
+            glyph(3, 2, 8),
+            glyph(4, 2, 8),
+            glyph(5, 2, 9),
+            glyph(6, 2, 8)
+        ]
+    );
+    Ok(())
+}
+
+#[test]
+fn sorts_spans_apart_in_falling_clusters(rt: HostRuntime) -> Result<(), Fail> {
+    let mut glyphs = [
+        glyph(2, 9, 9),
+        glyph(1, 8, 9),
+        glyph(4, 5, 9),
+        glyph(3, 4, 9),
+        glyph(5, 4, 9),
+        glyph(7, 4, 9),
+        glyph(6, 1, 9),
+    ];
+    sort(
+        rt.alloc(),
+        &mut glyphs,
+        BufferClusterLevel::MonotoneCharacters,
+        true,
+        0,
+        7,
+        |info| info.glyph_id,
+    )?;
+    assert_eq!(&rt;
+        glyphs,
+        [
+            glyph(1, 8, 9),
+            glyph(2, 8, 8),
+            glyph(3, 1, 8),
+            glyph(4, 1, 8),
+            glyph(5, 1, 8),
+            glyph(6, 1, 9),
+            glyph(7, 1, 8)
+        ]
+    );
+    Ok(())
+}
+
+#[test]
+fn merges_groups_that_share_falling_clusters(rt: HostRuntime) -> Result<(), Fail> {
+    let mut glyphs = [
+        glyph(1, 9, 9),
+        glyph(1, 8, 9),
+        glyph(2, 5, 9),
+        glyph(2, 4, 9),
+        glyph(3, 4, 9),
+        glyph(3, 3, 9),
+        glyph(4, 1, 9),
+    ];
+    let mut places = [
+        place(10),
+        place(20),
+        place(30),
+        place(40),
+        place(50),
+        place(60),
+        place(70),
+    ];
+    let marked = reverse_groups(
+        &mut glyphs,
+        &mut places,
+        BufferClusterLevel::MonotoneGraphemes,
+        true,
+        true,
+        |before, after| before.glyph_id == after.glyph_id,
+    );
+    assert!(&rt; !marked);
+    assert_eq!(&rt;
+        glyphs,
+        [
+            glyph(4, 1, 9),
+            glyph(3, 3, 8),
+            glyph(3, 3, 9),
+            glyph(2, 3, 8),
+            glyph(2, 3, 8),
+            glyph(1, 8, 8),
+            glyph(1, 8, 9)
+        ]
+    );
+    assert_eq!(&rt;
+        places,
+        [
+            place(70),
+            place(50),
+            place(60),
+            place(30),
+            place(40),
+            place(10),
+            place(20)
+        ]
+    );
+    Ok(())
+}

@@ -1,43 +1,77 @@
-use Rattle.std.proofs.Common.{arith, ◌||◌, ap, subst, sym, List, ◌∙◌}
+use Rattle.std.proofs.Common.{◌≡◌, ◌+◌, Bool, arith, ap, subst, sym, List, length, drop, reverse, ◌∙◌}
 use Rattle.glyph_types.specs.declared.info.hb_glyph_info_t.{hb_glyph_info_t as Glyph}
 use Rattle.glyph_lists.specs.Items.{clusters, flags_of, item_of, strip}
-use Rattle.glyph_lists.specs.Order.{BringsNone}
+use Rattle.glyph_lists.specs.Order.{BringsNone, IsOrdered}
 use Rattle.glyph_slices.specs.NoNewNumbers.{turning_brings_none}
 use Rattle.glyph_slices.specs.Turning.{Turning, turned}
-use Rattle.glyph_slices.proofs.Turned.{rest_begins, rest_goes_on, rest_ends}
+use Rattle.glyph_slices.proofs.Turned.{Rest, rest_begins, rest_goes_on, rest_ends}
+use Rattle.glyph_slices.specs.Groups.{group_length}
+use Rattle.glyph_slices.specs.Falling.{meant}
+use Rattle.glyph_slices.proofs.Carried.{due_within}
+use Rattle.glyph_slices.proofs.CarriedTurned.{meant_long, meant_ahead}
 use Rattle.glyph_slices.proofs.GroupsTurned.{turned_plain}
 use Rattle.glyph_slices.proofs.Regrouped.{items_turned, places_beside, clusters_beside}
 use Rattle.glyph_slices.proofs.RegroupedFlags.{flags_beside}
 use Rattle.glyph_slices.proofs.reversal.reverse_groups.Goals as goal
+use Rattle.glyph_slices.proofs.reversal.reverse_groups.Goals.{then-merge, else-merge}
 
 pub loop-start-init : goal.loop-start-init
-loop-start-init g c = record {
-  within = omega arith;
-  placed = c.requires.placed;
-  known = λ asked sure mono. c.requires.known sure;
-  rest = λ joins same. rest_begins c.args.merge c.args.level joins c.args.glyphs.now c.args.places.now;
-}
+loop-start-init g c =
+    let none = c.no_merges-merges.ensures in
+    record {
+      within = omega arith;
+      placed = c.requires.placed;
+      known = λ asked sure mono. subst (λ (hs : List Glyph). IsOrdered (clusters hs)) (sym none.meant) (c.requires.known sure);
+      due = none.due;
+      plain = λ off. none.none (elim c.if-merge.branch [ then-merge w ↦ let on = w.if-merge.true in cc | else-merge w ↦ w.no_merges-is ∙ off ]);
+      rest = λ joins same. subst (λ (hs : List Glyph). Rest c.args.merge c.args.level joins 0 hs c.args.places.now c.no_merges-merges.result.marked (turned c.args.merge c.args.level joins c.args.glyphs.now c.args.places.now)) (sym none.meant)
+          (subst (λ (m : Bool). Rest c.args.merge c.args.level joins 0 c.args.glyphs.now c.args.places.now m (turned c.args.merge c.args.level joins c.args.glyphs.now c.args.places.now)) (sym none.marked) (rest_begins c.args.merge c.args.level joins c.args.glyphs.now c.args.places.now));
+    }
 
 pub loop-start-preserved : goal.loop-start-preserved
 loop-start-preserved g c =
-    let turn = c.turn_group-marked.ensures in
+    let turn = c.turn_group-merges.ensures in
     let inv = c.loop-start.invariant in
+    let start = c.loop-start.start in
+    let end = c.end_of_group-end.result in
+    let old = c.loop-start.glyphs in
+    let new = c.turn_group-merges.new.glyphs in
+    let before : length (meant c.loop-start.merges.due old) ≡ length old = meant_long c.args.level start c.loop-start.merges.due old (omega arith) inv.due in
+    let after : length (meant c.turn_group-merges.result.due new) ≡ length new = meant_long c.args.level end c.turn_group-merges.result.due new (omega (arith, c.end_of_group-end.ensures.within, c.turn_group-merges.auto.glyphs)) turn.due in
+    let ahead : drop start (meant c.loop-start.merges.due old) ≡ drop start old = meant_ahead c.args.level start c.loop-start.merges.due old (omega arith) inv.due in
     record {
       within = omega (arith, c.end_of_group-end.ensures.within);
       placed = omega (arith, inv.placed);
       known = λ asked sure mono. turn.order asked mono (inv.known asked sure mono);
-      rest = λ joins same. rest_goes_on c.args.merge c.args.level joins c.loop-start.start c.end_of_group-end.result c.loop-start.glyphs c.turn_group-marked.new.glyphs c.loop-start.places c.turn_group-marked.new.places
-          c.loop-start.marked (c.loop-start.marked || c.turn_group-marked.result) _ c.loop-start-test.true c.end_of_group-end.ensures.some (omega arith) (c.end_of_group-end.ensures.end joins same) (turn.turned c.loop-start.marked) (inv.rest joins same);
+      due = turn.due;
+      plain = turn.plain;
+      rest = λ joins same. rest_goes_on c.args.merge c.args.level joins start end (meant c.loop-start.merges.due old) (meant c.turn_group-merges.result.due new) c.loop-start.places c.turn_group-merges.new.places
+          c.loop-start.merges.marked c.turn_group-merges.result.marked _ (omega (arith, before, c.loop-start-test.true)) c.end_of_group-end.ensures.some (omega (arith, before, after, c.turn_group-merges.auto.glyphs))
+          (c.end_of_group-end.ensures.end joins same ∙ ap (λ hs. start + group_length joins hs) (sym ahead)) turn.turned (inv.rest joins same);
     }
 
+pub settle-requires : goal.settle-requires
+settle-requires g c = due_within c.args.level c.loop-start.start (length c.loop-start.glyphs) c.loop-start.merges.due c.loop-start.glyphs c.loop-start.invariant.within c.loop-start.invariant.due
+
 pub returns-clause-glyphs : goal.returns-clause-glyphs
-returns-clause-glyphs g c = λ joins same. c.reverse.ensures.after ∙ ap (λ (t : Turning). t.glyphs) (rest_ends c.args.merge c.args.level joins c.loop-start.start c.loop-start.glyphs c.loop-start.places c.loop-start.marked _ c.loop-start-test.false c.loop-start.invariant.placed (c.loop-start.invariant.rest joins same))
+returns-clause-glyphs g c = λ joins same.
+    let inv = c.loop-start.invariant in
+    let long : length (meant c.loop-start.merges.due c.loop-start.glyphs) ≡ length c.loop-start.glyphs = meant_long c.args.level c.loop-start.start c.loop-start.merges.due c.loop-start.glyphs inv.within inv.due in
+    c.reverse.ensures.after ∙ ap reverse c.settle.ensures
+    ∙ ap (λ (t : Turning). t.glyphs) (rest_ends c.args.merge c.args.level joins c.loop-start.start (meant c.loop-start.merges.due c.loop-start.glyphs) c.loop-start.places c.loop-start.merges.marked _ (omega (arith, long, c.loop-start-test.false)) (omega (arith, long, inv.placed)) (inv.rest joins same))
 
 pub returns-clause-places : goal.returns-clause-places
-returns-clause-places g c = λ joins same. c.reverse-2.ensures.after ∙ ap (λ (t : Turning). t.places) (rest_ends c.args.merge c.args.level joins c.loop-start.start c.loop-start.glyphs c.loop-start.places c.loop-start.marked _ c.loop-start-test.false c.loop-start.invariant.placed (c.loop-start.invariant.rest joins same))
+returns-clause-places g c = λ joins same.
+    let inv = c.loop-start.invariant in
+    let long : length (meant c.loop-start.merges.due c.loop-start.glyphs) ≡ length c.loop-start.glyphs = meant_long c.args.level c.loop-start.start c.loop-start.merges.due c.loop-start.glyphs inv.within inv.due in
+    c.reverse-2.ensures.after
+    ∙ ap (λ (t : Turning). t.places) (rest_ends c.args.merge c.args.level joins c.loop-start.start (meant c.loop-start.merges.due c.loop-start.glyphs) c.loop-start.places c.loop-start.merges.marked _ (omega (arith, long, c.loop-start-test.false)) (omega (arith, long, inv.placed)) (inv.rest joins same))
 
 pub returns-clause-marked : goal.returns-clause-marked
-returns-clause-marked g c = λ joins same. ap (λ (t : Turning). t.is_marked) (rest_ends c.args.merge c.args.level joins c.loop-start.start c.loop-start.glyphs c.loop-start.places c.loop-start.marked _ c.loop-start-test.false c.loop-start.invariant.placed (c.loop-start.invariant.rest joins same))
+returns-clause-marked g c = λ joins same.
+    let inv = c.loop-start.invariant in
+    let long : length (meant c.loop-start.merges.due c.loop-start.glyphs) ≡ length c.loop-start.glyphs = meant_long c.args.level c.loop-start.start c.loop-start.merges.due c.loop-start.glyphs inv.within inv.due in
+    ap (λ (t : Turning). t.is_marked) (rest_ends c.args.merge c.args.level joins c.loop-start.start (meant c.loop-start.merges.due c.loop-start.glyphs) c.loop-start.places c.loop-start.merges.marked _ (omega (arith, long, c.loop-start-test.false)) (omega (arith, long, inv.placed)) (inv.rest joins same))
 
 pub returns-clause-plain : goal.returns-clause-plain
 returns-clause-plain g c = λ joins same off. returns-clause-glyphs g c joins same ∙ ap (λ t. (turned t c.args.level joins c.args.glyphs.now c.args.places.now).glyphs) off ∙ turned_plain c.args.level joins c.args.glyphs.now c.args.places.now

@@ -1,9 +1,11 @@
-use Rattle.std.proofs.Common.{◌≡◌, ◌-◌, ◌≤◌, true, Bool, length}
+use Rattle.std.proofs.Common.{◌≡◌, ◌-◌, ◌≤◌, true, false, Bool, length}
 use Rattle.glyph_types.specs.declared.info.hb_glyph_info_t.{hb_glyph_info_t as Glyph}
 use Rattle.glyph_lists.specs.Items.{clusters}
 use Rattle.glyph_lists.specs.Order.{IsOrdered}
 use Rattle.glyph_lists.specs.Readings.{IsMonotone}
 use Rattle.glyph_slices.specs.Groups.{Decides}
+use Rattle.std.specs.Prelude.{None}
+use Rattle.glyph_slices.specs.Falling.{MayBeDue, meant}
 use Rattle.glyph_slices.specs.Turning.{turned}
 use Rattle.glyph_slices.proofs.Turned.{Rest}
 use Rattle.glyph_slices.proofs.reversal.reverse_groups.Given as goal
@@ -13,8 +15,10 @@ abbrev pub invariant-loop-start : goal.invariant-loop-start
 invariant-loop-start g l = record {
   within : l.start ≤ length l.glyphs;
   placed : length l.places ≡ length l.glyphs;
-  known : l.merge ≡ true → l.in_order ≡ true → IsMonotone l.level → IsOrdered (clusters l.glyphs);
-  rest : (joins : Glyph → Glyph → Bool) → Decides g.F.Fn l.group joins → Rest l.merge l.level joins l.start l.glyphs l.places l.marked (turned l.merge l.level joins l.fn.glyphs l.fn.places);
+  known : l.merge ≡ true → l.in_order ≡ true → IsMonotone l.level → IsOrdered (clusters (meant l.merges.due l.glyphs));
+  due : MayBeDue l.level l.start l.merges.due l.glyphs;
+  plain : l.merge ≡ false → l.merges.due ≡ None;
+  rest : (joins : Glyph → Glyph → Bool) → Decides g.F.Fn l.group joins → Rest l.merge l.level joins l.start (meant l.merges.due l.glyphs) l.places l.merges.marked (turned l.merge l.level joins l.fn.glyphs l.fn.places);
 }
 
 abbrev pub decreases-loop-start : goal.decreases-loop-start
