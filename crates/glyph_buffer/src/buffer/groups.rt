@@ -82,6 +82,7 @@ impl hb_buffer_t {
         let in_order = self
             .order
             .settled(self.lent, &self.out_info, &self.info)
+            .walked(&self.out_info, &self.info, 0)
             .is_known();
         self.order = KnownOrder::Unknown;
         self.lent = None;
@@ -108,6 +109,7 @@ impl hb_buffer_t {
         let in_order = self
             .order
             .settled(self.lent, &self.out_info, &self.info)
+            .walked(&self.out_info, &self.info, 0)
             .is_known();
         self.order = KnownOrder::Unknown;
         self.lent = None;

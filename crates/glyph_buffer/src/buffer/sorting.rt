@@ -39,7 +39,10 @@ impl hb_buffer_t {
         ensures count { length (all_glyphs self.new) ≡ length (all_glyphs self.old) }
         ensures err { OnErr result (self.new ≡ self.old) }
     {
-        let order = self.order.settled(self.lent, &self.out_info, &self.info);
+        let order = self
+            .order
+            .settled(self.lent, &self.out_info, &self.info)
+            .walked(&self.out_info, &self.info, 0);
         let in_order = order.is_known();
         let level = self.cluster_level;
         let sorted = sort_range(alloc, &mut self.info, level, in_order, start, end, key)?;
