@@ -1,28 +1,17 @@
 -- The glyph at the cursor was deleted.
 use Rattle.std.specs.Global.{Vec}
-use Rattle.std.proofs.Common.{ℕ, suc, zero, ◌≡◌, ◌≢◌, ◌≤◌, ◌<◌, ◌+◌, ◌-◌, ◌==◌, ◌||◌, nat_lt, Bool, true, false, if◌then◌else◌, List, [], ◌∷◌, ◌++◌, Option, Some, None, slice_get, length, take, drop, get_or, arith, refl, ap, sym, subst, ◌∙◌}
-use Rattle.std.proofs.lemmas.Bool.Decides.{nat_tests}
-use Rattle.std.proofs.lemmas.Grind.{common_steps}
-use Rattle.std.proofs.lemmas.List.{drop_more, drop_all, length-take-le, length-map, map-append}
-use Rattle.std.proofs.Math.Seq.{drop-append-add}
+use Rattle.std.proofs.Common.{ℕ, ◌≡◌, ◌+◌, Bool, true, false, List, ◌∷◌, ◌++◌, Option, drop, refl, ap, sym, subst, ◌∙◌}
+use Rattle.std.proofs.lemmas.List.{map-append}
 use Rattle.glyph_types.specs.declared.info.hb_glyph_info_t.{hb_glyph_info_t as Glyph}
 use Rattle.glyph_types.specs.declared.level.BufferClusterLevel.{BufferClusterLevel as Level}
-use Rattle.glyph_types.specs.declared.level.BufferClusterLevel.TheVariants.{MonotoneGraphemes, MonotoneCharacters, Characters}
 use Rattle.glyph_lists.specs.Items.{clusters, flags_of, glyph_flags, item_of, strip}
-use Rattle.glyph_lists.specs.Events.{Delete, first_of, last_of, is_number}
 use Rattle.glyph_lists.specs.Deletions.{deleted}
-use Rattle.glyph_lists.specs.Glyphs.{glyphs_merged_at, is_marked_at}
-use Rattle.glyph_lists.specs.Order.{IsInOrder}
-use Rattle.glyph_lists.specs.Readings.{IsMonotone}
-use Rattle.glyph_lists.specs.Lemmas.Deletions.{deletion_is_event, no_last}
-use Rattle.glyph_lists.specs.Lemmas.Events.{event_keeps_order}
-use Rattle.glyph_lists.specs.Lemmas.Glyphs.{length_merged_at}
 use Rattle.glyph_slices.specs.Deleted.{clusters_deleted, items_deleted}
 use Rattle.glyph_slices.specs.Facts.{together}
 use Rattle.glyph_slices.specs.Flags.{flags_deleted}
 use Rattle.glyph_slices.specs.DeletedFlags.{front_flags, back_flags}
 use Rattle.glyph_slices.specs.OneDeleted.{left_clusters, order_deleted}
-use Rattle.glyph_slices.specs.Deleting.{Left, end_recast, glyphs_deleted, deletion_marks}
+use Rattle.glyph_slices.specs.Deleting.{glyphs_deleted}
 use Rattle.glyph_slices.specs.DeletionWalk.{Deletes}
 use Rattle.glyph_buffer.specs.declared.buffer.hb_buffer_t.TheInside.{Inside}
 use Rattle.glyph_buffer.specs.declared.buffer.order.KnownOrder.{KnownOrder}
