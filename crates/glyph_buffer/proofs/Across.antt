@@ -1,7 +1,7 @@
 -- What happens to a range that begins in the output, over both sides.
 use Rattle.std.specs.Global.{Vec}
 use Rattle.std.specs.Prelude.{slice_range}
-use Rattle.std.proofs.Common.{ℕ, ◌≡◌, ◌≤◌, ◌+◌, ◌-◌, true, false, nat_lt, ◌⊎◌, inl, inr, Option, List, [], ◌∷◌, ◌++◌, length, map, take, drop, refl, arith, ap, sym, subst, append_assoc, ◌∙◌}
+use Rattle.std.proofs.Common.{ℕ, ◌≡◌, ◌≤◌, ◌+◌, ◌-◌, true, nat_lt, ◌⊎◌, inl, inr, Option, List, [], ◌∷◌, ◌++◌, length, map, take, drop, refl, arith, ap, sym, subst, append_assoc, ◌∙◌}
 use Rattle.std.proofs.lemmas.List.{map-append, take-append-drop, take-append-le, drop-append-le, take_at, drop_at, drop-drop, length-map, length-append, length-drop}
 use Rattle.std.proofs.Math.Seq.{take-append-add, take-append_seam, drop-append-add, drop-append_seam}
 use Rattle.glyph_types.specs.declared.info.hb_glyph_info_t.{hb_glyph_info_t}
@@ -10,21 +10,16 @@ use Rattle.glyph_types.specs.declared.level.BufferClusterLevel.{BufferClusterLev
 use Rattle.glyph_lists.specs.Items.{strip, clusters, flags_of}
 use Rattle.glyph_lists.specs.Events.{stretch}
 use Rattle.glyph_lists.specs.Merges.{least_number, merged, merged_at}
-use Rattle.glyph_lists.specs.Order.{IsOrdered}
 use Rattle.glyph_lists.specs.Glyphs.{flagged, glyphs_flagged, glyphs_marked, glyphs_merged, in_cluster, marked_outside, tells_apart}
-use Rattle.glyph_lists.specs.Lemmas.Drawn.{IsDrawn, drawn_second, drawn_drop}
-use Rattle.glyph_lists.specs.Lemmas.Events.{order_drawn}
-use Rattle.glyph_lists.specs.Lemmas.Glyphs.{cluster_marked, clusters_merged, cut_out, flags_of_merged, stretch_is, strip_merged}
-use Rattle.glyph_lists.specs.Lemmas.Merges.{chain_left}
+use Rattle.glyph_lists.specs.Lemmas.Glyphs.{cluster_marked, clusters_merged, flags_of_merged, stretch_is, strip_merged}
 use Rattle.glyph_buffer.specs.declared.buffer.hb_buffer_t.TheInside.{Inside}
-use Rattle.glyph_buffer.specs.declared.buffer.order.KnownOrder.{KnownOrder}
-use Rattle.glyph_buffer.specs.declared.buffer.order.Lent.{Lent}
+use Rattle.glyph_sides.specs.declared.order.KnownOrder.{KnownOrder}
+use Rattle.glyph_sides.specs.declared.order.Lent.{Lent}
 use Rattle.glyph_buffer.specs.Inside.{sides_of}
-use Rattle.glyph_buffer.specs.Known.{HasOrder}
+use Rattle.glyph_sides.specs.Known.{HasOrder}
 use Rattle.glyph_buffer.specs.Sides.{Sides, all_glyphs, items_of}
 use Rattle.glyph_buffer.specs.Merging.{flags_output_merged_at, output_merged_at, place_of, telling_flags, with_glyphs, with_output_merged}
 use Rattle.glyph_buffer.specs.Marking.{with_marked, with_flagged}
-use Rattle.glyph_buffer.proofs.Merged.{ahead_known}
 use Rattle.glyph_buffer.proofs.Ordered.{known_ahead, known_back, order_merged_at}
 
 -- a range that goes over the end of the first of two lists
@@ -99,24 +94,6 @@ flagged_across_view b info out order lent bits start end flags h le begins o i f
 
 pub place_within : (start end : ℕ) (s : Sides) → start ≤ length s.behind → s.read ≤ end → start ≤ place_of end s
 place_within start end s le begins = omega arith
-
--- a range of the first of two lists stands in order before the second
-stays_so : {xs ys : List ℕ} → IsDrawn xs ys → IsOrdered xs → IsOrdered ys
-stays_so d o = elim o [ inl rises ↦ inl (order_drawn false d rises) | inr falls ↦ inr (order_drawn true d falls) ]
-
-pub range_ordered : (out : List hb_glyph_info_t) (ns : List ℕ) (start end : ℕ) → start ≤ end → IsOrdered (clusters out ++ ns) → IsOrdered (clusters (slice_range out start end) ++ ns)
-range_ordered out ns start end le o =
-    let cluster_of : hb_glyph_info_t → ℕ = λ g. g.cluster in
-    let front = clusters (take start out) in
-    let range = clusters (slice_range out start end) in
-    let back = clusters (drop end out) in
-    let cut : clusters out ≡ front ++ (range ++ back) = ap clusters (sym (cut_out start end out le)) ∙ map-append cluster_of (take start out ++ slice_range out start end) (drop end out) ∙ ap (λ ns. ns ++ back) (map-append cluster_of (take start out) (slice_range out start end)) ∙ append_assoc front range back in
-    let whole : clusters out ++ ns ≡ front ++ (range ++ (back ++ ns)) = ap (λ ms. ms ++ ns) cut ∙ append_assoc front (range ++ back) ns ∙ ap (λ ms. front ++ ms) (append_assoc range back ns) in
-    let near = ahead_known front (range ++ (back ++ ns)) (subst IsOrdered whole o) in
-    subst (λ ms. IsOrdered (range ++ ms)) (drop_at back ns (length back) refl) (stays_so (drawn_second range (drawn_drop (length back) (back ++ ns))) near)
-
-pub front_ordered : (xs ys : List ℕ) → IsOrdered (xs ++ ys) → IsOrdered xs
-front_ordered xs ys o = elim o [ inl rises ↦ inl (chain_left (λ m n. m ≤ n) xs ys rises) | inr falls ↦ inr (chain_left (λ m n. n ≤ m) xs ys falls) ]
 
 -- what is seen of each glyph stays where a change of glyphs keeps it
 seen_across : (f : hb_glyph_info_t → hb_glyph_info_t) → ((g : hb_glyph_info_t) → (f g).cluster ≡ g.cluster) → (gs : List hb_glyph_info_t) → clusters (map f gs) ≡ clusters gs

@@ -12,7 +12,7 @@ use Rattle.glyph_lists.specs.Lists.{take_one}
 use Rattle.glyph_lists.specs.Replacements.{glyph_numbered, glyphs_replaced, items_replaced}
 use Rattle.glyph_lists.specs.Lemmas.Replacements.{strip_replaced, clusters_replaced, flags_of_replaced}
 use Rattle.glyph_buffer.specs.declared.buffer.hb_buffer_t.TheInside.{Inside}
-use Rattle.glyph_buffer.specs.declared.buffer.order.KnownOrder.{KnownOrder}
+use Rattle.glyph_sides.specs.declared.order.KnownOrder.{KnownOrder}
 use Rattle.glyph_buffer.specs.Inside.{sides_of}
 use Rattle.glyph_buffer.specs.Sides.{Sides, all_glyphs, items_of, with_added}
 use Rattle.glyph_buffer.specs.Merging.{with_copy, with_put, with_renumbered, with_skipped}

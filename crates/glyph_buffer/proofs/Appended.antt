@@ -5,9 +5,9 @@ use Rattle.std.proofs.lemmas.List.{take-append-le, drop-append-le, length-replic
 use Rattle.glyph_types.specs.declared.info.hb_glyph_info_t.{hb_glyph_info_t}
 use Rattle.glyph_types.specs.declared.position.GlyphPosition.{GlyphPosition}
 use Rattle.glyph_buffer.specs.declared.buffer.hb_buffer_t.TheInside.{Inside}
-use Rattle.glyph_buffer.specs.declared.buffer.order.KnownOrder.{KnownOrder}
+use Rattle.glyph_sides.specs.declared.order.KnownOrder.{KnownOrder}
 use Rattle.glyph_lists.specs.Items.{clusters}
-use Rattle.glyph_buffer.specs.Known.{HasOrder}
+use Rattle.glyph_sides.specs.Known.{HasOrder}
 use Rattle.glyph_buffer.specs.Inside.{sides_of, IsSound}
 use Rattle.glyph_buffer.specs.Sides.{with_added}
 use Rattle.glyph_buffer.specs.Appended.{IsAppended}

@@ -7,8 +7,8 @@ use Rattle.glyph_types.specs.declared.info.hb_glyph_info_t.{hb_glyph_info_t}
 use Rattle.glyph_lists.specs.Items.{strip, clusters, flags_of}
 use Rattle.glyph_lists.specs.Order.{AllFrom, IsRising}
 use Rattle.glyph_buffer.specs.declared.buffer.hb_buffer_t.TheInside.{Inside}
-use Rattle.glyph_buffer.specs.declared.buffer.order.KnownOrder.{KnownOrder}
-use Rattle.glyph_buffer.specs.declared.buffer.order.Lent.{Lent}
+use Rattle.glyph_sides.specs.declared.order.KnownOrder.{KnownOrder}
+use Rattle.glyph_sides.specs.declared.order.Lent.{Lent}
 use Rattle.glyph_buffer.specs.Inside.{sides_of}
 use Rattle.glyph_buffer.specs.Sides.{Sides, all_glyphs, items_of}
 use Rattle.glyph_buffer.specs.Settings.{counted_from, glyphs_counted, most_cluster, with_counted}

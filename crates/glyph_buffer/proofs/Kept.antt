@@ -10,8 +10,8 @@ use Rattle.glyph_types.specs.declared.position.GlyphPosition.{GlyphPosition}
 use Rattle.glyph_buffer.specs.declared.buffer.hb_buffer_t.TheInside.{Inside}
 use Rattle.glyph_lists.specs.Replacements.{glyph_numbered}
 use Rattle.glyph_buffer.specs.Merging.{with_renumbered}
-use Rattle.glyph_buffer.specs.declared.buffer.order.KnownOrder.{KnownOrder}
-use Rattle.glyph_buffer.specs.declared.buffer.order.Lent.{Lent}
+use Rattle.glyph_sides.specs.declared.order.KnownOrder.{KnownOrder}
+use Rattle.glyph_sides.specs.declared.order.Lent.{Lent}
 use Rattle.glyph_buffer.specs.Inside.{sides_of}
 use Rattle.glyph_buffer.specs.Sides.{Sides, all_glyphs, items_of, flags_of, moved_on, reversed}
 

@@ -7,8 +7,7 @@ pub mod Kept
 pub mod Merged
 pub mod Replaced
 pub mod Masked
-pub mod Known
-pub mod Falling
+pub mod Rising
 pub mod Ordered
 pub mod Marked
 pub mod Across

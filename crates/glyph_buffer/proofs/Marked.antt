@@ -11,10 +11,10 @@ use Rattle.glyph_lists.specs.Events.{stretch}
 use Rattle.glyph_lists.specs.Glyphs.{glyphs_marked, glyphs_flagged, flags_marked, flags_flagged, tells_apart}
 use Rattle.glyph_lists.specs.Lemmas.Glyphs.{marked_beyond, flagged_beyond, stretch_beyond, strip_marked, strip_flagged, clusters_marked, clusters_flagged, flags_of_marked, flags_of_flagged}
 use Rattle.glyph_buffer.specs.declared.buffer.hb_buffer_t.TheInside.{Inside}
-use Rattle.glyph_buffer.specs.declared.buffer.order.KnownOrder.{KnownOrder}
-use Rattle.glyph_buffer.specs.declared.buffer.order.Lent.{Lent}
+use Rattle.glyph_sides.specs.declared.order.KnownOrder.{KnownOrder}
+use Rattle.glyph_sides.specs.declared.order.Lent.{Lent}
 use Rattle.glyph_buffer.specs.Inside.{sides_of, start_of}
-use Rattle.glyph_buffer.specs.Known.{HasOrder}
+use Rattle.glyph_sides.specs.Known.{HasOrder}
 use Rattle.glyph_buffer.specs.Sides.{Sides, all_glyphs, items_of}
 use Rattle.glyph_buffer.specs.Merging.{place_of, telling_flags}
 use Rattle.glyph_buffer.specs.Marking.{with_marked, with_flagged}

@@ -1,24 +1,18 @@
 -- What a merge of a range of the input does to the sides.
 use Rattle.std.specs.Global.{Vec}
-use Rattle.std.specs.Prelude.{slice_range}
-use Rattle.std.proofs.Common.{ℕ, ◌≡◌, ◌≤◌, ◌+◌, ◌-◌, Bool, true, false, Option, inl, inr, List, ◌++◌, length, take, drop, refl, arith, ap, sym, subst, ◌∙◌}
-use Rattle.std.proofs.lemmas.List.{take-append-drop, length-take-le, take_at, drop_at, take-map, drop-map}
+use Rattle.std.proofs.Common.{ℕ, ◌≡◌, ◌≤◌, ◌+◌, ◌-◌, Bool, true, false, Option, List, ◌++◌, length, take, drop, refl, arith, ap, sym, ◌∙◌}
+use Rattle.std.proofs.lemmas.List.{take-append-drop, length-take-le, take_at, drop_at}
 use Rattle.glyph_types.specs.declared.info.hb_glyph_info_t.{hb_glyph_info_t}
 use Rattle.glyph_types.specs.declared.level.BufferClusterLevel.{BufferClusterLevel}
 use Rattle.glyph_types.specs.declared.level.BufferClusterLevel.TheVariants.{MonotoneGraphemes, MonotoneCharacters, Characters}
 use Rattle.glyph_lists.specs.Items.{strip, clusters, flags_of}
 use Rattle.glyph_lists.specs.Events.{stretch}
 use Rattle.glyph_lists.specs.Merges.{merged_at}
-use Rattle.glyph_lists.specs.Order.{IsOrdered}
 use Rattle.glyph_lists.specs.Glyphs.{glyphs_merged_at, beside_merged, flags_merged_at, is_marked_at, tells_apart}
-use Rattle.glyph_lists.specs.Lists.{range_beyond}
-use Rattle.glyph_lists.specs.Lemmas.Drawn.{IsDrawn, drawn_second, drawn_drop, drawn_take}
-use Rattle.glyph_lists.specs.Lemmas.Events.{order_drawn}
-use Rattle.glyph_lists.specs.Lemmas.Merges.{chain_right}
 use Rattle.glyph_lists.specs.Lemmas.Glyphs.{merged_at_beyond, length_beside, stretch_beyond, strip_merged_at, clusters_merged_at, flags_of_merged_at}
 use Rattle.glyph_buffer.specs.declared.buffer.hb_buffer_t.TheInside.{Inside}
-use Rattle.glyph_buffer.specs.declared.buffer.order.KnownOrder.{KnownOrder}
-use Rattle.glyph_buffer.specs.declared.buffer.order.Lent.{Lent}
+use Rattle.glyph_sides.specs.declared.order.KnownOrder.{KnownOrder}
+use Rattle.glyph_sides.specs.declared.order.Lent.{Lent}
 use Rattle.glyph_buffer.specs.Inside.{sides_of, start_of}
 use Rattle.glyph_buffer.specs.Sides.{Sides, all_glyphs, items_of}
 use Rattle.glyph_buffer.specs.Merging.{place_of, telling_flags, with_merged}
@@ -41,36 +35,6 @@ merged_sides level i j from to behind ahead f t =
       ahead_is = rw (both, drop_at (beside_merged level (stretch i j (clusters ahead)) behind) (glyphs_merged_at level i j ahead) (length behind) long) refl;
       range_is = rw (f, t) (sym (stretch_beyond behind ahead i j));
     }
-
--- the second part of a list was written
-pub put_behind : (from : ℕ) (xs ys : List hb_glyph_info_t) → from ≤ length xs → drop from (take from xs ++ ys) ≡ ys
-put_behind from xs ys le = drop_at (take from xs) ys from (length-take-le from xs le)
-
-range_is : (info : List hb_glyph_info_t) (from start end : ℕ) → from ≤ start → take (end - start) (drop (start - from) (clusters (drop from info))) ≡ clusters (slice_range info start end)
-range_is info from start end le =
-    let cluster_of : hb_glyph_info_t → ℕ = λ g. g.cluster in
-    ap (take (end - start)) (drop-map cluster_of (start - from) (drop from info)) ∙ take-map cluster_of (end - start) (drop (start - from) (drop from info)) ∙ ap clusters (range_beyond info from start end le)
-
--- a range behind a place
-pub range_behind : (info : List hb_glyph_info_t) (from start end : ℕ) → from ≤ start → start ≤ end → clusters (slice_range info start end) ≡ stretch (start - from) (end - from) (clusters (drop from info))
-range_behind info from start end le before =
-    let wide : end - from - (start - from) ≡ end - start = omega arith in
-    sym (range_is info from start end le) ∙ ap (λ n. take n (drop (start - from) (clusters (drop from info)))) (sym wide)
-
--- what is drawn from a list in order is in order
-stays_so : {xs ys : List ℕ} → IsDrawn xs ys → IsOrdered xs → IsOrdered ys
-stays_so d o = elim o [ inl rises ↦ inl (order_drawn false d rises) | inr falls ↦ inr (order_drawn true d falls) ]
-
--- a range of the second of two lists stands in order behind the first
-pub range_known : (out info : List hb_glyph_info_t) (from start end : ℕ) → from ≤ start → IsOrdered (clusters out ++ clusters (drop from info)) → IsOrdered (clusters out ++ clusters (slice_range info start end))
-range_known out info from start end le o =
-    let rest = clusters (drop from info) in
-    let past = stays_so (drawn_second (clusters out) (drawn_drop (start - from) rest)) o in
-    let cut = stays_so (drawn_second (clusters out) (drawn_take (end - start) (drop (start - from) rest))) past in
-    subst (λ ns. IsOrdered (clusters out ++ ns)) (range_is info from start end le) cut
-
-pub ahead_known : (xs ys : List ℕ) → IsOrdered (xs ++ ys) → IsOrdered ys
-ahead_known xs ys o = elim o [ inl rises ↦ inl (chain_right (λ m n. m ≤ n) xs ys rises) | inr falls ↦ inr (chain_right (λ m n. n ≤ m) xs ys falls) ]
 
 pub same_marks : (level : BufferClusterLevel) (a b c d : ℕ) (ms ns : List ℕ) → stretch a b ms ≡ stretch c d ns → is_marked_at level a b ms ≡ is_marked_at level c d ns
 same_marks MonotoneGraphemes a b c d ms ns e = refl

@@ -1,6 +1,6 @@
 -- What a replacement does to the sides.
 use Rattle.std.specs.Global.{Vec}
-use Rattle.std.proofs.Common.{ℕ, ◌≡◌, ◌≤◌, ◌+◌, ◌-◌, ◌==◌, ◌||◌, ◌⊎◌, inl, inr, not, nat_le, Bool, true, false, Option, Some, None, List, [], ◌∷◌, ◌++◌, length, drop, refl, arith, ap, sym, ◌∙◌}
+use Rattle.std.proofs.Common.{ℕ, ◌≡◌, ◌≤◌, ◌+◌, ◌==◌, ◌||◌, ◌⊎◌, inl, inr, not, nat_le, Bool, true, false, Option, Some, None, List, [], ◌∷◌, ◌++◌, length, drop, refl, arith, ap, sym, ◌∙◌}
 use Rattle.std.proofs.lemmas.Grind.{common_steps}
 use Rattle.std.proofs.lemmas.Bool.Decides.{nat_tests}
 use Rattle.std.proofs.lemmas.List.{append-nil, length-map, drop-drop, length-take-le, length-append}
@@ -14,18 +14,12 @@ use Rattle.glyph_lists.specs.Replacements.{copied, glyph_numbered, glyphs_replac
 use Rattle.glyph_lists.specs.Lemmas.Glyphs.{strip_merged_at, clusters_merged_at, flags_of_merged_at, length_merged_at}
 use Rattle.glyph_lists.specs.Lemmas.Replacements.{strip_replaced, clusters_replaced, flags_of_replaced}
 use Rattle.glyph_buffer.specs.declared.buffer.hb_buffer_t.TheInside.{Inside}
-use Rattle.glyph_buffer.specs.declared.buffer.order.KnownOrder.{KnownOrder}
-use Rattle.glyph_buffer.specs.declared.buffer.order.Lent.{Lent}
+use Rattle.glyph_sides.specs.declared.order.KnownOrder.{KnownOrder}
+use Rattle.glyph_sides.specs.declared.order.Lent.{Lent}
 use Rattle.glyph_buffer.specs.Inside.{sides_of}
 use Rattle.glyph_buffer.specs.Sides.{Sides, all_glyphs, items_of}
 use Rattle.glyph_buffer.specs.Merging.{telling_flags, with_merged, with_copied, with_replaced, fits_copies}
 use Rattle.glyph_buffer.proofs.Merged.{merged_sides, same_marks, all_merged}
-
-pub no_way : (n : ℕ) → n - n ≡ 0
-no_way n = omega arith
-
-pub way_on : (n m : ℕ) → n + m - n ≡ m
-way_on n m = omega arith
 
 pub replaced_view : (b : Inside) (info out : Vec hb_glyph_info_t) (order : KnownOrder) (lent : Option Lent) (taken flags : ℕ) (numbers : List ℕ) → b.have_output ≡ true
     → drop b.idx info.items ≡ glyphs_merged_at b.cluster_level 0 taken (drop b.idx b.info.items)

@@ -3,7 +3,7 @@ use Rattle.std.specs.Prelude.{ℕ, ◌≤◌, ◌≡◌, ◌++◌, if◌then◌e
 use Rattle.std.specs.Bool.{OnFalse}
 use Rattle.glyph_buffer.specs.declared.buffer.hb_buffer_t.TheInside.{Inside}
 use Rattle.glyph_lists.specs.Items.{clusters}
-use Rattle.glyph_buffer.specs.Known.{HasOrder, put_back_ahead, put_back_behind}
+use Rattle.glyph_sides.specs.Known.{HasOrder, put_back_ahead, put_back_behind}
 use Rattle.glyph_buffer.specs.Sides.{Sides}
 
 abbrev pub sides_of : Inside → Sides

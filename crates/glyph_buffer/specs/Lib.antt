@@ -5,7 +5,6 @@ pub mod Settings
 pub mod Grouping
 pub mod Marking
 pub mod Masks
-pub mod Known
 pub mod Inside
 pub mod Text
 pub mod Moving

@@ -13,7 +13,6 @@ mod masks;
 mod merges;
 mod moves;
 mod numbering;
-mod order;
 mod output;
 mod replacement;
 mod reversal;
@@ -25,10 +24,10 @@ mod storage;
 mod tests;
 
 use arrayvec::ArrayVec;
+use glyph_sides::order::{KnownOrder, Lent};
 use glyph_types::info::hb_glyph_info_t;
 use glyph_types::level::BufferClusterLevel;
 use glyph_types::position::GlyphPosition;
-use order::{KnownOrder, Lent};
 use shaping_text::constants::{
     BufferFlags, HB_BUFFER_SCRATCH_FLAG_DEFAULT, hb_buffer_scratch_flags_t,
 };

@@ -13,7 +13,7 @@ ghost use Rattle.glyph_buffer.specs.Grouping.{with_groups_turned, with_picked_de
 
 use super::hb_buffer_t;
 use super::merges::telling_flags;
-use super::order::KnownOrder;
+use glyph_sides::order::KnownOrder;
 use glyph_slices::deletion::delete_within;
 use glyph_slices::{groups, reversal};
 use glyph_types::info::hb_glyph_info_t;

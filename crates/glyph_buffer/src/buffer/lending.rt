@@ -4,7 +4,7 @@ ghost use Rattle.glyph_buffer.specs.Sides.{all_glyphs};
 ghost use Rattle.glyph_buffer.specs.Lending.{LendsGlyphs, LendsOutput, LendsPlaces};
 
 use super::hb_buffer_t;
-use super::order::KnownOrder;
+use glyph_sides::order::KnownOrder;
 use glyph_types::info::hb_glyph_info_t;
 use glyph_types::position::GlyphPosition;
 

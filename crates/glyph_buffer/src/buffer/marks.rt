@@ -1,7 +1,6 @@
-ghost use Rattle.std.specs.Prelude.{◌≡◌, ◌+◌, ◌-◌, ◌≤◌, ◌<◌, if◌then◌else◌, true, drop, length, nat_lt, vec_len};
+ghost use Rattle.std.specs.Prelude.{◌≡◌, ◌+◌, ◌-◌, ◌≤◌, ◌<◌, if◌then◌else◌, true, length};
 ghost use Rattle.glyph_lists.specs.Items.{clusters, flags_of};
-ghost use Rattle.glyph_lists.specs.Events.{stretch};
-ghost use Rattle.glyph_lists.specs.Glyphs.{flags_flagged, flags_marked, glyphs_flagged, glyphs_marked, tells_apart};
+ghost use Rattle.glyph_lists.specs.Glyphs.{flags_flagged, flags_marked};
 ghost use Rattle.glyph_buffer.specs.Sides.{all_glyphs, items_of};
 ghost use Rattle.glyph_buffer.specs.Merging.{place_of};
 ghost use Rattle.glyph_buffer.specs.Marking.{asks_concat, asks_tatweel, concat_marked, end_or, marked_range, start_or, tatweel_marked, with_flagged, with_marked};
@@ -9,10 +8,8 @@ ghost use Rattle.glyph_buffer.specs.Marking.{asks_concat, asks_tatweel, concat_m
 use super::hb_buffer_t;
 use super::merges::telling_flags;
 use bitflags::Flags;
-use glyph_clusters::marks::{flag_within, mark_within};
-use glyph_types::info::{
-    SAFE_TO_INSERT_TATWEEL, UNSAFE_TO_BREAK, UNSAFE_TO_CONCAT, hb_glyph_info_t, hb_mask_t,
-};
+use glyph_sides::marks::{flag_in, mark_in};
+use glyph_types::info::{SAFE_TO_INSERT_TATWEEL, UNSAFE_TO_BREAK, UNSAFE_TO_CONCAT, hb_mask_t};
 use shaping_text::constants::BufferFlags;
 
 impl hb_buffer_t {
@@ -118,68 +115,4 @@ impl hb_buffer_t {
         self.lent = None;
         self.scratch_flags = telling_flags(start < end, self.scratch_flags);
     }
-}
-
-/// Sets flags on the glyphs of a range of the input, whose glyphs begin at `from`, outside the range's least cluster;
-/// answers whether there are such.
-pub(super) fn mark_in(
-    info: &mut Vec<hb_glyph_info_t>,
-    from: usize,
-    start: usize,
-    end: usize,
-    flags: hb_mask_t,
-) -> bool
-    requires begins { from ≤ start }
-    requires ordered { start ≤ end }
-    requires within { end ≤ vec_len info.old }
-    ensures items { drop from info.new.items ≡ glyphs_marked flags (start - from) (end - from) (drop from info.old.items) }
-    ensures any { result ≡ tells_apart (stretch (start - from) (end - from) (clusters (drop from info.old.items))) }
-    ensures len { vec_len info.new ≡ vec_len info.old }
-{
-    mark_behind(info, from, start, end, flags)
-}
-
-#[tactic(auto, using(crate::proofs::Merged::put_behind))]
-fn mark_behind(
-    glyphs: &mut [hb_glyph_info_t],
-    from: usize,
-    start: usize,
-    end: usize,
-    flags: hb_mask_t,
-) -> bool
-    requires begins { from ≤ start }
-    requires ordered { start ≤ end }
-    requires within { end ≤ length glyphs.old }
-    ensures items { drop from glyphs.new ≡ glyphs_marked flags (start - from) (end - from) (drop from glyphs.old) }
-    ensures any { result ≡ tells_apart (stretch (start - from) (end - from) (clusters (drop from glyphs.old))) }
-{
-    let (_, ahead) = glyphs.split_at_mut(from);
-    mark_within(ahead, start - from, end - from, flags)
-}
-
-fn flag_in(info: &mut Vec<hb_glyph_info_t>, from: usize, start: usize, end: usize, flags: hb_mask_t)
-    requires begins { from ≤ start }
-    requires ordered { start ≤ end }
-    requires within { end ≤ vec_len info.old }
-    ensures items { drop from info.new.items ≡ glyphs_flagged flags (start - from) (end - from) (drop from info.old.items) }
-    ensures len { vec_len info.new ≡ vec_len info.old }
-{
-    flag_behind(info, from, start, end, flags);
-}
-
-#[tactic(auto, using(crate::proofs::Merged::put_behind))]
-fn flag_behind(
-    glyphs: &mut [hb_glyph_info_t],
-    from: usize,
-    start: usize,
-    end: usize,
-    flags: hb_mask_t,
-)
-    requires begins { from ≤ start }
-    requires ordered { start ≤ end }
-    requires within { end ≤ length glyphs.old }
-    ensures { drop from glyphs.new ≡ glyphs_flagged flags (start - from) (end - from) (drop from glyphs.old) }
-{
-    let (_, ahead) = glyphs.split_at_mut(from);
-    flag_within(ahead, start - from, end - from, flags);
 }

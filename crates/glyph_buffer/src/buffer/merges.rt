@@ -1,19 +1,16 @@
-ghost use Rattle.std.specs.Prelude.{◌≡◌, ◌+◌, ◌-◌, ◌≤◌, ◌++◌, if◌then◌else◌, true, drop, length, vec_len, vec_capacity};
+ghost use Rattle.std.specs.Prelude.{◌≡◌, ◌+◌, ◌-◌, ◌≤◌, if◌then◌else◌, true, length};
 ghost use Rattle.glyph_lists.specs.Items.{clusters, flags_of};
-ghost use Rattle.glyph_lists.specs.Events.{stretch};
 ghost use Rattle.glyph_lists.specs.Merges.{merged_at};
-ghost use Rattle.glyph_lists.specs.Order.{BringsNone, IsOrdered};
-ghost use Rattle.glyph_lists.specs.Glyphs.{beside_merged, flags_merged_at, glyphs_marked, glyphs_merged, glyphs_merged_at, is_marked_at, tells_apart};
+ghost use Rattle.glyph_lists.specs.Order.{BringsNone};
+ghost use Rattle.glyph_lists.specs.Glyphs.{flags_merged_at};
 ghost use Rattle.glyph_slices.specs.Deleting.{recast};
 ghost use Rattle.glyph_buffer.specs.Sides.{all_glyphs, items_of};
 ghost use Rattle.glyph_buffer.specs.Merging.{place_of, telling_flags, with_merged};
 
 use super::hb_buffer_t;
-use super::marks::mark_in;
-use glyph_clusters::runs::{merge_beside, merge_within};
+use glyph_sides::merges::merge_lists;
 use glyph_slices::deletion::set_cluster;
-use glyph_types::info::{UNSAFE_TO_BREAK, UNSAFE_TO_CONCAT, hb_glyph_info_t, hb_mask_t};
-use glyph_types::level::BufferClusterLevel;
+use glyph_types::info::{hb_glyph_info_t, hb_mask_t};
 use shaping_text::constants::{HB_BUFFER_SCRATCH_FLAG_HAS_GLYPH_FLAGS, hb_buffer_scratch_flags_t};
 
 impl hb_buffer_t {
@@ -60,84 +57,6 @@ impl hb_buffer_t {
     {
         if self.have_output { self.idx } else { 0 }
     }
-}
-
-/// Merges a range of the input, whose glyphs begin at `from`, on both lists; answers whether a glyph was marked.
-#[tactic(auto, using(crate::proofs::Merged::range_behind, crate::proofs::Merged::range_known, crate::proofs::Merged::ahead_known))]
-pub(super) fn merge_lists(
-    info: &mut Vec<hb_glyph_info_t>,
-    out: &mut Vec<hb_glyph_info_t>,
-    from: usize,
-    start: usize,
-    end: usize,
-    level: BufferClusterLevel,
-    in_order: bool,
-) -> bool
-    requires begins { from ≤ start }
-    requires ordered { start ≤ end }
-    requires within { end ≤ vec_len info.old }
-    requires known { in_order ≡ true → IsOrdered (clusters out.old.items ++ clusters (drop from info.old.items)) }
-    ensures input { drop from info.new.items ≡ glyphs_merged_at level (start - from) (end - from) (drop from info.old.items) }
-    ensures output { out.new.items ≡ beside_merged level (stretch (start - from) (end - from) (clusters (drop from info.old.items))) out.old.items }
-    ensures any { result ≡ is_marked_at level (start - from) (end - from) (clusters (drop from info.old.items)) }
-    ensures input_len { vec_len info.new ≡ vec_len info.old }
-    ensures output_len { vec_len out.new ≡ vec_len out.old }
-    ensures capacity { vec_capacity out.new ≡ vec_capacity out.old }
-{
-    match level {
-        BufferClusterLevel::Characters => {
-            mark_in(info, from, start, end, UNSAFE_TO_BREAK | UNSAFE_TO_CONCAT)
-        }
-        BufferClusterLevel::MonotoneGraphemes | BufferClusterLevel::MonotoneCharacters => {
-            merge_out(out, &info[start..end], in_order);
-            merge_in(info, from, start, end, in_order);
-            false
-        }
-    }
-}
-
-fn merge_out(out: &mut Vec<hb_glyph_info_t>, range: &[hb_glyph_info_t], in_order: bool)
-    requires { in_order ≡ true → IsOrdered (clusters out.old.items ++ clusters range.now) }
-    ensures items { out.new.items ≡ glyphs_merged (clusters range.now) out.old.items }
-    ensures len { vec_len out.new ≡ vec_len out.old }
-    ensures capacity { vec_capacity out.new ≡ vec_capacity out.old }
-{
-    merge_beside(out, range, in_order);
-}
-
-pub(super) fn merge_in(
-    info: &mut Vec<hb_glyph_info_t>,
-    from: usize,
-    start: usize,
-    end: usize,
-    in_order: bool,
-)
-    requires begins { from ≤ start }
-    requires ordered { start ≤ end }
-    requires within { end ≤ vec_len info.old }
-    requires known { in_order ≡ true → IsOrdered (clusters (drop from info.old.items)) }
-    ensures items { drop from info.new.items ≡ glyphs_merged (stretch (start - from) (end - from) (clusters (drop from info.old.items))) (drop from info.old.items) }
-    ensures len { vec_len info.new ≡ vec_len info.old }
-{
-    merge_behind(info, from, start, end, in_order);
-}
-
-#[tactic(auto, using(crate::proofs::Merged::put_behind))]
-fn merge_behind(
-    glyphs: &mut [hb_glyph_info_t],
-    from: usize,
-    start: usize,
-    end: usize,
-    in_order: bool,
-)
-    requires begins { from ≤ start }
-    requires ordered { start ≤ end }
-    requires within { end ≤ length glyphs.old }
-    requires known { in_order ≡ true → IsOrdered (clusters (drop from glyphs.old)) }
-    ensures { drop from glyphs.new ≡ glyphs_merged (stretch (start - from) (end - from) (clusters (drop from glyphs.old))) (drop from glyphs.old) }
-{
-    let (_, ahead) = glyphs.split_at_mut(from);
-    merge_within(ahead, start - from, end - from, in_order);
 }
 
 pub(super) fn telling_flags(

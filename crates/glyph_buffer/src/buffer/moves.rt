@@ -1,4 +1,4 @@
-ghost use Rattle.std.specs.Prelude.{◌≡◌, ◌<◌, ◌≤◌, ◌+◌, ◌-◌, ◌++◌, length, drop, nat_le, true, false, Ok, OnErr, IfOk, vec_len, vec_capacity};
+ghost use Rattle.std.specs.Prelude.{◌≡◌, ◌<◌, ◌≤◌, ◌+◌, ◌-◌, ◌++◌, length, drop, nat_le, true, false, Ok, OnErr, IfOk};
 ghost use Rattle.glyph_lists.specs.Items.{clusters, flags_of, strip};
 ghost use Rattle.glyph_lists.specs.Order.{BringsNone};
 ghost use Rattle.glyph_buffer.specs.Sides.{all_glyphs, fits_next, items_of, moved_on, refused};
@@ -6,7 +6,7 @@ ghost use Rattle.glyph_buffer.specs.Merging.{with_skipped};
 ghost use Rattle.glyph_buffer.specs.Moving.{fits_moved, moved_to};
 
 use super::hb_buffer_t;
-use glyph_types::info::hb_glyph_info_t;
+use glyph_sides::moves::put_in_front;
 use std::alloc::AllocError;
 
 impl hb_buffer_t {
@@ -104,53 +104,4 @@ impl hb_buffer_t {
         self.lent = None;
         Ok(true)
     }
-}
-
-/// Puts glyphs in front of those from a place on, in the room of what stood before them, and more where that is too little;
-/// answers where they begin.
-fn put_in_front(
-    info: &mut Vec<hb_glyph_info_t>,
-    at: usize,
-    glyphs: &[hb_glyph_info_t],
-) -> Result<usize, AllocError>
-    requires { at ≤ vec_len info.old }
-    ensures first { IfOk result (λ n. n ≡ at - length glyphs.now) }
-    ensures items { IfOk result (λ n. drop n info.new.items ≡ glyphs.now ++ drop at info.old.items) }
-    ensures len { IfOk result (λ n. vec_len info.new ≡ n + length glyphs.now + (vec_len info.old - at)) }
-    ensures err { OnErr result (info.new.items ≡ info.old.items) }
-{
-    if glyphs.len() <= at {
-        let first = at - glyphs.len();
-        write_range(info, first, at, glyphs);
-        return Ok(first);
-    }
-    info.reserve(glyphs.len() - at)?;
-    put_all_in_front(info, at, glyphs);
-    Ok(0)
-}
-
-fn write_range(
-    info: &mut Vec<hb_glyph_info_t>,
-    start: usize,
-    end: usize,
-    glyphs: &[hb_glyph_info_t],
-)
-    requires range { end ≡ start + length glyphs.now }
-    requires within { end ≤ vec_len info.old }
-    ensures items { drop start info.new.items ≡ glyphs.now ++ drop end info.old.items }
-    ensures len { vec_len info.new ≡ vec_len info.old }
-{
-    info[start..end].copy_from_slice(glyphs);
-}
-
-fn put_all_in_front(info: &mut Vec<hb_glyph_info_t>, at: usize, glyphs: &[hb_glyph_info_t])
-    requires within { at ≤ vec_len info.old }
-    requires room { vec_len info.old - at + length glyphs.now ≤ vec_capacity info.old }
-    ensures { info.new.items ≡ glyphs.now ++ drop at info.old.items }
-{
-    let rest = info.len() - at;
-    info.rotate_left(at);
-    info.truncate(rest);
-    info.extend_from_slice(glyphs).unwrap();
-    info.rotate_right(glyphs.len());
 }

@@ -1,10 +1,10 @@
-ghost use Rattle.std.specs.Prelude.{◌≡◌, false, length, vec_len};
+ghost use Rattle.std.specs.Prelude.{◌≡◌, false, vec_len};
 ghost use Rattle.glyph_lists.specs.Items.{clusters, flags_of};
 ghost use Rattle.glyph_buffer.specs.Sides.{all_glyphs, items_of};
 ghost use Rattle.glyph_buffer.specs.Settings.{counted_from, glyphs_counted, with_counted};
 
 use super::hb_buffer_t;
-use super::order::KnownOrder;
+use glyph_sides::order::KnownOrder;
 use glyph_types::info::hb_glyph_info_t;
 
 impl hb_buffer_t {

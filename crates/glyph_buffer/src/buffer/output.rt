@@ -1,13 +1,13 @@
-ghost use Rattle.std.specs.Prelude.{◌≡◌, ◌<◌, ◌≤◌, ◌+◌, ◌++◌, ◌∷◌, [], drop, vec_len, vec_capacity, length, true, false, Ok, OnErr, IfOk};
+ghost use Rattle.std.specs.Prelude.{◌≡◌, ◌<◌, ◌+◌, ◌++◌, ◌∷◌, [], length, true, false, Ok, OnErr, IfOk};
 ghost use Rattle.glyph_lists.specs.Items.{clusters, flags_of, glyph_flags, item_of, strip};
-ghost use Rattle.glyph_lists.specs.Events.{first_of, last_of, or, replaced};
-ghost use Rattle.glyph_lists.specs.Replacements.{copied, glyph_numbered, items_replaced};
+ghost use Rattle.glyph_lists.specs.Events.{replaced};
+ghost use Rattle.glyph_lists.specs.Replacements.{items_replaced};
 ghost use Rattle.glyph_lists.specs.Order.{BringsNone};
 ghost use Rattle.glyph_buffer.specs.Sides.{all_glyphs, has_output_room, items_of, refused};
 ghost use Rattle.glyph_buffer.specs.Merging.{fits_copies, with_copy, with_put, with_renumbered};
 
 use super::hb_buffer_t;
-use super::replacement::{model_of, push_copies};
+use glyph_sides::replacement::push_copy;
 use glyph_types::info::hb_glyph_info_t;
 use std::alloc::AllocError;
 
@@ -92,15 +92,4 @@ impl hb_buffer_t {
         self.idx += 1;
         Ok(true)
     }
-}
-
-// Puts a copy of the glyph at a place of the input, past its end of the output's last, behind the output.
-#[tactic(auto, using(std::proofs::lemmas::List::take_rest))]
-fn push_copy(out: &mut Vec<hb_glyph_info_t>, info: &[hb_glyph_info_t], at: usize, number: u32)
-    requires within { at ≤ length info.now }
-    requires room { vec_len out.old + 1 ≤ vec_capacity out.old }
-    ensures { out.new.items ≡ out.old.items ++ copied glyph_numbered (or (first_of (drop at info.now)) (last_of out.old.items)) (number ∷ []) }
-{
-    let model = model_of(&info[at..], out);
-    push_copies(out, model, &[number]);
 }

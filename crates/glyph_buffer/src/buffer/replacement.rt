@@ -1,15 +1,16 @@
-ghost use Rattle.std.specs.Prelude.{◌≡◌, ◌+◌, ◌≤◌, ◌++◌, not, length, true, false, Ok, OnErr, IfOk, drop, map, vec_len, vec_capacity};
+ghost use Rattle.std.specs.Prelude.{◌≡◌, ◌+◌, ◌≤◌, not, length, true, false, Ok, OnErr, IfOk};
 ghost use Rattle.glyph_lists.specs.Items.{clusters, flags_of};
-ghost use Rattle.glyph_lists.specs.Events.{first_of, last_of, or, replaced, stretch};
+ghost use Rattle.glyph_lists.specs.Events.{replaced};
 ghost use Rattle.glyph_lists.specs.Merges.{replaced_at};
-ghost use Rattle.glyph_lists.specs.Order.{BringsNone, IsOrdered};
-ghost use Rattle.glyph_lists.specs.Glyphs.{beside_merged, flags_merged_at, glyphs_merged_at, is_marked_at};
-ghost use Rattle.glyph_lists.specs.Replacements.{copied, glyph_numbered, items_replaced};
+ghost use Rattle.glyph_lists.specs.Order.{BringsNone};
+ghost use Rattle.glyph_lists.specs.Glyphs.{flags_merged_at};
+ghost use Rattle.glyph_lists.specs.Replacements.{items_replaced};
 ghost use Rattle.glyph_buffer.specs.Sides.{all_glyphs, items_of, refused};
 ghost use Rattle.glyph_buffer.specs.Merging.{fits_copies, with_replaced};
 
 use super::hb_buffer_t;
-use super::merges::{merge_lists, telling_flags};
+use super::merges::telling_flags;
+use glyph_sides::replacement::replace_lists;
 use glyph_types::info::hb_glyph_info_t;
 use glyph_types::level::BufferClusterLevel;
 use std::alloc::AllocError;
@@ -65,70 +66,5 @@ impl hb_buffer_t {
     {
         let holds_some = !self.out_info.is_empty() || self.idx < self.info.len();
         holds_some && self.max_len - self.out_info.len() < count
-    }
-}
-
-/// Merges the glyphs taken from the input, and puts copies of the first of them behind the output; answers whether a
-/// glyph was marked.
-#[tactic(auto, using(crate::proofs::Replaced::no_way, crate::proofs::Replaced::way_on))]
-fn replace_lists(
-    info: &mut Vec<hb_glyph_info_t>,
-    out: &mut Vec<hb_glyph_info_t>,
-    at: usize,
-    taken: usize,
-    numbers: &[u32],
-    level: BufferClusterLevel,
-    in_order: bool,
-) -> bool
-    requires within { at + taken ≤ vec_len info.old }
-    requires room { vec_len out.old + length numbers.now ≤ vec_capacity out.old }
-    requires known { in_order ≡ true → IsOrdered (clusters out.old.items ++ clusters (drop at info.old.items)) }
-    ensures input { drop at info.new.items ≡ glyphs_merged_at level 0 taken (drop at info.old.items) }
-    ensures output { out.new.items ≡ beside_merged level (stretch 0 taken (clusters (drop at info.old.items))) out.old.items ++ copied glyph_numbered (or (first_of (drop at info.new.items)) (last_of (beside_merged level (stretch 0 taken (clusters (drop at info.old.items))) out.old.items))) numbers.now }
-    ensures any { result ≡ is_marked_at level 0 taken (clusters (drop at info.old.items)) }
-    ensures input_len { vec_len info.new ≡ vec_len info.old }
-{
-    let marked = merge_lists(info, out, at, at, at + taken, level, in_order);
-    let model = model_of(&info[at..], out);
-    push_copies(out, model, numbers);
-    marked
-}
-
-pub(super) fn model_of(
-    ahead: &[hb_glyph_info_t],
-    behind: &[hb_glyph_info_t],
-) -> Option<hb_glyph_info_t>
-    ensures { result ≡ or (first_of ahead.now) (last_of behind.now) }
-{
-    match ahead {
-        [first, ..] => Some(*first),
-        [] => behind.last().copied(),
-    }
-}
-
-pub(super) fn push_copies(
-    glyphs: &mut Vec<hb_glyph_info_t>,
-    model: Option<hb_glyph_info_t>,
-    numbers: &[u32],
-)
-    requires { vec_len glyphs.old + length numbers.now ≤ vec_capacity glyphs.old }
-    ensures { glyphs.new.items ≡ glyphs.old.items ++ copied glyph_numbered model numbers.now }
-{
-    if let Some(model) = model {
-        push_numbered(glyphs, model, numbers);
-    }
-}
-
-fn push_numbered(glyphs: &mut Vec<hb_glyph_info_t>, model: hb_glyph_info_t, numbers: &[u32])
-    requires { vec_len glyphs.old + length numbers.now ≤ vec_capacity glyphs.old }
-    ensures { glyphs.new.items ≡ glyphs.old.items ++ map (glyph_numbered model) numbers.now }
-{
-    for number in numbers {
-        glyphs
-            .push(hb_glyph_info_t {
-                glyph_id: *number,
-                ..model
-            })
-            .unwrap();
     }
 }

@@ -5,7 +5,7 @@ ghost use Rattle.glyph_buffer.specs.Sides.{all_glyphs, flags_of, items_of, rever
 ghost use Rattle.glyph_buffer.specs.Moving.{range_reversed, with_range_reversed};
 
 use super::hb_buffer_t;
-use super::order::KnownOrder;
+use glyph_sides::order::KnownOrder;
 use glyph_types::info::hb_glyph_info_t;
 use glyph_types::position::GlyphPosition;
 

@@ -1,5 +1,4 @@
 ghost use Rattle.std.specs.Prelude.{◌≡◌, if◌then◌else◌, Some, None, false};
-ghost use Rattle.glyph_lists.specs.Events.{or};
 ghost use Rattle.unicode_chars.specs.Scripts.{script_of};
 ghost use Rattle.glyph_buffer.specs.Segment.{first_script, guessed, guessed_direction, is_shared, tells_script, with_segment};
 

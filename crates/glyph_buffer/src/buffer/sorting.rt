@@ -10,7 +10,7 @@ ghost use Rattle.glyph_buffer.specs.Sorting.{with_range_sorted};
 
 use super::hb_buffer_t;
 use super::merges::telling_flags;
-use super::order::KnownOrder;
+use glyph_sides::order::KnownOrder;
 use glyph_slices::sorting::{Sorted, sort};
 use glyph_types::info::hb_glyph_info_t;
 use glyph_types::level::BufferClusterLevel;

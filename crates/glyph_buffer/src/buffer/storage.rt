@@ -2,12 +2,13 @@ ghost use Rattle.std.specs.Prelude.{◌≡◌, ◌+◌, ◌≤◌, ◌<◌, ◌^
 ghost use Rattle.std.specs.Str.{chars};
 ghost use Rattle.glyph_buffer.specs.Sides.{all_glyphs, items_of, with_added, has_room, refused, zero_place, zero_places};
 ghost use Rattle.glyph_lists.specs.Items.{clusters, flags_of, item_of};
+ghost use Rattle.glyph_sides.specs.Known.{HasOrder};
 ghost use Rattle.glyph_buffer.specs.Text.{added_glyph, added_text, fits_text, offsets_fit, offsets_from, text_items};
 ghost use Rattle.glyph_buffer.specs.Moving.{of_length, with_len, zero_glyph};
 ghost use Rattle.glyph_buffer.specs.Appended.{IsAppended};
 
 use super::hb_buffer_t;
-use super::order::KnownOrder;
+use glyph_sides::order::KnownOrder;
 use glyph_types::info::hb_glyph_info_t;
 use glyph_types::position::GlyphPosition;
 use std::alloc::AllocError;
@@ -120,7 +121,7 @@ impl hb_buffer_t {
         if self.max_len - self.info.len() < count || !offsets_fit(text) {
             return Ok(false);
         }
-        let order = KnownOrder::of_text(&self.info, text);
+        let order = order_of_text(&self.info, text);
         append_text(&mut self.info, &mut self.pos, text, count)?;
         self.order = order;
         self.lent = None;
@@ -212,5 +213,17 @@ fn push_chars(glyphs: &mut Vec<hb_glyph_info_t>, text: &str)
 {
     for (at, c) in text.char_indices() {
         glyphs.push(added(c, at as u32)).unwrap();
+    }
+}
+
+/// What is known of the order of clusters with the characters of a text behind the glyphs.
+#[tactic(auto, using(crate::proofs::Rising::text_rises))]
+fn order_of_text(glyphs: &[hb_glyph_info_t], text: &str) -> KnownOrder
+    ensures { HasOrder result (clusters glyphs.now ++ clusters (added_text text.now)) }
+{
+    if glyphs.is_empty() {
+        KnownOrder::Rising
+    } else {
+        KnownOrder::Unknown
     }
 }

@@ -1,6 +1,6 @@
 use Rattle.std.proofs.Common.{None, ◌≡◌, false, min, length, rules, arith, ap, ◌∙◌}
 use Rattle.std.proofs.lemmas.Grind.{common_steps}
-use Rattle.glyph_buffer.specs.declared.buffer.order.KnownOrder.TheVariants.{Unknown}
+use Rattle.glyph_sides.specs.declared.order.KnownOrder.TheVariants.{Unknown}
 use Rattle.glyph_buffer.specs.Grouping.{with_picked_deleted}
 use Rattle.glyph_buffer.specs.Merging.{telling_flags}
 use Rattle.glyph_buffer.proofs.Picked.{picked_view}

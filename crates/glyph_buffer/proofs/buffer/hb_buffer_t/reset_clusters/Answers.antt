@@ -1,7 +1,7 @@
 use Rattle.std.proofs.Common.{[], None, ◌≡◌, false, rules, arith, ap, ◌∙◌}
 use Rattle.std.proofs.lemmas.Grind.{common_steps}
 use Rattle.glyph_lists.specs.Items.{clusters, flags_of}
-use Rattle.glyph_buffer.specs.declared.buffer.order.KnownOrder.TheVariants.{Rising}
+use Rattle.glyph_sides.specs.declared.order.KnownOrder.TheVariants.{Rising}
 use Rattle.glyph_buffer.specs.Sides.{Sides, all_glyphs, items_of}
 use Rattle.glyph_buffer.specs.Settings.{with_counted}
 use Rattle.glyph_buffer.proofs.Counted.{clusters_counted, counted_view, counted_items, counted_clusters, counted_flags, counted_rises}

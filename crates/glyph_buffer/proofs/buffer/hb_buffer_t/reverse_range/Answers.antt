@@ -1,6 +1,6 @@
 use Rattle.std.proofs.Common.{None, ◌≡◌, false, ap, ◌∙◌}
 use Rattle.glyph_lists.specs.Items.{clusters, flags_of}
-use Rattle.glyph_buffer.specs.declared.buffer.order.KnownOrder.TheVariants.{Unknown}
+use Rattle.glyph_sides.specs.declared.order.KnownOrder.TheVariants.{Unknown}
 use Rattle.glyph_buffer.specs.Sides.{Sides, all_glyphs, items_of}
 use Rattle.glyph_buffer.specs.Moving.{with_range_reversed}
 use Rattle.glyph_buffer.proofs.Moved.{range_view, range_items, range_clusters, range_flags}

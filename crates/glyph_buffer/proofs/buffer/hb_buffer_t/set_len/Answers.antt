@@ -1,6 +1,6 @@
 use Rattle.std.proofs.Common.{None, ◌≡◌, false, ap, ◌∙◌}
 use Rattle.glyph_lists.specs.Items.{clusters, flags_of}
-use Rattle.glyph_buffer.specs.declared.buffer.order.KnownOrder.TheVariants.{Unknown}
+use Rattle.glyph_sides.specs.declared.order.KnownOrder.TheVariants.{Unknown}
 use Rattle.glyph_buffer.specs.Moving.{with_len}
 use Rattle.glyph_buffer.specs.Sides.{all_glyphs, items_of}
 use Rattle.glyph_buffer.proofs.Resized.{resized_view, len_items, len_clusters, len_flags}

@@ -2,7 +2,8 @@ use Rattle.std.proofs.Common.{rules, arith, ap, ◌∙◌}
 use Rattle.std.proofs.lemmas.Grind.{common_steps}
 use Rattle.glyph_lists.specs.Items.{clusters, flags_of}
 use Rattle.glyph_buffer.specs.Sides.{Sides, all_glyphs, items_of}
-use Rattle.glyph_buffer.specs.Masks.{glyph_set, with_set_masks}
+use Rattle.glyph_sides.specs.Masks.{glyph_set}
+use Rattle.glyph_buffer.specs.Masks.{with_set_masks}
 use Rattle.glyph_buffer.proofs.Masked.{mapped_view, clusters_set, set_items, set_clusters, set_flags}
 use Rattle.glyph_buffer.proofs.buffer.hb_buffer_t.set_masks.Goals as goal
 

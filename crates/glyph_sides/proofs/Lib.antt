@@ -1,0 +1,4 @@
+pub mod Ranges
+pub mod Known
+pub mod Falling
+pub mod Between

@@ -1,0 +1,39 @@
+-- Masks of glyphs.
+use Rattle.std.specs.Prelude.{ℕ, ◌-◌, ◌==◌, ◌&&◌, ◌||◌, Bool, nat_le, nat_lt, if◌then◌else◌, List, [], ◌∷◌, map, bit_and}
+use Rattle.std.specs.Int.RustNames.{bit_or}
+use Rattle.glyph_types.specs.declared.info.hb_glyph_info_t.{hb_glyph_info_t}
+use Rattle.glyph_lists.specs.Items.{Item, glyph_flags, without_flags}
+
+-- a glyph with another mask
+abbrev pub glyph_masked : ℕ → hb_glyph_info_t → hb_glyph_info_t
+glyph_masked m g = record g { mask = m }
+
+-- an item with another mask
+abbrev pub item_masked : ℕ → Item → Item
+item_masked m x = record x { mask = without_flags m }
+
+-- the bits of a mask under another become those of a value; the other bits stay
+abbrev pub bits_set : ℕ → ℕ → ℕ → ℕ
+bits_set value under m = bit_or (m - bit_and m under) (bit_and value under)
+
+-- whether a cluster is from `start` up to before `end`; from 0 up to the greatest number each is
+abbrev pub is_within : ℕ → ℕ → ℕ → Bool
+is_within start end n = (nat_le start n && nat_lt n end) || (start == 0 && end == 0xFFFF_FFFF)
+
+-- a glyph with bits set, where its cluster is in a stretch
+abbrev pub glyph_set : ℕ → ℕ → ℕ → ℕ → hb_glyph_info_t → hb_glyph_info_t
+glyph_set value under start end g = if is_within start end g.cluster then record g { mask = bits_set value under g.mask } else g
+
+-- an item with bits set
+abbrev pub item_set : ℕ → ℕ → Item → Item
+item_set value under x = record x { mask = without_flags (bits_set value under x.mask) }
+
+-- items, by the clusters of their glyphs
+abbrev pub items_set : ℕ → ℕ → ℕ → ℕ → List ℕ → List Item → List Item
+items_set value under start end [] xs = xs
+items_set value under start end (n ∷ ns) [] = []
+items_set value under start end (n ∷ ns) (x ∷ xs) = (if is_within start end n then item_set value under x else x) ∷ items_set value under start end ns xs
+
+-- the three flags of such a glyph
+abbrev pub flags_set : ℕ → ℕ → ℕ → ℕ → hb_glyph_info_t → ℕ
+flags_set value under start end g = if is_within start end g.cluster then bit_and (bits_set value under g.mask) 7 else glyph_flags g

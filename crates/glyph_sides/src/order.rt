@@ -1,0 +1,214 @@
+ghost use Rattle.std.specs.Prelude.{◌≡◌, ◌++◌, ◌∷◌, [], ℕ, Bool, List, Some, true, slice_set, reverse, drop, length, ◌≤◌, IfSome};
+ghost use Rattle.glyph_lists.specs.Items.{clusters};
+ghost use Rattle.glyph_lists.specs.Order.{IsInOrder};
+ghost use Rattle.glyph_sides.specs.Known.{HasOrder, IsFallingTo, IsRisingTo, is_known, put_back_ahead, put_back_behind};
+
+use glyph_types::info::hb_glyph_info_t;
+
+/// What is known of the order of the clusters of all glyphs.
+#[derive(Clone, Copy, PartialEq, Eq, Debug)]
+pub enum KnownOrder {
+    Unknown,
+    /// They never fall.
+    Rising,
+    /// They never rise.
+    Falling,
+}
+
+/// A glyph that was lent to be written.
+#[derive(Clone, Copy, PartialEq, Eq, Debug)]
+pub struct Lent {
+    /// Whether it stands in the output; else it stands in the input.
+    pub in_output: bool,
+    /// Where it stands there.
+    pub at: usize,
+    /// The cluster that it had.
+    pub cluster: u32,
+}
+
+impl Lent {
+    /// Whether the glyph is of the cluster that it had.
+    fn is_as_it_was(self, output: &[hb_glyph_info_t], input: &[hb_glyph_info_t]) -> bool
+        ensures output { result ≡ true → put_back_behind (Some self) (clusters output.now) ≡ clusters output.now }
+        ensures input { result ≡ true → put_back_ahead (Some self) (clusters input.now) ≡ clusters input.now }
+    {
+        if self.in_output {
+            has_cluster(output, self.at, self.cluster)
+        } else {
+            has_cluster(input, self.at, self.cluster)
+        }
+    }
+}
+
+/// Whether there is a glyph at a place, and it is of the cluster.
+#[tactic(auto, using(crate::proofs::Known::back_in_place))]
+fn has_cluster(glyphs: &[hb_glyph_info_t], at: usize, cluster: u32) -> bool
+    ensures { result ≡ true → slice_set (clusters glyphs.now) at cluster ≡ clusters glyphs.now }
+{
+    at < glyphs.len() && glyphs[at].cluster == cluster
+}
+
+impl KnownOrder {
+    pub fn is_known(self) -> bool
+        ensures { result ≡ is_known self }
+    {
+        match self {
+            KnownOrder::Unknown => false,
+            KnownOrder::Rising | KnownOrder::Falling => true,
+        }
+    }
+
+    /// What is known once a glyph that was lent is back.
+    pub fn settled(
+        self,
+        lent: Option<Lent>,
+        output: &[hb_glyph_info_t],
+        input: &[hb_glyph_info_t],
+    ) -> KnownOrder
+        ensures { (n : ℕ) → HasOrder self (put_back_behind lent (clusters output.now) ++ drop n (put_back_ahead lent (clusters input.now))) → HasOrder result (clusters output.now ++ drop n (clusters input.now)) }
+    {
+        match lent {
+            Some(lent) if !lent.is_as_it_was(output, input) => KnownOrder::Unknown,
+            _ => self,
+        }
+    }
+
+    /// What is known with a glyph of the cluster behind the others.
+    pub fn with_last(self, glyphs: &[hb_glyph_info_t], cluster: u32) -> KnownOrder
+        ensures { HasOrder self (clusters glyphs.now) → HasOrder result (clusters glyphs.now ++ cluster ∷ []) }
+    {
+        if self.holds_behind(glyphs, cluster) {
+            self
+        } else {
+            KnownOrder::Unknown
+        }
+    }
+
+    /// What is known with a glyph of the cluster between two lists.
+    pub fn with_between(
+        self,
+        behind: &[hb_glyph_info_t],
+        cluster: u32,
+        ahead: &[hb_glyph_info_t],
+    ) -> KnownOrder
+        ensures { HasOrder self (clusters behind.now ++ clusters ahead.now) → HasOrder result (clusters behind.now ++ cluster ∷ clusters ahead.now) }
+    {
+        if self.holds_behind(behind, cluster) && self.holds_in_front(cluster, ahead) {
+            self
+        } else {
+            KnownOrder::Unknown
+        }
+    }
+
+    /// Whether a glyph of the cluster may stand behind the others.
+    #[tactic(auto, using(crate::proofs::Known::known_last_alone))]
+    fn holds_behind(self, glyphs: &[hb_glyph_info_t], cluster: u32) -> bool
+        ensures { result ≡ true → HasOrder self (clusters glyphs.now) → HasOrder self (clusters glyphs.now ++ cluster ∷ []) }
+    {
+        match (self, glyphs) {
+            (KnownOrder::Unknown, _) | (_, []) => true,
+            (KnownOrder::Rising, [.., last]) => last.cluster <= cluster,
+            (KnownOrder::Falling, [.., last]) => cluster <= last.cluster,
+        }
+    }
+
+    /// Whether a glyph of the cluster may stand in front of the others.
+    #[tactic(auto, using(crate::proofs::Known::known_first_alone))]
+    fn holds_in_front(self, cluster: u32, glyphs: &[hb_glyph_info_t]) -> bool
+        ensures { result ≡ true → HasOrder self (clusters glyphs.now) → HasOrder self (cluster ∷ clusters glyphs.now) }
+    {
+        match (self, glyphs) {
+            (KnownOrder::Unknown, _) | (_, []) => true,
+            (KnownOrder::Rising, [first, ..]) => cluster <= first.cluster,
+            (KnownOrder::Falling, [first, ..]) => first.cluster <= cluster,
+        }
+    }
+
+    /// What is known with the list turned round.
+    #[tactic(auto, using(crate::proofs::Known::falls_turned, crate::proofs::Known::rises_turned))]
+    pub fn turned(self) -> KnownOrder
+        ensures { (ns : List ℕ) → HasOrder self ns → HasOrder result (reverse ns) }
+    {
+        match self {
+            KnownOrder::Unknown => KnownOrder::Unknown,
+            KnownOrder::Rising => KnownOrder::Falling,
+            KnownOrder::Falling => KnownOrder::Rising,
+        }
+    }
+
+    /// What is known of other clusters that stand in order where these do, if that is so.
+    pub fn if_kept(self, kept: bool) -> KnownOrder
+        ensures { (old new : List ℕ) → ((falls : Bool) → kept ≡ true → IsInOrder falls old → IsInOrder falls new) → HasOrder self old → HasOrder result new }
+    {
+        if kept { self } else { KnownOrder::Unknown }
+    }
+
+    /// What is known once two lists whose order was not known have been walked, the second from a place on.
+    #[tactic(auto, using(std::proofs::lemmas::List::take_rest))]
+    pub fn walked(
+        self,
+        behind: &[hb_glyph_info_t],
+        input: &[hb_glyph_info_t],
+        from: usize,
+    ) -> KnownOrder
+        requires { from ≤ length input.now }
+        ensures { HasOrder self (clusters behind.now ++ clusters (drop from input.now)) → HasOrder result (clusters behind.now ++ clusters (drop from input.now)) }
+    {
+        match self {
+            KnownOrder::Unknown => order_of(behind, &input[from..]),
+            KnownOrder::Rising | KnownOrder::Falling => self,
+        }
+    }
+}
+
+/// Which way the clusters of two lists are seen to go.
+#[tactic(auto, using(crate::proofs::Known::rises_on))]
+fn order_of(behind: &[hb_glyph_info_t], ahead: &[hb_glyph_info_t]) -> KnownOrder
+    ensures { HasOrder result (clusters behind.now ++ clusters ahead.now) }
+{
+    match rising_end(0, behind) {
+        Some(last) if rising_end(last, ahead).is_some() => KnownOrder::Rising,
+        _ => falling_order_of(behind, ahead),
+    }
+}
+
+/// Whether the clusters of two lists are seen to fall.
+#[tactic(auto, using(crate::proofs::Falling::falls_on))]
+fn falling_order_of(behind: &[hb_glyph_info_t], ahead: &[hb_glyph_info_t]) -> KnownOrder
+    ensures { HasOrder result (clusters behind.now ++ clusters ahead.now) }
+{
+    match falling_end(u32::MAX, behind) {
+        Some(last) if falling_end(last, ahead).is_some() => KnownOrder::Falling,
+        _ => KnownOrder::Unknown,
+    }
+}
+
+/// The last cluster, or `start` where there is none, if `start` and the clusters never fall.
+#[tactic(auto, using(crate::proofs::Known::rising_to_next))]
+fn rising_end(start: u32, glyphs: &[hb_glyph_info_t]) -> Option<u32>
+    ensures { IfSome result (λ n. IsRisingTo start (clusters glyphs.now) n) }
+{
+    let mut last = start;
+    for glyph in glyphs {
+        if glyph.cluster < last {
+            return None;
+        }
+        last = glyph.cluster;
+    }
+    Some(last)
+}
+
+/// The last cluster, or `start` where there is none, if `start` and the clusters never rise.
+#[tactic(auto, using(crate::proofs::Falling::falling_to_next))]
+fn falling_end(start: u32, glyphs: &[hb_glyph_info_t]) -> Option<u32>
+    ensures { IfSome result (λ n. IsFallingTo start (clusters glyphs.now) n) }
+{
+    let mut last = start;
+    for glyph in glyphs {
+        if glyph.cluster > last {
+            return None;
+        }
+        last = glyph.cluster;
+    }
+    Some(last)
+}
