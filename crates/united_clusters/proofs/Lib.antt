@@ -1,2 +1,4 @@
-pub mod Gathered
+pub mod Numbers
+pub mod Roots
 pub mod Rows
+pub mod Rising

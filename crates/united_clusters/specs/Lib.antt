@@ -1,2 +1,2 @@
 pub mod United
-pub mod Plain
+pub mod Forest

@@ -1,4 +1,6 @@
 // Clusters of glyphs that are united step by step, in place of the glyphs themselves.
 #![tactic(auto)]
 
+mod clusters;
+mod forest;
 pub mod united;
