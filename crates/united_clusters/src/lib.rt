@@ -3,4 +3,6 @@
 
 mod clusters;
 mod forest;
+#[cfg(test)]
+mod tests;
 pub mod united;

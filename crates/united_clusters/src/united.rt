@@ -63,7 +63,6 @@ impl UnitedClusters {
 }
 
 /// The clusters of the glyphs, each once, rising.
-
 fn rising_clusters(alloc: Global, glyphs: &[hb_glyph_info_t]) -> Result<Vec<u32>, AllocError>
     ensures rising { IfOk result (λ cs. IsRising cs.items) }
     ensures known { (n : ℕ) → IfOk result (λ cs. has_number cs.items n ≡ has_number (clusters glyphs.now) n) }
