@@ -41,6 +41,9 @@ has_least n (m ∷ ns) h = (least_number_is m ns).among
 least_added : (m : ℕ) (ms : List ℕ) (n : ℕ) → least_number ((m ∷ ms) ++ n ∷ []) ≡ min (least_number (m ∷ ms)) n
 least_added m ms n = fold-append min m ms (n ∷ [])
 
+pub least_again : (m : ℕ) (ms : List ℕ) (y : ℕ) → has_number (m ∷ ms) y ≡ true → least_number ((m ∷ ms) ++ y ∷ []) ≡ least_number (m ∷ ms)
+least_again m ms y h = let low = (least_number_is m ms).below y h in rw (least_added m ms y) (omega (arith, low))
+
 -- one number alone
 pub merged_one : (m n : ℕ) → merged (m ∷ []) n ≡ n
 merged_one m n = by_test (m == n) refl
@@ -78,6 +81,14 @@ merged_more m ms y x = rw (has_added ns y x, least_added m ms y) (by_tests (has_
     by_tests true false es et = old low x y (apart ns y x es et)
     by_tests false true es et = new low y
     by_tests false false es et = neither low x y (apart ns low x (least_number_is m ms).among et)
+
+-- a number that is in the list already
+pub merged_again : (m : ℕ) (ms : List ℕ) (y x : ℕ) → has_number (m ∷ ms) y ≡ true → merged ((m ∷ ms) ++ y ∷ []) x ≡ merged (m ∷ ms) x
+merged_again m ms y x h = rw (has_added (m ∷ ms) y x, least_again m ms y h) (by_test (has_number (m ∷ ms) x) refl)
+  where
+    by_test : (t : Bool) → has_number (m ∷ ms) x ≡ t → (if t || (y == x) then least_number (m ∷ ms) else x) ≡ (if t then least_number (m ∷ ms) else x)
+    by_test true e = refl
+    by_test false e = rw (other_number y x (apart (m ∷ ms) y x h e)) refl
 
 pub least_more : (m : ℕ) (ms : List ℕ) (y : ℕ) → min (least_number (m ∷ ms)) (merged (m ∷ ms) y) ≡ least_number ((m ∷ ms) ++ y ∷ [])
 least_more m ms y = rw (least_added m ms y) (by_test (has_number (m ∷ ms) y) refl)

@@ -9,7 +9,7 @@ use Rattle.glyph_lists.specs.Items.{clusters}
 use Rattle.glyph_types.specs.declared.info.hb_glyph_info_t.{hb_glyph_info_t}
 use Rattle.united_clusters.specs.United.{Row, is_known, goes_by}
 use Rattle.united_clusters.specs.Forest.{parent_of, root_of, rows_by, rows_of, IsDown, IsRising, IsForest, AreSameRoots, IsLinked, AreUnited, IsRootFor, AreUnder}
-use Rattle.united_clusters.proofs.Numbers.{same_number, other_number, merged_one, merged_more, least_more, rising_tail, below_rest, same_place, low_place, high_place, has_at, place_at}
+use Rattle.united_clusters.proofs.Numbers.{same_number, other_number, merged_one, merged_more, least_more, merged_again, least_again, rising_tail, below_rest, same_place, low_place, high_place, has_at, place_at}
 use Rattle.united_clusters.proofs.Roots.{own_root, root_own, root_down, linked_own}
 
 known_by : (f : ℕ → ℕ) (cs : List ℕ) (n : ℕ) → is_known (rows_by f cs) n ≡ has_number cs n
@@ -130,6 +130,22 @@ one_under cs ps qs rs ts m ms cluster low root top rising known u r link is =
             linked_goes cs rs ts (max low root) (min low root) n rising r.same.down high link h ∙ equal_choice x hi lo ∙ merged_more (G m) (map G ms) (G cluster) (G n) ∙ ap (λ ns. merged ns (G n)) (sym more);
       };
     }
+
+-- the first cluster once more
+pub first_again : (cs ps qs : List ℕ) (m : ℕ) (ms : List ℕ) (cluster low : ℕ) → cluster ≡ m → AreUnder cs ps qs (m ∷ ms) low → AreUnder cs ps qs ((m ∷ ms) ++ cluster ∷ []) low
+first_again cs ps qs m ms cluster low e u =
+    let G : ℕ → ℕ = goes_by (rows_of cs ps) in
+    let more : map G ((m ∷ ms) ++ m ∷ []) ≡ map G (m ∷ ms) ++ G m ∷ [] = map-append G (m ∷ ms) (m ∷ []) in
+    let there = has_here (G m) (map G ms) in
+    rw e (record {
+      within = u.within;
+      own = u.own;
+      least = u.least ∙ sym (least_again (G m) (map G ms) (G m) there) ∙ ap least_number (sym more);
+      united = record {
+        down = u.united.down;
+        gone = λ n h. u.united.gone n h ∙ sym (merged_again (G m) (map G ms) (G m) (G n) there) ∙ ap (λ ns. merged ns (G n)) (sym more);
+      };
+    })
 
 pub forest_under : (cs ps os qs ns : List ℕ) (low : ℕ) → IsForest cs ps → length qs ≡ length ps → AreUnder cs os qs ns low → IsForest cs qs
 forest_under cs ps os qs ns low forest even u = record { rising = forest.rising; even = even ∙ forest.even; down = u.united.down }

@@ -29,15 +29,24 @@ fn root_for(numbers: &[u32], parents: &mut [usize], cluster: u32) -> usize
     find_root(parents, place)
 }
 
-/// Unites one more known cluster with those that are under the root `low`; answers the root of all.
+/// Unites one more known cluster with `first` and those that are under the root `low` with it; answers the root of all.
 #[tactic(auto, using(crate::proofs::Roots::own_stays))]
-fn unite_one(numbers: &[u32], parents: &mut [usize], low: usize, cluster: u32) -> usize
+fn unite_one(
+    numbers: &[u32],
+    parents: &mut [usize],
+    low: usize,
+    first: u32,
+    cluster: u32,
+) -> usize
     requires forest { IsForest numbers.now parents.old }
     requires known { has_number numbers.now cluster ≡ true }
     requires within { low < length numbers.now }
     requires own { parent_of parents.old low ≡ low }
-    ensures { (ps : List ℕ) (m : ℕ) (ms : List ℕ) → AreUnder numbers.now ps parents.old (m ∷ ms) low → AreUnder numbers.now ps parents.new ((m ∷ ms) ++ cluster ∷ []) result }
+    ensures { (ps ns : List ℕ) → AreUnder numbers.now ps parents.old (first ∷ ns) low → AreUnder numbers.now ps parents.new ((first ∷ ns) ++ cluster ∷ []) result }
 {
+    if cluster == first {
+        return low;
+    }
     let root = root_for(numbers, parents, cluster);
     link(parents, low, root)
 }
@@ -64,7 +73,7 @@ fn unite_rest(numbers: &[u32], parents: &mut [usize], first: u32, rest: &[hb_gly
 {
     let mut low = root_for(numbers, parents, first);
     for glyph in rest {
-        low = unite_one(numbers, parents, low, glyph.cluster);
+        low = unite_one(numbers, parents, low, first, glyph.cluster);
     }
 }
 
@@ -80,13 +89,42 @@ fn least_of(numbers: &[u32], parents: &mut [usize], cluster: u32) -> u32
     }
 }
 
+/// A cluster, and what it goes by.
+#[derive(Clone, Copy)]
+struct Found {
+    cluster: u32,
+    least: u32,
+}
+
+/// What the cluster goes by, where that was not found last.
+fn found_next(numbers: &[u32], parents: &mut [usize], last: Found, cluster: u32) -> Found
+    requires forest { IsForest numbers.now parents.old }
+    requires last { last.least ≡ goes_by (rows_of numbers.now parents.old) last.cluster }
+    ensures cluster { result.cluster ≡ cluster }
+    ensures least { result.least ≡ goes_by (rows_of numbers.now parents.old) cluster }
+    ensures same { AreSameRoots parents.old parents.new }
+{
+    if last.cluster == cluster {
+        return last;
+    }
+    Found {
+        cluster,
+        least: least_of(numbers, parents, cluster),
+    }
+}
+
 /// Puts the glyphs into the clusters that theirs go by.
 pub(crate) fn rename_all(numbers: &[u32], parents: &mut [usize], glyphs: &mut [hb_glyph_info_t])
     requires { IsForest numbers.now parents.old }
     ensures renamed { glyphs.new ≡ renamed_by (rows_of numbers.now parents.old) glyphs.old }
     ensures same { AreSameRoots parents.old parents.new }
 {
+    let mut last = Found {
+        cluster: 0,
+        least: least_of(numbers, parents, 0),
+    };
     for glyph in glyphs.iter_mut() {
-        *glyph = glyph_in_cluster(*glyph, least_of(numbers, parents, glyph.cluster));
+        last = found_next(numbers, parents, last, glyph.cluster);
+        *glyph = glyph_in_cluster(*glyph, last.least);
     }
 }
