@@ -1,0 +1,4 @@
+pub mod Numbers
+pub mod Roots
+pub mod Rows
+pub mod Rising

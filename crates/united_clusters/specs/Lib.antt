@@ -1,0 +1,2 @@
+pub mod United
+pub mod Forest
