@@ -107,6 +107,7 @@ fn turns_groups_round(rt: HostRuntime) -> Result<(), Fail> {
     let mut glyphs = [glyph(1, 0, 0), glyph(2, 0, 0), glyph(3, 5, 0)];
     let mut places = [place(10), place(20), place(30)];
     let marked = reverse_groups(
+        rt.alloc(),
         &mut glyphs,
         &mut places,
         BufferClusterLevel::MonotoneGraphemes,
@@ -130,6 +131,7 @@ fn merges_groups_as_they_are_found(rt: HostRuntime) -> Result<(), Fail> {
     ];
     let mut places = [place(10), place(20), place(30), place(40)];
     let marked = reverse_groups(
+        rt.alloc(),
         &mut glyphs,
         &mut places,
         BufferClusterLevel::MonotoneGraphemes,
@@ -347,6 +349,7 @@ fn merges_groups_that_share_falling_clusters(rt: HostRuntime) -> Result<(), Fail
         place(70),
     ];
     let marked = reverse_groups(
+        rt.alloc(),
         &mut glyphs,
         &mut places,
         BufferClusterLevel::MonotoneGraphemes,
@@ -377,6 +380,167 @@ fn merges_groups_that_share_falling_clusters(rt: HostRuntime) -> Result<(), Fail
             place(40),
             place(10),
             place(20)
+        ]
+    );
+    Ok(())
+}
+
+#[test]
+fn sorts_spans_that_share_clusters_in_no_order(rt: HostRuntime) -> Result<(), Fail> {
+    let mut glyphs = [
+        glyph(4, 7, 9),
+        glyph(3, 3, 9),
+        glyph(2, 9, 9),
+        glyph(1, 3, 9),
+        glyph(8, 9, 9),
+        glyph(7, 5, 9),
+        glyph(6, 8, 9),
+        glyph(5, 5, 9),
+        glyph(12, 1, 9),
+        glyph(11, 12, 9),
+        glyph(10, 6, 9),
+        glyph(9, 6, 9),
+        glyph(13, 8, 9),
+        glyph(14, 20, 9),
+    ];
+    let sorted = sort(
+        rt.alloc(),
+        &mut glyphs,
+        BufferClusterLevel::MonotoneGraphemes,
+        false,
+        0,
+        14,
+        |info| info.glyph_id,
+    )?;
+    assert!(&rt; !sorted.marked);
+    assert!(&rt; sorted.in_order);
+    assert_eq!(&rt;
+        glyphs,
+        [
+            glyph(1, 3, 9),
+            glyph(2, 3, 8),
+            glyph(3, 3, 9),
+            glyph(4, 3, 8),
+            glyph(5, 3, 8),
+            glyph(6, 3, 8),
+            glyph(7, 3, 8),
+            glyph(8, 3, 8),
+            glyph(9, 1, 8),
+            glyph(10, 1, 8),
+            glyph(11, 1, 8),
+            glyph(12, 1, 9),
+            glyph(13, 3, 8),
+            glyph(14, 20, 9)
+        ]
+    );
+    Ok(())
+}
+
+#[test]
+fn merges_groups_that_share_clusters_in_no_order(rt: HostRuntime) -> Result<(), Fail> {
+    let mut glyphs = [
+        glyph(1, 9, 9),
+        glyph(1, 4, 9),
+        glyph(2, 9, 9),
+        glyph(2, 6, 9),
+        glyph(3, 7, 9),
+        glyph(3, 2, 9),
+        glyph(4, 5, 9),
+    ];
+    let mut places = [
+        place(10),
+        place(20),
+        place(30),
+        place(40),
+        place(50),
+        place(60),
+        place(70),
+    ];
+    let marked = reverse_groups(
+        rt.alloc(),
+        &mut glyphs,
+        &mut places,
+        BufferClusterLevel::MonotoneCharacters,
+        false,
+        true,
+        |before, after| before.glyph_id == after.glyph_id,
+    );
+    assert!(&rt; !marked);
+    assert_eq!(&rt;
+        glyphs,
+        [
+            glyph(4, 5, 9),
+            glyph(3, 2, 8),
+            glyph(3, 2, 9),
+            glyph(2, 4, 8),
+            glyph(2, 4, 8),
+            glyph(1, 4, 8),
+            glyph(1, 4, 9)
+        ]
+    );
+    assert_eq!(&rt;
+        places,
+        [
+            place(70),
+            place(50),
+            place(60),
+            place(30),
+            place(40),
+            place(10),
+            place(20)
+        ]
+    );
+    Ok(())
+}
+
+#[test]
+fn finds_groups_by_what_merges_left(rt: HostRuntime) -> Result<(), Fail> {
+    let mut glyphs = [
+        glyph(1, 8, 9),
+        glyph(1, 3, 9),
+        glyph(1, 6, 9),
+        glyph(2, 8, 9),
+        glyph(3, 3, 9),
+        glyph(4, 5, 9),
+    ];
+    let mut places = [
+        place(10),
+        place(20),
+        place(30),
+        place(40),
+        place(50),
+        place(60),
+    ];
+    let marked = reverse_groups(
+        rt.alloc(),
+        &mut glyphs,
+        &mut places,
+        BufferClusterLevel::MonotoneGraphemes,
+        false,
+        true,
+        |before, after| before.glyph_id == after.glyph_id || before.cluster == after.cluster,
+    );
+    assert!(&rt; !marked);
+    assert_eq!(&rt;
+        glyphs,
+        [
+            glyph(4, 5, 9),
+            glyph(2, 3, 8),
+            glyph(3, 3, 9),
+            glyph(1, 3, 8),
+            glyph(1, 3, 9),
+            glyph(1, 3, 8)
+        ]
+    );
+    assert_eq!(&rt;
+        places,
+        [
+            place(60),
+            place(40),
+            place(50),
+            place(10),
+            place(20),
+            place(30)
         ]
     );
     Ok(())
