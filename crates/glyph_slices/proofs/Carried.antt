@@ -1,5 +1,5 @@
 -- Merges over falling clusters, of which the last is still to be carried out.
-use Rattle.std.specs.Prelude.{slice_range, ◌&&◌, ◌||◌, Option, Some, None}
+use Rattle.std.specs.Prelude.{slice_range, ◌&&◌, ◌||◌}
 use Rattle.std.proofs.Common.{ℕ, zero, suc, ◌≡◌, ◌≢◌, ◌≤◌, ◌<◌, ◌+◌, ◌-◌, ◌==◌, nat_lt, inl, inr, Bool, true, false, if◌then◌else◌, List, [], ◌∷◌, ◌++◌, length, map, take, drop, get_or, arith, refl, ap, sym, subst, ◌∙◌, append_assoc}
 use borrow.Rule.Slice.PartMut.{put_mid}
 use Rattle.std.proofs.lemmas.Grind.{common_steps}
@@ -21,11 +21,11 @@ use Rattle.glyph_lists.specs.Lemmas.Ends.{from_first}
 use Rattle.glyph_lists.specs.Lemmas.Glyphs.{without_flags_again, cut_out, stretch_is, cluster_in_cluster}
 use Rattle.glyph_lists.specs.Lemmas.Merges.{least_number_is, chain_left, chain_right, chain_across}
 use Rattle.glyph_lists.specs.Lemmas.Numbers.{Has, has_here, has_more, has_cases, has_left, has_right, has_either}
-use Rattle.glyph_slices.specs.declared.falling.Due.{Due}
+use Rattle.glyph_slices.specs.declared.due.falling.Stretch.{Stretch}
 use Rattle.glyph_slices.specs.Sorting.{Spanned, span_merged}
-use Rattle.glyph_slices.specs.Falling.{carried, IsDueBefore, IsWithin, MayBeDue}
+use Rattle.glyph_slices.specs.Falling.{carried, IsDueBefore}
 
-pub carried_put : (d : Due) (gs range : List Glyph) → d.from ≤ d.to → range ≡ map (in_cluster d.cluster) (slice_range gs d.from d.to) → put_mid d.from (d.to - d.from) gs range ≡ carried d gs
+pub carried_put : (d : Stretch) (gs range : List Glyph) → d.from ≤ d.to → range ≡ map (in_cluster d.cluster) (slice_range gs d.from d.to) → put_mid d.from (d.to - d.from) gs range ≡ carried d gs
 carried_put d gs range le e =
     let there : d.from + (d.to - d.from) ≡ d.to = omega arith in
     let behind : drop (d.to - d.from) (drop d.from gs) ≡ drop d.to gs = drop-drop (d.to - d.from) d.from gs ∙ ap (λ n. drop n gs) there in
@@ -177,30 +177,30 @@ merged_alone gs start end a xs is falling alone =
     by_test n false e inner = refl
 
 -- what is carried out, part by part
-pub range_long : (d : Due) (gs : List Glyph) → d.from ≤ d.to → d.to ≤ length gs → length (map (in_cluster d.cluster) (slice_range gs d.from d.to)) ≡ d.to - d.from
+pub range_long : (d : Stretch) (gs : List Glyph) → d.from ≤ d.to → d.to ≤ length gs → length (map (in_cluster d.cluster) (slice_range gs d.from d.to)) ≡ d.to - d.from
 range_long d gs le within = length-map (slice_range gs d.from d.to) (in_cluster d.cluster) ∙ length-take-le (d.to - d.from) (drop d.from gs) (omega (arith, length-drop d.from gs))
 
-pub front_long : (d : Due) (gs : List Glyph) → d.from ≤ d.to → d.to ≤ length gs → length (take d.from gs ++ map (in_cluster d.cluster) (slice_range gs d.from d.to)) ≡ d.to
+pub front_long : (d : Stretch) (gs : List Glyph) → d.from ≤ d.to → d.to ≤ length gs → length (take d.from gs ++ map (in_cluster d.cluster) (slice_range gs d.from d.to)) ≡ d.to
 front_long d gs le within = omega (arith, length-append (take d.from gs) (map (in_cluster d.cluster) (slice_range gs d.from d.to)), length-take-le d.from gs (omega arith), range_long d gs le within)
 
-pub take_carried : (d : Due) (gs : List Glyph) → d.from ≤ d.to → d.to ≤ length gs → take d.to (carried d gs) ≡ take d.from gs ++ map (in_cluster d.cluster) (slice_range gs d.from d.to)
+pub take_carried : (d : Stretch) (gs : List Glyph) → d.from ≤ d.to → d.to ≤ length gs → take d.to (carried d gs) ≡ take d.from gs ++ map (in_cluster d.cluster) (slice_range gs d.from d.to)
 take_carried d gs le within =
     let f = take d.from gs ++ map (in_cluster d.cluster) (slice_range gs d.from d.to) in
     ap (λ n. take n (f ++ drop d.to gs)) (sym (front_long d gs le within)) ∙ take-append_seam f (drop d.to gs)
 
-pub drop_carried : (d : Due) (gs : List Glyph) (at : ℕ) → d.from ≤ d.to → d.to ≤ length gs → d.to ≤ at → drop at (carried d gs) ≡ drop at gs
+pub drop_carried : (d : Stretch) (gs : List Glyph) (at : ℕ) → d.from ≤ d.to → d.to ≤ length gs → d.to ≤ at → drop at (carried d gs) ≡ drop at gs
 drop_carried d gs at le within behind =
     let f = take d.from gs ++ map (in_cluster d.cluster) (slice_range gs d.from d.to) in
     let here : drop d.to (carried d gs) ≡ drop d.to gs = ap (λ n. drop n (f ++ drop d.to gs)) (sym (front_long d gs le within)) ∙ drop-append_seam f (drop d.to gs) in
     sym (drop_beyond d.to at (carried d gs) behind) ∙ ap (drop (at - d.to)) here ∙ drop_beyond d.to at gs behind
 
-pub from_carried : (d : Due) (gs : List Glyph) → d.from ≤ d.to → d.to ≤ length gs → take d.from (carried d gs) ≡ take d.from gs
+pub from_carried : (d : Stretch) (gs : List Glyph) → d.from ≤ d.to → d.to ≤ length gs → take d.from (carried d gs) ≡ take d.from gs
 from_carried d gs le within =
     let m = map (in_cluster d.cluster) (slice_range gs d.from d.to) in
     let long : length (take d.from gs) ≡ d.from = length-take-le d.from gs (omega arith) in
     ap (take d.from) (append_assoc (take d.from gs) m (drop d.to gs)) ∙ ap (λ n. take n (take d.from gs ++ (m ++ drop d.to gs))) (sym long) ∙ take-append_seam (take d.from gs) (m ++ drop d.to gs)
 
-pub range_carried : (d : Due) (gs : List Glyph) → d.from ≤ d.to → d.to ≤ length gs → slice_range (carried d gs) d.from d.to ≡ map (in_cluster d.cluster) (slice_range gs d.from d.to)
+pub range_carried : (d : Stretch) (gs : List Glyph) → d.from ≤ d.to → d.to ≤ length gs → slice_range (carried d gs) d.from d.to ≡ map (in_cluster d.cluster) (slice_range gs d.from d.to)
 range_carried d gs le within =
     let m = map (in_cluster d.cluster) (slice_range gs d.from d.to) in
     let long : length (take d.from gs) ≡ d.from = length-take-le d.from gs (omega arith) in
@@ -224,7 +224,7 @@ all_twice c z (g ∷ gs) other off =
     ∙ ap (λ hs. in_cluster z g ∷ hs) (all_twice c z gs other (λ n h. off n (has_more g.cluster n (clusters gs) h)))
 
 -- behind what is due nothing changes
-pub same_range : (d : Due) (gs : List Glyph) (i j : ℕ) → d.from ≤ d.to → d.to ≤ length gs → d.to ≤ i → slice_range (carried d gs) i j ≡ slice_range gs i j
+pub same_range : (d : Stretch) (gs : List Glyph) (i j : ℕ) → d.from ≤ d.to → d.to ≤ length gs → d.to ≤ i → slice_range (carried d gs) i j ≡ slice_range gs i j
 same_range d gs i j le within behind = ap (take (j - i)) (drop_carried d gs i le within behind)
 
 has_before : (gs : List Glyph) (i j n : ℕ) → i ≤ j → Has (clusters (take i gs)) n → Has (clusters (take j gs)) n
@@ -238,7 +238,7 @@ has_within gs i j n le h =
     subst (λ ns. Has ns n) (sym cut) (has_right n (clusters (take i gs)) (clusters (slice_range gs i j)) h)
 
 -- what is carried out again to a lesser cluster
-twice : (d : Due) (gs : List Glyph) (end z : ℕ) → d.from ≤ d.to → d.to ≤ length gs → d.to ≤ end → z < d.cluster → ((n : ℕ) → Has (clusters (take d.to gs)) n → d.cluster ≤ n)
+twice : (d : Stretch) (gs : List Glyph) (end z : ℕ) → d.from ≤ d.to → d.to ≤ length gs → d.to ≤ end → z < d.cluster → ((n : ℕ) → Has (clusters (take d.to gs)) n → d.cluster ≤ n)
     → carried (record { from = d.from; to = end; cluster = z }) (carried d gs) ≡ carried (record { from = d.from; to = end; cluster = z }) gs
 twice d gs end z le within behind less least =
     let m = carried d gs in
@@ -279,20 +279,20 @@ all_are p n (g ∷ gs) e h = elim (has_cases g.cluster n (clusters gs) h) [
     rest false f = cc
 
 -- a range behind what is due in falling clusters
-pub record IsRange (start end a : ℕ) (xs : List ℕ) (d : Due) (gs : List Glyph) : Type 0 where
+pub record IsRange (start end a : ℕ) (xs : List ℕ) (d : Stretch) (gs : List Glyph) : Type 0 where
   pub lt : start < end
   pub within : end ≤ length gs
   pub is : clusters (slice_range gs start end) ≡ a ∷ xs
   pub due : IsDueBefore start d gs
 
-range_meant : (start end a : ℕ) (xs : List ℕ) (d : Due) (gs : List Glyph) → IsRange start end a xs d gs → clusters (slice_range (carried d gs) start end) ≡ a ∷ xs
+range_meant : (start end a : ℕ) (xs : List ℕ) (d : Stretch) (gs : List Glyph) → IsRange start end a xs d gs → clusters (slice_range (carried d gs) start end) ≡ a ∷ xs
 range_meant start end a xs d gs r = ap clusters (same_range d gs start end r.due.ordered (omega (arith, r.due.before, r.lt, r.within)) r.due.before) ∙ r.is
 
 falls_merged : (start end : ℕ) (gs new : List Glyph) → start < end → IsFalling (clusters gs) → new ≡ glyphs_merged (stretch start end (clusters gs)) gs → IsFalling (clusters new)
 falls_merged start end gs new lt falling e = direction_merged MonotoneGraphemes start end gs new (omega arith) e true falling
 
 -- the due stretch joins
-pub joined_merged : (start end a : ℕ) (xs : List ℕ) (d : Due) (gs : List Glyph) → IsRange start end a xs d gs → least_number (a ∷ xs) < a → d.cluster ≡ a → ((n : ℕ) → Has (clusters (slice_range gs d.to start)) n → n ≡ a)
+pub joined_merged : (start end a : ℕ) (xs : List ℕ) (d : Stretch) (gs : List Glyph) → IsRange start end a xs d gs → least_number (a ∷ xs) < a → d.cluster ≡ a → ((n : ℕ) → Has (clusters (slice_range gs d.to start)) n → n ≡ a)
     → carried (record { from = d.from; to = end; cluster = least_number (a ∷ xs) }) gs ≡ glyphs_merged (stretch start end (clusters (carried d gs))) (carried d gs)
 joined_merged start end a xs d gs r less joins all =
     let due = r.due in
@@ -310,7 +310,7 @@ joined_merged start end a xs d gs r less joins all =
     sym (twice d gs end (least_number (a ∷ xs)) due.ordered within (omega (arith, due.before, r.lt)) (omega (arith, joins, less)) due.least)
     ∙ merged_from m d.from start end a xs (omega (arith, due.ordered, due.before)) r.lt (range_meant start end a xs d gs r) due.falls other same
 
-pub joined_due : (start end a : ℕ) (xs : List ℕ) (d : Due) (gs : List Glyph) → IsRange start end a xs d gs → least_number (a ∷ xs) < a → d.cluster ≡ a → ((n : ℕ) → Has (clusters (slice_range gs d.to start)) n → n ≡ a)
+pub joined_due : (start end a : ℕ) (xs : List ℕ) (d : Stretch) (gs : List Glyph) → IsRange start end a xs d gs → least_number (a ∷ xs) < a → d.cluster ≡ a → ((n : ℕ) → Has (clusters (slice_range gs d.to start)) n → n ≡ a)
     → IsDueBefore end (record { from = d.from; to = end; cluster = least_number (a ∷ xs) }) gs
 joined_due start end a xs d gs r less joins all =
     let due = r.due in
@@ -332,7 +332,7 @@ joined_due start end a xs d gs r less joins all =
     }
 
 -- what is due goes to a cluster that is not less
-due_above : (start end a : ℕ) (xs : List ℕ) (d : Due) (gs : List Glyph) → IsRange start end a xs d gs → 0 < d.to → a ≤ d.cluster
+due_above : (start end a : ℕ) (xs : List ℕ) (d : Stretch) (gs : List Glyph) → IsRange start end a xs d gs → 0 < d.to → a ≤ d.cluster
 due_above start end a xs d gs r lt =
     let due = r.due in
     let m = carried d gs in
@@ -345,7 +345,7 @@ due_above start end a xs d gs r lt =
     (has_before m d.to start d.cluster due.before (subst (λ ns. Has ns d.cluster) (sym there) (has_right d.cluster (clusters (take d.from gs)) (clusters go) (one_in d.cluster mid long))))
 
 -- none of it is of the first cluster of the range, nor is what stands before it
-none_due : (start end a n : ℕ) (xs : List ℕ) (d : Due) (gs : List Glyph) → IsRange start end a xs d gs → d.cluster ≢ a → Has (clusters (take d.to (carried d gs))) n → n ≢ a
+none_due : (start end a n : ℕ) (xs : List ℕ) (d : Stretch) (gs : List Glyph) → IsRange start end a xs d gs → d.cluster ≢ a → Has (clusters (take d.to (carried d gs))) n → n ≢ a
 none_due start end a n xs d gs r other h e =
     let due = r.due in
     let within : d.to ≤ length gs = omega (arith, due.before, r.lt, r.within) in
@@ -370,7 +370,7 @@ behind_is gs to start ahead le =
     ap (λ n. drop ahead (take n (drop to gs))) wide ∙ drop-take ahead (start - (to + ahead)) (drop to gs) ∙ ap (take (start - (to + ahead))) (drop-drop ahead to gs)
 
 -- where the run before the range begins, all before it is of other clusters
-none_before : (start end a n ahead : ℕ) (xs : List ℕ) (d : Due) (gs : List Glyph) → IsRange start end a xs d gs → d.to + ahead ≤ start → IsEndRun a ahead (slice_range gs d.to start) → (ahead ≡ 0 → d.cluster ≢ a)
+none_before : (start end a n ahead : ℕ) (xs : List ℕ) (d : Stretch) (gs : List Glyph) → IsRange start end a xs d gs → d.to + ahead ≤ start → IsEndRun a ahead (slice_range gs d.to start) → (ahead ≡ 0 → d.cluster ≢ a)
     → Has (clusters (take (d.to + ahead) (carried d gs))) n → n ≢ a
 none_before start end a n zero xs d gs r le run other h e =
     let here : d.to + 0 ≡ d.to = omega arith in
@@ -408,7 +408,7 @@ none_before start end a n (suc i) xs d gs r le run other h e =
         ]
 
 -- the due stretch is carried out, and another begins
-pub begun_merged : (start end a ahead : ℕ) (xs : List ℕ) (d : Due) (gs : List Glyph) → IsRange start end a xs d gs → d.to + ahead ≤ start → IsEndRun a ahead (slice_range gs d.to start) → (ahead ≡ 0 → d.cluster ≢ a)
+pub begun_merged : (start end a ahead : ℕ) (xs : List ℕ) (d : Stretch) (gs : List Glyph) → IsRange start end a xs d gs → d.to + ahead ≤ start → IsEndRun a ahead (slice_range gs d.to start) → (ahead ≡ 0 → d.cluster ≢ a)
     → carried (record { from = d.to + ahead; to = end; cluster = least_number (a ∷ xs) }) (carried d gs) ≡ glyphs_merged (stretch start end (clusters (carried d gs))) (carried d gs)
 begun_merged start end a ahead xs d gs r le run other =
     let due = r.due in
@@ -418,7 +418,7 @@ begun_merged start end a ahead xs d gs r le run other =
     (λ n h. none_before start end a n ahead xs d gs r le run other h)
     (λ n h. all_are a n (drop ahead (slice_range gs d.to start)) run.all (subst (λ (hs : List Glyph). Has (clusters hs) n) behind h))
 
-pub begun_due : (start end a ahead : ℕ) (xs : List ℕ) (d : Due) (gs : List Glyph) → IsRange start end a xs d gs → d.to + ahead ≤ start → IsEndRun a ahead (slice_range gs d.to start) → (ahead ≡ 0 → d.cluster ≢ a) → least_number (a ∷ xs) < a
+pub begun_due : (start end a ahead : ℕ) (xs : List ℕ) (d : Stretch) (gs : List Glyph) → IsRange start end a xs d gs → d.to + ahead ≤ start → IsEndRun a ahead (slice_range gs d.to start) → (ahead ≡ 0 → d.cluster ≢ a) → least_number (a ∷ xs) < a
     → IsDueBefore end (record { from = d.to + ahead; to = end; cluster = least_number (a ∷ xs) }) (carried d gs)
 begun_due start end a ahead xs d gs r le run other less =
     let m = carried d gs in
@@ -433,11 +433,11 @@ begun_due start end a ahead xs d gs r le run other less =
     }
 
 -- a range that begins with a glyph
-pub range_at : (start end : ℕ) (d : Due) (gs : List Glyph) (g : Glyph) → start < end → end ≤ length gs → IsDueBefore start d gs → IsRange start end (get_or gs start g).cluster (clusters (take (end - start - 1) (drop (start + 1) gs))) d gs
+pub range_at : (start end : ℕ) (d : Stretch) (gs : List Glyph) (g : Glyph) → start < end → end ≤ length gs → IsDueBefore start d gs → IsRange start end (get_or gs start g).cluster (clusters (take (end - start - 1) (drop (start + 1) gs))) d gs
 range_at start end d gs g lt within due = record { lt = lt; within = within; is = range_first gs start end g lt (omega arith); due = due }
 
 -- a range of one cluster changes nothing
-pub kept_merged : (start end a : ℕ) (xs : List ℕ) (d : Due) (gs : List Glyph) → IsRange start end a xs d gs → a ≡ least_number (a ∷ xs) → carried d gs ≡ glyphs_merged (stretch start end (clusters (carried d gs))) (carried d gs)
+pub kept_merged : (start end a : ℕ) (xs : List ℕ) (d : Stretch) (gs : List Glyph) → IsRange start end a xs d gs → a ≡ least_number (a ∷ xs) → carried d gs ≡ glyphs_merged (stretch start end (clusters (carried d gs))) (carried d gs)
 kept_merged start end a xs d gs r alone = merged_alone (carried d gs) start end a xs (range_meant start end a xs d gs r) r.due.falls alone
 
 pub low_below : (a z : ℕ) (ns xs : List ℕ) → ns ≡ a ∷ xs → z ≡ least_number ns → a ≢ z → least_number (a ∷ xs) < a
@@ -453,7 +453,7 @@ all_ahead a n ahead gs e run h = let all = run.all in all_are a n gs (rw e at al
 first_of_rising : (n m : ℕ) (ns : List ℕ) → IsRising (n ∷ ns) → Has (n ∷ ns) m → n ≤ m
 first_of_rising n m ns h has = from_first (λ (i j : ℕ). i ≤ j) (λ k. omega arith) n m ns h.0 has
 
-got_has : (gs : List Glyph) (i : ℕ) (d : Glyph) → i < length gs → Has (clusters gs) (get_or gs i d).cluster
+pub got_has : (gs : List Glyph) (i : ℕ) (d : Glyph) → i < length gs → Has (clusters gs) (get_or gs i d).cluster
 got_has [] i d lt = absurd (omega arith)
 got_has (g ∷ gs) zero d lt = has_here g.cluster (clusters gs)
 got_has (g ∷ gs) (suc i) d lt = has_more g.cluster (get_or gs i d).cluster (clusters gs) (got_has gs i d (omega (arith, lt)))
@@ -493,11 +493,3 @@ none_marked Characters start end ns m mono = absurd mono
 
 pub nothing_due : (gs : List Glyph) → IsFalling (clusters gs) → IsDueBefore 0 (record { from = 0; to = 0; cluster = 0 }) gs
 nothing_due gs falls = record { ordered = omega arith; before = omega arith; some = λ lt. absurd (omega (arith, lt)); above = λ n h. cc; least = λ n h. cc; falls = falls }
-
-pub due_later : (level : Level) (at later : ℕ) (due : Option Due) (gs : List Glyph) → at ≤ later → MayBeDue level at due gs → MayBeDue level later due gs
-due_later level at later None gs le h = tt
-due_later level at later (Some d) gs le h = (h.0, record { ordered = h.1.ordered; before = omega (arith, h.1.before, le); some = h.1.some; above = h.1.above; least = h.1.least; falls = h.1.falls })
-
-pub due_within : (level : Level) (at n : ℕ) (due : Option Due) (gs : List Glyph) → at ≤ n → MayBeDue level at due gs → IsWithin n due
-due_within level at n None gs le h = tt
-due_within level at n (Some d) gs le h = (h.1.ordered, omega (arith, h.1.before, le))

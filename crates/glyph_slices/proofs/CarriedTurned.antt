@@ -1,27 +1,24 @@
 -- A part is turned round while something is due.
-use Rattle.std.specs.Prelude.{slice_range, Option, Some, None}
-use Rattle.std.proofs.Common.{ℕ, ◌≡◌, ◌≤◌, ◌+◌, ◌-◌, inl, inr, Bool, true, false, List, ◌++◌, length, map, take, drop, reverse, arith, refl, ap, sym, subst, ◌∙◌, append_assoc}
+use Rattle.std.specs.Prelude.{slice_range}
+use Rattle.std.proofs.Common.{ℕ, ◌≡◌, ◌≤◌, ◌+◌, ◌-◌, inl, inr, List, ◌++◌, length, map, take, drop, reverse, arith, ap, sym, subst, ◌∙◌, append_assoc}
 use Rattle.std.proofs.lemmas.List.{map-append, length-append, length-map, length-take-le, length-drop, length-reverse, take-take, drop-take, take-append-drop}
 use Rattle.std.proofs.Math.Seq.{take-append_seam, drop-append_seam}
 use Rattle.glyph_types.specs.declared.info.hb_glyph_info_t.{hb_glyph_info_t as Glyph}
 use Rattle.glyph_types.specs.declared.level.BufferClusterLevel.{BufferClusterLevel as Level}
 use Rattle.glyph_lists.specs.Items.{clusters}
 use Rattle.glyph_lists.specs.Order.{IsFalling}
-use Rattle.glyph_lists.specs.Glyphs.{in_cluster}
+use Rattle.glyph_lists.specs.Glyphs.{in_cluster, glyphs_merged_at}
 use Rattle.glyph_lists.specs.Lemmas.Numbers.{Has, has_either, has_left, has_right, has_reverse}
-use Rattle.glyph_slices.specs.declared.falling.Due.{Due}
-use Rattle.glyph_slices.specs.Turning.{merged_if, part_turned}
-use Rattle.glyph_slices.specs.Falling.{carried, meant, IsRound, MayBeDue, MayBeRound}
+use Rattle.glyph_slices.specs.declared.due.falling.Stretch.{Stretch}
+use Rattle.glyph_lists.specs.Readings.{IsMonotone}
+use Rattle.glyph_slices.specs.Turning.{part_turned}
+use Rattle.glyph_slices.specs.Falling.{carried, IsDueBefore, IsRound}
 use Rattle.glyph_slices.proofs.Turned.{map-reverse, part_front, part_behind, clusters_part}
 use Rattle.glyph_slices.proofs.Carried.{two_ranges, take_to, drop_beyond, take_carried, drop_carried, same_range, front_long}
 
 -- as long as before
-pub carried_long : (d : Due) (gs : List Glyph) → d.from ≤ d.to → d.to ≤ length gs → length (carried d gs) ≡ length gs
+pub carried_long : (d : Stretch) (gs : List Glyph) → d.from ≤ d.to → d.to ≤ length gs → length (carried d gs) ≡ length gs
 carried_long d gs le within = omega (arith, length-append (take d.from gs ++ map (in_cluster d.cluster) (slice_range gs d.from d.to)) (drop d.to gs), front_long d gs le within, length-drop d.to gs)
-
-pub meant_long : (level : Level) (at : ℕ) (due : Option Due) (gs : List Glyph) → at ≤ length gs → MayBeDue level at due gs → length (meant due gs) ≡ length gs
-meant_long level at None gs le h = refl
-meant_long level at (Some d) gs le h = carried_long d gs h.1.ordered (omega (arith, h.1.before, le))
 
 -- the parts of a list of which a part was turned round
 turned_front : {X : Type 0} (i start end : ℕ) (xs : List X) → i ≤ start → start ≤ length xs → take i (part_turned start end xs) ≡ take i xs
@@ -59,7 +56,7 @@ turned_range i j start end xs le less within =
     by_take i j (part_turned start end xs) le ∙ ap (drop i) (turned_front j start end xs less within) ∙ sym (by_take i j xs le)
 
 -- what is due goes with the part
-pub carried_turned : (d : Due) (start end : ℕ) (gs : List Glyph) → start ≤ end → end ≤ length gs → d.from ≤ d.to → IsRound start end d → carried d (part_turned start end gs) ≡ part_turned start end (carried d gs)
+pub carried_turned : (d : Stretch) (start end : ℕ) (gs : List Glyph) → start ≤ end → end ≤ length gs → d.from ≤ d.to → IsRound start end d → carried d (part_turned start end gs) ≡ part_turned start end (carried d gs)
 carried_turned d start end gs le within ordered (inl before) =
     let new = part_turned start end gs in
     let long : length new ≡ length gs = turned_long start end gs le within in
@@ -95,13 +92,8 @@ carried_turned d start end gs le within ordered (inr round) =
     let back : drop d.to (carried d new) ≡ drop end m = drop_carried d new d.to ordered far (omega arith) ∙ ap (λ n. drop n new) to ∙ turned_back start end gs le within ∙ ap (λ n. drop n gs) (sym to) ∙ sym (drop_carried d gs d.to ordered there (omega arith)) ∙ ap (λ n. drop n m) to in
     sym (take-append-drop d.to (carried d new)) ∙ ap (λ hs. hs ++ drop d.to (carried d new)) (left ∙ ap (λ hs. hs ++ reverse (go w)) (sym before) ∙ ap (λ hs. take start m ++ reverse hs) (sym among)) ∙ ap (λ hs. take start m ++ reverse (slice_range m start end) ++ hs) back
 
--- at any time
-pub meant_turned : (level : Level) (start end : ℕ) (due : Option Due) (gs : List Glyph) → start ≤ end → end ≤ length gs → MayBeDue level end due gs → MayBeRound start end due → meant due (part_turned start end gs) ≡ part_turned start end (meant due gs)
-meant_turned level start end None gs le within h round = refl
-meant_turned level start end (Some d) gs le within h round = carried_turned d start end gs le within h.1.ordered round
-
 -- a cluster that occurs before the end of what is due did so before
-turned_has : (d : Due) (start end n : ℕ) (gs : List Glyph) → start ≤ end → end ≤ length gs → IsRound start end d → Has (clusters (take d.to (part_turned start end gs))) n → Has (clusters (take d.to gs)) n
+turned_has : (d : Stretch) (start end n : ℕ) (gs : List Glyph) → start ≤ end → end ≤ length gs → IsRound start end d → Has (clusters (take d.to (part_turned start end gs))) n → Has (clusters (take d.to gs)) n
 turned_has d start end n gs le within (inl before) h = subst (λ (hs : List Glyph). Has (clusters hs) n) (turned_front d.to start end gs before (omega arith)) h
 turned_has d start end n gs le within (inr round) h =
     let v : Glyph → ℕ = λ g. g.cluster in
@@ -115,31 +107,20 @@ turned_has d start end n gs le within (inr round) h =
       | inr among ↦ has_right n (clusters (take start gs)) (clusters w) (sym (has_reverse n (clusters w)) ∙ among)
     ])
 
--- a group that was merged is turned round in its place
-pub due_turned : (merge : Bool) (level : Level) (start end : ℕ) (due : Option Due) (old gs : List Glyph) → start ≤ end → end ≤ length gs → MayBeDue level end due gs → MayBeRound start end due → (merge ≡ false → due ≡ None) → meant due gs ≡ merged_if merge level start end old → MayBeDue level end due (part_turned start end gs)
-due_turned merge level start end None old gs le within h round plain e = tt
-due_turned false level start end (Some d) old gs le within h round plain e = let no = plain refl in cc
-due_turned true level start end (Some d) old gs le within h round plain e =
-    let due = h.1 in
+-- a stretch is due where its group was merged and is turned round in its place
+pub stretch_turned : (level : Level) (d : Stretch) (start end : ℕ) (old gs : List Glyph) → IsMonotone level → start ≤ end → end ≤ length gs → IsDueBefore end d gs → IsRound start end d → carried d gs ≡ glyphs_merged_at level start end old → IsDueBefore end d (part_turned start end gs)
+stretch_turned level d start end old gs mono le within due round e =
     let new = part_turned start end gs in
-    let whole : clusters (carried d new) ≡ clusters (carried d gs) = ap clusters (carried_turned d start end gs le within due.ordered round) ∙ clusters_part level start end old (carried d gs) h.0 le e in
-    let early : d.from ≤ start = early_is round due.ordered in (
-      h.0,
-      record {
-        ordered = due.ordered;
-        before = due.before;
-        some = due.some;
-        above = λ n k. due.above n (subst (λ (hs : List Glyph). Has (clusters hs) n) (turned_front d.from start end gs early (omega arith)) k);
-        least = λ n k. due.least n (turned_has d start end n gs le within round k);
-        falls = subst IsFalling (sym whole) due.falls;
-      },
-    )
+    let whole : clusters (carried d new) ≡ clusters (carried d gs) = ap clusters (carried_turned d start end gs le within due.ordered round) ∙ clusters_part level start end old (carried d gs) mono le e in
+    let early : d.from ≤ start = early_is round due.ordered in record {
+      ordered = due.ordered;
+      before = due.before;
+      some = due.some;
+      above = λ n k. due.above n (subst (λ (hs : List Glyph). Has (clusters hs) n) (turned_front d.from start end gs early (omega arith)) k);
+      least = λ n k. due.least n (turned_has d start end n gs le within round k);
+      falls = subst IsFalling (sym whole) due.falls;
+    }
   where
     early_is : IsRound start end d → d.from ≤ d.to → d.from ≤ start
     early_is (inl before) k = omega (arith, before, k)
     early_is (inr at) k = at.0
-
--- what is ahead is as it is meant
-pub meant_ahead : (level : Level) (at : ℕ) (due : Option Due) (gs : List Glyph) → at ≤ length gs → MayBeDue level at due gs → drop at (meant due gs) ≡ drop at gs
-meant_ahead level at None gs le h = refl
-meant_ahead level at (Some d) gs le h = drop_carried d gs at h.1.ordered (omega (arith, h.1.before, le)) h.1.before

@@ -6,6 +6,7 @@ pub mod Turning
 pub mod Deleting
 pub mod DeletionWalk
 pub mod Sorting
+pub mod Due
 pub mod Laws
 pub mod Deleted
 pub mod Facts

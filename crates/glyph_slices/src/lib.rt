@@ -2,7 +2,7 @@
 #![tactic(auto)]
 
 pub mod deletion;
-mod falling;
+mod due;
 pub mod groups;
 pub mod laws;
 pub mod merges;

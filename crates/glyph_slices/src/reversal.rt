@@ -1,24 +1,30 @@
-ghost use Rattle.std.specs.Prelude.{◌≡◌, ◌<◌, ◌≤◌, None, ◌-◌, ◌||◌, true, false, Bool, length};
+ghost use Rattle.std.specs.Prelude.{◌≡◌, ◌<◌, ◌≤◌, ◌-◌, ◌||◌, true, false, Bool, length};
 ghost use Rattle.glyph_types.specs.declared.info.hb_glyph_info_t.{hb_glyph_info_t as Glyph};
 ghost use Rattle.glyph_lists.specs.Items.{Item, clusters, flags_of, item_of, strip};
 ghost use Rattle.glyph_lists.specs.Order.{BringsNone, IsOrdered};
 ghost use Rattle.glyph_lists.specs.Readings.{IsMonotone};
 ghost use Rattle.glyph_slices.specs.Facts.{clusters_turned, places_turned};
-ghost use Rattle.glyph_slices.specs.Falling.{MayBeDue, MayBeRound, meant};
+ghost use Rattle.glyph_slices.specs.declared.due.Due.TheVariants.{Nothing};
+ghost use Rattle.glyph_slices.specs.Due.{MayBeDue, MayBeRound, meant};
 ghost use Rattle.glyph_slices.specs.Flags.{flags_turned};
 ghost use Rattle.glyph_slices.specs.Groups.{Decides};
 ghost use Rattle.glyph_slices.specs.Turning.{first_turned, groups_turned, is_marked_if, merged_if, part_turned, turned, turning_at};
 
-use crate::falling::{Merges, merge_next, no_merges, settle};
-use crate::groups::end_of_group;
+mod ahead;
+
+use self::ahead::end_of_meant_group;
+use crate::due::{Merges, merge_next, no_merges, settle};
 use glyph_types::info::hb_glyph_info_t;
 use glyph_types::level::BufferClusterLevel;
 use glyph_types::position::GlyphPosition;
+use std::alloc::Global;
 
 /// Turns round the order of the groups, and keeps the order within each; places go with their glyphs. The groups are found
 /// from the left; where `merge` is told, each is merged before the next is looked for. Answers whether a merge marked a
-/// glyph. Where all clusters are known to stand in order the merges take linear time in all.
+/// glyph. Where all clusters are known to stand in order the merges take linear time in all. Else they are kept in a table
+/// and take n log n for n glyphs; where there is no memory for the table each takes the glyphs times its group.
 pub fn reverse_groups<F: Fn(&hb_glyph_info_t, &hb_glyph_info_t) -> bool>(
+    alloc: Global,
     glyphs: &mut [hb_glyph_info_t],
     places: &mut [GlyphPosition],
     level: BufferClusterLevel,
@@ -39,10 +45,10 @@ pub fn reverse_groups<F: Fn(&hb_glyph_info_t, &hb_glyph_info_t) -> bool>(
     ensures numbers { (joins : Glyph → Glyph → Bool) → Decides F.Fn group joins → BringsNone (clusters glyphs.old) (clusters glyphs.new) }
     ensures flags { (q : Item → Item → Bool) → Decides F.Fn group (λ g h. q (item_of g) (item_of h)) → flags_of glyphs.new ≡ flags_turned merge level q (strip glyphs.old) (clusters glyphs.old) (flags_of glyphs.old) }
 {
-    let mut merges = no_merges(glyphs, level, merge && in_order);
+    let mut merges = no_merges(alloc, glyphs, level, merge && in_order, merge);
     let mut start = 0;
     while start < glyphs.len() {
-        let end = end_of_group(glyphs, start, &group);
+        let end = end_of_meant_group(glyphs, start, &mut merges.due, &group);
         merges = turn_group(glyphs, places, level, in_order, merge, start, end, merges);
         start = end;
     }
@@ -68,11 +74,11 @@ fn turn_group(
     requires placed { length places.old ≡ length glyphs.old }
     requires known { merge ≡ true → in_order ≡ true → IsMonotone level → IsOrdered (clusters (meant merges.due glyphs.old)) }
     requires due { MayBeDue level start merges.due glyphs.old }
-    requires plain { merge ≡ false → merges.due ≡ None }
+    requires plain { merge ≡ false → merges.due ≡ Nothing }
     ensures turned { turning_at end (meant result.due glyphs.new) places.new result.marked ≡ first_turned merge level (end - start) (turning_at start (meant merges.due glyphs.old) places.old merges.marked) }
     ensures order { merge ≡ true → IsMonotone level → IsOrdered (clusters (meant merges.due glyphs.old)) → IsOrdered (clusters (meant result.due glyphs.new)) }
     ensures due { MayBeDue level end result.due glyphs.new }
-    ensures plain { merge ≡ false → result.due ≡ None }
+    ensures plain { merge ≡ false → result.due ≡ Nothing }
 {
     let merged = merge_group(glyphs, level, in_order, merge, start, end, merges);
     turn_part(glyphs, start, end);
@@ -93,12 +99,12 @@ fn merge_group(
     requires within { end ≤ length glyphs.old }
     requires known { merge ≡ true → in_order ≡ true → IsMonotone level → IsOrdered (clusters (meant merges.due glyphs.old)) }
     requires due { MayBeDue level start merges.due glyphs.old }
-    requires plain { merge ≡ false → merges.due ≡ None }
+    requires plain { merge ≡ false → merges.due ≡ Nothing }
     ensures merged { meant result.due glyphs.new ≡ merged_if merge level start end (meant merges.due glyphs.old) }
     ensures marked { result.marked ≡ (merges.marked || is_marked_if merge level start end (clusters (meant merges.due glyphs.old))) }
     ensures due { MayBeDue level end result.due glyphs.new }
     ensures round { MayBeRound start end result.due }
-    ensures plain { merge ≡ false → result.due ≡ None }
+    ensures plain { merge ≡ false → result.due ≡ Nothing }
 {
     if merge {
         merge_next(glyphs, level, in_order, start, end, merges)

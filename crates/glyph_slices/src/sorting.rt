@@ -4,11 +4,11 @@ ghost use Rattle.glyph_types.specs.declared.info.hb_glyph_info_t.{hb_glyph_info_
 ghost use Rattle.glyph_lists.specs.Items.{Item, clusters, flags_of, item_of, strip};
 ghost use Rattle.glyph_lists.specs.Order.{BringsNone, IsInOrder, IsOrdered};
 ghost use Rattle.stable_order.specs.Keys.{key_order};
-ghost use Rattle.glyph_slices.specs.Falling.{MayBeDue, meant};
+ghost use Rattle.glyph_slices.specs.Due.{MayBeDue, meant};
 ghost use Rattle.glyph_slices.specs.SortedFacts.{clusters_sorted, flags_sorted};
 ghost use Rattle.glyph_slices.specs.Sorting.{Gives, Spanned, glyph_at, keyed_from, put_in_order, range_merged, range_sorted, range_spanned, span_merged};
 
-use crate::falling::{Merges, merge_next, no_merges, settle};
+use crate::due::{Merges, merge_next, no_merges, settle};
 use glyph_types::info::hb_glyph_info_t;
 use glyph_types::level::BufferClusterLevel;
 use std::alloc::{AllocError, Global};
@@ -16,7 +16,9 @@ use std::alloc::{AllocError, Global};
 /// Puts the glyphs from `start` up to before `end` in stable order by the keys that they have, and merges each smallest
 /// span that the order permutes: one of more than one glyph, between places before which all came from before them. The
 /// merges come first, on the glyphs as they stood, so that where all clusters are known to stand in order they take linear
-/// time in all. Where memory is short the slice stays as it was.
+/// time in all. Else a sort that moves many glyphs keeps what it merges in a table, and takes n log n for n glyphs in the
+/// slice; where there is no memory for the table each merge takes the glyphs times its span. Where memory is short for
+/// the sort the slice stays as it was.
 pub fn sort<F: Fn(&hb_glyph_info_t) -> u32>(
     alloc: Global,
     glyphs: &mut [hb_glyph_info_t],
@@ -43,7 +45,7 @@ pub fn sort<F: Fn(&hb_glyph_info_t) -> u32>(
     let mut order = keyed_places(alloc, &glyphs[start..end], &key)?;
     sort_places(&mut order)?;
     let mut copy = glyphs[start..end].to_vec(alloc)?;
-    let marked = merge_spans(glyphs, level, in_order, start, &order);
+    let marked = merge_spans(alloc, glyphs, level, in_order, start, &order);
     let range = &mut glyphs[start..end];
     copy.copy_from_slice(range);
     let in_order = put_in_order(range, &copy, &order);
@@ -98,7 +100,7 @@ fn sort_places(places: &mut Vec<Keyed>) -> Result<(), AllocError>
 }
 
 /// Merges the glyphs from `start` up to before `end` where there are several.
-#[tactic(auto, using(crate::proofs::Carried::due_later))]
+#[tactic(auto, using(crate::proofs::Meant::due_later))]
 fn merge_span(
     glyphs: &mut [hb_glyph_info_t],
     level: BufferClusterLevel,
@@ -120,8 +122,23 @@ fn merge_span(
     merge_next(glyphs, level, in_order, start, end, merges)
 }
 
+/// Whether so many glyphs are in spans to merge that it takes less to keep what is united in a table than to merge each
+/// span at once.
+fn moves_many(order: &[Keyed]) -> bool {
+    let mut reach = 0;
+    let mut moved: usize = 0;
+    for (place, keyed) in order.iter().enumerate() {
+        reach = reach.max(keyed.place);
+        if reach > place {
+            moved += 1;
+        }
+    }
+    moved > 8
+}
+
 /// Merges the spans of a range that begins at `start`; answers whether a glyph was marked.
 fn merge_spans(
+    alloc: Global,
     glyphs: &mut [hb_glyph_info_t],
     level: BufferClusterLevel,
     in_order: bool,
@@ -133,7 +150,7 @@ fn merge_spans(
     ensures merged { record { glyphs = glyphs.new; is_marked = result } ≡ range_spanned level start order.now glyphs.old }
     ensures direction { (falls : Bool) → IsInOrder falls (clusters glyphs.old) → IsInOrder falls (clusters glyphs.new) }
 {
-    let mut merges = no_merges(glyphs, level, in_order);
+    let mut merges = no_merges(alloc, glyphs, level, in_order, moves_many(order));
     let mut begin = 0;
     let mut reach = 0;
     for place in 0..order.len() {

@@ -1,5 +1,7 @@
 ghost use Rattle.std.specs.Prelude.{◌≡◌};
 
+mod no_order;
+
 use crate::deletion::{delete_within, recast_end, set_cluster};
 use crate::groups::{group_end, next_cluster, next_grapheme, next_syllable};
 use crate::merges::merge_range;
@@ -107,6 +109,7 @@ fn turns_groups_round(rt: HostRuntime) -> Result<(), Fail> {
     let mut glyphs = [glyph(1, 0, 0), glyph(2, 0, 0), glyph(3, 5, 0)];
     let mut places = [place(10), place(20), place(30)];
     let marked = reverse_groups(
+        rt.alloc(),
         &mut glyphs,
         &mut places,
         BufferClusterLevel::MonotoneGraphemes,
@@ -130,6 +133,7 @@ fn merges_groups_as_they_are_found(rt: HostRuntime) -> Result<(), Fail> {
     ];
     let mut places = [place(10), place(20), place(30), place(40)];
     let marked = reverse_groups(
+        rt.alloc(),
         &mut glyphs,
         &mut places,
         BufferClusterLevel::MonotoneGraphemes,
@@ -347,6 +351,7 @@ fn merges_groups_that_share_falling_clusters(rt: HostRuntime) -> Result<(), Fail
         place(70),
     ];
     let marked = reverse_groups(
+        rt.alloc(),
         &mut glyphs,
         &mut places,
         BufferClusterLevel::MonotoneGraphemes,

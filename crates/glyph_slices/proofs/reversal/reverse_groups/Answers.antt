@@ -1,14 +1,13 @@
-use Rattle.std.proofs.Common.{◌≡◌, ◌+◌, Bool, arith, ap, subst, sym, List, length, drop, reverse, ◌∙◌}
+use Rattle.std.proofs.Common.{◌≡◌, ◌-◌, Bool, arith, ap, subst, sym, List, length, reverse, ◌∙◌}
 use Rattle.glyph_types.specs.declared.info.hb_glyph_info_t.{hb_glyph_info_t as Glyph}
 use Rattle.glyph_lists.specs.Items.{clusters, flags_of, item_of, strip}
 use Rattle.glyph_lists.specs.Order.{BringsNone, IsOrdered}
 use Rattle.glyph_slices.specs.NoNewNumbers.{turning_brings_none}
-use Rattle.glyph_slices.specs.Turning.{Turning, turned}
+use Rattle.glyph_slices.specs.Turning.{Turning, first_turned, turned, turning_at}
 use Rattle.glyph_slices.proofs.Turned.{Rest, rest_begins, rest_goes_on, rest_ends}
-use Rattle.glyph_slices.specs.Groups.{group_length}
-use Rattle.glyph_slices.specs.Falling.{meant}
-use Rattle.glyph_slices.proofs.Carried.{due_within}
-use Rattle.glyph_slices.proofs.CarriedTurned.{meant_long, meant_ahead}
+use Rattle.glyph_slices.specs.Due.{meant}
+use Rattle.glyph_slices.proofs.Meant.{due_within}
+use Rattle.glyph_slices.proofs.Meant.{meant_long}
 use Rattle.glyph_slices.proofs.GroupsTurned.{turned_plain}
 use Rattle.glyph_slices.proofs.Regrouped.{items_turned, places_beside, clusters_beside}
 use Rattle.glyph_slices.proofs.RegroupedFlags.{flags_beside}
@@ -23,7 +22,7 @@ loop-start-init g c =
       placed = c.requires.placed;
       known = λ asked sure mono. subst (λ (hs : List Glyph). IsOrdered (clusters hs)) (sym none.meant) (c.requires.known sure);
       due = none.due;
-      plain = λ off. none.none (elim c.if-merge.branch [ then-merge w ↦ let on = w.if-merge.true in cc | else-merge w ↦ w.no_merges-is ∙ off ]);
+      plain = λ off. none.none (elim c.if-merge.branch [ then-merge w ↦ let on = w.if-merge.true in cc | else-merge w ↦ w.no_merges-is ∙ off ]) off;
       rest = λ joins same. subst (λ (hs : List Glyph). Rest c.args.merge c.args.level joins 0 hs c.args.places.now c.no_merges-merges.result.marked (turned c.args.merge c.args.level joins c.args.glyphs.now c.args.places.now)) (sym none.meant)
           (subst (λ (m : Bool). Rest c.args.merge c.args.level joins 0 c.args.glyphs.now c.args.places.now m (turned c.args.merge c.args.level joins c.args.glyphs.now c.args.places.now)) (sym none.marked) (rest_begins c.args.merge c.args.level joins c.args.glyphs.now c.args.places.now));
     }
@@ -32,22 +31,23 @@ pub loop-start-preserved : goal.loop-start-preserved
 loop-start-preserved g c =
     let turn = c.turn_group-merges.ensures in
     let inv = c.loop-start.invariant in
+    let found = c.end_of_meant_group-end in
     let start = c.loop-start.start in
-    let end = c.end_of_group-end.result in
+    let end = found.result in
     let old = c.loop-start.glyphs in
     let new = c.turn_group-merges.new.glyphs in
     let before : length (meant c.loop-start.merges.due old) ≡ length old = meant_long c.args.level start c.loop-start.merges.due old (omega arith) inv.due in
-    let after : length (meant c.turn_group-merges.result.due new) ≡ length new = meant_long c.args.level end c.turn_group-merges.result.due new (omega (arith, c.end_of_group-end.ensures.within, c.turn_group-merges.auto.glyphs)) turn.due in
-    let ahead : drop start (meant c.loop-start.merges.due old) ≡ drop start old = meant_ahead c.args.level start c.loop-start.merges.due old (omega arith) inv.due in
+    let after : length (meant c.turn_group-merges.result.due new) ≡ length new = meant_long c.args.level end c.turn_group-merges.result.due new (omega (arith, found.ensures.within, c.turn_group-merges.auto.glyphs)) turn.due in
     record {
-      within = omega (arith, c.end_of_group-end.ensures.within);
+      within = omega (arith, found.ensures.within);
       placed = omega (arith, inv.placed);
-      known = λ asked sure mono. turn.order asked mono (inv.known asked sure mono);
+      known = λ asked sure mono. turn.order asked mono (subst (λ (hs : List Glyph). IsOrdered (clusters hs)) (sym found.ensures.meant) (inv.known asked sure mono));
       due = turn.due;
       plain = turn.plain;
       rest = λ joins same. rest_goes_on c.args.merge c.args.level joins start end (meant c.loop-start.merges.due old) (meant c.turn_group-merges.result.due new) c.loop-start.places c.turn_group-merges.new.places
-          c.loop-start.merges.marked c.turn_group-merges.result.marked _ (omega (arith, before, c.loop-start-test.true)) c.end_of_group-end.ensures.some (omega (arith, before, after, c.turn_group-merges.auto.glyphs))
-          (c.end_of_group-end.ensures.end joins same ∙ ap (λ hs. start + group_length joins hs) (sym ahead)) turn.turned (inv.rest joins same);
+          c.loop-start.merges.marked c.turn_group-merges.result.marked _ (omega (arith, before, c.loop-start-test.true)) found.ensures.some (omega (arith, before, after, c.turn_group-merges.auto.glyphs, found.auto.glyphs))
+          (found.ensures.end joins same)
+          (turn.turned ∙ ap (λ (hs : List Glyph). first_turned c.args.merge c.args.level (end - start) (turning_at start hs c.loop-start.places c.loop-start.merges.marked)) found.ensures.meant) (inv.rest joins same);
     }
 
 pub settle-requires : goal.settle-requires

@@ -4,8 +4,8 @@ use Rattle.glyph_lists.specs.Items.{clusters}
 use Rattle.glyph_lists.specs.Order.{IsOrdered}
 use Rattle.glyph_lists.specs.Readings.{IsMonotone}
 use Rattle.glyph_slices.specs.Groups.{Decides}
-use Rattle.std.specs.Prelude.{None}
-use Rattle.glyph_slices.specs.Falling.{MayBeDue, meant}
+use Rattle.glyph_slices.specs.declared.due.Due.TheVariants.{Nothing}
+use Rattle.glyph_slices.specs.Due.{MayBeDue, meant}
 use Rattle.glyph_slices.specs.Turning.{turned}
 use Rattle.glyph_slices.proofs.Turned.{Rest}
 use Rattle.glyph_slices.proofs.reversal.reverse_groups.Given as goal
@@ -17,7 +17,7 @@ invariant-loop-start g l = record {
   placed : length l.places ≡ length l.glyphs;
   known : l.merge ≡ true → l.in_order ≡ true → IsMonotone l.level → IsOrdered (clusters (meant l.merges.due l.glyphs));
   due : MayBeDue l.level l.start l.merges.due l.glyphs;
-  plain : l.merge ≡ false → l.merges.due ≡ None;
+  plain : l.merge ≡ false → l.merges.due ≡ Nothing;
   rest : (joins : Glyph → Glyph → Bool) → Decides g.F.Fn l.group joins → Rest l.merge l.level joins l.start (meant l.merges.due l.glyphs) l.places l.merges.marked (turned l.merge l.level joins l.fn.glyphs l.fn.places);
 }
 

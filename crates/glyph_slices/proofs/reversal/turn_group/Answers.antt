@@ -1,10 +1,10 @@
 use Rattle.std.proofs.Common.{◌≡◌, ◌≤◌, List, length, arith, ap, refl, subst, sym, ◌∙◌}
 use Rattle.glyph_types.specs.declared.info.hb_glyph_info_t.{hb_glyph_info_t as Glyph}
 use Rattle.glyph_lists.specs.Items.{clusters}
-use Rattle.glyph_slices.specs.Falling.{MayBeDue, meant}
+use Rattle.glyph_slices.specs.Due.{MayBeDue, meant}
 use Rattle.glyph_slices.specs.Turning.{is_marked_if, part_turned, turning_at}
 use Rattle.glyph_slices.proofs.Turned.{group_placed, group_ordered}
-use Rattle.glyph_slices.proofs.CarriedTurned.{meant_long, meant_turned, due_turned}
+use Rattle.glyph_slices.proofs.Meant.{meant_long, meant_turned, due_turned}
 use Rattle.glyph_slices.proofs.reversal.turn_group.Goals as goal
 
 pub returns-clause-turned : goal.returns-clause-turned

@@ -3,7 +3,7 @@ use Rattle.std.specs.List.{list_all}
 use Rattle.glyph_lists.specs.Items.{clusters}
 use Rattle.glyph_lists.specs.Order.{IsInOrder, IsOrdered}
 use Rattle.glyph_slices.specs.declared.sorting.Keyed.{Keyed}
-use Rattle.glyph_slices.specs.Falling.{MayBeDue, meant}
+use Rattle.glyph_slices.specs.Due.{MayBeDue, meant}
 use Rattle.glyph_slices.specs.Sorting.{spans_merged, range_spanned}
 use Rattle.glyph_slices.proofs.sorting.merge_spans.Given as goal
 

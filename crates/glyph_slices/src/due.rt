@@ -1,0 +1,167 @@
+ghost use Rattle.std.specs.Prelude.{◌≡◌, ◌≤◌, ◌<◌, ◌||◌, true, false, Bool, length};
+ghost use Rattle.glyph_types.specs.declared.info.hb_glyph_info_t.{hb_glyph_info_t as Glyph};
+ghost use Rattle.glyph_types.specs.declared.level.BufferClusterLevel.{BufferClusterLevel as Level};
+ghost use Rattle.glyph_lists.specs.Items.{clusters};
+ghost use Rattle.glyph_lists.specs.Order.{IsOrdered};
+ghost use Rattle.glyph_lists.specs.Readings.{IsMonotone};
+ghost use Rattle.glyph_lists.specs.Glyphs.{glyphs_merged_at, is_marked_at};
+ghost use Rattle.glyph_slices.specs.declared.due.Due.TheVariants.{Nothing};
+ghost use Rattle.glyph_slices.specs.Due.{IsWithin, MayBeDue, MayBeRound, meant};
+
+mod falling;
+
+use self::falling::{Stretch, carry_out, ends_lower, merge_falling};
+use crate::merges::merge_at;
+use glyph_types::info::hb_glyph_info_t;
+use glyph_types::level::BufferClusterLevel;
+use std::alloc::Global;
+use united_clusters::united::UnitedClusters;
+
+/// What merges left to be carried out. Where clusters don't rise, a merge at once may rename the same glyphs again and
+/// again, or look at all of them for each range; so they are renamed once it is known what they become.
+#[derive(Drop)]
+pub(crate) enum Due {
+    /// Nothing: each merge is carried out at once.
+    Nothing,
+    /// Where clusters fall, one stretch is still to be renamed.
+    Falling(Stretch),
+    /// Where clusters are in no order, all glyphs are still to go to what their clusters were united to.
+    United(UnitedClusters),
+}
+
+/// How far the merges of a walk have come.
+#[derive(Drop)]
+pub(crate) struct Merges {
+    /// Whether one marked a glyph.
+    pub(crate) marked: bool,
+    /// What they left to be carried out.
+    pub(crate) due: Due,
+}
+
+/// No merge has been. Where there are to be many, on clusters that are not known to stand in order, they are kept in a
+/// table, if there is memory for it.
+pub(crate) fn no_merges(
+    alloc: Global,
+    glyphs: &[hb_glyph_info_t],
+    level: BufferClusterLevel,
+    in_order: bool,
+    many: bool,
+) -> Merges
+    requires known { in_order ≡ true → IsMonotone level → IsOrdered (clusters glyphs.now) }
+    ensures due { MayBeDue level 0 result.due glyphs.now }
+    ensures meant { meant result.due glyphs.now ≡ glyphs.now }
+    ensures marked { result.marked ≡ false }
+    ensures none { in_order ≡ false → many ≡ false → result.due ≡ Nothing }
+{
+    Merges {
+        marked: false,
+        due: no_due(alloc, glyphs, level, in_order, many),
+    }
+}
+
+fn no_due(
+    alloc: Global,
+    glyphs: &[hb_glyph_info_t],
+    level: BufferClusterLevel,
+    in_order: bool,
+    many: bool,
+) -> Due
+    requires known { in_order ≡ true → IsMonotone level → IsOrdered (clusters glyphs.now) }
+    ensures due { MayBeDue level 0 result glyphs.now }
+    ensures meant { meant result glyphs.now ≡ glyphs.now }
+    ensures none { in_order ≡ false → many ≡ false → result ≡ Nothing }
+{
+    match level {
+        BufferClusterLevel::Characters => Due::Nothing,
+        BufferClusterLevel::MonotoneGraphemes | BufferClusterLevel::MonotoneCharacters => {
+            if in_order {
+                no_stretch(glyphs)
+            } else if many {
+                no_unions(alloc, glyphs)
+            } else {
+                Due::Nothing
+            }
+        }
+    }
+}
+
+#[tactic(auto, using(crate::proofs::Carried::nothing_due))]
+fn no_stretch(glyphs: &[hb_glyph_info_t]) -> Due
+    ensures due { (level : Level) → IsMonotone level → IsOrdered (clusters glyphs.now) → MayBeDue level 0 result glyphs.now }
+    ensures meant { meant result glyphs.now ≡ glyphs.now }
+{
+    if ends_lower(glyphs) {
+        Due::Falling(Stretch {
+            from: 0,
+            to: 0,
+            cluster: 0,
+        })
+    } else {
+        Due::Nothing
+    }
+}
+
+#[tactic(auto, using(crate::proofs::United::no_unions))]
+fn no_unions(alloc: Global, glyphs: &[hb_glyph_info_t]) -> Due
+    ensures due { (level : Level) → IsMonotone level → MayBeDue level 0 result glyphs.now }
+    ensures meant { meant result glyphs.now ≡ glyphs.now }
+{
+    match UnitedClusters::of(alloc, glyphs) {
+        Ok(unions) => Due::United(unions),
+        Err(_) => Due::Nothing,
+    }
+}
+
+/// Merges the glyphs from `start` up to before `end`, behind all that is due.
+#[tactic(auto, using(crate::proofs::Carried::merged_falling, crate::proofs::Carried::none_marked))]
+pub(crate) fn merge_next(
+    glyphs: &mut [hb_glyph_info_t],
+    level: BufferClusterLevel,
+    in_order: bool,
+    start: usize,
+    end: usize,
+    merges: Merges,
+) -> Merges
+    requires some { start < end }
+    requires within { end ≤ length glyphs.old }
+    requires known { in_order ≡ true → IsMonotone level → IsOrdered (clusters (meant merges.due glyphs.old)) }
+    requires due { MayBeDue level start merges.due glyphs.old }
+    ensures merged { meant result.due glyphs.new ≡ glyphs_merged_at level start end (meant merges.due glyphs.old) }
+    ensures marked { result.marked ≡ (merges.marked || is_marked_at level start end (clusters (meant merges.due glyphs.old))) }
+    ensures due { MayBeDue level end result.due glyphs.new }
+    ensures round { MayBeRound start end result.due }
+{
+    let Merges { marked, due } = merges;
+    match due {
+        Due::Nothing => {
+            let marks = merge_at(glyphs, level, start, end, in_order);
+            Merges {
+                marked: marked | marks,
+                due: Due::Nothing,
+            }
+        }
+        Due::Falling(stretch) => Merges {
+            marked,
+            due: Due::Falling(merge_falling(glyphs, stretch, start, end)),
+        },
+        Due::United(mut unions) => {
+            unions.unite(&glyphs[start..end]);
+            Merges {
+                marked,
+                due: Due::United(unions),
+            }
+        }
+    }
+}
+
+/// What is due is carried out.
+pub(crate) fn settle(glyphs: &mut [hb_glyph_info_t], due: Due)
+    requires { IsWithin (length glyphs.old) due }
+    ensures { glyphs.new ≡ meant due glyphs.old }
+{
+    match due {
+        Due::Nothing => {}
+        Due::Falling(stretch) => carry_out(glyphs, stretch),
+        Due::United(mut unions) => unions.rename(glyphs),
+    }
+}
