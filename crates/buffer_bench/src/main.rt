@@ -1,5 +1,6 @@
 // buffer_bench: walks a buffer of a million glyphs, glyph by glyph, by ligatures, and by pairs that are merged in the
-// output, and tells on standard error how long a glyph took.
+// output; sorts such buffers and turns their groups round, with clusters that rise, that fall and in no order; and tells
+// on standard error how long a glyph took.
 #![tactic(auto)]
 
 ghost use Rattle.std.specs.Prelude.{◌≡◌, true, false, OnOk, IfOk};
@@ -89,10 +90,69 @@ fn merge_last_two(buffer: &mut hb_buffer_t)
     buffer.merge_out_clusters(end.saturating_sub(2), end);
 }
 
+/// How clusters go from glyph to glyph.
+#[derive(Clone, Copy)]
+enum Going {
+    Rising,
+    Falling,
+    NoOrder,
+}
+
+/// The cluster of a glyph. The second of each two glyphs shares its cluster with the next, or in no order with any.
+fn cluster_at(going: Going, place: u32) -> u32 {
+    match going {
+        Going::Rising => place / 2 + place % 2,
+        Going::Falling => COUNT.saturating_sub(place) / 2,
+        Going::NoOrder => place.wrapping_mul(2_654_435_761) % (COUNT / 2),
+    }
+}
+
+/// A buffer of glyphs, each two of which stand the wrong way round.
+fn swapped(alloc: Global, going: Going) -> Result<hb_buffer_t, AllocError>
+    ensures { IfOk result (λ b. b.is_open ≡ false) }
+{
+    let mut buffer = hb_buffer_t::new(alloc);
+    for place in 0..COUNT {
+        let character = char::from_u32(0x1_0000 + (place ^ 1)).unwrap_or('a');
+        if !buffer.add(character, cluster_at(going, place))? {
+            break;
+        }
+    }
+    Ok(buffer)
+}
+
+/// Puts each two glyphs the right way round, and then turns round the order of such pairs.
+fn sort_and_turn(rt: &HostRuntime, name: &str, going: Going) -> io::Result<()> {
+    let mut buffer = swapped(rt.alloc(), going)?;
+    let start = Instant::now(rt)?;
+    let count = buffer.len();
+    buffer.sort(rt.alloc(), 0, count, |glyph| glyph.glyph_id)?;
+    tell_of(rt, "sort", name, start, buffer.len())?;
+    let mut buffer = swapped(rt.alloc(), going)?;
+    let start = Instant::now(rt)?;
+    buffer.reverse_groups(
+        |before, after| before.glyph_id / 2 == after.glyph_id / 2,
+        true,
+    );
+    tell_of(rt, "reverse_groups", name, start, buffer.len())
+}
+
 fn tell(rt: &HostRuntime, name: &str, start: Instant, left: usize) -> io::Result<()> {
     let nanoseconds = start.elapsed(rt)?.as_nanos() / COUNT as u128;
     println!(rt; "{name}: {left} glyphs")?;
     eprintln!(rt; "{name}: {nanoseconds} ns a glyph")
+}
+
+fn tell_of(
+    rt: &HostRuntime,
+    call: &str,
+    name: &str,
+    start: Instant,
+    left: usize,
+) -> io::Result<()> {
+    let nanoseconds = start.elapsed(rt)?.as_nanos() / COUNT as u128;
+    println!(rt; "{call}, {name}: {left} glyphs")?;
+    eprintln!(rt; "{call}, {name}: {nanoseconds} ns a glyph")
 }
 
 fn run(rt: &HostRuntime) -> io::Result<()> {
@@ -107,7 +167,10 @@ fn run(rt: &HostRuntime) -> io::Result<()> {
     let mut buffer = filled(rt.alloc())?;
     let start = Instant::now(rt)?;
     compose(&mut buffer)?;
-    tell(rt, "prev_mut, merge_out_clusters", start, buffer.len())
+    tell(rt, "prev_mut, merge_out_clusters", start, buffer.len())?;
+    sort_and_turn(rt, "rising", Going::Rising)?;
+    sort_and_turn(rt, "falling", Going::Falling)?;
+    sort_and_turn(rt, "in no order", Going::NoOrder)
 }
 
 fn main(rt: HostRuntime) -> io::Result<ExitCode> {

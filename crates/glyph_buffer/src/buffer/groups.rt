@@ -62,7 +62,8 @@ impl hb_buffer_t {
     }
 
     /// Turns round the order of the groups, and keeps the order within each; places go with their glyphs. Where `merge` is
-    /// told, the glyphs of each group are merged before, as by `merge_clusters`. It takes no memory.
+    /// told, the glyphs of each group are merged before, as by `merge_clusters`. Where it merges and clusters are in no order it asks
+    /// for memory; without it, it only takes longer.
     pub fn reverse_groups<F: Fn(&hb_glyph_info_t, &hb_glyph_info_t) -> bool>(
         &mut self,
         group: F,
@@ -141,7 +142,8 @@ fn turn_groups<F: Fn(&hb_glyph_info_t, &hb_glyph_info_t) -> bool>(
     ensures info_len { vec_len info.new ≡ vec_len info.old }
     ensures places_len { vec_len places.new ≡ vec_len places.old }
 {
-    reversal::reverse_groups(info, places, level, in_order, merge, group)
+    let alloc = *info.allocator();
+    reversal::reverse_groups(alloc, info, places, level, in_order, merge, group)
 }
 
 fn delete_picked<F: Fn(&hb_glyph_info_t) -> bool>(
