@@ -1,3 +1,4 @@
+use Rattle.std.specs.Prelude.{slice_range}
 use Rattle.std.proofs.Common.{sym, ap, ◌∙◌}
 use Rattle.glyph_lists.specs.Glyphs.{glyphs_merged_at}
 use Rattle.united_clusters.specs.United.{renamed_by}
@@ -27,4 +28,4 @@ returns-in-United-clause-due c =
     let gs = c.args.glyphs.now in
     let u = c.in-United.unions in
     let due = unions_due c.args.level c.args.start c.args.merges.due u gs c.in-United.is c.requires.due in
-    (due.0, unions_more u c.unite.new.self gs _ c.unite.ensures.known c.unite.ensures.united (λ n h. due.1.there n (has_slice gs c.args.start c.args.end n h)) due.1)
+    (due.0, unions_more u c.unite.new.self gs (slice_range gs c.args.start c.args.end) c.unite.ensures.known c.unite.ensures.united (λ n h. due.1.there n (has_slice gs c.args.start c.args.end n h)) due.1)

@@ -45,7 +45,7 @@ loop-start-preserved g c =
       due = turn.due;
       plain = turn.plain;
       rest = λ joins same. rest_goes_on c.args.merge c.args.level joins start end (meant c.loop-start.merges.due old) (meant c.turn_group-merges.result.due new) c.loop-start.places c.turn_group-merges.new.places
-          c.loop-start.merges.marked c.turn_group-merges.result.marked _ (omega (arith, before, c.loop-start-test.true)) found.ensures.some (omega (arith, before, after, c.turn_group-merges.auto.glyphs, found.auto.glyphs))
+          c.loop-start.merges.marked c.turn_group-merges.result.marked (turned c.args.merge c.args.level joins c.args.glyphs.now c.args.places.now) (omega (arith, before, c.loop-start-test.true)) found.ensures.some (omega (arith, before, after, c.turn_group-merges.auto.glyphs, found.auto.glyphs))
           (found.ensures.end joins same)
           (turn.turned ∙ ap (λ (hs : List Glyph). first_turned c.args.merge c.args.level (end - start) (turning_at start hs c.loop-start.places c.loop-start.merges.marked)) found.ensures.meant) (inv.rest joins same);
     }

@@ -1,7 +1,8 @@
-use Rattle.std.proofs.Common.{◌≡◌, ◌+◌, ◌-◌, get_or, arith, refl, ap, sym, subst, ◌∙◌}
+use Rattle.std.proofs.Common.{◌≡◌, ◌+◌, ◌-◌, drop, get_or, arith, refl, ap, sym, subst, ◌∙◌}
 use Rattle.std.proofs.lemmas.Fn.{says_at_two}
 use Rattle.united_clusters.specs.United.{renamed_by}
 use Rattle.glyph_slices.specs.Due.{AreUnions}
+use Rattle.glyph_slices.specs.Groups.{group_length}
 use Rattle.glyph_slices.proofs.Neighbours.{no_glyph, group_goes_on, group_stops}
 use Rattle.glyph_slices.proofs.Renamed.{next_meant, alike}
 use Rattle.glyph_slices.proofs.reversal.ahead.end_of_united_group.Goals as goal
@@ -10,9 +11,13 @@ pub returns-then-not-group-clause-end : goal.returns-then-not-group-clause-end
 returns-then-not-group-clause-end g c = λ joins same.
     let inv = c.loop-end.invariant in
     let u = c.args.unions.now in
-    let meant = renamed_by u c.args.glyphs.now in
-    let two = next_meant u c.loop-end.unions c.loop-end.end c.args.glyphs.now c.loop-end.glyphs c.rename_one-in-loop-end.new.glyphs inv.same inv.meant (omega (arith, inv.passed)) c.loop-end-test.true c.rename_one-in-loop-end.ensures.glyph inv.last in
-    group_stops joins meant c.loop-end.end _ no_glyph two.2 (alike joins two.0 two.1 (sym (same _ _ c.group.result (says_at_two g.F.Fn c.group.ensures refl)) ∙ c.if-not-group.true)) (inv.rest joins same)
+    let gs = c.args.glyphs.now in
+    let meant = renamed_by u gs in
+    let end = c.loop-end.end in
+    let new = c.rename_one-in-loop-end.new.glyphs in
+    let two = next_meant u c.loop-end.unions end gs c.loop-end.glyphs new inv.same inv.meant (omega (arith, inv.passed)) c.loop-end-test.true c.rename_one-in-loop-end.ensures.glyph inv.last in
+    group_stops joins meant end (c.args.start + group_length joins (drop c.args.start meant)) no_glyph two.2
+    (alike joins two.0 two.1 (sym (same (get_or new (end - 1) no_glyph) (get_or new end no_glyph) c.group.result (says_at_two g.F.Fn c.group.ensures refl)) ∙ c.if-not-group.true)) (inv.rest joins same)
 
 pub loop-end-preserved : goal.loop-end-preserved
 loop-end-preserved g c =
@@ -32,5 +37,6 @@ loop-end-preserved g c =
       meant = ap (λ v. renamed_by v new) (sym inv.same) ∙ one.meant ∙ ap (λ v. renamed_by v c.loop-end.glyphs) inv.same ∙ inv.meant;
       unions = subst (λ v. AreUnions v new) inv.same one.unions;
       last = ap (λ n. get_or new n no_glyph) back ∙ two.1 ∙ ap (λ n. get_or meant n no_glyph) (sym back);
-      rest = λ joins same. group_goes_on joins meant end _ no_glyph two.2 (alike joins two.0 two.1 (sym (same _ _ c.group.result (says_at_two g.F.Fn c.group.ensures refl)) ∙ c.if-not-group.false)) (inv.rest joins same);
+      rest = λ joins same. group_goes_on joins meant end (c.args.start + group_length joins (drop c.args.start meant)) no_glyph two.2
+          (alike joins two.0 two.1 (sym (same (get_or new (end - 1) no_glyph) (get_or new end no_glyph) c.group.result (says_at_two g.F.Fn c.group.ensures refl)) ∙ c.if-not-group.false)) (inv.rest joins same);
     }
