@@ -30,14 +30,8 @@ fn root_for(numbers: &[u32], parents: &mut [usize], cluster: u32) -> usize
 }
 
 /// Unites one more known cluster with `first` and those that are under the root `low` with it; answers the root of all.
-#[tactic(auto, using(crate::proofs::Roots::own_stays))]
-fn unite_one(
-    numbers: &[u32],
-    parents: &mut [usize],
-    low: usize,
-    first: u32,
-    cluster: u32,
-) -> usize
+#[tactic(auto, using(crate::proofs::Roots::own_stays, crate::proofs::Rows::first_again))]
+fn unite_one(numbers: &[u32], parents: &mut [usize], low: usize, first: u32, cluster: u32) -> usize
     requires forest { IsForest numbers.now parents.old }
     requires known { has_number numbers.now cluster ≡ true }
     requires within { low < length numbers.now }
@@ -78,6 +72,7 @@ fn unite_rest(numbers: &[u32], parents: &mut [usize], first: u32, rest: &[hb_gly
 }
 
 /// What the cluster goes by.
+#[tactic(auto, using(crate::proofs::Rows::unknown_goes, crate::proofs::Rows::goes_at))]
 fn least_of(numbers: &[u32], parents: &mut [usize], cluster: u32) -> u32
     requires { IsForest numbers.now parents.old }
     ensures least { result ≡ goes_by (rows_of numbers.now parents.old) cluster }
