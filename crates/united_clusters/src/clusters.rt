@@ -58,7 +58,7 @@ pub(crate) fn unite_all(numbers: &[u32], parents: &mut [usize], range: &[hb_glyp
     }
 }
 
-#[tactic(auto, using(crate::proofs::Rows::known_next, crate::proofs::Rows::first_under, crate::proofs::Rows::forest_under, crate::proofs::Rows::clusters_next))]
+#[tactic(auto, using(crate::proofs::Rows::known_next, crate::proofs::Rows::first_under, crate::proofs::Rows::forest_under))]
 fn unite_rest(numbers: &[u32], parents: &mut [usize], first: u32, rest: &[hb_glyph_info_t])
     requires forest { IsForest numbers.now parents.old }
     requires first { has_number numbers.now first ≡ true }
@@ -91,7 +91,7 @@ struct Found {
     least: u32,
 }
 
-/// What the cluster goes by, where that was not found last.
+/// What the cluster goes by. Neighbours are mostly of one cluster, so the last one is looked at first.
 fn found_next(numbers: &[u32], parents: &mut [usize], last: Found, cluster: u32) -> Found
     requires forest { IsForest numbers.now parents.old }
     requires last { last.least ≡ goes_by (rows_of numbers.now parents.old) last.cluster }
