@@ -34,10 +34,6 @@ has_added ns m n = list_any-append (λ k. k == n) ns (m ∷ []) ∙ ap (λ b. ha
 apart : (ns : List ℕ) (m n : ℕ) → has_number ns m ≡ true → has_number ns n ≡ false → m ≢ n
 apart ns m n h k e = let clash : true ≡ false = sym h ∙ ap (has_number ns) e ∙ k in cc
 
-pub has_least : (n : ℕ) (ns : List ℕ) → has_number ns n ≡ true → has_number ns (least_number ns) ≡ true
-has_least n [] h = cc
-has_least n (m ∷ ns) h = (least_number_is m ns).among
-
 least_added : (m : ℕ) (ms : List ℕ) (n : ℕ) → least_number ((m ∷ ms) ++ n ∷ []) ≡ min (least_number (m ∷ ms)) n
 least_added m ms n = fold-append min m ms (n ∷ [])
 

@@ -17,6 +17,7 @@ climbed (suc n) ps i = climbed n ps (parent_of ps i)
 abbrev pub root_of : List ℕ → ℕ → ℕ
 root_of ps i = climbed i ps i
 
+-- no parent is behind its child
 abbrev pub IsDown : List ℕ → Type 0
 IsDown ps = (i : ℕ) → parent_of ps i ≤ i
 
@@ -30,9 +31,11 @@ pub record IsLinked (from to : ℕ) (old new : List ℕ) : Type 0 where
   pub down : IsDown new
   pub linked : (i : ℕ) → root_of new i ≡ (if root_of old i == from then to else root_of old i)
 
+-- each number is below those behind it
 abbrev pub IsRising : List ℕ → Type 0
 IsRising cs = (i j : ℕ) → i < j → j < length cs → slice_index cs i < slice_index cs j
 
+-- clusters, each once, and a parent for the place of each
 pub record IsForest (cs ps : List ℕ) : Type 0 where
   pub rising : IsRising cs
   pub even : length ps ≡ length cs

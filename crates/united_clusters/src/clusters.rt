@@ -30,14 +30,8 @@ fn root_for(numbers: &[u32], parents: &mut [usize], cluster: u32) -> usize
 }
 
 /// Unites one more known cluster with `first` and those that are under the root `low` with it; answers the root of all.
-#[tactic(auto, using(crate::proofs::Roots::own_stays))]
-fn unite_one(
-    numbers: &[u32],
-    parents: &mut [usize],
-    low: usize,
-    first: u32,
-    cluster: u32,
-) -> usize
+#[tactic(auto, using(crate::proofs::Roots::own_stays, crate::proofs::Rows::first_again))]
+fn unite_one(numbers: &[u32], parents: &mut [usize], low: usize, first: u32, cluster: u32) -> usize
     requires forest { IsForest numbers.now parents.old }
     requires known { has_number numbers.now cluster ≡ true }
     requires within { low < length numbers.now }
@@ -64,7 +58,7 @@ pub(crate) fn unite_all(numbers: &[u32], parents: &mut [usize], range: &[hb_glyp
     }
 }
 
-#[tactic(auto, using(crate::proofs::Rows::known_next, crate::proofs::Rows::first_under, crate::proofs::Rows::forest_under, crate::proofs::Rows::clusters_next))]
+#[tactic(auto, using(crate::proofs::Rows::known_next, crate::proofs::Rows::first_under, crate::proofs::Rows::forest_under))]
 fn unite_rest(numbers: &[u32], parents: &mut [usize], first: u32, rest: &[hb_glyph_info_t])
     requires forest { IsForest numbers.now parents.old }
     requires first { has_number numbers.now first ≡ true }
@@ -78,6 +72,7 @@ fn unite_rest(numbers: &[u32], parents: &mut [usize], first: u32, rest: &[hb_gly
 }
 
 /// What the cluster goes by.
+#[tactic(auto, using(crate::proofs::Rows::unknown_goes, crate::proofs::Rows::goes_at))]
 fn least_of(numbers: &[u32], parents: &mut [usize], cluster: u32) -> u32
     requires { IsForest numbers.now parents.old }
     ensures least { result ≡ goes_by (rows_of numbers.now parents.old) cluster }
@@ -96,7 +91,7 @@ struct Found {
     least: u32,
 }
 
-/// What the cluster goes by, where that was not found last.
+/// What the cluster goes by. Neighbours are mostly of one cluster, so the last one is looked at first.
 fn found_next(numbers: &[u32], parents: &mut [usize], last: Found, cluster: u32) -> Found
     requires forest { IsForest numbers.now parents.old }
     requires last { last.least ≡ goes_by (rows_of numbers.now parents.old) last.cluster }
