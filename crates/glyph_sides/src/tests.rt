@@ -54,10 +54,12 @@ fn in_clusters(alloc: Global, clusters: &[u32]) -> Result<Vec<hb_glyph_info_t>, 
     Ok(glyphs)
 }
 
-/// Whether the glyphs have these clusters and masks.
-fn are(glyphs: &[hb_glyph_info_t], wanted: &[(u32, u32)]) -> bool {
-    let mut same = glyphs.len() == wanted.len();
-    for (glyph, (cluster, mask)) in glyphs.iter().zip(wanted) {
+/// Clusters, and masks beside them.
+type Rows<'a> = (&'a [u32], &'a [u32]);
+
+fn are(glyphs: &[hb_glyph_info_t], (clusters, masks): Rows<'_>) -> bool {
+    let mut same = glyphs.len() == clusters.len();
+    for (glyph, (cluster, mask)) in glyphs.iter().zip(clusters.iter().zip(masks)) {
         same = same && glyph.cluster == *cluster && glyph.mask == *mask;
     }
     same
@@ -69,44 +71,22 @@ fn merges_in_no_order(rt: HostRuntime) -> Result<(), Fail> {
     let input = [6, 8, 3, 12, 5, 30, 9, 3, 21, 7, 15, 6, 40, 5];
     let output = [30, 4, 50, 12, 7];
     // (where the range ends, the output, the input from 1 on)
-    let cases: [(usize, &[(u32, u32)], &[(u32, u32)]); 2] = [
+    let cases: [(usize, Rows<'_>, Rows<'_>); 2] = [
         (
             12,
-            &[(3, 8), (4, 15), (50, 15), (3, 8), (3, 8)],
-            &[
-                (8, 15),
-                (3, 15),
-                (3, 8),
-                (3, 8),
-                (3, 8),
-                (3, 8),
-                (3, 15),
-                (3, 8),
-                (3, 8),
-                (3, 8),
-                (3, 8),
-                (40, 15),
-                (3, 8),
-            ],
+            (&[3, 4, 50, 3, 3], &[8, 15, 15, 8, 8]),
+            (
+                &[8, 3, 3, 3, 3, 3, 3, 3, 3, 3, 3, 40, 3],
+                &[15, 15, 8, 8, 8, 8, 15, 8, 8, 8, 8, 15, 8],
+            ),
         ),
         (
             5,
-            &[(30, 15), (4, 15), (50, 15), (3, 8), (7, 15)],
-            &[
-                (8, 15),
-                (3, 15),
-                (3, 8),
-                (3, 8),
-                (30, 15),
-                (9, 15),
-                (3, 15),
-                (21, 15),
-                (7, 15),
-                (15, 15),
-                (6, 15),
-                (40, 15),
-                (3, 8),
-            ],
+            (&[30, 4, 50, 3, 7], &[15, 15, 15, 8, 15]),
+            (
+                &[8, 3, 3, 3, 30, 9, 3, 21, 7, 15, 6, 40, 3],
+                &[15, 15, 8, 8, 15, 15, 15, 15, 15, 15, 15, 15, 8],
+            ),
         ),
     ];
     for (end, wanted_output, wanted_input) in cases {
@@ -127,46 +107,22 @@ fn merges_the_output_in_no_order(rt: HostRuntime) -> Result<(), Fail> {
     let output = [6, 8, 3, 12, 5, 30, 9, 3, 21, 7, 15, 6, 40, 5];
     let input = [12, 30, 4, 50, 12, 7];
     // (where the range ends, the output, the input from 1 on)
-    let cases: [(usize, &[(u32, u32)], &[(u32, u32)]); 2] = [
+    let cases: [(usize, Rows<'_>, Rows<'_>); 2] = [
         (
             12,
-            &[
-                (3, 8),
-                (8, 15),
-                (3, 15),
-                (3, 8),
-                (3, 8),
-                (3, 8),
-                (3, 8),
-                (3, 15),
-                (3, 8),
-                (3, 8),
-                (3, 8),
-                (3, 8),
-                (40, 15),
-                (3, 8),
-            ],
-            &[(3, 8), (4, 15), (50, 15), (3, 8), (3, 8)],
+            (
+                &[3, 8, 3, 3, 3, 3, 3, 3, 3, 3, 3, 3, 40, 3],
+                &[8, 15, 15, 8, 8, 8, 8, 15, 8, 8, 8, 8, 15, 8],
+            ),
+            (&[3, 4, 50, 3, 3], &[8, 15, 15, 8, 8]),
         ),
         (
             5,
-            &[
-                (6, 15),
-                (8, 15),
-                (3, 15),
-                (3, 8),
-                (3, 8),
-                (30, 15),
-                (9, 15),
-                (3, 15),
-                (21, 15),
-                (7, 15),
-                (15, 15),
-                (6, 15),
-                (40, 15),
-                (3, 8),
-            ],
-            &[(30, 15), (4, 15), (50, 15), (3, 8), (7, 15)],
+            (
+                &[6, 8, 3, 3, 3, 30, 9, 3, 21, 7, 15, 6, 40, 3],
+                &[15, 15, 15, 8, 8, 15, 15, 15, 15, 15, 15, 15, 15, 8],
+            ),
+            (&[30, 4, 50, 3, 7], &[15, 15, 15, 8, 15]),
         ),
     ];
     for (end, wanted_output, wanted_input) in cases {
