@@ -196,6 +196,14 @@ united_goes cs ps qs ns forest among u n = by_known (has_number cs n) refl
     by_known true e = u.gone n e
     by_known false e = rw (unknown_goes cs ps n e, unknown_goes cs qs n e) (by_test e (has_number (map G ns) n) refl)
 
+map_alone : (f : ℕ → ℕ) (ns : List ℕ) → ((m : ℕ) → f m ≡ m) → map f ns ≡ ns
+map_alone f [] alone = refl
+map_alone f (n ∷ ns) alone = let here = alone n in let rest = map_alone f ns alone in cc
+
+-- clusters, each alone, of which those of a range are united
+pub all_united : (old new : List Row) (ns : List ℕ) (n : ℕ) → ((m : ℕ) → goes_by old m ≡ m) → goes_by new n ≡ merged (map (goes_by old) ns) (goes_by old n) → goes_by new n ≡ merged ns n
+all_united old new ns n alone united = united ∙ ap (λ ms. merged ms (goes_by old n)) (map_alone (goes_by old) ns alone) ∙ ap (merged ns) (alone n)
+
 -- a list that was written whole
 pub written : {X : Type 0} (n : ℕ) (xs ys : List X) → length ys ≡ n → length xs ≡ n → take n (ys ++ drop (length ys) xs) ≡ ys
 written n xs ys e f =

@@ -100,3 +100,33 @@ fn leaves_what_is_not_known(rt: HostRuntime) -> Result<(), Fail> {
     assert_eq!(&rt; others, [glyph(3, 8, 15), glyph(4, 2, 8), glyph(5, 2, 15)]);
     Ok(())
 }
+
+#[test]
+fn makes_clusters_one(rt: HostRuntime) -> Result<(), Fail> {
+    let range = [
+        glyph(1, 6, 0),
+        glyph(2, 9, 0),
+        glyph(3, 4, 0),
+        glyph(4, 9, 0),
+    ];
+    let mut united = UnitedClusters::one(rt.alloc(), &range)?;
+    let mut others = [
+        glyph(5, 9, 15),
+        glyph(6, 5, 15),
+        glyph(7, 4, 15),
+        glyph(8, 6, 12),
+        glyph(9, 3, 15),
+    ];
+    united.rename(&mut others);
+    assert_eq!(&rt;
+        others,
+        [
+            glyph(5, 4, 8),
+            glyph(6, 5, 15),
+            glyph(7, 4, 15),
+            glyph(8, 4, 8),
+            glyph(9, 3, 15)
+        ]
+    );
+    Ok(())
+}

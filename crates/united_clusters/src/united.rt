@@ -44,6 +44,16 @@ impl UnitedClusters {
         Ok(UnitedClusters { clusters, parents })
     }
 
+    /// The clusters of the glyphs as one, which goes by the least of them.
+    #[tactic(auto, using(crate::proofs::Rows::all_united))]
+    pub fn one(alloc: Global, range: &[hb_glyph_info_t]) -> Result<UnitedClusters, AllocError>
+        ensures united { (n : ℕ) → IfOk result (λ u. goes_by u n ≡ merged (clusters range.now) n) }
+    {
+        let mut united = UnitedClusters::of(alloc, range)?;
+        united.unite(range);
+        Ok(united)
+    }
+
     /// Unites the clusters of the glyphs: whatever goes by what one of them goes by now goes by the least of these.
     pub fn unite(&mut self, range: &[hb_glyph_info_t])
         requires known { (n : ℕ) → has_number (clusters range.now) n ≡ true → is_known self.old n ≡ true }
