@@ -62,8 +62,8 @@ impl hb_buffer_t {
     }
 
     /// Turns round the order of the groups, and keeps the order within each; places go with their glyphs. Where `merge` is
-    /// told, the glyphs of each group are merged before, as by `merge_clusters`. Where it merges and clusters are in no order it asks
-    /// for memory; without it, it only takes longer.
+    /// told, the glyphs of each group are merged before, as by `merge_clusters`. Where clusters are in no order that takes
+    /// memory for a table; without it, it only takes longer.
     pub fn reverse_groups<F: Fn(&hb_glyph_info_t, &hb_glyph_info_t) -> bool>(
         &mut self,
         group: F,
