@@ -46,3 +46,17 @@ pub known_between : (o : KnownOrder) (n : ℕ) (xs ys : List ℕ) → HasOrder o
 known_between Unknown n xs ys h before after = tt
 known_between Rising n xs ys h before after = chain_between (λ m n. m ≤ n) n xs ys h before after
 known_between Falling n xs ys h before after = chain_between (λ m n. n ≤ m) n xs ys h before after
+
+all_up_to : (R : ℕ → ℕ → Type 0) (m n : ℕ) (xs ys : List ℕ) → AllFrom R m (xs ++ n ∷ ys) → AllFrom R m (xs ++ n ∷ [])
+all_up_to R m n [] ys h = (h.0, tt)
+all_up_to R m n (x ∷ xs) ys h = (h.0, all_up_to R m n xs ys h.1)
+
+chain_up_to : (R : ℕ → ℕ → Type 0) (n : ℕ) (xs ys : List ℕ) → IsChain R (xs ++ n ∷ ys) → IsChain R (xs ++ n ∷ [])
+chain_up_to R n [] ys h = (tt, tt)
+chain_up_to R n (x ∷ xs) ys h = (all_up_to R x n xs ys h.0, chain_up_to R n xs ys h.1)
+
+-- the numbers up to one that stands among them
+pub known_up_to : (o : KnownOrder) (n : ℕ) (xs ys : List ℕ) → HasOrder o (xs ++ n ∷ ys) → HasOrder o (xs ++ n ∷ [])
+known_up_to Unknown n xs ys h = tt
+known_up_to Rising n xs ys h = chain_up_to (λ m k. m ≤ k) n xs ys h
+known_up_to Falling n xs ys h = chain_up_to (λ m k. k ≤ m) n xs ys h

@@ -1,5 +1,5 @@
 -- Clusters that are seen to fall, one after another.
-use Rattle.std.proofs.Common.{ℕ, suc, ◌≡◌, ◌≤◌, ◌<◌, ◌+◌, ◌-◌, List, [], ◌∷◌, ◌++◌, length, take, get_or, arith, refl, ap, subst, ◌∙◌}
+use Rattle.std.proofs.Common.{ℕ, suc, ◌≡◌, ◌≤◌, ◌<◌, ◌+◌, ◌-◌, List, [], ◌∷◌, ◌++◌, length, take, get_or, arith, refl, ap, sym, subst, ◌∙◌}
 use Rattle.std.proofs.lemmas.List.{take_more, map-append}
 use Rattle.glyph_types.specs.declared.info.hb_glyph_info_t.{hb_glyph_info_t}
 use Rattle.glyph_lists.specs.Items.{clusters}
@@ -43,6 +43,21 @@ from_front c n (m ∷ ms) le h = (omega (arith, le, h.0), from_front c n ms le h
 pub falls_front : (gs : List hb_glyph_info_t) (d : hb_glyph_info_t) (c : ℕ) → 1 ≤ length gs → (get_or gs 0 d).cluster ≤ c → IsFalling (clusters gs) → IsFalling (c ∷ clusters gs)
 falls_front [] d c le first h = absurd (omega arith)
 falls_front (g ∷ gs) d c le first h = ((first, from_front c g.cluster (clusters gs) first h.0), h)
+
+falling_last : (x n : ℕ) (xs : List ℕ) → IsFalling ((x ∷ xs) ++ n ∷ []) → n ≤ last_from x xs
+falling_last x n [] h = h.0.0
+falling_last x n (y ∷ ys) h = falling_last y n ys h.1
+
+-- the last of falling clusters is not below what stands behind it
+pub last_above : (gs : List hb_glyph_info_t) (d : hb_glyph_info_t) (c : ℕ) → 1 ≤ length gs → IsFalling (clusters gs ++ c ∷ []) → c ≤ (get_or gs (length gs - 1) d).cluster
+last_above [] d c le h = absurd (omega arith)
+last_above (g ∷ gs) d c le h =
+    let less : suc (length gs) - 1 ≡ length gs = omega arith in
+    subst (λ (n : ℕ). c ≤ (get_or (g ∷ gs) n d).cluster) (sym less) (subst (λ (n : ℕ). c ≤ n) (sym (last_got g gs d)) (falling_last g.cluster c (clusters gs) h))
+
+pub first_below : (gs : List hb_glyph_info_t) (d : hb_glyph_info_t) (c : ℕ) → 1 ≤ length gs → IsFalling (c ∷ clusters gs) → (get_or gs 0 d).cluster ≤ c
+first_below [] d c le h = absurd (omega arith)
+first_below (g ∷ gs) d c le h = h.0.0
 
 last_append : (x n : ℕ) (xs : List ℕ) → last_from x (xs ++ n ∷ []) ≡ n
 last_append x n [] = refl

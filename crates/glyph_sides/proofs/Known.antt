@@ -78,6 +78,21 @@ rises_behind (g ∷ gs) d c le last h =
     let seen : last_from g.cluster (clusters gs) ≤ c = subst (λ (n : ℕ). n ≤ c) (last_got g gs d) (subst (λ (n : ℕ). (get_or (g ∷ gs) n d).cluster ≤ c) less last) in
     rising_push g.cluster c (clusters gs) h seen
 
+rising_last : (x n : ℕ) (xs : List ℕ) → IsRising ((x ∷ xs) ++ n ∷ []) → last_from x xs ≤ n
+rising_last x n [] h = h.0.0
+rising_last x n (y ∷ ys) h = rising_last y n ys h.1
+
+-- the last of rising clusters is not above what stands behind it
+pub last_below : (gs : List hb_glyph_info_t) (d : hb_glyph_info_t) (c : ℕ) → 1 ≤ length gs → IsRising (clusters gs ++ c ∷ []) → (get_or gs (length gs - 1) d).cluster ≤ c
+last_below [] d c le h = absurd (omega arith)
+last_below (g ∷ gs) d c le h =
+    let less : suc (length gs) - 1 ≡ length gs = omega arith in
+    subst (λ (n : ℕ). (get_or (g ∷ gs) n d).cluster ≤ c) (sym less) (subst (λ (n : ℕ). n ≤ c) (sym (last_got g gs d)) (rising_last g.cluster c (clusters gs) h))
+
+pub first_above : (gs : List hb_glyph_info_t) (d : hb_glyph_info_t) (c : ℕ) → 1 ≤ length gs → IsRising (c ∷ clusters gs) → c ≤ (get_or gs 0 d).cluster
+first_above [] d c le h = absurd (omega arith)
+first_above (g ∷ gs) d c le h = h.0.0
+
 last_append : (x n : ℕ) (xs : List ℕ) → last_from x (xs ++ n ∷ []) ≡ n
 last_append x n [] = refl
 last_append x n (y ∷ ys) = last_append y n ys

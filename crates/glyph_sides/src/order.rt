@@ -75,7 +75,8 @@ impl KnownOrder {
 
     /// What is known with a glyph of the cluster behind the others.
     pub fn with_last(self, glyphs: &[hb_glyph_info_t], cluster: u32) -> KnownOrder
-        ensures { HasOrder self (clusters glyphs.now) → HasOrder result (clusters glyphs.now ++ cluster ∷ []) }
+        ensures order { HasOrder self (clusters glyphs.now) → HasOrder result (clusters glyphs.now ++ cluster ∷ []) }
+        ensures kept { HasOrder self (clusters glyphs.now ++ cluster ∷ []) → result ≡ self }
     {
         if self.holds_behind(glyphs, cluster) {
             self
@@ -91,7 +92,8 @@ impl KnownOrder {
         cluster: u32,
         ahead: &[hb_glyph_info_t],
     ) -> KnownOrder
-        ensures { HasOrder self (clusters behind.now ++ clusters ahead.now) → HasOrder result (clusters behind.now ++ cluster ∷ clusters ahead.now) }
+        ensures order { HasOrder self (clusters behind.now ++ clusters ahead.now) → HasOrder result (clusters behind.now ++ cluster ∷ clusters ahead.now) }
+        ensures kept { HasOrder self (clusters behind.now ++ cluster ∷ clusters ahead.now) → result ≡ self }
     {
         if self.holds_behind(behind, cluster) && self.holds_in_front(cluster, ahead) {
             self
@@ -103,7 +105,8 @@ impl KnownOrder {
     /// Whether a glyph of the cluster may stand behind the others.
     #[tactic(auto, using(crate::proofs::Known::known_last_alone))]
     fn holds_behind(self, glyphs: &[hb_glyph_info_t], cluster: u32) -> bool
-        ensures { result ≡ true → HasOrder self (clusters glyphs.now) → HasOrder self (clusters glyphs.now ++ cluster ∷ []) }
+        ensures order { result ≡ true → HasOrder self (clusters glyphs.now) → HasOrder self (clusters glyphs.now ++ cluster ∷ []) }
+        ensures held { HasOrder self (clusters glyphs.now ++ cluster ∷ []) → result ≡ true }
     {
         match (self, glyphs) {
             (KnownOrder::Unknown, _) | (_, []) => true,
@@ -115,7 +118,8 @@ impl KnownOrder {
     /// Whether a glyph of the cluster may stand in front of the others.
     #[tactic(auto, using(crate::proofs::Known::known_first_alone))]
     fn holds_in_front(self, cluster: u32, glyphs: &[hb_glyph_info_t]) -> bool
-        ensures { result ≡ true → HasOrder self (clusters glyphs.now) → HasOrder self (cluster ∷ clusters glyphs.now) }
+        ensures order { result ≡ true → HasOrder self (clusters glyphs.now) → HasOrder self (cluster ∷ clusters glyphs.now) }
+        ensures held { HasOrder self (cluster ∷ clusters glyphs.now) → result ≡ true }
     {
         match (self, glyphs) {
             (KnownOrder::Unknown, _) | (_, []) => true,
@@ -127,7 +131,8 @@ impl KnownOrder {
     /// What is known with the list turned round.
     #[tactic(auto, using(crate::proofs::Known::falls_turned, crate::proofs::Known::rises_turned))]
     pub fn turned(self) -> KnownOrder
-        ensures { (ns : List ℕ) → HasOrder self ns → HasOrder result (reverse ns) }
+        ensures order { (ns : List ℕ) → HasOrder self ns → HasOrder result (reverse ns) }
+        ensures known { is_known result ≡ is_known self }
     {
         match self {
             KnownOrder::Unknown => KnownOrder::Unknown,
@@ -138,7 +143,8 @@ impl KnownOrder {
 
     /// What is known of other clusters that stand in order where these do, if that is so.
     pub fn if_kept(self, kept: bool) -> KnownOrder
-        ensures { (old new : List ℕ) → ((falls : Bool) → kept ≡ true → IsInOrder falls old → IsInOrder falls new) → HasOrder self old → HasOrder result new }
+        ensures order { (old new : List ℕ) → ((falls : Bool) → kept ≡ true → IsInOrder falls old → IsInOrder falls new) → HasOrder self old → HasOrder result new }
+        ensures kept { kept ≡ true → result ≡ self }
     {
         if kept { self } else { KnownOrder::Unknown }
     }
@@ -152,7 +158,8 @@ impl KnownOrder {
         from: usize,
     ) -> KnownOrder
         requires { from ≤ length input.now }
-        ensures { HasOrder self (clusters behind.now ++ clusters (drop from input.now)) → HasOrder result (clusters behind.now ++ clusters (drop from input.now)) }
+        ensures order { HasOrder self (clusters behind.now ++ clusters (drop from input.now)) → HasOrder result (clusters behind.now ++ clusters (drop from input.now)) }
+        ensures kept { is_known self ≡ true → result ≡ self }
     {
         match self {
             KnownOrder::Unknown => order_of(behind, &input[from..]),
