@@ -1,7 +1,7 @@
 ghost use Rattle.std.specs.Prelude.{◌≡◌, ◌++◌, ◌∷◌, [], ℕ, Bool, List, Some, true, slice_set, reverse, drop, length, ◌≤◌, IfSome};
 ghost use Rattle.glyph_lists.specs.Items.{clusters};
 ghost use Rattle.glyph_lists.specs.Order.{IsInOrder};
-ghost use Rattle.glyph_sides.specs.Known.{HasOrder, IsFallingTo, IsRisingTo, is_known, put_back_ahead, put_back_behind};
+ghost use Rattle.glyph_sides.specs.Known.{HasOrder, IsFallingTo, IsRisingTo, is_back, is_known, stands_at, put_back_ahead, put_back_behind};
 
 use glyph_types::info::hb_glyph_info_t;
 
@@ -31,6 +31,7 @@ impl Lent {
     fn is_as_it_was(self, output: &[hb_glyph_info_t], input: &[hb_glyph_info_t]) -> bool
         ensures output { result ≡ true → put_back_behind (Some self) (clusters output.now) ≡ clusters output.now }
         ensures input { result ≡ true → put_back_ahead (Some self) (clusters input.now) ≡ clusters input.now }
+        ensures exact { result ≡ is_back (Some self) (clusters output.now) (clusters input.now) }
     {
         if self.in_output {
             has_cluster(output, self.at, self.cluster)
@@ -43,7 +44,8 @@ impl Lent {
 /// Whether there is a glyph at a place, and it is of the cluster.
 #[tactic(auto, using(crate::proofs::Known::back_in_place))]
 fn has_cluster(glyphs: &[hb_glyph_info_t], at: usize, cluster: u32) -> bool
-    ensures { result ≡ true → slice_set (clusters glyphs.now) at cluster ≡ clusters glyphs.now }
+    ensures same { result ≡ true → slice_set (clusters glyphs.now) at cluster ≡ clusters glyphs.now }
+    ensures exact { result ≡ stands_at (clusters glyphs.now) at cluster }
 {
     at < glyphs.len() && glyphs[at].cluster == cluster
 }
@@ -65,7 +67,8 @@ impl KnownOrder {
         output: &[hb_glyph_info_t],
         input: &[hb_glyph_info_t],
     ) -> KnownOrder
-        ensures { (n : ℕ) → HasOrder self (put_back_behind lent (clusters output.now) ++ drop n (put_back_ahead lent (clusters input.now))) → HasOrder result (clusters output.now ++ drop n (clusters input.now)) }
+        ensures order { (n : ℕ) → HasOrder self (put_back_behind lent (clusters output.now) ++ drop n (put_back_ahead lent (clusters input.now))) → HasOrder result (clusters output.now ++ drop n (clusters input.now)) }
+        ensures kept { is_back lent (clusters output.now) (clusters input.now) ≡ true → result ≡ self }
     {
         match lent {
             Some(lent) if !lent.is_as_it_was(output, input) => KnownOrder::Unknown,
