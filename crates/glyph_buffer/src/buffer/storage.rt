@@ -2,7 +2,7 @@ ghost use Rattle.std.specs.Prelude.{◌≡◌, ◌+◌, ◌≤◌, ◌<◌, ◌^
 ghost use Rattle.std.specs.Str.{chars};
 ghost use Rattle.glyph_buffer.specs.Sides.{all_glyphs, items_of, with_added, has_room, refused, zero_place, zero_places};
 ghost use Rattle.glyph_lists.specs.Items.{clusters, flags_of, item_of};
-ghost use Rattle.glyph_sides.specs.Known.{HasOrder};
+ghost use Rattle.glyph_sides.specs.Known.{HasOrder, is_known};
 ghost use Rattle.glyph_buffer.specs.Text.{added_glyph, added_text, fits_text, offsets_fit, offsets_from, text_items};
 ghost use Rattle.glyph_buffer.specs.Moving.{of_length, with_len, zero_glyph};
 ghost use Rattle.glyph_buffer.specs.Appended.{IsAppended};
@@ -219,7 +219,8 @@ fn push_chars(glyphs: &mut Vec<hb_glyph_info_t>, text: &str)
 /// What is known of the order of clusters with the characters of a text behind the glyphs.
 #[tactic(auto, using(crate::proofs::Rising::text_rises))]
 fn order_of_text(glyphs: &[hb_glyph_info_t], text: &str) -> KnownOrder
-    ensures { HasOrder result (clusters glyphs.now ++ clusters (added_text text.now)) }
+    ensures order { HasOrder result (clusters glyphs.now ++ clusters (added_text text.now)) }
+    ensures seen { length glyphs.now ≡ 0 → is_known result ≡ true }
 {
     if glyphs.is_empty() {
         KnownOrder::Rising

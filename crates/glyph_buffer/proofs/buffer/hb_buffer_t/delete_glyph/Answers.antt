@@ -15,7 +15,7 @@ delete_at-marked-requires-clause-known c e =
     let b = c.self.inside in
     let open_now : b.have_output ≡ true = rw (← c.self.view_is) at c.requires.open in
     let before = rw open_now at c.self.invariant.ordered in
-    let known = (rw (c.deref.ensures.value, c.deref-2.ensures.value) at (c.settled-order.ensures b.idx)) before in
+    let known = (rw (c.deref.ensures.value, c.deref-2.ensures.value) at (c.settled-order.ensures.order b.idx)) before in
     known_ordered c.settled-order.result _ (known_ahead c.settled-order.result b.out_info.items b.info.items b.idx b.idx refl known) (sym c.is_known-in_order.ensures ∙ e)
 
 pub returns-clause-deleted : goal.returns-clause-deleted
@@ -50,7 +50,7 @@ invariant_of-self c =
     let b = c.self.inside in
     let open_now : b.have_output ≡ true = rw (← c.self.view_is) at c.requires.open in
     let before = rw open_now at c.self.invariant.ordered in
-    let known = (rw (c.deref.ensures.value, c.deref-2.ensures.value) at (c.settled-order.ensures b.idx)) before in
+    let known = (rw (c.deref.ensures.value, c.deref-2.ensures.value) at (c.settled-order.ensures.order b.idx)) before in
     let within : b.idx < length b.info.items = grind (arith, common_steps) in
     let gone = c.delete_at-marked.ensures.deletes in
     let after = order_gone c.settled-order.result b.cluster_level b.out_info.items (drop b.idx b.info.items) c.delete_at-marked.new.out.items (drop (b.idx + 1) c.delete_at-marked.new.info.items) c.delete_at-marked.result (get_or b.info.items b.idx zero_glyph) (drop (b.idx + 1) b.info.items) (drop_more b.info.items b.idx zero_glyph within) gone (known_ahead c.settled-order.result b.out_info.items b.info.items b.idx b.idx refl known) in

@@ -38,7 +38,7 @@ invariant_of-self c =
     let b = c.self.inside in
     let open_now : b.have_output ≡ true = rw (← c.self.view_is) at c.requires.open in
     let before = rw open_now at c.self.invariant.ordered in
-    let known = (rw (c.deref.ensures.value, c.deref-2.ensures.value) at (c.settled-order.ensures b.idx)) before in
+    let known = (rw (c.deref.ensures.value, c.deref-2.ensures.value) at (c.settled-order.ensures.order b.idx)) before in
     let begins : b.idx ≤ c.args.end = grind (arith, common_steps) in
     record {
       cursor = first_of (search rules, grind (arith, common_steps));

@@ -31,7 +31,7 @@ returns-clause-flags c = ap (λ (s : Sides). flags_of (all_glyphs s)) (returns-c
 pub merge_lists-marked-requires-clause-known : goal.merge_lists-marked-requires-clause-known
 merge_lists-marked-requires-clause-known c e =
     let begins : c.first_of_input-from.result ≡ start_of c.self.inside = rw (← c.self.view_is) at c.first_of_input-from.ensures in
-    let known = (rw (c.deref.ensures.value, c.deref-2.ensures.value) at (c.settled-order.ensures (start_of c.self.inside))) c.self.invariant.ordered in
+    let known = (rw (c.deref.ensures.value, c.deref-2.ensures.value) at (c.settled-order.ensures.order (start_of c.self.inside))) c.self.invariant.ordered in
     known_ordered c.settled-order.result _ (known_ahead c.settled-order.result c.self.inside.out_info.items c.self.inside.info.items c.first_of_input-from.result (start_of c.self.inside) begins known) (sym c.is_known.ensures ∙ e)
 
 pub invariant_of-self : goal.invariant_of-self
@@ -39,11 +39,11 @@ invariant_of-self c =
     let begins : c.first_of_input-from.result ≡ start_of c.self.inside = rw (← c.self.view_is) at c.first_of_input-from.ensures in
     let from = c.first_of_input-from.result in
     let order = c.settled-order.result in
-    let known = (rw (c.deref.ensures.value, c.deref-2.ensures.value) at (c.settled-order.ensures (start_of c.self.inside))) c.self.invariant.ordered in
+    let known = (rw (c.deref.ensures.value, c.deref-2.ensures.value) at (c.settled-order.ensures.order (start_of c.self.inside))) c.self.invariant.ordered in
     let before = known_ahead order c.self.inside.out_info.items c.self.inside.info.items from (start_of c.self.inside) begins known in
     let le : c.args.start - from ≤ c.args.end - from = omega (arith, c.requires.ordered) in
     let after = order_merged order c.self.inside.cluster_level (c.args.start - from) (c.args.end - from) c.self.inside.out_info.items (drop from c.self.inside.info.items) c.merge_lists-marked.new.out.items (drop from c.merge_lists-marked.new.info.items) le c.merge_lists-marked.ensures.output c.merge_lists-marked.ensures.input before in
-    let walked = (rw (c.deref-3.ensures.value, c.deref-4.ensures.value) at c.walked-self-inside.ensures) after in
+    let walked = (rw (c.deref-3.ensures.value, c.deref-4.ensures.value) at c.walked-self-inside.ensures.order) after in
     record {
       cursor = first_of (search rules, grind (arith, common_steps));
       input_within = first_of (search rules, grind (arith, common_steps));

@@ -14,7 +14,7 @@ merge_range-requires-clause-known c e =
     let b = c.self.inside in
     let open_now : b.have_output ≡ true = rw (← c.self.view_is) at c.requires.open in
     let before = rw open_now at c.self.invariant.ordered in
-    let known = (rw (c.deref.ensures.value, c.deref-2.ensures.value) at (c.settled-order.ensures b.idx)) before in
+    let known = (rw (c.deref.ensures.value, c.deref-2.ensures.value) at (c.settled-order.ensures.order b.idx)) before in
     known_ordered c.settled-order.result _ (known_ahead c.settled-order.result b.out_info.items b.info.items b.idx b.idx refl known) (sym c.is_known-in_order.ensures ∙ e)
 
 pub invariant_of-self : goal.invariant_of-self
@@ -22,10 +22,10 @@ invariant_of-self c =
     let b = c.self.inside in
     let open_now : b.have_output ≡ true = rw (← c.self.view_is) at c.requires.open in
     let before = rw open_now at c.self.invariant.ordered in
-    let known = (rw (c.deref.ensures.value, c.deref-2.ensures.value) at (c.settled-order.ensures b.idx)) before in
+    let known = (rw (c.deref.ensures.value, c.deref-2.ensures.value) at (c.settled-order.ensures.order b.idx)) before in
     let there : c.args.end ≤ length b.out_info.items = grind (arith, common_steps) in
     let after = order_output_merged c.settled-order.result c.args.start c.args.end b.out_info.items b.info.items c.merge_range.new.out.items c.merge_range.new.info.items b.idx c.requires.ordered there c.merge_range.ensures.output c.merge_range.ensures.input known in
-    let walked = (rw (c.deref-3.ensures.value, c.deref-4.ensures.value) at c.walked-self-inside.ensures) after in
+    let walked = (rw (c.deref-3.ensures.value, c.deref-4.ensures.value) at c.walked-self-inside.ensures.order) after in
     record {
       cursor = first_of (search rules, grind (arith, common_steps));
       input_within = first_of (search rules, grind (arith, common_steps));

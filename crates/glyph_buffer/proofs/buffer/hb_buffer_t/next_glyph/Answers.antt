@@ -8,7 +8,7 @@ pub invariant_of-self-2 : goal.invariant_of-self-2
 invariant_of-self-2 c =
     let open_now : c.self.inside.have_output ≡ true = first_of (search rules, grind (arith, common_steps)) in
     let before = rw open_now at c.self.invariant.ordered in
-    let known = (rw (c.deref.ensures.value, c.deref-2.ensures.value) at (c.settled-order.ensures c.self.inside.idx)) before in
+    let known = (rw (c.deref.ensures.value, c.deref-2.ensures.value) at (c.settled-order.ensures.order c.self.inside.idx)) before in
     let within : c.self.inside.idx < length c.self.inside.info.items = grind (arith, common_steps) in
     let items = c.in_ok-push.ensures.items ∙ ap (λ (g : hb_glyph_info_t). c.self.inside.out_info.items ++ g ∷ []) c.index.ensures in
     record {

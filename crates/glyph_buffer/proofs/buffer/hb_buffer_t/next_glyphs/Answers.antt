@@ -9,7 +9,7 @@ pub invariant_of-self-2 : goal.invariant_of-self-2
 invariant_of-self-2 c =
     let open_now : c.self.inside.have_output ≡ true = first_of (search rules, grind (arith, common_steps)) in
     let before = rw open_now at c.self.invariant.ordered in
-    let known = (rw (c.deref.ensures.value, c.deref-2.ensures.value) at (c.settled-order.ensures c.self.inside.idx)) before in
+    let known = (rw (c.deref.ensures.value, c.deref-2.ensures.value) at (c.settled-order.ensures.order c.self.inside.idx)) before in
     let wide : c.self.inside.idx + c.args.count - c.self.inside.idx ≡ c.args.count = omega arith in
     let items : c.extend_from_slice.new.self.items ≡ c.self.inside.out_info.items ++ take c.args.count (drop c.self.inside.idx c.self.inside.info.items) = rw (wide, c.deref-3.ensures.value) at c.in_ok-extend_from_slice.ensures.items in
     record {

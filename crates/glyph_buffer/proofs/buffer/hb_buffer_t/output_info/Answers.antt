@@ -9,9 +9,9 @@ invariant_of-self-2 c =
     let b = c.self.inside in
     let open_now : b.have_output ≡ true = rw (← c.self.view_is) at c.requires in
     let before = rw open_now at c.self.invariant.ordered in
-    let settled = (rw (c.deref.ensures.value, c.deref-2.ensures.value) at (c.settled-order.ensures b.idx)) before in
+    let settled = (rw (c.deref.ensures.value, c.deref-2.ensures.value) at (c.settled-order.ensures.order b.idx)) before in
     let order = c.settled-order.result in
-    let known = (rw (c.deref-3.ensures.value, c.deref-4.ensures.value, take_rest) at c.with_between-order.ensures) (known_ahead order b.out_info.items b.info.items b.idx b.idx refl settled) in
+    let known = (rw (c.deref-3.ensures.value, c.deref-4.ensures.value, take_rest) at c.with_between-order.ensures.order) (known_ahead order b.out_info.items b.info.items b.idx b.idx refl settled) in
     record {
       cursor = first_of (search rules, grind (arith, common_steps));
       input_within = first_of (search rules, grind (arith, common_steps));

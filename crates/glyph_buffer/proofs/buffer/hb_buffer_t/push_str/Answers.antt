@@ -27,4 +27,4 @@ invariant_of-self-2 c =
     let closed : c.self.inside.have_output ≡ false = rw (← c.self.view_is) at c.requires in
     let count = length_added c.args.text.now in
     let room : length c.self.inside.info.items + length (added_text c.args.text.now) ≤ c.self.inside.max_len = grind (arith, common_steps, count) in
-    appended_sound c.self.inside _ _ _ (added_text c.args.text.now) closed c.self.invariant (rw c.deref.ensures.value at c.order_of_text-order.ensures) room c.in_ok-append_text.ensures.ok
+    appended_sound c.self.inside _ _ _ (added_text c.args.text.now) closed c.self.invariant (rw c.deref.ensures.value at c.order_of_text-order.ensures.order) room c.in_ok-append_text.ensures.ok

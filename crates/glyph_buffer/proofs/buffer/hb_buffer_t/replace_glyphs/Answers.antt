@@ -42,7 +42,7 @@ pub replace_lists-marked-requires-clause-known : goal.replace_lists-marked-requi
 replace_lists-marked-requires-clause-known c e =
     let open_now : c.self.inside.have_output ≡ true = rw (← c.self.view_is) at c.requires.open in
     let before = rw open_now at c.self.invariant.ordered in
-    let known = (rw (c.deref.ensures.value, c.deref-2.ensures.value) at (c.settled-order.ensures c.self.inside.idx)) before in
+    let known = (rw (c.deref.ensures.value, c.deref-2.ensures.value) at (c.settled-order.ensures.order c.self.inside.idx)) before in
     let kept = c.in_ok-reserve.ensures.items in
     rw kept (known_ordered c.settled-order.result _ (known_ahead c.settled-order.result c.self.inside.out_info.items c.self.inside.info.items c.self.inside.idx c.self.inside.idx refl known) (sym c.is_known.ensures ∙ e))
 
@@ -52,7 +52,7 @@ invariant_of-self-2 c =
     let held = rw open_now at c.self.invariant.ordered in
     let order = c.settled-order.result in
     let b = c.self.inside in
-    let known = (rw (c.deref.ensures.value, c.deref-2.ensures.value) at (c.settled-order.ensures b.idx)) held in
+    let known = (rw (c.deref.ensures.value, c.deref-2.ensures.value) at (c.settled-order.ensures.order b.idx)) held in
     let before = known_ahead order b.out_info.items b.info.items b.idx b.idx refl known in
     let input = c.replace_lists-marked.ensures.input in
     let output = rw c.in_ok-reserve.ensures.items at c.replace_lists-marked.ensures.output in
@@ -60,7 +60,7 @@ invariant_of-self-2 c =
     let mid = order_merged order b.cluster_level 0 c.args.num_in b.out_info.items (drop b.idx b.info.items) (beside_merged b.cluster_level range b.out_info.items) (drop b.idx c.replace_lists-marked.new.info.items) (omega arith) refl input before in
     let after = order_copied order c.args.num_in c.args.glyph_data.now (beside_merged b.cluster_level range b.out_info.items) (drop b.idx c.replace_lists-marked.new.info.items) c.replace_lists-marked.new.out.items output mid in
     let moved = rw (drop-drop c.args.num_in b.idx c.replace_lists-marked.new.info.items) at after in
-    let walked = (rw (c.deref-3.ensures.value, c.deref-4.ensures.value) at c.walked-self-inside.ensures) moved in
+    let walked = (rw (c.deref-3.ensures.value, c.deref-4.ensures.value) at c.walked-self-inside.ensures.order) moved in
     let fits = rw (← c.self.view_is, open_now) at (room_is c.args.num_out c.args.self.now c.lacks_room.result c.lacks_room.ensures c.if-lacks_room.false) in
     let merged_len = length_beside b.cluster_level range b.out_info.items in
     let ahead_len = ap length input ∙ length_merged_at b.cluster_level 0 c.args.num_in (drop b.idx b.info.items) (omega arith) in

@@ -27,7 +27,7 @@ pub invariant_of-self : goal.invariant_of-self
 invariant_of-self c =
     let open_now : c.self.inside.have_output ≡ true = rw (← c.self.view_is) at c.requires.open in
     let before = rw open_now at c.self.invariant.ordered in
-    let known = (rw (c.deref.ensures.value, c.deref-2.ensures.value) at (c.settled-self-inside.ensures c.self.inside.idx)) before in
+    let known = (rw (c.deref.ensures.value, c.deref-2.ensures.value) at (c.settled-self-inside.ensures.order c.self.inside.idx)) before in
     record {
       cursor = first_of (search rules, grind (arith, common_steps));
       input_within = first_of (search rules, grind (arith, common_steps));
