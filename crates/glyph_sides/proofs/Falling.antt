@@ -6,7 +6,7 @@ use Rattle.glyph_lists.specs.Items.{clusters}
 use Rattle.glyph_lists.specs.Events.{last_from}
 use Rattle.glyph_lists.specs.Order.{AllFrom, IsFalling}
 use Rattle.glyph_sides.proofs.Between.{chain_first}
-use Rattle.glyph_sides.specs.Known.{IsFallingTo, first_of}
+use Rattle.glyph_sides.specs.Known.{IsFallingTo, first_number}
 
 all_most : (m n : ℕ) (ns : List ℕ) → n ≤ m → AllFrom (λ x y. y ≤ x) m ns → AllFrom (λ x y. y ≤ x) m (ns ++ n ∷ [])
 all_most m n [] le h = (le, tt)
@@ -88,16 +88,16 @@ falls_from_last : (s : ℕ) (xs ys : List ℕ) → IsFalling (s ∷ (xs ++ ys)) 
 falls_from_last s [] ys h = h
 falls_from_last s (x ∷ xs) ys h = falls_from_last x xs ys h.1
 
-falls_from_first : (ns : List ℕ) → IsFalling ns → IsFalling (first_of ns ∷ ns)
+falls_from_first : (ns : List ℕ) → IsFalling ns → IsFalling (first_number ns ∷ ns)
 falls_from_first [] h = (tt, tt)
 falls_from_first (n ∷ ns) h = ((omega arith, h.0), h)
 
-pub falls_behind_from_first : (xs ys : List ℕ) → IsFalling (xs ++ ys) → IsFalling (first_of (xs ++ ys) ∷ xs)
-falls_behind_from_first xs ys h = chain_first (λ m n. n ≤ m) (first_of (xs ++ ys) ∷ xs) ys (falls_from_first (xs ++ ys) h)
+pub falls_behind_from_first : (xs ys : List ℕ) → IsFalling (xs ++ ys) → IsFalling (first_number (xs ++ ys) ∷ xs)
+falls_behind_from_first xs ys h = chain_first (λ m n. n ≤ m) (first_number (xs ++ ys) ∷ xs) ys (falls_from_first (xs ++ ys) h)
 
 -- what stands behind falling numbers falls from the last of them
-pub falls_ahead : (m : ℕ) (xs ys : List ℕ) → IsFallingTo (first_of (xs ++ ys)) xs m → IsFalling (xs ++ ys) → IsFalling (m ∷ ys)
-falls_ahead m xs ys h falls = subst (λ (n : ℕ). IsFalling (n ∷ ys)) h.last (falls_from_last (first_of (xs ++ ys)) xs ys (falls_from_first (xs ++ ys) falls))
+pub falls_ahead : (m : ℕ) (xs ys : List ℕ) → IsFallingTo (first_number (xs ++ ys)) xs m → IsFalling (xs ++ ys) → IsFalling (m ∷ ys)
+falls_ahead m xs ys h falls = subst (λ (n : ℕ). IsFalling (n ∷ ys)) h.last (falls_from_last (first_number (xs ++ ys)) xs ys (falls_from_first (xs ++ ys) falls))
 
 -- two lists, one behind the other
 pub falls_on : (start m n : ℕ) (xs ys : List ℕ) → IsFallingTo start xs m → IsFallingTo m ys n → IsFalling (xs ++ ys)

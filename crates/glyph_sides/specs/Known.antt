@@ -26,9 +26,9 @@ put_back_ahead None ns = ns
 put_back_ahead (Some l) ns = if l.in_output then ns else slice_set ns l.at l.cluster
 
 -- the first of some numbers, or 0 where there is none
-abbrev pub first_of : List ℕ → ℕ
-first_of [] = 0
-first_of (n ∷ ns) = n
+abbrev pub first_number : List ℕ → ℕ
+first_number [] = 0
+first_number (n ∷ ns) = n
 
 -- whether a number stands at a place of a list
 abbrev pub stands_at : List ℕ → ℕ → ℕ → Bool

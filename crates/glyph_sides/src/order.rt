@@ -1,7 +1,7 @@
 ghost use Rattle.std.specs.Prelude.{◌≡◌, ◌++◌, ◌∷◌, [], ℕ, Bool, List, Some, true, slice_set, reverse, drop, length, ◌≤◌, IfNone, IfSome};
 ghost use Rattle.glyph_lists.specs.Items.{clusters};
 ghost use Rattle.glyph_lists.specs.Order.{IsFalling, IsInOrder, IsOrdered, IsRising};
-ghost use Rattle.glyph_sides.specs.Known.{HasOrder, IsFallingTo, IsRisingTo, first_of, is_back, is_known, stands_at, put_back_ahead, put_back_behind};
+ghost use Rattle.glyph_sides.specs.Known.{HasOrder, IsFallingTo, IsRisingTo, first_number, is_back, is_known, stands_at, put_back_ahead, put_back_behind};
 
 use glyph_types::info::hb_glyph_info_t;
 
@@ -218,7 +218,7 @@ fn both_fall(behind: &[hb_glyph_info_t], ahead: &[hb_glyph_info_t]) -> bool
 
 /// The first cluster of two lists, or 0 where there is none.
 fn first_cluster(behind: &[hb_glyph_info_t], ahead: &[hb_glyph_info_t]) -> u32
-    ensures { result ≡ first_of (clusters behind.now ++ clusters ahead.now) }
+    ensures { result ≡ first_number (clusters behind.now ++ clusters ahead.now) }
 {
     match (behind, ahead) {
         ([first, ..], _) | ([], [first, ..]) => first.cluster,
