@@ -15,7 +15,7 @@ all_first : (R : ℕ → ℕ → Type 0) (m : ℕ) (xs ys : List ℕ) → AllFro
 all_first R m [] ys h = tt
 all_first R m (x ∷ xs) ys h = (h.0, all_first R m xs ys h.1)
 
-chain_first : (R : ℕ → ℕ → Type 0) (xs ys : List ℕ) → IsChain R (xs ++ ys) → IsChain R xs
+pub chain_first : (R : ℕ → ℕ → Type 0) (xs ys : List ℕ) → IsChain R (xs ++ ys) → IsChain R xs
 chain_first R [] ys h = tt
 chain_first R (x ∷ xs) ys h = (all_first R x xs ys h.0, chain_first R xs ys h.1)
 

@@ -1,11 +1,12 @@
 -- Clusters that are seen to fall, one after another.
-use Rattle.std.proofs.Common.{ℕ, suc, ◌≡◌, ◌≤◌, ◌<◌, ◌+◌, ◌-◌, List, [], ◌∷◌, ◌++◌, length, take, get_or, arith, refl, ap, sym, subst, ◌∙◌}
+use Rattle.std.proofs.Common.{ℕ, zero, suc, ◌≡◌, ◌≤◌, ◌<◌, ◌+◌, ◌-◌, List, [], ◌∷◌, ◌++◌, length, take, get_or, arith, refl, ap, sym, subst, ◌∙◌}
 use Rattle.std.proofs.lemmas.List.{take_more, map-append}
 use Rattle.glyph_types.specs.declared.info.hb_glyph_info_t.{hb_glyph_info_t}
 use Rattle.glyph_lists.specs.Items.{clusters}
 use Rattle.glyph_lists.specs.Events.{last_from}
 use Rattle.glyph_lists.specs.Order.{AllFrom, IsFalling}
-use Rattle.glyph_sides.specs.Known.{IsFallingTo}
+use Rattle.glyph_sides.proofs.Between.{chain_first}
+use Rattle.glyph_sides.specs.Known.{IsFallingTo, first_number}
 
 all_most : (m n : ℕ) (ns : List ℕ) → n ≤ m → AllFrom (λ x y. y ≤ x) m ns → AllFrom (λ x y. y ≤ x) m (ns ++ n ∷ [])
 all_most m n [] le h = (le, tt)
@@ -73,6 +74,30 @@ falling_to_next start m gs i d lt h le =
     let cluster_of : hb_glyph_info_t → ℕ = λ g. g.cluster in
     let cut : clusters (take (i + 1) gs) ≡ clusters (take i gs) ++ (get_or gs i d).cluster ∷ [] = ap clusters (take_more gs i d lt) ∙ map-append cluster_of (take i gs) (get_or gs i d ∷ []) in
     rw cut (falling_to_more start m (get_or gs i d).cluster (clusters (take i gs)) h le)
+
+-- where clusters fall, one is not above that before it
+pub falls_there : (start m : ℕ) (gs : List hb_glyph_info_t) (i : ℕ) (d : hb_glyph_info_t) → i < length gs → IsFallingTo start (clusters (take i gs)) m → IsFalling (start ∷ clusters gs) → (get_or gs i d).cluster ≤ m
+falls_there start m gs i d lt h falls = let seen = next start gs i lt falls in omega (arith, h.last, seen)
+  where
+    next : (s : ℕ) (fs : List hb_glyph_info_t) (j : ℕ) → j < length fs → IsFalling (s ∷ clusters fs) → (get_or fs j d).cluster ≤ last_from s (clusters (take j fs))
+    next s [] j le a = absurd (omega arith)
+    next s (f ∷ fs) zero le a = a.0.0
+    next s (f ∷ fs) (suc j) le a = next f.cluster fs j (omega (arith, le)) a.1
+
+falls_from_last : (s : ℕ) (xs ys : List ℕ) → IsFalling (s ∷ (xs ++ ys)) → IsFalling (last_from s xs ∷ ys)
+falls_from_last s [] ys h = h
+falls_from_last s (x ∷ xs) ys h = falls_from_last x xs ys h.1
+
+falls_from_first : (ns : List ℕ) → IsFalling ns → IsFalling (first_number ns ∷ ns)
+falls_from_first [] h = (tt, tt)
+falls_from_first (n ∷ ns) h = ((omega arith, h.0), h)
+
+pub falls_behind_from_first : (xs ys : List ℕ) → IsFalling (xs ++ ys) → IsFalling (first_number (xs ++ ys) ∷ xs)
+falls_behind_from_first xs ys h = chain_first (λ m n. n ≤ m) (first_number (xs ++ ys) ∷ xs) ys (falls_from_first (xs ++ ys) h)
+
+-- what stands behind falling numbers falls from the last of them
+pub falls_ahead : (m : ℕ) (xs ys : List ℕ) → IsFallingTo (first_number (xs ++ ys)) xs m → IsFalling (xs ++ ys) → IsFalling (m ∷ ys)
+falls_ahead m xs ys h falls = subst (λ (n : ℕ). IsFalling (n ∷ ys)) h.last (falls_from_last (first_number (xs ++ ys)) xs ys (falls_from_first (xs ++ ys) falls))
 
 -- two lists, one behind the other
 pub falls_on : (start m n : ℕ) (xs ys : List ℕ) → IsFallingTo start xs m → IsFallingTo m ys n → IsFalling (xs ++ ys)

@@ -1,5 +1,5 @@
 -- What is known of the order of clusters, and stays known.
-use Rattle.std.proofs.Common.{ℕ, suc, ◌≡◌, ◌≤◌, ◌<◌, ◌+◌, ◌-◌, true, false, List, [], ◌∷◌, ◌++◌, length, take, reverse, get_or, set, arith, refl, ap, sym, subst, ◌∙◌}
+use Rattle.std.proofs.Common.{ℕ, zero, suc, ◌≡◌, ◌≤◌, ◌<◌, ◌+◌, ◌-◌, true, false, List, [], ◌∷◌, ◌++◌, length, take, reverse, get_or, set, arith, refl, ap, sym, subst, ◌∙◌}
 use Rattle.std.proofs.lemmas.List.{set-get_or, get_or-map, take_more, map-append}
 use Rattle.glyph_types.specs.declared.info.hb_glyph_info_t.{hb_glyph_info_t}
 use Rattle.glyph_lists.specs.Items.{clusters}
@@ -8,6 +8,7 @@ use Rattle.glyph_lists.specs.Order.{AllFrom, IsInOrder, IsRising}
 use Rattle.glyph_lists.specs.Lemmas.Events.{event_keeps_order}
 use Rattle.glyph_sides.specs.declared.order.KnownOrder.{KnownOrder}
 use Rattle.glyph_sides.specs.declared.order.KnownOrder.TheVariants.{Unknown, Rising, Falling}
+use Rattle.glyph_sides.proofs.Between.{chain_first}
 use Rattle.glyph_sides.specs.Known.{HasOrder, IsRisingTo}
 
 -- any glyph, for what stands past the end of a list
@@ -107,6 +108,33 @@ rising_to_next start m gs i d lt h le =
     let cluster_of : hb_glyph_info_t → ℕ = λ g. g.cluster in
     let cut : clusters (take (i + 1) gs) ≡ clusters (take i gs) ++ (get_or gs i d).cluster ∷ [] = ap clusters (take_more gs i d lt) ∙ map-append cluster_of (take i gs) (get_or gs i d ∷ []) in
     rw cut (rising_to_more start m (get_or gs i d).cluster (clusters (take i gs)) h le)
+
+-- where clusters rise, one is not below that before it
+pub rises_there : (start m : ℕ) (gs : List hb_glyph_info_t) (i : ℕ) (d : hb_glyph_info_t) → i < length gs → IsRisingTo start (clusters (take i gs)) m → IsRising (start ∷ clusters gs) → m ≤ (get_or gs i d).cluster
+rises_there start m gs i d lt h rises = let seen = next start gs i lt rises in omega (arith, h.last, seen)
+  where
+    next : (s : ℕ) (fs : List hb_glyph_info_t) (j : ℕ) → j < length fs → IsRising (s ∷ clusters fs) → last_from s (clusters (take j fs)) ≤ (get_or fs j d).cluster
+    next s [] j le a = absurd (omega arith)
+    next s (f ∷ fs) zero le a = a.0.0
+    next s (f ∷ fs) (suc j) le a = next f.cluster fs j (omega (arith, le)) a.1
+
+rises_from_last : (s : ℕ) (xs ys : List ℕ) → IsRising (s ∷ (xs ++ ys)) → IsRising (last_from s xs ∷ ys)
+rises_from_last s [] ys h = h
+rises_from_last s (x ∷ xs) ys h = rises_from_last x xs ys h.1
+
+rises_from_zero : (ns : List ℕ) → IsRising ns → IsRising (0 ∷ ns)
+rises_from_zero ns h = (least ns, h)
+  where
+    least : (ks : List ℕ) → AllFrom (λ x y. x ≤ y) 0 ks
+    least [] = tt
+    least (k ∷ ks) = (omega arith, least ks)
+
+pub rises_behind_from_zero : (xs ys : List ℕ) → IsRising (xs ++ ys) → IsRising (0 ∷ xs)
+rises_behind_from_zero xs ys h = chain_first (λ m n. m ≤ n) (0 ∷ xs) ys (rises_from_zero (xs ++ ys) h)
+
+-- what stands behind rising numbers rises from the last of them
+pub rises_ahead : (m : ℕ) (xs ys : List ℕ) → IsRisingTo 0 xs m → IsRising (xs ++ ys) → IsRising (m ∷ ys)
+rises_ahead m xs ys h rises = subst (λ (n : ℕ). IsRising (n ∷ ys)) h.last (rises_from_last 0 xs ys (rises_from_zero (xs ++ ys) rises))
 
 -- two lists, one behind the other
 pub rises_on : (start m n : ℕ) (xs ys : List ℕ) → IsRisingTo start xs m → IsRisingTo m ys n → IsRising (xs ++ ys)

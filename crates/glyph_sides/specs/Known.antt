@@ -1,5 +1,5 @@
 -- What is known of the order of clusters.
-use Rattle.std.specs.Prelude.{ℕ, ◌≡◌, ◌==◌, ◌&&◌, ◌∷◌, Bool, true, false, if◌then◌else◌, List, length, nat_lt, Option, Some, None, slice_index_or, slice_set}
+use Rattle.std.specs.Prelude.{ℕ, ◌≡◌, ◌==◌, ◌&&◌, ◌∷◌, Bool, true, false, if◌then◌else◌, List, [], length, nat_lt, Option, Some, None, slice_index_or, slice_set}
 use Rattle.glyph_lists.specs.Events.{last_from}
 use Rattle.glyph_lists.specs.Order.{IsInOrder, IsFalling, IsRising}
 use Rattle.glyph_sides.specs.declared.order.KnownOrder.{KnownOrder}
@@ -24,6 +24,11 @@ put_back_behind (Some l) ns = if l.in_output then slice_set ns l.at l.cluster el
 abbrev pub put_back_ahead : Option Lent → List ℕ → List ℕ
 put_back_ahead None ns = ns
 put_back_ahead (Some l) ns = if l.in_output then ns else slice_set ns l.at l.cluster
+
+-- the first of some numbers, or 0 where there is none
+abbrev pub first_number : List ℕ → ℕ
+first_number [] = 0
+first_number (n ∷ ns) = n
 
 -- whether a number stands at a place of a list
 abbrev pub stands_at : List ℕ → ℕ → ℕ → Bool

@@ -1,7 +1,7 @@
-ghost use Rattle.std.specs.Prelude.{◌≡◌, ◌++◌, ◌∷◌, [], ℕ, Bool, List, Some, true, slice_set, reverse, drop, length, ◌≤◌, IfSome};
+ghost use Rattle.std.specs.Prelude.{◌≡◌, ◌++◌, ◌∷◌, [], ℕ, Bool, List, Some, true, slice_set, reverse, drop, length, ◌≤◌, IfNone, IfSome};
 ghost use Rattle.glyph_lists.specs.Items.{clusters};
-ghost use Rattle.glyph_lists.specs.Order.{IsInOrder};
-ghost use Rattle.glyph_sides.specs.Known.{HasOrder, IsFallingTo, IsRisingTo, is_back, is_known, stands_at, put_back_ahead, put_back_behind};
+ghost use Rattle.glyph_lists.specs.Order.{IsFalling, IsInOrder, IsOrdered, IsRising};
+ghost use Rattle.glyph_sides.specs.Known.{HasOrder, IsFallingTo, IsRisingTo, first_number, is_back, is_known, stands_at, put_back_ahead, put_back_behind};
 
 use glyph_types::info::hb_glyph_info_t;
 
@@ -163,6 +163,7 @@ impl KnownOrder {
         requires { from ≤ length input.now }
         ensures order { HasOrder self (clusters behind.now ++ clusters (drop from input.now)) → HasOrder result (clusters behind.now ++ clusters (drop from input.now)) }
         ensures kept { is_known self ≡ true → result ≡ self }
+        ensures seen { IsOrdered (clusters behind.now ++ clusters (drop from input.now)) → is_known result ≡ true }
     {
         match self {
             KnownOrder::Unknown => order_of(behind, &input[from..]),
@@ -172,31 +173,64 @@ impl KnownOrder {
 }
 
 /// Which way the clusters of two lists are seen to go.
-#[tactic(auto, using(crate::proofs::Known::rises_on))]
 fn order_of(behind: &[hb_glyph_info_t], ahead: &[hb_glyph_info_t]) -> KnownOrder
-    ensures { HasOrder result (clusters behind.now ++ clusters ahead.now) }
+    ensures order { HasOrder result (clusters behind.now ++ clusters ahead.now) }
+    ensures seen { IsOrdered (clusters behind.now ++ clusters ahead.now) → is_known result ≡ true }
 {
-    match rising_end(0, behind) {
-        Some(last) if rising_end(last, ahead).is_some() => KnownOrder::Rising,
-        _ => falling_order_of(behind, ahead),
+    if both_rise(behind, ahead) {
+        KnownOrder::Rising
+    } else if both_fall(behind, ahead) {
+        KnownOrder::Falling
+    } else {
+        KnownOrder::Unknown
     }
 }
 
-/// Whether the clusters of two lists are seen to fall.
-#[tactic(auto, using(crate::proofs::Falling::falls_on))]
-fn falling_order_of(behind: &[hb_glyph_info_t], ahead: &[hb_glyph_info_t]) -> KnownOrder
-    ensures { HasOrder result (clusters behind.now ++ clusters ahead.now) }
+/// Whether the clusters of two lists, one behind the other, never fall.
+#[tactic(auto, using(crate::proofs::Known::rises_on, crate::proofs::Known::rises_ahead, crate::proofs::Known::rises_behind_from_zero))]
+fn both_rise(behind: &[hb_glyph_info_t], ahead: &[hb_glyph_info_t]) -> bool
+    ensures rises { result ≡ true → IsRising (clusters behind.now ++ clusters ahead.now) }
+    ensures seen { IsRising (clusters behind.now ++ clusters ahead.now) → result ≡ true }
 {
-    match falling_end(u32::MAX, behind) {
-        Some(last) if falling_end(last, ahead).is_some() => KnownOrder::Falling,
-        _ => KnownOrder::Unknown,
+    match rising_end(0, behind) {
+        None => false,
+        Some(last) => match rising_end(last, ahead) {
+            None => false,
+            Some(_) => true,
+        },
+    }
+}
+
+/// Whether the clusters of two lists, one behind the other, never rise.
+#[tactic(auto, using(crate::proofs::Falling::falls_on, crate::proofs::Falling::falls_ahead, crate::proofs::Falling::falls_behind_from_first))]
+fn both_fall(behind: &[hb_glyph_info_t], ahead: &[hb_glyph_info_t]) -> bool
+    ensures falls { result ≡ true → IsFalling (clusters behind.now ++ clusters ahead.now) }
+    ensures seen { IsFalling (clusters behind.now ++ clusters ahead.now) → result ≡ true }
+{
+    match falling_end(first_cluster(behind, ahead), behind) {
+        None => false,
+        Some(last) => match falling_end(last, ahead) {
+            None => false,
+            Some(_) => true,
+        },
+    }
+}
+
+/// The first cluster of two lists, or 0 where there is none.
+fn first_cluster(behind: &[hb_glyph_info_t], ahead: &[hb_glyph_info_t]) -> u32
+    ensures { result ≡ first_number (clusters behind.now ++ clusters ahead.now) }
+{
+    match (behind, ahead) {
+        ([first, ..], _) | ([], [first, ..]) => first.cluster,
+        ([], []) => 0,
     }
 }
 
 /// The last cluster, or `start` where there is none, if `start` and the clusters never fall.
-#[tactic(auto, using(crate::proofs::Known::rising_to_next))]
+#[tactic(auto, using(crate::proofs::Known::rising_to_next, crate::proofs::Known::rises_there))]
 fn rising_end(start: u32, glyphs: &[hb_glyph_info_t]) -> Option<u32>
-    ensures { IfSome result (λ n. IsRisingTo start (clusters glyphs.now) n) }
+    ensures end { IfSome result (λ n. IsRisingTo start (clusters glyphs.now) n) }
+    ensures seen { IfNone result (IsRising (start ∷ clusters glyphs.now) → ⊥) }
 {
     let mut last = start;
     for glyph in glyphs {
@@ -209,9 +243,10 @@ fn rising_end(start: u32, glyphs: &[hb_glyph_info_t]) -> Option<u32>
 }
 
 /// The last cluster, or `start` where there is none, if `start` and the clusters never rise.
-#[tactic(auto, using(crate::proofs::Falling::falling_to_next))]
+#[tactic(auto, using(crate::proofs::Falling::falling_to_next, crate::proofs::Falling::falls_there))]
 fn falling_end(start: u32, glyphs: &[hb_glyph_info_t]) -> Option<u32>
-    ensures { IfSome result (λ n. IsFallingTo start (clusters glyphs.now) n) }
+    ensures end { IfSome result (λ n. IsFallingTo start (clusters glyphs.now) n) }
+    ensures seen { IfNone result (IsFalling (start ∷ clusters glyphs.now) → ⊥) }
 {
     let mut last = start;
     for glyph in glyphs {
