@@ -20,6 +20,7 @@ pub use glyph_types::level::{
 };
 pub use glyph_types::names::{GlyphId, GlyphNames, hb_glyph_extents_t};
 pub use glyph_types::position::GlyphPosition;
+pub use shaping_text::constants::BufferFlags;
 pub use shaping_text::direction::{Direction, InvalidDirection};
 pub use shaping_text::language::{Language, LanguageFault};
 pub use shaping_text::language_tags::{LanguageRow, LanguageTable, LanguageTags};
