@@ -18,7 +18,7 @@ use Rattle.glyph_sides.specs.declared.order.Lent.{Lent}
 use Rattle.glyph_buffer.specs.Inside.{sides_of}
 use Rattle.glyph_sides.specs.Known.{HasOrder}
 use Rattle.glyph_buffer.specs.Sides.{Sides, all_glyphs, items_of}
-use Rattle.glyph_buffer.specs.Merging.{flags_output_merged_at, output_merged_at, place_of, telling_flags, with_glyphs, with_output_merged}
+use Rattle.glyph_buffer.specs.Merging.{flags_output_merged_at, output_merged_at, index_in_all, telling_flags, with_glyphs, with_output_merged}
 use Rattle.glyph_buffer.specs.Marking.{with_marked, with_flagged}
 use Rattle.glyph_buffer.proofs.Ordered.{known_ahead, known_back, order_merged_at}
 
@@ -60,14 +60,14 @@ pub marked_across_view : (b : Inside) (info out : Vec hb_glyph_info_t) (order : 
     → out.items ≡ take start b.out_info.items ++ map (marked_outside bits (least_number (clusters (drop start b.out_info.items) ++ clusters (slice_range b.info.items b.idx end)))) (drop start b.out_info.items)
     → drop b.idx info.items ≡ map (marked_outside bits (least_number (clusters (drop start b.out_info.items) ++ clusters (slice_range b.info.items b.idx end)))) (slice_range b.info.items b.idx end) ++ drop end b.info.items
     → flags ≡ telling_flags (tells_apart (clusters (drop start b.out_info.items) ++ clusters (slice_range b.info.items b.idx end))) b.scratch_flags
-    → sides_of (record b { info = info; out_info = out; scratch_flags = flags; order = order; lent = lent }) ≡ with_marked bits start (place_of end (sides_of b)) (sides_of b)
+    → sides_of (record b { info = info; out_info = out; scratch_flags = flags; order = order; lent = lent }) ≡ with_marked bits start (index_in_all end (sides_of b)) (sides_of b)
 marked_across_view b info out order lent bits start end flags h le begins o i f =
     let behind = b.out_info.items in
     let ahead = drop b.idx b.info.items in
     let n = end - b.idx in
     let range = stretch_across behind ahead start n le in
     let mark = marked_outside bits (least_number (clusters (drop start behind) ++ clusters (take n ahead))) in
-    let place : place_of end (sides_of b) ≡ length behind + n = rw h (omega (arith, begins)) in
+    let place : index_in_all end (sides_of b) ≡ length behind + n = rw h (omega (arith, begins)) in
     let all : all_glyphs (sides_of b) ≡ behind ++ ahead = rw h refl in
     let long = ap length o ∙ changed_length mark behind start in
     let glyphs : glyphs_marked bits start (length behind + n) (behind ++ ahead) ≡ out.items ++ drop b.idx info.items =
@@ -79,12 +79,12 @@ pub flagged_across_view : (b : Inside) (info out : Vec hb_glyph_info_t) (order :
     → out.items ≡ take start b.out_info.items ++ map (flagged bits) (drop start b.out_info.items)
     → drop b.idx info.items ≡ map (flagged bits) (slice_range b.info.items b.idx end) ++ drop end b.info.items
     → flags ≡ telling_flags (nat_lt start (length b.out_info.items + (end - b.idx))) b.scratch_flags
-    → sides_of (record b { info = info; out_info = out; scratch_flags = flags; order = order; lent = lent }) ≡ with_flagged bits start (place_of end (sides_of b)) (sides_of b)
+    → sides_of (record b { info = info; out_info = out; scratch_flags = flags; order = order; lent = lent }) ≡ with_flagged bits start (index_in_all end (sides_of b)) (sides_of b)
 flagged_across_view b info out order lent bits start end flags h le begins o i f =
     let behind = b.out_info.items in
     let ahead = drop b.idx b.info.items in
     let n = end - b.idx in
-    let place : place_of end (sides_of b) ≡ length behind + n = rw h (omega (arith, begins)) in
+    let place : index_in_all end (sides_of b) ≡ length behind + n = rw h (omega (arith, begins)) in
     let all : all_glyphs (sides_of b) ≡ behind ++ ahead = rw h refl in
     let long = ap length o ∙ changed_length (flagged bits) behind start in
     let glyphs : glyphs_flagged bits start (length behind + n) (behind ++ ahead) ≡ out.items ++ drop b.idx info.items =
@@ -92,7 +92,7 @@ flagged_across_view b info out order lent bits start end flags h le begins o i f
     both_view b info out order lent flags (glyphs_flagged bits start (length behind + n) (behind ++ ahead)) h long glyphs
     ∙ rw (place, all, f) refl
 
-pub place_within : (start end : ℕ) (s : Sides) → start ≤ length s.behind → s.read ≤ end → start ≤ place_of end s
+pub place_within : (start end : ℕ) (s : Sides) → start ≤ length s.behind → s.read ≤ end → start ≤ index_in_all end s
 place_within start end s le begins = omega arith
 
 -- what is seen of each glyph stays where a change of glyphs keeps it

@@ -12,22 +12,22 @@ use Rattle.glyph_buffer.specs.Inside.{sides_of, IsSound}
 use Rattle.glyph_buffer.specs.Sides.{with_added}
 use Rattle.glyph_buffer.specs.Appended.{IsAppended}
 
-pub appended_view : (b : Inside) (info : Vec hb_glyph_info_t) (places : Vec GlyphPosition) (order : KnownOrder) (gs : List hb_glyph_info_t) → b.have_output ≡ false → IsSound b
-    → IsAppended gs b.info.items b.pos.items info.items places.items
-    → sides_of (record b { info = info; pos = places; order = order; lent = None }) ≡ with_added gs (sides_of b)
-appended_view b info places order gs h s a =
+pub appended_view : (b : Inside) (info : Vec hb_glyph_info_t) (positions : Vec GlyphPosition) (order : KnownOrder) (gs : List hb_glyph_info_t) → b.have_output ≡ false → IsSound b
+    → IsAppended gs b.info.items b.pos.items info.items positions.items
+    → sides_of (record b { info = info; pos = positions; order = order; lent = None }) ≡ with_added gs (sides_of b)
+appended_view b info positions order gs h s a =
     let le : b.idx ≤ length b.info.items = s.cursor in
-    rw (h, a.glyphs, a.places, take-append-le, drop-append-le) refl
+    rw (h, a.glyphs, a.positions, take-append-le, drop-append-le) refl
 
-pub appended_sound : (b : Inside) (info : Vec hb_glyph_info_t) (places : Vec GlyphPosition) (order : KnownOrder) (gs : List hb_glyph_info_t) → b.have_output ≡ false → IsSound b
+pub appended_sound : (b : Inside) (info : Vec hb_glyph_info_t) (positions : Vec GlyphPosition) (order : KnownOrder) (gs : List hb_glyph_info_t) → b.have_output ≡ false → IsSound b
     → HasOrder order (clusters b.info.items ++ clusters gs)
     → length b.info.items + length gs ≤ b.max_len
-    → IsAppended gs b.info.items b.pos.items info.items places.items
-    → IsSound (record b { info = info; pos = places; order = order; lent = None })
-appended_sound b info places order gs h s o le a =
+    → IsAppended gs b.info.items b.pos.items info.items positions.items
+    → IsSound (record b { info = info; pos = positions; order = order; lent = None })
+appended_sound b info positions order gs h s o le a =
     let even : length b.pos.items ≡ length b.info.items = rw h at s.placed in
     let grown : length info.items ≡ length b.info.items + length gs = rw a.glyphs (length-append b.info.items gs) in
-    let placed : length places.items ≡ length b.pos.items + length gs = rw (a.places, length-append, length-replicate) refl in
+    let placed : length positions.items ≡ length b.pos.items + length gs = rw (a.positions, length-append, length-replicate) refl in
     let none : b.out_info.items ≡ [] = rw h at s.closed in
     let cluster_of : hb_glyph_info_t → ℕ = λ g. g.cluster in
     record {

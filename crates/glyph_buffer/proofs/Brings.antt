@@ -53,5 +53,5 @@ range_brings start end ns n h = elim (has_either n (take start ns ++ reverse (sl
 -- nor does a walk of deletions
 pub picked_brings : (goes : hb_glyph_info_t → Bool) (s : Sides) → BringsNone (clusters (all_glyphs s)) (clusters (all_glyphs (with_picked_deleted goes s)))
 picked_brings goes s =
-    let gs = (all_passed s.level goes (all_glyphs s) s.places).kept in
-    brings_same _ _ _ (ap clusters (take-append-drop (min s.read (length gs)) gs)) (deleting_brings_none s.level goes (all_glyphs s) s.places)
+    let gs = (all_passed s.level goes (all_glyphs s) s.positions).kept in
+    brings_same _ _ _ (ap clusters (take-append-drop (min s.read (length gs)) gs)) (deleting_brings_none s.level goes (all_glyphs s) s.positions)

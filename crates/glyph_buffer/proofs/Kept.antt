@@ -1,4 +1,4 @@
--- Glyphs that only change places.
+-- Glyphs that only change positions.
 use Rattle.std.specs.Prelude.{bit_and}
 use Rattle.std.proofs.Common.{ℕ, zero, suc, ◌≡◌, ◌+◌, ◌++◌, arith, true, false, Option, List, [], ◌∷◌, map, take, drop, reverse, refl, ap, sym, ◌∙◌, append_assoc}
 use Rattle.std.proofs.lemmas.Grind.{reverse_onto}
@@ -36,9 +36,9 @@ pub reversed_flags : (s : Sides) → flags_of (all_glyphs (reversed s)) ≡ reve
 reversed_flags s = ap flags_of (all_reversed s) ∙ map-reverse (λ (g : hb_glyph_info_t). bit_and g.mask 7) (all_glyphs s)
 
 -- both vectors turned round
-pub turned_view : (b : Inside) (info : Vec hb_glyph_info_t) (places : Vec GlyphPosition) → b.have_output ≡ false → info.items ≡ reverse b.info.items → places.items ≡ reverse b.pos.items
-    → sides_of (record b { info = info; pos = places }) ≡ reversed (sides_of b)
-turned_view b info places h i p = rw (h, i, p, take-append-drop b.idx b.info.items) refl
+pub turned_view : (b : Inside) (info : Vec hb_glyph_info_t) (positions : Vec GlyphPosition) → b.have_output ≡ false → info.items ≡ reverse b.info.items → positions.items ≡ reverse b.pos.items
+    → sides_of (record b { info = info; pos = positions }) ≡ reversed (sides_of b)
+turned_view b info positions h i p = rw (h, i, p, take-append-drop b.idx b.info.items) refl
 
 -- a glyph that goes behind the cursor under another number
 renumbered_seen : {Y : Type 0} (v : hb_glyph_info_t → Y) → ((g : hb_glyph_info_t) (n : ℕ) → v (glyph_numbered g n) ≡ v g) → (n : ℕ) (behind ahead : List hb_glyph_info_t)

@@ -16,17 +16,17 @@ use Rattle.glyph_sides.specs.declared.order.Lent.{Lent}
 use Rattle.glyph_buffer.specs.Inside.{sides_of, start_of}
 use Rattle.glyph_sides.specs.Known.{HasOrder}
 use Rattle.glyph_buffer.specs.Sides.{Sides, all_glyphs, items_of}
-use Rattle.glyph_buffer.specs.Merging.{place_of, telling_flags}
+use Rattle.glyph_buffer.specs.Merging.{index_in_all, telling_flags}
 use Rattle.glyph_buffer.specs.Marking.{with_marked, with_flagged}
 
 pub marked_view : (b : Inside) (info : Vec hb_glyph_info_t) (order : KnownOrder) (lent : Option Lent) (bits from start end flags : ℕ) → b.idx ≤ length b.info.items → start ≤ end → (b.have_output ≡ true → b.idx ≤ start)
     → from ≡ start_of b
     → drop from info.items ≡ glyphs_marked bits (start - from) (end - from) (drop from b.info.items)
     → flags ≡ telling_flags (tells_apart (stretch (start - from) (end - from) (clusters (drop from b.info.items)))) b.scratch_flags
-    → sides_of (record b { info = info; scratch_flags = flags; order = order; lent = lent }) ≡ with_marked bits (place_of start (sides_of b)) (place_of end (sides_of b)) (sides_of b)
+    → sides_of (record b { info = info; scratch_flags = flags; order = order; lent = lent }) ≡ with_marked bits (index_in_all start (sides_of b)) (index_in_all end (sides_of b)) (sides_of b)
 marked_view b info order lent bits from start end flags le before unread begins i f = by_test b.have_output refl
   where
-    by_test : (t : Bool) → b.have_output ≡ t → sides_of (record b { info = info; scratch_flags = flags; order = order; lent = lent }) ≡ with_marked bits (place_of start (sides_of b)) (place_of end (sides_of b)) (sides_of b)
+    by_test : (t : Bool) → b.have_output ≡ t → sides_of (record b { info = info; scratch_flags = flags; order = order; lent = lent }) ≡ with_marked bits (index_in_all start (sides_of b)) (index_in_all end (sides_of b)) (sides_of b)
     by_test true e =
         let here : from ≡ b.idx = rw e at begins in
         let first = unread e in
@@ -55,10 +55,10 @@ pub flagged_view : (b : Inside) (info : Vec hb_glyph_info_t) (order : KnownOrder
     → from ≡ start_of b
     → drop from info.items ≡ glyphs_flagged bits (start - from) (end - from) (drop from b.info.items)
     → flags ≡ telling_flags (nat_lt start end) b.scratch_flags
-    → sides_of (record b { info = info; scratch_flags = flags; order = order; lent = lent }) ≡ with_flagged bits (place_of start (sides_of b)) (place_of end (sides_of b)) (sides_of b)
+    → sides_of (record b { info = info; scratch_flags = flags; order = order; lent = lent }) ≡ with_flagged bits (index_in_all start (sides_of b)) (index_in_all end (sides_of b)) (sides_of b)
 flagged_view b info order lent bits from start end flags le before unread begins i f = by_test b.have_output refl
   where
-    by_test : (t : Bool) → b.have_output ≡ t → sides_of (record b { info = info; scratch_flags = flags; order = order; lent = lent }) ≡ with_flagged bits (place_of start (sides_of b)) (place_of end (sides_of b)) (sides_of b)
+    by_test : (t : Bool) → b.have_output ≡ t → sides_of (record b { info = info; scratch_flags = flags; order = order; lent = lent }) ≡ with_flagged bits (index_in_all start (sides_of b)) (index_in_all end (sides_of b)) (sides_of b)
     by_test true e =
         let here : from ≡ b.idx = rw e at begins in
         let first = unread e in
@@ -92,7 +92,7 @@ all_marked bits from to s = take-append-drop (length s.behind) (glyphs_marked bi
 all_flagged : (bits from to : ℕ) (s : Sides) → all_glyphs (with_flagged bits from to s) ≡ glyphs_flagged bits from to (all_glyphs s)
 all_flagged bits from to s = take-append-drop (length s.behind) (glyphs_flagged bits from to (all_glyphs s))
 
-pub places_order : (start end : ℕ) (s : Sides) → start ≤ end → place_of start s ≤ place_of end s
+pub places_order : (start end : ℕ) (s : Sides) → start ≤ end → index_in_all start s ≤ index_in_all end s
 places_order start end s le = omega arith
 
 pub marked_items : (bits from to : ℕ) (s : Sides) → bits < 8 → from ≤ to → items_of (with_marked bits from to s) ≡ items_of s

@@ -15,7 +15,7 @@ use Rattle.glyph_sides.specs.declared.order.KnownOrder.{KnownOrder}
 use Rattle.glyph_sides.specs.declared.order.Lent.{Lent}
 use Rattle.glyph_buffer.specs.Inside.{sides_of, start_of}
 use Rattle.glyph_buffer.specs.Sides.{Sides, all_glyphs, items_of}
-use Rattle.glyph_buffer.specs.Merging.{place_of, telling_flags, with_merged}
+use Rattle.glyph_buffer.specs.Merging.{index_in_all, telling_flags, with_merged}
 
 -- the glyphs of both sides, and the range that was merged
 pub record IsMerged (level : BufferClusterLevel) (i j n from to : ℕ) (behind new_behind ahead new_ahead : List hb_glyph_info_t) : Type 0 where
@@ -46,10 +46,10 @@ pub merged_view : (b : Inside) (info out : Vec hb_glyph_info_t) (order : KnownOr
     → drop from info.items ≡ glyphs_merged_at b.cluster_level (start - from) (end - from) (drop from b.info.items)
     → out.items ≡ beside_merged b.cluster_level (stretch (start - from) (end - from) (clusters (drop from b.info.items))) b.out_info.items
     → flags ≡ telling_flags (is_marked_at b.cluster_level (start - from) (end - from) (clusters (drop from b.info.items))) b.scratch_flags
-    → sides_of (record b { info = info; out_info = out; scratch_flags = flags; order = order; lent = lent }) ≡ with_merged (place_of start (sides_of b)) (place_of end (sides_of b)) (sides_of b)
+    → sides_of (record b { info = info; out_info = out; scratch_flags = flags; order = order; lent = lent }) ≡ with_merged (index_in_all start (sides_of b)) (index_in_all end (sides_of b)) (sides_of b)
 merged_view b info out order lent from start end flags le before unread begins i o f = by_test b.have_output refl
   where
-    by_test : (t : Bool) → b.have_output ≡ t → sides_of (record b { info = info; out_info = out; scratch_flags = flags; order = order; lent = lent }) ≡ with_merged (place_of start (sides_of b)) (place_of end (sides_of b)) (sides_of b)
+    by_test : (t : Bool) → b.have_output ≡ t → sides_of (record b { info = info; out_info = out; scratch_flags = flags; order = order; lent = lent }) ≡ with_merged (index_in_all start (sides_of b)) (index_in_all end (sides_of b)) (sides_of b)
     by_test true e =
         let here : from ≡ b.idx = rw e at begins in
         let first = unread e in
@@ -72,14 +72,14 @@ merged_view b info out order lent from start end flags le before unread begins i
 pub all_merged : (from to : ℕ) (s : Sides) → all_glyphs (with_merged from to s) ≡ glyphs_merged_at s.level from to (all_glyphs s)
 all_merged from to s = take-append-drop (length s.behind) (glyphs_merged_at s.level from to (all_glyphs s))
 
-places_order : (start end : ℕ) (s : Sides) → start ≤ end → place_of start s ≤ place_of end s
+places_order : (start end : ℕ) (s : Sides) → start ≤ end → index_in_all start s ≤ index_in_all end s
 places_order start end s le = omega arith
 
-pub merged_items : (start end : ℕ) (s : Sides) → start ≤ end → items_of (with_merged (place_of start s) (place_of end s) s) ≡ items_of s
-merged_items start end s le = ap strip (all_merged (place_of start s) (place_of end s) s) ∙ strip_merged_at s.level (place_of start s) (place_of end s) (all_glyphs s) (places_order start end s le)
+pub merged_items : (start end : ℕ) (s : Sides) → start ≤ end → items_of (with_merged (index_in_all start s) (index_in_all end s) s) ≡ items_of s
+merged_items start end s le = ap strip (all_merged (index_in_all start s) (index_in_all end s) s) ∙ strip_merged_at s.level (index_in_all start s) (index_in_all end s) (all_glyphs s) (places_order start end s le)
 
-pub merged_clusters : (start end : ℕ) (s : Sides) → start ≤ end → clusters (all_glyphs (with_merged (place_of start s) (place_of end s) s)) ≡ merged_at s.level (place_of start s) (place_of end s) (clusters (all_glyphs s))
-merged_clusters start end s le = ap clusters (all_merged (place_of start s) (place_of end s) s) ∙ clusters_merged_at s.level (place_of start s) (place_of end s) (all_glyphs s) (places_order start end s le)
+pub merged_clusters : (start end : ℕ) (s : Sides) → start ≤ end → clusters (all_glyphs (with_merged (index_in_all start s) (index_in_all end s) s)) ≡ merged_at s.level (index_in_all start s) (index_in_all end s) (clusters (all_glyphs s))
+merged_clusters start end s le = ap clusters (all_merged (index_in_all start s) (index_in_all end s) s) ∙ clusters_merged_at s.level (index_in_all start s) (index_in_all end s) (all_glyphs s) (places_order start end s le)
 
-pub merged_flags : (start end : ℕ) (s : Sides) → flags_of (all_glyphs (with_merged (place_of start s) (place_of end s) s)) ≡ flags_merged_at s.level (place_of start s) (place_of end s) (all_glyphs s)
-merged_flags start end s = ap flags_of (all_merged (place_of start s) (place_of end s) s) ∙ flags_of_merged_at s.level (place_of start s) (place_of end s) (all_glyphs s)
+pub merged_flags : (start end : ℕ) (s : Sides) → flags_of (all_glyphs (with_merged (index_in_all start s) (index_in_all end s) s)) ≡ flags_merged_at s.level (index_in_all start s) (index_in_all end s) (all_glyphs s)
+merged_flags start end s = ap flags_of (all_merged (index_in_all start s) (index_in_all end s) s) ∙ flags_of_merged_at s.level (index_in_all start s) (index_in_all end s) (all_glyphs s)

@@ -48,9 +48,9 @@ map_range_reversed v start end xs =
     let range = slice_range xs start end in
     rw (map-append v (take start xs ++ reverse range) (drop end xs), map-append v (take start xs) (reverse range), map-reverse v range, drop-map v end xs, take-map v start xs, drop-map v start xs, take-map v (end - start) (drop start xs)) refl
 
-pub range_view : (b : Inside) (info : Vec hb_glyph_info_t) (places : Vec GlyphPosition) (order : KnownOrder) (lent : Option Lent) (start end : ℕ) → b.have_output ≡ false → info.items ≡ range_reversed start end b.info.items → places.items ≡ range_reversed start end b.pos.items
-    → sides_of (record b { info = info; pos = places; order = order; lent = lent }) ≡ with_range_reversed start end (sides_of b)
-range_view b info places order lent start end h i p = rw (h, i, p, take-append-drop b.idx b.info.items) refl
+pub range_view : (b : Inside) (info : Vec hb_glyph_info_t) (positions : Vec GlyphPosition) (order : KnownOrder) (lent : Option Lent) (start end : ℕ) → b.have_output ≡ false → info.items ≡ range_reversed start end b.info.items → positions.items ≡ range_reversed start end b.pos.items
+    → sides_of (record b { info = info; pos = positions; order = order; lent = lent }) ≡ with_range_reversed start end (sides_of b)
+range_view b info positions order lent start end h i p = rw (h, i, p, take-append-drop b.idx b.info.items) refl
 
 all_in_range : (start end : ℕ) (s : Sides) → all_glyphs (with_range_reversed start end s) ≡ range_reversed start end (all_glyphs s)
 all_in_range start end s = take-append-drop s.read (range_reversed start end (all_glyphs s))

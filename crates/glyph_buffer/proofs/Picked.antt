@@ -12,8 +12,8 @@ use Rattle.glyph_buffer.specs.Inside.{sides_of}
 use Rattle.glyph_buffer.specs.Grouping.{with_picked_deleted}
 use Rattle.glyph_buffer.specs.Merging.{telling_flags}
 
-pub picked_view : (b : Inside) (info : Vec hb_glyph_info_t) (places : Vec GlyphPosition) (order : KnownOrder) (lent : Option Lent) (goes : hb_glyph_info_t → Bool) (at flags : ℕ) → b.have_output ≡ false
-    → info.items ≡ (all_passed b.cluster_level goes b.info.items b.pos.items).kept → places.items ≡ (all_passed b.cluster_level goes b.info.items b.pos.items).kept_places
+pub picked_view : (b : Inside) (info : Vec hb_glyph_info_t) (positions : Vec GlyphPosition) (order : KnownOrder) (lent : Option Lent) (goes : hb_glyph_info_t → Bool) (at flags : ℕ) → b.have_output ≡ false
+    → info.items ≡ (all_passed b.cluster_level goes b.info.items b.pos.items).kept → positions.items ≡ (all_passed b.cluster_level goes b.info.items b.pos.items).kept_positions
     → at ≡ min b.idx (length info.items) → flags ≡ telling_flags (all_passed b.cluster_level goes b.info.items b.pos.items).is_marked b.scratch_flags
-    → sides_of (record b { info = info; pos = places; idx = at; scratch_flags = flags; order = order; lent = lent }) ≡ with_picked_deleted goes (sides_of b)
-picked_view b info places order lent goes at flags h i p n f = rw (h, take-append-drop b.idx b.info.items, n, i, p, f) refl
+    → sides_of (record b { info = info; pos = positions; idx = at; scratch_flags = flags; order = order; lent = lent }) ≡ with_picked_deleted goes (sides_of b)
+picked_view b info positions order lent goes at flags h i p n f = rw (h, take-append-drop b.idx b.info.items, n, i, p, f) refl

@@ -11,7 +11,7 @@ use Rattle.glyph_buffer.specs.Inside.{sides_of}
 use Rattle.glyph_types.specs.declared.info.hb_glyph_info_t.{hb_glyph_info_t}
 use Rattle.glyph_lists.specs.Items.{item_of, strip, clusters, flags_of}
 use Rattle.glyph_buffer.specs.Moving.{of_length, with_len, zero_glyph}
-use Rattle.glyph_buffer.specs.Sides.{Sides, all_glyphs, items_of, zero_place}
+use Rattle.glyph_buffer.specs.Sides.{Sides, all_glyphs, items_of, zero_position}
 
 map_copies : {X Y : Type 0} (v : X → Y) (n : ℕ) (x : X) → map v (replicate n x) ≡ replicate n (v x)
 map_copies v zero x = refl
@@ -34,6 +34,6 @@ len_clusters n s = ap clusters (all_of_len n s) ∙ seen (λ (g : hb_glyph_info_
 pub len_flags : (n : ℕ) (s : Sides) → flags_of (all_glyphs (with_len n s)) ≡ of_length n 0 (flags_of (all_glyphs s))
 len_flags n s = ap flags_of (all_of_len n s) ∙ seen (λ (g : hb_glyph_info_t). bit_and g.mask 7) n zero_glyph (all_glyphs s)
 
-pub resized_view : (b : Inside) (info : Vec hb_glyph_info_t) (places : Vec GlyphPosition) (order : KnownOrder) (lent : Option Lent) (idx n : ℕ) → b.have_output ≡ false → info.items ≡ of_length n zero_glyph b.info.items → places.items ≡ of_length n zero_place b.pos.items → idx ≡ min b.idx n
-    → sides_of (record b { info = info; pos = places; idx = idx; order = order; lent = lent }) ≡ with_len n (sides_of b)
-resized_view b info places order lent idx n h i p e = rw (h, i, p, e, take-append-drop b.idx b.info.items) refl
+pub resized_view : (b : Inside) (info : Vec hb_glyph_info_t) (positions : Vec GlyphPosition) (order : KnownOrder) (lent : Option Lent) (idx n : ℕ) → b.have_output ≡ false → info.items ≡ of_length n zero_glyph b.info.items → positions.items ≡ of_length n zero_position b.pos.items → idx ≡ min b.idx n
+    → sides_of (record b { info = info; pos = positions; idx = idx; order = order; lent = lent }) ≡ with_len n (sides_of b)
+resized_view b info positions order lent idx n h i p e = rw (h, i, p, e, take-append-drop b.idx b.info.items) refl

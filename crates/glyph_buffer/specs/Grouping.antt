@@ -9,19 +9,19 @@ use Rattle.glyph_buffer.specs.Merging.{telling_flags}
 use Rattle.glyph_buffer.specs.Sides.{Sides, all_glyphs, with_list}
 
 abbrev pub with_turning : Turning → Sides → Sides
-with_turning t s = record (with_list t.glyphs t.places s) { scratch_flags = telling_flags t.is_marked s.scratch_flags }
+with_turning t s = record (with_list t.glyphs t.positions s) { scratch_flags = telling_flags t.is_marked s.scratch_flags }
 
 -- the order of the groups turned round, each merged before where that is asked for
 abbrev pub with_groups_turned : Bool → (hb_glyph_info_t → hb_glyph_info_t → Bool) → Sides → Sides
-with_groups_turned merge joins s = with_turning (turned merge s.level joins (all_glyphs s) s.places) s
+with_groups_turned merge joins s = with_turning (turned merge s.level joins (all_glyphs s) s.positions) s
 
 -- what is left after a walk of deletions, with the cursor no further than behind the last
 abbrev pub with_passed : Passed → Sides → Sides
-with_passed t s = record (with_list t.kept t.kept_places (record s { read = min s.read (length t.kept) })) { scratch_flags = telling_flags t.is_marked s.scratch_flags }
+with_passed t s = record (with_list t.kept t.kept_positions (record s { read = min s.read (length t.kept) })) { scratch_flags = telling_flags t.is_marked s.scratch_flags }
 
 -- the glyphs that a test picks go, from the left
 abbrev pub with_picked_deleted : (hb_glyph_info_t → Bool) → Sides → Sides
-with_picked_deleted goes s = with_passed (all_passed s.level goes (all_glyphs s) s.places) s
+with_picked_deleted goes s = with_passed (all_passed s.level goes (all_glyphs s) s.positions) s
 
 abbrev pub with_left : Left → Bool → Sides → Sides
 with_left l any s = record s { behind = l.front; ahead = l.back; read = s.read + 1; scratch_flags = telling_flags any s.scratch_flags }

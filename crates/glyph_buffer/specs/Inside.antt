@@ -10,7 +10,7 @@ abbrev pub sides_of : Inside → Sides
 sides_of b = record {
   behind = if b.have_output then b.out_info.items else take b.idx b.info.items;
   ahead = drop b.idx b.info.items;
-  places = if b.have_output then [] else b.pos.items;
+  positions = if b.have_output then [] else b.pos.items;
   is_open = b.have_output;
   read = b.idx;
   has_refused = not b.successful;

@@ -6,7 +6,7 @@ use Rattle.glyph_types.specs.declared.position.GlyphPosition.{GlyphPosition}
 use Rattle.glyph_types.specs.contracts.info.hb_glyph_info_t.{the_row as info_row}
 use Rattle.glyph_types.specs.contracts.position.GlyphPosition.{the_row as place_row}
 use Rattle.glyph_buffer.specs.contracts.buffer.hb_buffer_t.{the_row}
-use Rattle.glyph_lists.specs.Items.{Place}
+use Rattle.glyph_lists.specs.Items.{Position}
 use Rattle.glyph_buffer.specs.Merging.{with_glyphs}
 use Rattle.glyph_buffer.specs.Sides.{Sides, all_glyphs}
 
@@ -15,8 +15,8 @@ abbrev pub with_glyph_ahead : ℕ → hb_glyph_info_t → Sides → Sides
 with_glyph_ahead i g s = record s { ahead = slice_set s.ahead i g }
 
 -- another place for the glyph at the cursor
-abbrev pub with_current_place : GlyphPosition → Sides → Sides
-with_current_place p s = record s { places = slice_set s.places s.read p }
+abbrev pub with_current_position : GlyphPosition → Sides → Sides
+with_current_position p s = record s { positions = slice_set s.positions s.read p }
 
 -- another glyph at the end of the output
 abbrev pub with_last_behind : hb_glyph_info_t → Sides → Sides
@@ -26,21 +26,21 @@ with_last_behind g s = record s { behind = slice_set s.behind (length s.behind -
 abbrev pub refilled : {X : Type 0} → List X → List X → List X
 refilled new old = take (length old) (new ++ drop (length new) old)
 
--- other glyphs, other glyphs of the output, other places
+-- other glyphs, other glyphs of the output, other positions
 abbrev pub with_refilled : List hb_glyph_info_t → Sides → Sides
 with_refilled gs s = with_glyphs (refilled gs (all_glyphs s)) s
 
 abbrev pub with_output_refilled : List hb_glyph_info_t → Sides → Sides
 with_output_refilled gs s = record s { behind = refilled gs s.behind }
 
-abbrev pub with_places_refilled : List Place → Sides → Sides
-with_places_refilled ps s = record s { places = refilled ps s.places }
+abbrev pub with_positions_refilled : List Position → Sides → Sides
+with_positions_refilled ps s = record s { positions = refilled ps s.positions }
 
 abbrev pub LendsGlyph : ℕ → MutBor Sides → MutBor hb_glyph_info_t → Fml
 LendsGlyph i s r = Lends the_row info_row s r (λ g. with_glyph_ahead i g s.now)
 
 abbrev pub LendsPlace : MutBor Sides → MutBor GlyphPosition → Fml
-LendsPlace s r = Lends the_row place_row s r (λ p. with_current_place p s.now)
+LendsPlace s r = Lends the_row place_row s r (λ p. with_current_position p s.now)
 
 abbrev pub LendsLast : MutBor Sides → MutBor hb_glyph_info_t → Fml
 LendsLast s r = Lends the_row info_row s r (λ g. with_last_behind g s.now)
@@ -52,4 +52,4 @@ abbrev pub LendsOutput : MutBor Sides → MutBor (List hb_glyph_info_t) → Fml
 LendsOutput s r = Lends the_row (Array info_row 0) s r (λ gs. with_output_refilled gs s.now)
 
 abbrev pub LendsPlaces : MutBor Sides → MutBor (List GlyphPosition) → Fml
-LendsPlaces s r = Lends the_row (Array place_row 0) s r (λ ps. with_places_refilled ps s.now)
+LendsPlaces s r = Lends the_row (Array place_row 0) s r (λ ps. with_positions_refilled ps s.now)

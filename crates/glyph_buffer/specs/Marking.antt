@@ -4,7 +4,7 @@ use Rattle.glyph_lists.specs.Items.{clusters}
 use Rattle.glyph_lists.specs.Events.{stretch}
 use Rattle.glyph_lists.specs.Glyphs.{glyphs_marked, glyphs_flagged, tells_apart}
 use Rattle.glyph_buffer.specs.Sides.{Sides, all_glyphs}
-use Rattle.glyph_buffer.specs.Merging.{place_of, with_glyphs, telling_flags}
+use Rattle.glyph_buffer.specs.Merging.{index_in_all, with_glyphs, telling_flags}
 
 -- the first index of a range, and the one behind it, where they were not told
 abbrev pub start_or : Option ℕ → ℕ
@@ -13,20 +13,20 @@ start_or start = unwrap_or start 0
 abbrev pub end_or : Option ℕ → Sides → ℕ
 end_or end s = unwrap_or end (s.read + length s.ahead)
 
--- the places from `from` up to before `to` have flags set outside the least cluster among them
+-- the indices from `from` up to before `to` have flags set outside the least cluster among them
 abbrev pub with_marked : ℕ → ℕ → ℕ → Sides → Sides
 with_marked bits from to s = record (with_glyphs (glyphs_marked bits from to (all_glyphs s)) s) { scratch_flags = telling_flags (tells_apart (stretch from to (clusters (all_glyphs s)))) s.scratch_flags }
 
--- such places have flags set
+-- such indices have flags set
 abbrev pub with_flagged : ℕ → ℕ → ℕ → Sides → Sides
 with_flagged bits from to s = record (with_glyphs (glyphs_flagged bits from to (all_glyphs s)) s) { scratch_flags = telling_flags (nat_lt from to) s.scratch_flags }
 
 -- a range of the input
 abbrev pub marked_range : ℕ → Option ℕ → Option ℕ → Sides → Sides
-marked_range bits start end s = with_marked bits (place_of (start_or start) s) (place_of (end_or end s) s) s
+marked_range bits start end s = with_marked bits (index_in_all (start_or start) s) (index_in_all (end_or end s) s) s
 
 abbrev pub flagged_range : ℕ → Option ℕ → Option ℕ → Sides → Sides
-flagged_range bits start end s = with_flagged bits (place_of (start_or start) s) (place_of (end_or end s) s) s
+flagged_range bits start end s = with_flagged bits (index_in_all (start_or start) s) (index_in_all (end_or end s) s) s
 
 -- whether it is asked to tell where texts may not be put together, and where a tatweel may stand
 abbrev pub asks_concat : Sides → Bool
@@ -43,10 +43,10 @@ tatweel_marked start end s = if asks_tatweel s then marked_range 4 start end s e
 
 -- a range that begins in the output and ends in the input
 abbrev pub marked_across : ℕ → Option ℕ → Option ℕ → Sides → Sides
-marked_across bits start end s = with_marked bits (start_or start) (place_of (end_or end s) s) s
+marked_across bits start end s = with_marked bits (start_or start) (index_in_all (end_or end s) s) s
 
 abbrev pub flagged_across : ℕ → Option ℕ → Option ℕ → Sides → Sides
-flagged_across bits start end s = with_flagged bits (start_or start) (place_of (end_or end s) s) s
+flagged_across bits start end s = with_flagged bits (start_or start) (index_in_all (end_or end s) s) s
 
 abbrev pub concat_marked_across : Option ℕ → Option ℕ → Sides → Sides
 concat_marked_across start end s = if asks_concat s then flagged_across 2 start end s else s

@@ -11,8 +11,8 @@ use Rattle.glyph_lists.specs.Replacements.{copied, glyph_numbered}
 use Rattle.glyph_buffer.specs.Sides.{Sides, all_glyphs, has_output_room}
 
 -- the place among all glyphs of an index of the input; with no output open the input is all glyphs
-abbrev pub place_of : ℕ → Sides → ℕ
-place_of i s = length s.behind + i - s.read
+abbrev pub index_in_all : ℕ → Sides → ℕ
+index_in_all i s = length s.behind + i - s.read
 
 -- other glyphs on both sides, as many as before
 abbrev pub with_glyphs : List hb_glyph_info_t → Sides → Sides
@@ -22,11 +22,11 @@ with_glyphs gs s = record s { behind = take (length s.behind) gs; ahead = drop (
 abbrev pub telling_flags : Bool → ℕ → ℕ
 telling_flags any flags = if any then bit_or flags 32 else flags
 
--- the places from `from` up to before `to` merge; at the level that keeps characters apart they are marked
+-- the indices from `from` up to before `to` merge; at the level that keeps characters apart they are marked
 abbrev pub with_merged : ℕ → ℕ → Sides → Sides
 with_merged from to s = record (with_glyphs (glyphs_merged_at s.level from to (all_glyphs s)) s) { scratch_flags = telling_flags (is_marked_at s.level from to (clusters (all_glyphs s))) s.scratch_flags }
 
--- what a merge of such places within the output leaves: at the level that keeps characters apart nothing changes
+-- what a merge of such indices within the output leaves: at the level that keeps characters apart nothing changes
 abbrev pub output_merged_at : BufferClusterLevel → ℕ → ℕ → List hb_glyph_info_t → List hb_glyph_info_t
 output_merged_at MonotoneGraphemes from to gs = glyphs_merged (stretch from to (clusters gs)) gs
 output_merged_at MonotoneCharacters from to gs = glyphs_merged (stretch from to (clusters gs)) gs
@@ -38,7 +38,7 @@ flags_output_merged_at MonotoneGraphemes from to gs = flags_merged (stretch from
 flags_output_merged_at MonotoneCharacters from to gs = flags_merged (stretch from to (clusters gs)) gs
 flags_output_merged_at Characters from to gs = flags_of gs
 
--- the places of the output from `from` up to before `to` merge
+-- the positions of the output from `from` up to before `to` merge
 abbrev pub with_output_merged : ℕ → ℕ → Sides → Sides
 with_output_merged from to s = with_glyphs (output_merged_at s.level from to (all_glyphs s)) s
 

@@ -1,7 +1,7 @@
 -- The cursor at another place, and lists cut, filled or turned round in part.
 use Rattle.std.specs.Prelude.{ℕ, ◌+◌, ◌-◌, ◌&&◌, Bool, true, not, nat_le, nat_lt, if◌then◌else◌, List, ◌++◌, length, take, drop, reverse, replicate, min, slice_range}
 use Rattle.glyph_types.specs.declared.info.hb_glyph_info_t.{hb_glyph_info_t}
-use Rattle.glyph_buffer.specs.Sides.{Sides, all_glyphs, with_list, zero_place}
+use Rattle.glyph_buffer.specs.Sides.{Sides, all_glyphs, with_list, zero_position}
 use Rattle.glyph_buffer.specs.Text.{added_glyph}
 
 -- the cursor stands in front of the i-th of all glyphs; glyphs that come back were not read
@@ -20,9 +20,9 @@ fits_moved i s = if s.is_open then not s.has_refused && side_holds i s else true
 abbrev pub range_reversed : {X : Type 0} → ℕ → ℕ → List X → List X
 range_reversed start end xs = take start xs ++ reverse (slice_range xs start end) ++ drop end xs
 
--- a range of glyphs and places turned round
+-- a range of glyphs and positions turned round
 abbrev pub with_range_reversed : ℕ → ℕ → Sides → Sides
-with_range_reversed start end s = with_list (range_reversed start end (all_glyphs s)) (range_reversed start end s.places) s
+with_range_reversed start end s = with_list (range_reversed start end (all_glyphs s)) (range_reversed start end s.positions) s
 
 -- n elements: those behind are cut off, and those that are missing are x
 abbrev pub of_length : {X : Type 0} → ℕ → X → List X → List X
@@ -32,6 +32,6 @@ of_length n x xs = take n xs ++ replicate (n - length xs) x
 abbrev pub zero_glyph : hb_glyph_info_t
 zero_glyph = added_glyph 0 0
 
--- n glyphs and places, with the cursor no further than behind the last
+-- n glyphs and positions, with the cursor no further than behind the last
 abbrev pub with_len : ℕ → Sides → Sides
-with_len n s = with_list (of_length n zero_glyph (all_glyphs s)) (of_length n zero_place s.places) (record s { read = min s.read n })
+with_len n s = with_list (of_length n zero_glyph (all_glyphs s)) (of_length n zero_position s.positions) (record s { read = min s.read n })

@@ -4,7 +4,7 @@ use Rattle.glyph_types.specs.declared.info.hb_glyph_info_t.{hb_glyph_info_t}
 use Rattle.glyph_types.specs.declared.level.BufferClusterLevel.{BufferClusterLevel}
 use Rattle.glyph_types.specs.declared.level.BufferClusterLevel.TheVariants.{MonotoneGraphemes}
 pub use Rattle.glyph_lists.specs.Items.{flags_of}
-use Rattle.glyph_lists.specs.Items.{Item, Place, strip}
+use Rattle.glyph_lists.specs.Items.{Item, Position, strip}
 use Rattle.glyph_lists.specs.Readings.{Run}
 use Rattle.shaping_text.specs.declared.constants.BufferFlags.{BufferFlags}
 use Rattle.shaping_text.specs.declared.direction.Direction.{Direction}
@@ -17,7 +17,7 @@ pub record Sides : Type 0 where
   pub behind : List hb_glyph_info_t
   pub ahead : List hb_glyph_info_t
   -- a place for each glyph; an open output has none
-  pub places : List Place
+  pub positions : List Position
   pub is_open : Bool
   -- how many glyphs were read since the output was opened, or stand behind the cursor
   pub read : ℕ
@@ -51,21 +51,21 @@ items_of s = strip (all_glyphs s)
 
 -- what a stage of shaping sees
 abbrev pub run_of : Sides → Run
-run_of s = record { glyphs = all_glyphs s; places = s.places; level = s.level }
+run_of s = record { glyphs = all_glyphs s; positions = s.positions; level = s.level }
 
-abbrev pub zero_place : Place
-zero_place = record { x_advance = pos 0; y_advance = pos 0; x_offset = pos 0; y_offset = pos 0; attach_chain = pos 0; attach_type = 0 }
+abbrev pub zero_position : Position
+zero_position = record { x_advance = pos 0; y_advance = pos 0; x_offset = pos 0; y_offset = pos 0; attach_chain = pos 0; attach_type = 0 }
 
--- so many places of nothing
-abbrev pub zero_places : ℕ → List Place
-zero_places n = replicate n zero_place
+-- so many positions of nothing
+abbrev pub zero_positions : ℕ → List Position
+zero_positions n = replicate n zero_position
 
 -- what `new` leaves
 abbrev pub empty_buffer : Sides
 empty_buffer = record {
   behind = [];
   ahead = [];
-  places = [];
+  positions = [];
   is_open = false;
   read = 0;
   has_refused = false;
@@ -84,9 +84,9 @@ empty_buffer = record {
   flags = record { 0 = 0 };
 }
 
--- more glyphs at the end, with places of nothing
+-- more glyphs at the end, with positions of nothing
 abbrev pub with_added : List hb_glyph_info_t → Sides → Sides
-with_added gs s = record s { ahead = s.ahead ++ gs; places = s.places ++ zero_places (length gs) }
+with_added gs s = record s { ahead = s.ahead ++ gs; positions = s.positions ++ zero_positions (length gs) }
 
 -- whether so many more glyphs may stand in the list
 abbrev pub has_room : ℕ → Sides → Bool
@@ -94,7 +94,7 @@ has_room n s = nat_le (length (all_glyphs s) + n) s.max_len
 
 -- the cursor stands in front of all glyphs, and an empty output is open
 abbrev pub with_output : Sides → Sides
-with_output s = record s { behind = []; ahead = all_glyphs s; places = []; is_open = true; read = 0 }
+with_output s = record s { behind = []; ahead = all_glyphs s; positions = []; is_open = true; read = 0 }
 
 -- the first n glyphs ahead go behind the cursor
 abbrev pub moved_on : ℕ → Sides → Sides
@@ -116,17 +116,17 @@ refused s = record s { has_refused = true }
 abbrev pub fits_joined : Sides → Bool
 fits_joined s = not s.has_refused && has_room 0 s
 
--- both sides become one list with places of nothing, and the cursor stands at its front
+-- both sides become one list with positions of nothing, and the cursor stands at its front
 abbrev pub synced : Sides → Sides
-synced s = record s { behind = []; ahead = all_glyphs s; places = zero_places (length (all_glyphs s)); is_open = false; read = 0 }
+synced s = record s { behind = []; ahead = all_glyphs s; positions = zero_positions (length (all_glyphs s)); is_open = false; read = 0 }
 
--- other glyphs and places, as many as before; the cursor stays
-abbrev pub with_list : List hb_glyph_info_t → List Place → Sides → Sides
-with_list gs ps s = record s { behind = take s.read gs; ahead = drop s.read gs; places = ps }
+-- other glyphs and positions, as many as before; the cursor stays
+abbrev pub with_list : List hb_glyph_info_t → List Position → Sides → Sides
+with_list gs ps s = record s { behind = take s.read gs; ahead = drop s.read gs; positions = ps }
 
--- glyphs and places turned round
+-- glyphs and positions turned round
 abbrev pub reversed : Sides → Sides
-reversed s = with_list (reverse (all_glyphs s)) (reverse s.places) s
+reversed s = with_list (reverse (all_glyphs s)) (reverse s.positions) s
 
 -- another cluster level
 abbrev pub with_level : BufferClusterLevel → Sides → Sides
@@ -145,5 +145,5 @@ abbrev pub with_max_len : ℕ → Sides → Sides
 with_max_len n s = record s { max_len = n }
 
 -- each place nothing
-abbrev pub with_cleared_places : Sides → Sides
-with_cleared_places s = record s { places = zero_places (length s.places) }
+abbrev pub with_cleared_positions : Sides → Sides
+with_cleared_positions s = record s { positions = zero_positions (length s.positions) }

@@ -17,11 +17,11 @@ fn holds(rt: &impl Abort, glyphs: &[hb_glyph_info_t], want: &[(char, u32)]) {
     }
 }
 
-/// Asserts that there are so many places, each nothing.
-fn holds_no_places(rt: &impl Abort, places: &[GlyphPosition], count: usize) {
-    assert_eq!(rt; places.len(), count);
+/// Asserts that there are so many positions, each nothing.
+fn holds_zero_positions(rt: &impl Abort, positions: &[GlyphPosition], count: usize) {
+    assert_eq!(rt; positions.len(), count);
     assert!(rt;
-        places
+        positions
             .iter()
             .all(|place| *place == GlyphPosition::default())
     );
@@ -43,7 +43,7 @@ fn reads_the_list_into_an_output_and_back(rt: HostRuntime) -> Result<(), Fail> {
     assert!(rt; buffer.next_glyph()?);
     assert!(rt; buffer.sync()?);
     holds(&rt, buffer.info_slice(), &[('a', 0), ('é', 1), ('€', 3)]);
-    holds_no_places(&rt, buffer.pos_slice(), 3);
+    holds_zero_positions(&rt, buffer.pos_slice(), 3);
     Ok(())
 }
 
@@ -58,7 +58,7 @@ fn joins_what_was_not_read(rt: HostRuntime) -> Result<(), Fail> {
     assert_eq!(rt; buffer.cur(0).cluster, 20);
     assert!(rt; buffer.sync()?);
     holds(&rt, buffer.info_slice(), &[('x', 10), ('y', 20)]);
-    holds_no_places(&rt, buffer.pos_slice(), 2);
+    holds_zero_positions(&rt, buffer.pos_slice(), 2);
     Ok(())
 }
 
@@ -73,7 +73,7 @@ fn turns_glyphs_and_places_round(rt: HostRuntime) -> Result<(), Fail> {
     let advances = buffer.pos_slice().iter().map(|place| place.x_advance);
     assert!(rt; advances.eq([0, 0, 500]));
     buffer.clear_positions();
-    holds_no_places(&rt, buffer.pos_slice(), 3);
+    holds_zero_positions(&rt, buffer.pos_slice(), 3);
     Ok(())
 }
 

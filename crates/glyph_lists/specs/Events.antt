@@ -1,9 +1,9 @@
 -- The parts of a text, and what shaping does to them. A list has for each item the number of its part.
 use Rattle.std.specs.Prelude.{ℕ, ◌+◌, ◌-◌, ◌==◌, ◌&&◌, ◌||◌, Bool, false, nat_le, min, max, if◌then◌else◌, List, [], ◌∷◌, ◌++◌, Option, Some, None, map, take, drop, reverse, replicate, fold, length, slice_get}
 
--- one step of shaping, by places of the list before it
+-- one step of shaping, by indices of the list before it
 pub data Event : Type 0 where
-  -- the parts from the first to the last that occur at the places from `from` up to before `to` become one
+  -- the parts from the first to the last that occur at the indices from `from` up to before `to` become one
   Join : (from to : ℕ) → Event
   -- so many items at a place become one part, and make room for new items of that part
   Replace : (at taken given : ℕ) → Event
@@ -31,7 +31,7 @@ abbrev pub joined : List ℕ → List ℕ → List ℕ
 joined [] ns = ns
 joined (n ∷ rest) ns = united_all n (last_from n rest) ns
 
--- the places from `from` up to before `to`
+-- the indices from `from` up to before `to`
 abbrev pub stretch : ℕ → ℕ → List ℕ → List ℕ
 stretch from to ns = take (to - from) (drop from ns)
 

@@ -29,11 +29,11 @@ tells_apart range = list_any (λ n. not (n == least_number range)) range
 abbrev pub marked_outside : ℕ → ℕ → hb_glyph_info_t → hb_glyph_info_t
 marked_outside bits low g = if g.cluster == low then g else record g { mask = bit_or g.mask bits }
 
--- the places from `from` up to before `to` have flags set outside the least cluster among them
+-- the indices from `from` up to before `to` have flags set outside the least cluster among them
 abbrev pub glyphs_marked : ℕ → ℕ → ℕ → List hb_glyph_info_t → List hb_glyph_info_t
 glyphs_marked bits from to gs = take from gs ++ map (marked_outside bits (least_number (stretch from to (clusters gs)))) (slice_range gs from to) ++ drop to gs
 
--- what a merge of such places leaves: at the level that keeps characters apart they are marked as unsafe to break and to concat
+-- what a merge of such indices leaves: at the level that keeps characters apart they are marked as unsafe to break and to concat
 abbrev pub glyphs_merged_at : BufferClusterLevel → ℕ → ℕ → List hb_glyph_info_t → List hb_glyph_info_t
 glyphs_merged_at MonotoneGraphemes from to gs = glyphs_merged (stretch from to (clusters gs)) gs
 glyphs_merged_at MonotoneCharacters from to gs = glyphs_merged (stretch from to (clusters gs)) gs
@@ -45,7 +45,7 @@ beside_merged MonotoneGraphemes range gs = glyphs_merged range gs
 beside_merged MonotoneCharacters range gs = glyphs_merged range gs
 beside_merged Characters range gs = gs
 
--- whether a merge of such places marks a glyph
+-- whether a merge of such indices marks a glyph
 abbrev pub is_marked_at : BufferClusterLevel → ℕ → ℕ → List ℕ → Bool
 is_marked_at MonotoneGraphemes from to ns = false
 is_marked_at MonotoneCharacters from to ns = false
@@ -59,11 +59,11 @@ flags_merged range gs = map (λ (g : hb_glyph_info_t). if g.cluster == merged ra
 abbrev pub flags_outside : ℕ → ℕ → hb_glyph_info_t → ℕ
 flags_outside bits low g = if g.cluster == low then glyph_flags g else bit_or (glyph_flags g) bits
 
--- the glyph flags after some places were marked outside the least cluster among them
+-- the glyph flags after some indices were marked outside the least cluster among them
 abbrev pub flags_marked : ℕ → ℕ → ℕ → List hb_glyph_info_t → List ℕ
 flags_marked bits from to gs = take from (flags_of gs) ++ map (flags_outside bits (least_number (stretch from to (clusters gs)))) (slice_range gs from to) ++ drop to (flags_of gs)
 
--- the glyph flags after a merge of such places
+-- the glyph flags after a merge of such indices
 abbrev pub flags_merged_at : BufferClusterLevel → ℕ → ℕ → List hb_glyph_info_t → List ℕ
 flags_merged_at MonotoneGraphemes from to gs = flags_merged (stretch from to (clusters gs)) gs
 flags_merged_at MonotoneCharacters from to gs = flags_merged (stretch from to (clusters gs)) gs
@@ -73,7 +73,7 @@ flags_merged_at Characters from to gs = flags_marked 3 from to gs
 abbrev pub flagged : ℕ → hb_glyph_info_t → hb_glyph_info_t
 flagged bits g = record g { mask = bit_or g.mask bits }
 
--- the places from `from` up to before `to` have flags set
+-- the indices from `from` up to before `to` have flags set
 abbrev pub glyphs_flagged : ℕ → ℕ → ℕ → List hb_glyph_info_t → List hb_glyph_info_t
 glyphs_flagged bits from to gs = take from gs ++ map (flagged bits) (slice_range gs from to) ++ drop to gs
 

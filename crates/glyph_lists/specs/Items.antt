@@ -51,5 +51,5 @@ abbrev pub flags_of : List hb_glyph_info_t → List ℕ
 flags_of gs = map glyph_flags gs
 
 -- where a glyph stands: two advances and two offsets, and its link
-abbrev pub Place : Type 0
-Place = GlyphPosition
+abbrev pub Position : Type 0
+Position = GlyphPosition

@@ -18,7 +18,7 @@ merged range n = if has_number range n then least_number range else n
 abbrev pub merged_numbers : List ℕ → List ℕ → List ℕ
 merged_numbers range ns = map (merged range) ns
 
--- what a merge of the places from `from` up to before `to` leaves: only at the monotone levels do numbers change
+-- what a merge of the indices from `from` up to before `to` leaves: only at the monotone levels do numbers change
 abbrev pub merged_at : BufferClusterLevel → ℕ → ℕ → List ℕ → List ℕ
 merged_at MonotoneGraphemes from to ns = merged_numbers (stretch from to ns) ns
 merged_at MonotoneCharacters from to ns = merged_numbers (stretch from to ns) ns

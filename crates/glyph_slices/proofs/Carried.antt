@@ -150,7 +150,7 @@ up_to_range gs start end a n xs le is falling h =
       | inr among ↦ least.below n among
     ]
 
--- a merge by places
+-- a merge by positions
 merged_from : (gs : List Glyph) (at start end a : ℕ) (xs : List ℕ) → at ≤ start → start < end → clusters (slice_range gs start end) ≡ a ∷ xs → IsFalling (clusters gs)
     → ((n : ℕ) → Has (clusters (take at gs)) n → n ≢ a) → ((n : ℕ) → Has (clusters (slice_range gs at start)) n → n ≡ a)
     → carried (record { from = at; to = end; cluster = least_number (a ∷ xs) }) gs ≡ glyphs_merged (stretch start end (clusters gs)) gs

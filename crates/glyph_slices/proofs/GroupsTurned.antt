@@ -7,7 +7,7 @@ use Rattle.std.proofs.lemmas.List.Concat.{flat_map-append}
 use Rattle.std.proofs.Math.Seq.{take-append_seam, drop-append_seam}
 use Rattle.glyph_types.specs.declared.info.hb_glyph_info_t.{hb_glyph_info_t as Glyph}
 use Rattle.glyph_types.specs.declared.level.BufferClusterLevel.{BufferClusterLevel}
-use Rattle.glyph_lists.specs.Items.{Place}
+use Rattle.glyph_lists.specs.Items.{Position}
 use Rattle.glyph_slices.specs.Groups.{joined_behind, group_length}
 use Rattle.glyph_slices.specs.Turning.{in_front, groups, groups_turned, all_turned, turned}
 use Rattle.glyph_slices.specs.Laws.{cut_into, GroupsAreAll, TurnsGroups}
@@ -29,8 +29,8 @@ turned_onto p x xs =
     let rest = groups p (drop n (x ∷ xs)) in
     ap (λ gss. flat_map (λ ys. ys) (reverse gss)) (groups_cut p x xs) ∙ ap (flat_map (λ ys. ys)) (reverse_onto rest first []) ∙ flat_map-append (λ ys. ys) (reverse rest) (first ∷ []) ∙ ap (λ zs. flat_map (λ ys. ys) (reverse rest) ++ zs) (append-nil first)
 
-all_plain : (n : ℕ) (level : BufferClusterLevel) (p : Glyph → Glyph → Bool) (gs : List Glyph) (ps pa : List Place) (m : Bool) (ahead : List Glyph) → length ahead ≤ n
-    → (all_turned false level p n (record { glyphs = gs; places = ps; ahead = ahead; places_ahead = pa; is_marked = m })).glyphs ≡ groups_turned p ahead ++ gs
+all_plain : (n : ℕ) (level : BufferClusterLevel) (p : Glyph → Glyph → Bool) (gs : List Glyph) (ps pa : List Position) (m : Bool) (ahead : List Glyph) → length ahead ≤ n
+    → (all_turned false level p n (record { glyphs = gs; positions = ps; ahead = ahead; positions_ahead = pa; is_marked = m })).glyphs ≡ groups_turned p ahead ++ gs
 all_plain zero level p gs ps pa m [] le = refl
 all_plain zero level p gs ps pa m (x ∷ xs) le = absurd (omega arith)
 all_plain (suc n) level p gs ps pa m [] le = all_plain n level p gs ps pa _ [] (omega arith)
@@ -40,7 +40,7 @@ all_plain (suc n) level p gs ps pa m (x ∷ xs) le =
     all_plain n level p (take k (x ∷ xs) ++ gs) (take k pa ++ ps) (drop k pa) _ (drop k (x ∷ xs)) few
     ∙ sym (append_assoc (groups_turned p (drop k (x ∷ xs))) (take k (x ∷ xs)) gs) ∙ ap (λ ys. ys ++ gs) (sym (turned_onto p x xs))
 
-pub turned_plain : (level : BufferClusterLevel) (p : Glyph → Glyph → Bool) (gs : List Glyph) (ps : List Place) → (turned false level p gs ps).glyphs ≡ groups_turned p gs
+pub turned_plain : (level : BufferClusterLevel) (p : Glyph → Glyph → Bool) (gs : List Glyph) (ps : List Position) → (turned false level p gs ps).glyphs ≡ groups_turned p gs
 turned_plain level p gs ps = all_plain (length gs) level p [] [] ps false gs (omega arith) ∙ append-nil (groups_turned p gs)
 
 onto_flat : {X : Type 0} (p : X → X → Bool) (x : X) (gss : List (List X)) → flat_map (λ ys. ys) (in_front p x gss) ≡ x ∷ flat_map (λ ys. ys) gss

@@ -3,7 +3,7 @@ use Rattle.std.proofs.Common.{ℕ, suc, zero, ◌≡◌, ◌≤◌, Bool, true, 
 use Rattle.std.proofs.lemmas.List.{map-append}
 use Rattle.glyph_types.specs.declared.info.hb_glyph_info_t.{hb_glyph_info_t as Glyph}
 use Rattle.glyph_types.specs.declared.level.BufferClusterLevel.{BufferClusterLevel as Level}
-use Rattle.glyph_lists.specs.Items.{Item, Place, item_of, strip, clusters, flags_of, glyph_flags}
+use Rattle.glyph_lists.specs.Items.{Item, Position, item_of, strip, clusters, flags_of, glyph_flags}
 use Rattle.glyph_slices.specs.Deleting.{glyphs_deleted}
 use Rattle.glyph_slices.specs.Deleted.{items_deleted}
 use Rattle.glyph_slices.specs.DeletionWalk.{Passed, with_glyph, without_glyph, many_passed, all_passed}
@@ -12,13 +12,13 @@ use Rattle.glyph_slices.specs.Flags.{flags_deleted, flags_behind, flags_kept}
 use Rattle.glyph_slices.specs.DeletedFlags.{front_flags, back_flags}
 use Rattle.glyph_slices.proofs.Kept.{back_length, clusters_apart}
 
-flags_many : (n : ℕ) (level : Level) (q : Item → Bool) (ks : List Glyph) (kp : List Place) (ahead : List Glyph) (pa : List Place) (m : Bool) → length ahead ≤ n
-    → flags_of (many_passed level (λ g. q (item_of g)) n (record { kept = ks; kept_places = kp; ahead = ahead; places_ahead = pa; is_marked = m })).kept ≡ flags_behind level q (clusters ks) (flags_of ks) (strip ahead) (clusters ahead) (flags_of ahead)
+flags_many : (n : ℕ) (level : Level) (q : Item → Bool) (ks : List Glyph) (kp : List Position) (ahead : List Glyph) (pa : List Position) (m : Bool) → length ahead ≤ n
+    → flags_of (many_passed level (λ g. q (item_of g)) n (record { kept = ks; kept_positions = kp; ahead = ahead; positions_ahead = pa; is_marked = m })).kept ≡ flags_behind level q (clusters ks) (flags_of ks) (strip ahead) (clusters ahead) (flags_of ahead)
 flags_many zero level q ks kp [] pa m le = refl
 flags_many zero level q ks kp (g ∷ back) pa m le = absurd (omega arith)
 flags_many (suc n) level q ks kp [] pa m le = flags_many n level q ks kp [] pa m (omega arith)
 flags_many (suc n) level q ks kp (g ∷ back) pa m le =
-    let w : Passed = record { kept = ks; kept_places = kp; ahead = g ∷ back; places_ahead = pa; is_marked = m } in
+    let w : Passed = record { kept = ks; kept_positions = kp; ahead = g ∷ back; positions_ahead = pa; is_marked = m } in
     let cluster_of : Glyph → ℕ = λ h. h.cluster in
     let left = glyphs_deleted level ks g back in
     let beside = numbers_deleted level (clusters ks) g.cluster (clusters back) in
@@ -38,5 +38,5 @@ flags_many (suc n) level q ks kp (g ∷ back) pa m le =
     ]
 
 -- the flags that stay
-pub flags_all : (level : Level) (q : Item → Bool) (gs : List Glyph) (ps : List Place) → flags_of (all_passed level (λ g. q (item_of g)) gs ps).kept ≡ flags_kept level q (strip gs) (clusters gs) (flags_of gs)
+pub flags_all : (level : Level) (q : Item → Bool) (gs : List Glyph) (ps : List Position) → flags_of (all_passed level (λ g. q (item_of g)) gs ps).kept ≡ flags_kept level q (strip gs) (clusters gs) (flags_of gs)
 flags_all level q gs ps = flags_many (length gs) level q [] [] gs ps false (omega arith)

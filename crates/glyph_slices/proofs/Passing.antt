@@ -4,7 +4,7 @@ use Rattle.std.proofs.lemmas.List.{drop_more, map-append, take-append-drop, drop
 use Rattle.std.proofs.Math.Seq.{drop-append-add}
 use Rattle.glyph_types.specs.declared.info.hb_glyph_info_t.{hb_glyph_info_t as Glyph}
 use Rattle.glyph_types.specs.declared.level.BufferClusterLevel.{BufferClusterLevel as Level}
-use Rattle.glyph_lists.specs.Items.{Place, clusters}
+use Rattle.glyph_lists.specs.Items.{Position, clusters}
 use Rattle.glyph_lists.specs.Order.{IsOrdered}
 use Rattle.glyph_slices.specs.declared.deletion.walk.Walk.{Walk}
 use Rattle.glyph_slices.specs.OneDeleted.{left_clusters, ordered_deleted}
@@ -20,7 +20,7 @@ behind_front at gs ys le =
     let long : length (take at gs) ≡ at = length-take-le at gs le in
     ap (λ n. drop (n + 1) (take at gs ++ ys)) (sym long) ∙ drop-append-add (take at gs) ys 1
 
-pub passed_without : (level : Level) (at : ℕ) (w v : Walk) (gs new : List Glyph) (ps : List Place) (g : Glyph) (back : List Glyph) (m : Bool)
+pub passed_without : (level : Level) (at : ℕ) (w v : Walk) (gs new : List Glyph) (ps : List Position) (g : Glyph) (back : List Glyph) (m : Bool)
     → Deletes level (settled w.due (take w.kept gs)) (drop at gs) (settled v.due (take v.kept new)) (drop (at + 1) new) m → v.kept ≡ w.kept → v.marked ≡ (w.marked || m) → drop at gs ≡ g ∷ back
     → passed_at (at + 1) v new ps ≡ without_glyph level (passed_at at w gs ps) g back
 passed_without level at w v gs new ps g back m gone kept marked e =
@@ -63,7 +63,7 @@ front_deletes level at w gs new m none gone = subst (λ (hs : List Glyph). Delet
     empty : settled w.due (take w.kept gs) ≡ []
     empty = ap (λ n. settled w.due (take n gs)) none ∙ nothing w.due
 
-pub passed_gone : (level : Level) (goes : Glyph → Bool) (at : ℕ) (w : Walk) (gs : List Glyph) (ps : List Place) (new : Passed) → at < length gs → goes (get_or gs at no_glyph) ≡ true
+pub passed_gone : (level : Level) (goes : Glyph → Bool) (at : ℕ) (w : Walk) (gs : List Glyph) (ps : List Position) (new : Passed) → at < length gs → goes (get_or gs at no_glyph) ≡ true
     → ((g : Glyph) (back : List Glyph) → drop at gs ≡ g ∷ back → new ≡ without_glyph level (passed_at at w gs ps) g back) → new ≡ first_passed level goes (passed_at at w gs ps)
 passed_gone level goes at w gs ps new lt picked gone =
     let g = get_or gs at no_glyph in
@@ -73,19 +73,19 @@ passed_gone level goes at w gs ps new lt picked gone =
     let next : passed_of level goes (passed_at at w gs ps) (g ∷ back) ≡ without_glyph level (passed_at at w gs ps) g back = ap (λ t. if t then without_glyph level (passed_at at w gs ps) g back else with_glyph (passed_at at w gs ps) g back) picked in
     gone g back cut ∙ sym (here ∙ next)
 
-pub passed_kept : (level : Level) (goes : Glyph → Bool) (at : ℕ) (w v : Walk) (gs new : List Glyph) (ps places : List Place) → at < length gs → goes (get_or gs at no_glyph) ≡ false
+pub passed_kept : (level : Level) (goes : Glyph → Bool) (at : ℕ) (w v : Walk) (gs new : List Glyph) (ps positions : List Position) → at < length gs → goes (get_or gs at no_glyph) ≡ false
     → v ≡ record { kept = w.kept + 1; due = None; marked = w.marked }
     → take (w.kept + 1) new ≡ settled w.due (take w.kept gs) ++ take 1 (drop at gs) → drop (at + 1) new ≡ drop (at + 1) gs
-    → take (w.kept + 1) places ≡ take w.kept ps ++ take 1 (drop at ps) → drop (at + 1) places ≡ drop (at + 1) ps
-    → passed_at (at + 1) v new places ≡ first_passed level goes (passed_at at w gs ps)
-passed_kept level goes at w v gs new ps places lt off is front back first rest =
+    → take (w.kept + 1) positions ≡ take w.kept ps ++ take 1 (drop at ps) → drop (at + 1) positions ≡ drop (at + 1) ps
+    → passed_at (at + 1) v new positions ≡ first_passed level goes (passed_at at w gs ps)
+passed_kept level goes at w v gs new ps positions lt off is front back first rest =
     let g = get_or gs at no_glyph in
     let behind = drop (at + 1) gs in
     let cut : drop at gs ≡ g ∷ behind = drop_more gs at no_glyph lt in
     let here : first_passed level goes (passed_at at w gs ps) ≡ passed_of level goes (passed_at at w gs ps) (g ∷ behind) = ap (passed_of level goes (passed_at at w gs ps)) cut in
     let next : passed_of level goes (passed_at at w gs ps) (g ∷ behind) ≡ with_glyph (passed_at at w gs ps) g behind = ap (λ t. if t then without_glyph level (passed_at at w gs ps) g behind else with_glyph (passed_at at w gs ps) g behind) off in
     let whole : take (w.kept + 1) new ≡ settled w.due (take w.kept gs) ++ g ∷ [] = front ∙ ap (λ hs. settled w.due (take w.kept gs) ++ take 1 hs) cut in
-    let five : drop (at + 1) places ≡ drop 1 (drop at ps) = rest ∙ sym (drop-drop 1 at ps) in
+    let five : drop (at + 1) positions ≡ drop 1 (drop at ps) = rest ∙ sym (drop-drop 1 at ps) in
     rw is (rw (whole, back, first, five) refl) ∙ sym (here ∙ next)
 
 pub walk_kept : (in_order : Bool) (at : ℕ) (w v : Walk) (gs new : List Glyph) → at < length gs → v ≡ record { kept = w.kept + 1; due = None; marked = w.marked }
@@ -109,18 +109,18 @@ rest_deletes level at gs front rest new m le f r gone =
     subst (λ (hs : List Glyph). Deletes level [] (drop at gs) [] hs m) (sym behind) (subst (λ (hs : List Glyph). Deletes level [] hs [] (drop 1 new) m) r gone)
 
 -- one glyph was passed, and the others are still to be
-pub passes_on : (level : Level) (goes : Glyph → Bool) (at : ℕ) (w v : Walk) (gs new : List Glyph) (ps places : List Place) (whole : Passed) → at < length gs → length new ≡ length gs
-    → passed_at (at + 1) v new places ≡ first_passed level goes (passed_at at w gs ps) → many_passed level goes (length gs - at) (passed_at at w gs ps) ≡ whole
-    → many_passed level goes (length new - (at + 1)) (passed_at (at + 1) v new places) ≡ whole
-passes_on level goes at w v gs new ps places whole lt long step before =
+pub passes_on : (level : Level) (goes : Glyph → Bool) (at : ℕ) (w v : Walk) (gs new : List Glyph) (ps positions : List Position) (whole : Passed) → at < length gs → length new ≡ length gs
+    → passed_at (at + 1) v new positions ≡ first_passed level goes (passed_at at w gs ps) → many_passed level goes (length gs - at) (passed_at at w gs ps) ≡ whole
+    → many_passed level goes (length new - (at + 1)) (passed_at (at + 1) v new positions) ≡ whole
+passes_on level goes at w v gs new ps positions whole lt long step before =
     let less : length gs - at ≡ suc (length new - (at + 1)) = omega arith in
     let opened : many_passed level goes (suc (length new - (at + 1))) (passed_at at w gs ps) ≡ whole = ap (λ n. many_passed level goes n (passed_at at w gs ps)) (sym less) ∙ before in
     ap (many_passed level goes (length new - (at + 1))) step ∙ opened
 
 -- none is left
-pub passes_end : (level : Level) (goes : Glyph → Bool) (at : ℕ) (w : Walk) (gs : List Glyph) (ps : List Place) (whole : Passed) → length gs ≤ at → many_passed level goes (length gs - at) (passed_at at w gs ps) ≡ whole → passed_at at w gs ps ≡ whole
+pub passes_end : (level : Level) (goes : Glyph → Bool) (at : ℕ) (w : Walk) (gs : List Glyph) (ps : List Position) (whole : Passed) → length gs ≤ at → many_passed level goes (length gs - at) (passed_at at w gs ps) ≡ whole → passed_at at w gs ps ≡ whole
 passes_end level goes at w gs ps whole le before = let none : length gs - at ≡ 0 = omega arith in rw none at before
 
 -- none was passed yet
-pub passes_begin : (level : Level) (goes : Glyph → Bool) (gs : List Glyph) (ps : List Place) → many_passed level goes (length gs - 0) (passed_at 0 (record { kept = 0; due = None; marked = false }) gs ps) ≡ all_passed level goes gs ps
+pub passes_begin : (level : Level) (goes : Glyph → Bool) (gs : List Glyph) (ps : List Position) → many_passed level goes (length gs - 0) (passed_at 0 (record { kept = 0; due = None; marked = false }) gs ps) ≡ all_passed level goes gs ps
 passes_begin level goes gs ps = let all : length gs - 0 ≡ length gs = omega arith in rw all refl

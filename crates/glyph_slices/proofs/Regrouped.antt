@@ -1,16 +1,16 @@
--- What the walk that turns round groups leaves of items, of places and of clusters.
+-- What the walk that turns round groups leaves of items, of positions and of clusters.
 use Rattle.std.proofs.Common.{ℕ, suc, zero, ◌≡◌, ◌≤◌, ◌+◌, Bool, true, false, if◌then◌else◌, List, [], ◌∷◌, ◌++◌, length, map, take, drop, arith, refl, ap, sym, ◌∙◌, append_assoc}
 use Rattle.std.proofs.lemmas.List.{append-nil, drop-map, take-map, length-map, length-drop, map-append, map-id}
 use Rattle.glyph_types.specs.declared.info.hb_glyph_info_t.{hb_glyph_info_t as Glyph}
 use Rattle.glyph_types.specs.declared.level.BufferClusterLevel.{BufferClusterLevel as Level}
 use Rattle.glyph_types.specs.declared.level.BufferClusterLevel.TheVariants.{MonotoneGraphemes, MonotoneCharacters, Characters}
-use Rattle.glyph_lists.specs.Items.{Item, Place, item_of, strip, clusters}
+use Rattle.glyph_lists.specs.Items.{Item, Position, item_of, strip, clusters}
 use Rattle.glyph_lists.specs.Events.{stretch}
 use Rattle.glyph_lists.specs.Merges.{merged_at}
 use Rattle.glyph_lists.specs.Lemmas.Glyphs.{strip_merged, strip_merged_at, clusters_merged, clusters_merged_at}
 use Rattle.glyph_slices.specs.Groups.{joined_behind, group_length}
 use Rattle.glyph_slices.specs.Turning.{groups_turned, merged_if, beside_if, all_turned, turned}
-use Rattle.glyph_slices.specs.Facts.{group_lengths, stretches_merged, stretches_turned, clusters_turned, places_turned}
+use Rattle.glyph_slices.specs.Facts.{group_lengths, stretches_merged, stretches_turned, clusters_turned, positions_turned}
 use Rattle.glyph_slices.proofs.GroupsTurned.{turned_onto}
 use Rattle.glyph_slices.proofs.Stretches.{beside_number, beside_all, total, first_stretch, lengths_cut, total_lengths, told, merged_told}
 use Rattle.glyph_slices.proofs.Turned.{all_idle}
@@ -61,8 +61,8 @@ first_items merge level n range ahead gs =
     map-append item_of (take n (merged_if merge level 0 n ahead)) (beside_if merge level range gs) ∙ ap (λ xs. strip (take n (merged_if merge level 0 n ahead)) ++ xs) (beside_items merge level range gs)
     ∙ ap (λ xs. xs ++ strip gs) (sym (take-map item_of n (merged_if merge level 0 n ahead)) ∙ ap (take n) (merged_items merge level n ahead))
 
-items_many : (n : ℕ) (merge : Bool) (level : Level) (q : Item → Item → Bool) (gs : List Glyph) (ps pa : List Place) (m : Bool) (ahead : List Glyph) → length ahead ≤ n
-    → strip (all_turned merge level (of_items q) n (record { glyphs = gs; places = ps; ahead = ahead; places_ahead = pa; is_marked = m })).glyphs ≡ groups_turned q (strip ahead) ++ strip gs
+items_many : (n : ℕ) (merge : Bool) (level : Level) (q : Item → Item → Bool) (gs : List Glyph) (ps pa : List Position) (m : Bool) (ahead : List Glyph) → length ahead ≤ n
+    → strip (all_turned merge level (of_items q) n (record { glyphs = gs; positions = ps; ahead = ahead; positions_ahead = pa; is_marked = m })).glyphs ≡ groups_turned q (strip ahead) ++ strip gs
 items_many n merge level q gs ps pa m [] le = ap (λ t. strip t.glyphs) (all_idle n merge level (of_items q) gs ps pa m)
 items_many zero merge level q gs ps pa m (x ∷ xs) le = absurd (omega arith)
 items_many (suc n) merge level q gs ps pa m (x ∷ xs) le =
@@ -78,7 +78,7 @@ items_many (suc n) merge level q gs ps pa m (x ∷ xs) le =
     ∙ ap (λ ys. ys ++ strip gs) (ap (λ j. groups_turned q (drop j (strip (x ∷ xs))) ++ take j (strip (x ∷ xs))) same ∙ sym (turned_onto q (item_of x) (strip xs)))
 
 -- the groups of the items are turned round
-pub items_turned : (merge : Bool) (level : Level) (q : Item → Item → Bool) (gs : List Glyph) (ps : List Place) → strip (turned merge level (λ g h. q (item_of g) (item_of h)) gs ps).glyphs ≡ groups_turned q (strip gs)
+pub items_turned : (merge : Bool) (level : Level) (q : Item → Item → Bool) (gs : List Glyph) (ps : List Position) → strip (turned merge level (λ g h. q (item_of g) (item_of h)) gs ps).glyphs ≡ groups_turned q (strip gs)
 items_turned merge level q gs ps = items_many (length gs) merge level q [] [] ps false gs (omega arith) ∙ append-nil (groups_turned q (strip gs))
 
 -- the lengths of the groups of items, by that of the first group of glyphs
@@ -88,21 +88,21 @@ lengths_ahead merge level q x xs =
     let k = group_length (of_items q) (x ∷ xs) in
     lengths_cut q (item_of x) (strip xs) ∙ ap (λ j. j ∷ group_lengths q (drop j (strip (x ∷ xs)))) (sym (length_items q x xs)) ∙ ap (λ ys. k ∷ group_lengths q ys) (sym (ahead_items merge level k (x ∷ xs)))
 
-places_many : (n : ℕ) (merge : Bool) (level : Level) (q : Item → Item → Bool) (gs : List Glyph) (ps pa : List Place) (m : Bool) (ahead : List Glyph) → length ahead ≤ n
-    → (all_turned merge level (of_items q) n (record { glyphs = gs; places = ps; ahead = ahead; places_ahead = pa; is_marked = m })).places ≡ places_turned q (strip ahead) pa ++ ps
-places_many n merge level q gs ps pa m [] le = ap (λ t. t.places) (all_idle n merge level (of_items q) gs ps pa m)
+places_many : (n : ℕ) (merge : Bool) (level : Level) (q : Item → Item → Bool) (gs : List Glyph) (ps pa : List Position) (m : Bool) (ahead : List Glyph) → length ahead ≤ n
+    → (all_turned merge level (of_items q) n (record { glyphs = gs; positions = ps; ahead = ahead; positions_ahead = pa; is_marked = m })).positions ≡ positions_turned q (strip ahead) pa ++ ps
+places_many n merge level q gs ps pa m [] le = ap (λ t. t.positions) (all_idle n merge level (of_items q) gs ps pa m)
 places_many zero merge level q gs ps pa m (x ∷ xs) le = absurd (omega arith)
 places_many (suc n) merge level q gs ps pa m (x ∷ xs) le =
     let k = group_length (of_items q) (x ∷ xs) in
     let range = stretch 0 k (clusters (x ∷ xs)) in
     let back = drop k (merged_if merge level 0 k (x ∷ xs)) in
     places_many n merge level q (take k (merged_if merge level 0 k (x ∷ xs)) ++ beside_if merge level range gs) (take k pa ++ ps) (drop k pa) _ back (few_ahead merge level (joined_behind (of_items q) x xs) n x xs le)
-    ∙ sym (append_assoc (places_turned q (strip back) (drop k pa)) (take k pa) ps)
+    ∙ sym (append_assoc (positions_turned q (strip back) (drop k pa)) (take k pa) ps)
     ∙ ap (λ lens. stretches_turned lens pa ++ ps) (sym (lengths_ahead merge level q x xs))
 
--- and so are the places beside them
-pub places_beside : (merge : Bool) (level : Level) (q : Item → Item → Bool) (gs : List Glyph) (ps : List Place) → (turned merge level (λ g h. q (item_of g) (item_of h)) gs ps).places ≡ places_turned q (strip gs) ps
-places_beside merge level q gs ps = places_many (length gs) merge level q [] [] ps false gs (omega arith) ∙ append-nil (places_turned q (strip gs) ps)
+-- and so are the positions beside them
+pub places_beside : (merge : Bool) (level : Level) (q : Item → Item → Bool) (gs : List Glyph) (ps : List Position) → (turned merge level (λ g h. q (item_of g) (item_of h)) gs ps).positions ≡ positions_turned q (strip gs) ps
+places_beside merge level q gs ps = places_many (length gs) merge level q [] [] ps false gs (omega arith) ∙ append-nil (positions_turned q (strip gs) ps)
 
 -- the clusters that go in front of those that were turned
 first_clusters : (merge : Bool) (level : Level) (n : ℕ) (range : List ℕ) (ahead gs : List Glyph)
@@ -120,8 +120,8 @@ ahead_clusters merge level n gs =
 abbrev numbers_after : Level → List ℕ → List ℕ → List ℕ → List ℕ
 numbers_after level lens ns turned = stretches_turned lens (stretches_merged level lens 0 ns) ++ map (beside_all level lens ns) turned
 
-clusters_many : (n : ℕ) (merge : Bool) (level : Level) (q : Item → Item → Bool) (gs : List Glyph) (ps pa : List Place) (m : Bool) (ahead : List Glyph) → length ahead ≤ n
-    → clusters (all_turned merge level (of_items q) n (record { glyphs = gs; places = ps; ahead = ahead; places_ahead = pa; is_marked = m })).glyphs ≡ numbers_after (told merge level) (group_lengths q (strip ahead)) (clusters ahead) (clusters gs)
+clusters_many : (n : ℕ) (merge : Bool) (level : Level) (q : Item → Item → Bool) (gs : List Glyph) (ps pa : List Position) (m : Bool) (ahead : List Glyph) → length ahead ≤ n
+    → clusters (all_turned merge level (of_items q) n (record { glyphs = gs; positions = ps; ahead = ahead; positions_ahead = pa; is_marked = m })).glyphs ≡ numbers_after (told merge level) (group_lengths q (strip ahead)) (clusters ahead) (clusters gs)
 clusters_many n merge level q gs ps pa m [] le = ap (λ t. clusters t.glyphs) (all_idle n merge level (of_items q) gs ps pa m) ∙ sym (map-id (clusters gs))
 clusters_many zero merge level q gs ps pa m (x ∷ xs) le = absurd (omega arith)
 clusters_many (suc n) merge level q gs ps pa m (x ∷ xs) le =
@@ -143,7 +143,7 @@ clusters_many (suc n) merge level q gs ps pa m (x ∷ xs) le =
     ∙ ap (λ ks. numbers_after l ks ns (clusters gs)) (sym cut)
 
 -- the clusters, merged by groups of the items where that is asked for, and turned with them
-pub clusters_beside : (merge : Bool) (level : Level) (q : Item → Item → Bool) (gs : List Glyph) (ps : List Place) → clusters (turned merge level (λ g h. q (item_of g) (item_of h)) gs ps).glyphs ≡ clusters_turned merge level q (strip gs) (clusters gs)
+pub clusters_beside : (merge : Bool) (level : Level) (q : Item → Item → Bool) (gs : List Glyph) (ps : List Position) → clusters (turned merge level (λ g h. q (item_of g) (item_of h)) gs ps).glyphs ≡ clusters_turned merge level q (strip gs) (clusters gs)
 clusters_beside merge level q gs ps =
     let lens = group_lengths q (strip gs) in
     clusters_many (length gs) merge level q [] [] ps false gs (omega arith) ∙ append-nil (stretches_turned lens (stretches_merged (told merge level) lens 0 (clusters gs))) ∙ ap (stretches_turned lens) (merged_told merge level lens (clusters gs))

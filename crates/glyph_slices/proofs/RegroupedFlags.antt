@@ -6,7 +6,7 @@ use Rattle.std.proofs.Math.Seq.{take-append_seam, drop-append_seam}
 use Rattle.glyph_types.specs.declared.info.hb_glyph_info_t.{hb_glyph_info_t as Glyph}
 use Rattle.glyph_types.specs.declared.level.BufferClusterLevel.{BufferClusterLevel as Level}
 use Rattle.glyph_types.specs.declared.level.BufferClusterLevel.TheVariants.{MonotoneGraphemes, MonotoneCharacters, Characters}
-use Rattle.glyph_lists.specs.Items.{Item, Place, item_of, strip, clusters, flags_of, glyph_flags, without_flags}
+use Rattle.glyph_lists.specs.Items.{Item, Position, item_of, strip, clusters, flags_of, glyph_flags, without_flags}
 use Rattle.glyph_lists.specs.Events.{stretch}
 use Rattle.glyph_lists.specs.Merges.{least_number, merged, merged_at}
 use Rattle.glyph_lists.specs.Order.{has_number}
@@ -63,8 +63,8 @@ turned_map f (n ∷ lens) xs =
     ∙ ap (λ ys. stretches_turned lens (drop n (map f xs)) ++ ys) (sym (take-map f n xs))
 
 -- the glyphs where no merge is asked for
-plain_many : (n : ℕ) (level : Level) (q : Item → Item → Bool) (gs : List Glyph) (ps pa : List Place) (m : Bool) (ahead : List Glyph) → length ahead ≤ n
-    → (all_turned false level (of_items q) n (record { glyphs = gs; places = ps; ahead = ahead; places_ahead = pa; is_marked = m })).glyphs ≡ stretches_turned (group_lengths q (strip ahead)) ahead ++ gs
+plain_many : (n : ℕ) (level : Level) (q : Item → Item → Bool) (gs : List Glyph) (ps pa : List Position) (m : Bool) (ahead : List Glyph) → length ahead ≤ n
+    → (all_turned false level (of_items q) n (record { glyphs = gs; positions = ps; ahead = ahead; positions_ahead = pa; is_marked = m })).glyphs ≡ stretches_turned (group_lengths q (strip ahead)) ahead ++ gs
 plain_many n level q gs ps pa m [] le = ap (λ t. t.glyphs) (all_idle n false level (of_items q) gs ps pa m)
 plain_many zero level q gs ps pa m (x ∷ xs) le = absurd (omega arith)
 plain_many (suc n) level q gs ps pa m (x ∷ xs) le =
@@ -75,8 +75,8 @@ plain_many (suc n) level q gs ps pa m (x ∷ xs) le =
     ∙ ap (λ lens. stretches_turned lens (x ∷ xs) ++ gs) (sym (lengths_ahead false level q x xs))
 
 -- the glyphs where groups are merged at a monotone level: each in the cluster that all merges lead its own to
-cast_many : (n : ℕ) (q : Item → Item → Bool) (gs : List Glyph) (ps pa : List Place) (m : Bool) (ahead : List Glyph) → length ahead ≤ n
-    → (all_turned true MonotoneGraphemes (of_items q) n (record { glyphs = gs; places = ps; ahead = ahead; places_ahead = pa; is_marked = m })).glyphs
+cast_many : (n : ℕ) (q : Item → Item → Bool) (gs : List Glyph) (ps pa : List Position) (m : Bool) (ahead : List Glyph) → length ahead ≤ n
+    → (all_turned true MonotoneGraphemes (of_items q) n (record { glyphs = gs; positions = ps; ahead = ahead; positions_ahead = pa; is_marked = m })).glyphs
     ≡ stretches_turned (group_lengths q (strip ahead)) (map (cast (beside_all MonotoneGraphemes (group_lengths q (strip ahead)) (clusters ahead))) ahead) ++ map (cast (beside_all MonotoneGraphemes (group_lengths q (strip ahead)) (clusters ahead))) gs
 cast_many n q gs ps pa m [] le = ap (λ t. t.glyphs) (all_idle n true MonotoneGraphemes (of_items q) gs ps pa m) ∙ sym (nothing_merged gs)
 cast_many zero q gs ps pa m (x ∷ xs) le = absurd (omega arith)
@@ -105,7 +105,7 @@ cast_many (suc n) q gs ps pa m (x ∷ xs) le =
     ∙ sym (append_assoc (stretches_turned lens (drop k all)) (take k all) (map (cast whole) gs))
     ∙ ap (λ ks. stretches_turned ks (map (cast (beside_all l ks ns)) (x ∷ xs)) ++ map (cast (beside_all l ks ns)) gs) (sym (lengths_ahead true l q x xs))
 
-merged_flags : (q : Item → Item → Bool) (gs : List Glyph) (ps : List Place) → flags_of (turned true MonotoneGraphemes (of_items q) gs ps).glyphs ≡ flags_turned true MonotoneGraphemes q (strip gs) (clusters gs) (flags_of gs)
+merged_flags : (q : Item → Item → Bool) (gs : List Glyph) (ps : List Position) → flags_of (turned true MonotoneGraphemes (of_items q) gs ps).glyphs ≡ flags_turned true MonotoneGraphemes q (strip gs) (clusters gs) (flags_of gs)
 merged_flags q gs ps =
     let lens = group_lengths q (strip gs) in
     let f : ℕ → ℕ = beside_all MonotoneGraphemes lens (clusters gs) in
@@ -131,8 +131,8 @@ marked_front k gs =
     let wide : k - 0 ≡ k = omega arith in
     ap (λ j. map (marked_outside 3 (least_number (take j (clusters gs)))) (take j gs) ++ drop k gs) wide
 
-marked_many : (n : ℕ) (q : Item → Item → Bool) (gs : List Glyph) (ps pa : List Place) (m : Bool) (ahead : List Glyph) → length ahead ≤ n
-    → flags_of (all_turned true Characters (of_items q) n (record { glyphs = gs; places = ps; ahead = ahead; places_ahead = pa; is_marked = m })).glyphs
+marked_many : (n : ℕ) (q : Item → Item → Bool) (gs : List Glyph) (ps pa : List Position) (m : Bool) (ahead : List Glyph) → length ahead ≤ n
+    → flags_of (all_turned true Characters (of_items q) n (record { glyphs = gs; positions = ps; ahead = ahead; positions_ahead = pa; is_marked = m })).glyphs
     ≡ stretches_turned (group_lengths q (strip ahead)) (stretches_marked (group_lengths q (strip ahead)) (clusters ahead) (flags_of ahead)) ++ flags_of gs
 marked_many n q gs ps pa m [] le = ap (λ t. flags_of t.glyphs) (all_idle n true Characters (of_items q) gs ps pa m)
 marked_many zero q gs ps pa m (x ∷ xs) le = absurd (omega arith)
@@ -169,14 +169,14 @@ marked_many (suc n) q gs ps pa m (x ∷ xs) le =
     ∙ ap (λ js. stretches_turned js (stretches_marked js ns ks) ++ flags_of gs) (sym (lengths_ahead true Characters q x xs))
 
 -- the flags, where groups of the items are merged, if that is asked for, and turned
-pub flags_beside : (merge : Bool) (level : Level) (q : Item → Item → Bool) (gs : List Glyph) (ps : List Place) → flags_of (turned merge level (λ g h. q (item_of g) (item_of h)) gs ps).glyphs ≡ flags_turned merge level q (strip gs) (clusters gs) (flags_of gs)
+pub flags_beside : (merge : Bool) (level : Level) (q : Item → Item → Bool) (gs : List Glyph) (ps : List Position) → flags_of (turned merge level (λ g h. q (item_of g) (item_of h)) gs ps).glyphs ≡ flags_turned merge level q (strip gs) (clusters gs) (flags_of gs)
 flags_beside false level q gs ps =
     let lens = group_lengths q (strip gs) in
     ap flags_of (plain_many (length gs) level q [] [] ps false gs (omega arith) ∙ append-nil (stretches_turned lens gs)) ∙ turned_map glyph_flags lens gs
 flags_beside true MonotoneGraphemes q gs ps = merged_flags q gs ps
 flags_beside true MonotoneCharacters q gs ps =
     let lens = group_lengths q (strip gs) in
-    ap (λ (t : Turning). flags_of t.glyphs) (alike (length gs) (of_items q) (record { glyphs = []; places = []; ahead = gs; places_ahead = ps; is_marked = false })) ∙ merged_flags q gs ps
+    ap (λ (t : Turning). flags_of t.glyphs) (alike (length gs) (of_items q) (record { glyphs = []; positions = []; ahead = gs; positions_ahead = ps; is_marked = false })) ∙ merged_flags q gs ps
     ∙ ap (λ ns. stretches_turned lens (flags_where_same 0 (clusters gs) ns (flags_of gs))) (sym (alike_merged lens 0 (clusters gs)))
 flags_beside true Characters q gs ps =
     let lens = group_lengths q (strip gs) in

@@ -8,7 +8,7 @@ use Rattle.std.proofs.Math.Seq.{take-append_seam, drop-append_seam}
 use Rattle.glyph_types.specs.declared.info.hb_glyph_info_t.{hb_glyph_info_t as Glyph}
 use Rattle.glyph_types.specs.declared.level.BufferClusterLevel.{BufferClusterLevel}
 use Rattle.glyph_types.specs.declared.level.BufferClusterLevel.TheVariants.{MonotoneGraphemes, MonotoneCharacters, Characters}
-use Rattle.glyph_lists.specs.Items.{Place, clusters}
+use Rattle.glyph_lists.specs.Items.{Position, clusters}
 use Rattle.glyph_lists.specs.Events.{stretch}
 use Rattle.glyph_lists.specs.Merges.{least_number, merged}
 use Rattle.glyph_lists.specs.Order.{IsOrdered}
@@ -83,10 +83,10 @@ marked_cut true Characters start end gs =
     ap tells_apart (ap (take (end - start)) (drop-map f start gs) ∙ ap (λ n. take n (clusters (drop start gs))) (sym none))
 
 -- a group was merged and turned round in its place
-pub group_placed : (merge : Bool) (level : BufferClusterLevel) (start end : ℕ) (gs mid new : List Glyph) (ps places : List Place) (before marked : Bool) → start ≤ end → end ≤ length gs → length ps ≡ length gs
-    → mid ≡ merged_if merge level start end gs → marked ≡ is_marked_if merge level start end (clusters gs) → new ≡ part_turned start end mid → places ≡ part_turned start end ps
-    → turning_at end new places (before || marked) ≡ first_turned merge level (end - start) (turning_at start gs ps before)
-group_placed merge level start end gs mid new ps places before marked le within long m k n p =
+pub group_placed : (merge : Bool) (level : BufferClusterLevel) (start end : ℕ) (gs mid new : List Glyph) (ps positions : List Position) (before marked : Bool) → start ≤ end → end ≤ length gs → length ps ≡ length gs
+    → mid ≡ merged_if merge level start end gs → marked ≡ is_marked_if merge level start end (clusters gs) → new ≡ part_turned start end mid → positions ≡ part_turned start end ps
+    → turning_at end new positions (before || marked) ≡ first_turned merge level (end - start) (turning_at start gs ps before)
+group_placed merge level start end gs mid new ps positions before marked le within long m k n p =
     let range = stretch 0 (end - start) (clusters (drop start gs)) in
     let front = beside_if merge level range (take start gs) in
     let ahead = merged_if merge level 0 (end - start) (drop start gs) in
@@ -98,8 +98,8 @@ group_placed merge level start end gs mid new ps places before marked le within 
     let one : reverse (take end new) ≡ take (end - start) ahead ++ beside_if merge level range (reverse (take start gs)) =
     ap (λ ys. reverse (take end ys)) n ∙ part_before start end mid le wide ∙ ap (λ ys. take (end - start) ys ++ reverse (take start mid)) rest ∙ ap (λ ys. take (end - start) ahead ++ reverse ys) first ∙ ap (λ ys. take (end - start) ahead ++ ys) (beside_turned merge level range (take start gs)) in
     let two : drop end new ≡ drop (end - start) ahead = ap (drop end) n ∙ part_behind start end mid le wide ∙ ap (drop (end - start)) rest in
-    let three : reverse (take end places) ≡ take (end - start) (drop start ps) ++ reverse (take start ps) = ap (λ ys. reverse (take end ys)) p ∙ part_before start end ps le (omega arith) in
-    let four : drop end places ≡ drop (end - start) (drop start ps) = ap (drop end) p ∙ part_behind start end ps le (omega arith) in
+    let three : reverse (take end positions) ≡ take (end - start) (drop start ps) ++ reverse (take start ps) = ap (λ ys. reverse (take end ys)) p ∙ part_before start end ps le (omega arith) in
+    let four : drop end positions ≡ drop (end - start) (drop start ps) = ap (drop end) p ∙ part_behind start end ps le (omega arith) in
     let five : marked ≡ is_marked_if merge level 0 (end - start) (clusters (drop start gs)) = k ∙ marked_cut merge level start end gs in
     rw (one, two, three, four, five) refl
   where
@@ -124,7 +124,7 @@ in_range start end gs =
     let one : map (merged range) range ≡ map (λ (n : ℕ). least_number range) range = map_alike (merged range) (λ n. least_number range) range (λ n h. rw h refl) in
     rw (seen, one) (all_one (least_number range) range)
 
--- places that were merged have one cluster, at the levels that keep the order
+-- positions that were merged have one cluster, at the levels that keep the order
 merged_stretch : (level : BufferClusterLevel) (start end : ℕ) (gs : List Glyph) → IsMonotone level → start ≤ end → reverse (clusters (slice_range (glyphs_merged_at level start end gs) start end)) ≡ clusters (slice_range (glyphs_merged_at level start end gs) start end)
 merged_stretch Characters start end gs mono le = absurd mono
 merged_stretch MonotoneGraphemes start end gs mono le = in_range start end gs
@@ -159,32 +159,32 @@ or_false true = refl
 or_false false = refl
 
 -- where nothing is ahead, all stays
-idle : (merge : Bool) (level : BufferClusterLevel) (p : Glyph → Glyph → Bool) (gs : List Glyph) (ps pa : List Place) (m : Bool)
-    → group_turned merge level p (record { glyphs = gs; places = ps; ahead = []; places_ahead = pa; is_marked = m }) ≡ record { glyphs = gs; places = ps; ahead = []; places_ahead = pa; is_marked = m }
+idle : (merge : Bool) (level : BufferClusterLevel) (p : Glyph → Glyph → Bool) (gs : List Glyph) (ps pa : List Position) (m : Bool)
+    → group_turned merge level p (record { glyphs = gs; positions = ps; ahead = []; positions_ahead = pa; is_marked = m }) ≡ record { glyphs = gs; positions = ps; ahead = []; positions_ahead = pa; is_marked = m }
 idle false level p gs ps pa m = rw (or_false m) refl
 idle true MonotoneGraphemes p gs ps pa m = rw (nothing_merged gs, or_false m) refl
 idle true MonotoneCharacters p gs ps pa m = rw (nothing_merged gs, or_false m) refl
 idle true Characters p gs ps pa m = rw (or_false m) refl
 
-pub all_idle : (n : ℕ) (merge : Bool) (level : BufferClusterLevel) (p : Glyph → Glyph → Bool) (gs : List Glyph) (ps pa : List Place) (m : Bool)
-    → all_turned merge level p n (record { glyphs = gs; places = ps; ahead = []; places_ahead = pa; is_marked = m }) ≡ record { glyphs = gs; places = ps; ahead = []; places_ahead = pa; is_marked = m }
+pub all_idle : (n : ℕ) (merge : Bool) (level : BufferClusterLevel) (p : Glyph → Glyph → Bool) (gs : List Glyph) (ps pa : List Position) (m : Bool)
+    → all_turned merge level p n (record { glyphs = gs; positions = ps; ahead = []; positions_ahead = pa; is_marked = m }) ≡ record { glyphs = gs; positions = ps; ahead = []; positions_ahead = pa; is_marked = m }
 all_idle zero merge level p gs ps pa m = refl
 all_idle (suc n) merge level p gs ps pa m = ap (all_turned merge level p n) (idle merge level p gs ps pa m) ∙ all_idle n merge level p gs ps pa m
 
 -- what the walk still has to do: so many groups at most, and then it has done them all
-pub record Rest (merge : Bool) (level : BufferClusterLevel) (p : Glyph → Glyph → Bool) (start : ℕ) (gs : List Glyph) (ps : List Place) (m : Bool) (whole : Turning) : Type 0 where
+pub record Rest (merge : Bool) (level : BufferClusterLevel) (p : Glyph → Glyph → Bool) (start : ℕ) (gs : List Glyph) (ps : List Position) (m : Bool) (whole : Turning) : Type 0 where
   pub most : ℕ
   pub enough : length gs - start ≤ most
   pub leads : all_turned merge level p most (turning_at start gs ps m) ≡ whole
 
-pub rest_begins : (merge : Bool) (level : BufferClusterLevel) (p : Glyph → Glyph → Bool) (gs : List Glyph) (ps : List Place) → Rest merge level p 0 gs ps false (turned merge level p gs ps)
+pub rest_begins : (merge : Bool) (level : BufferClusterLevel) (p : Glyph → Glyph → Bool) (gs : List Glyph) (ps : List Position) → Rest merge level p 0 gs ps false (turned merge level p gs ps)
 rest_begins merge level p gs ps = record { most = length gs; enough = omega arith; leads = refl }
 
-pub rest_goes_on : (merge : Bool) (level : BufferClusterLevel) (p : Glyph → Glyph → Bool) (start end : ℕ) (gs new : List Glyph) (ps places : List Place) (m m' : Bool) (whole : Turning) → start < length gs → start < end → length new ≡ length gs → end ≡ start + group_length p (drop start gs)
-    → turning_at end new places m' ≡ first_turned merge level (end - start) (turning_at start gs ps m) → Rest merge level p start gs ps m whole → Rest merge level p end new places m' whole
-rest_goes_on merge level p start end gs new ps places m m' whole lt some long at step rest = by_most rest.most rest.enough rest.leads
+pub rest_goes_on : (merge : Bool) (level : BufferClusterLevel) (p : Glyph → Glyph → Bool) (start end : ℕ) (gs new : List Glyph) (ps positions : List Position) (m m' : Bool) (whole : Turning) → start < length gs → start < end → length new ≡ length gs → end ≡ start + group_length p (drop start gs)
+    → turning_at end new positions m' ≡ first_turned merge level (end - start) (turning_at start gs ps m) → Rest merge level p start gs ps m whole → Rest merge level p end new positions m' whole
+rest_goes_on merge level p start end gs new ps positions m m' whole lt some long at step rest = by_most rest.most rest.enough rest.leads
   where
-    by_most : (n : ℕ) → length gs - start ≤ n → all_turned merge level p n (turning_at start gs ps m) ≡ whole → Rest merge level p end new places m' whole
+    by_most : (n : ℕ) → length gs - start ≤ n → all_turned merge level p n (turning_at start gs ps m) ≡ whole → Rest merge level p end new positions m' whole
     by_most zero enough leads = absurd (omega arith)
     by_most (suc n) enough leads =
         let wide : end - start ≡ group_length p (drop start gs) = omega arith in
@@ -195,8 +195,8 @@ rest_goes_on merge level p start end gs new ps places m m' whole lt some long at
         }
 
 -- it has done all at the end
-pub rest_ends : (merge : Bool) (level : BufferClusterLevel) (p : Glyph → Glyph → Bool) (start : ℕ) (gs : List Glyph) (ps : List Place) (m : Bool) (whole : Turning) → length gs ≤ start → length ps ≡ length gs → Rest merge level p start gs ps m whole
-    → record { glyphs = reverse gs; places = reverse ps; ahead = []; places_ahead = []; is_marked = m } ≡ whole
+pub rest_ends : (merge : Bool) (level : BufferClusterLevel) (p : Glyph → Glyph → Bool) (start : ℕ) (gs : List Glyph) (ps : List Position) (m : Bool) (whole : Turning) → length gs ≤ start → length ps ≡ length gs → Rest merge level p start gs ps m whole
+    → record { glyphs = reverse gs; positions = reverse ps; ahead = []; positions_ahead = []; is_marked = m } ≡ whole
 rest_ends merge level p start gs ps m whole ge long rest =
     let one : take start gs ≡ gs = take_all start gs ge in
     let two : drop start gs ≡ [] = drop_all start gs ge in

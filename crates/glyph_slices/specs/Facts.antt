@@ -1,7 +1,7 @@
--- What walks over glyphs leave of items, of places and of clusters, each by items and cluster numbers alone.
+-- What walks over glyphs leave of items, of positions and of clusters, each by items and cluster numbers alone.
 use Rattle.std.specs.Prelude.{ℕ, ◌+◌, ◌||◌, nat_lt, not, Bool, true, false, if◌then◌else◌, List, [], ◌∷◌, ◌++◌, Option, Some, None, length, map, take, drop, filter}
 use Rattle.glyph_types.specs.declared.level.BufferClusterLevel.{BufferClusterLevel}
-use Rattle.glyph_lists.specs.Items.{Item, Place}
+use Rattle.glyph_lists.specs.Items.{Item, Position}
 use Rattle.glyph_lists.specs.Events.{first_of, last_of, is_number}
 use Rattle.glyph_lists.specs.Deletions.{end_renumbered}
 use Rattle.glyph_lists.specs.Merges.{merged_at}
@@ -11,11 +11,11 @@ use Rattle.glyph_slices.specs.Turning.{groups}
 abbrev pub items_kept : (Item → Bool) → List Item → List Item
 items_kept q xs = filter (λ x. not (q x)) xs
 
--- the places of the items that a test does not pick
-abbrev pub places_kept : (Item → Bool) → List Item → List Place → List Place
-places_kept q [] ps = []
-places_kept q (x ∷ xs) [] = []
-places_kept q (x ∷ xs) (p ∷ ps) = if q x then places_kept q xs ps else p ∷ places_kept q xs ps
+-- the positions of the items that a test does not pick
+abbrev pub positions_kept : (Item → Bool) → List Item → List Position → List Position
+positions_kept q [] ps = []
+positions_kept q (x ∷ xs) [] = []
+positions_kept q (x ∷ xs) (p ∷ ps) = if q x then positions_kept q xs ps else p ∷ positions_kept q xs ps
 
 -- the numbers before one that went, and those behind it
 pub record Beside : Type 0 where
@@ -74,6 +74,6 @@ stretches_turned (n ∷ lens) xs = stretches_turned lens (drop n xs) ++ take n x
 abbrev pub clusters_turned : Bool → BufferClusterLevel → (Item → Item → Bool) → List Item → List ℕ → List ℕ
 clusters_turned merge level q xs ns = stretches_turned (group_lengths q xs) (stretches_merged_if merge level (group_lengths q xs) ns)
 
--- the places beside the items where their groups were put in turned order
-abbrev pub places_turned : (Item → Item → Bool) → List Item → List Place → List Place
-places_turned q xs ps = stretches_turned (group_lengths q xs) ps
+-- the positions beside the items where their groups were put in turned order
+abbrev pub positions_turned : (Item → Item → Bool) → List Item → List Position → List Position
+positions_turned q xs ps = stretches_turned (group_lengths q xs) ps

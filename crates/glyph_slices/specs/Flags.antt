@@ -14,7 +14,7 @@ flags_where_same f (m ∷ old) [] ks = []
 flags_where_same f (m ∷ old) (n ∷ new) [] = []
 flags_where_same f (m ∷ old) (n ∷ new) (k ∷ ks) = (if m == n then k else f) ∷ flags_where_same f old new ks
 
--- places outside a cluster are marked as unsafe to break and to concat
+-- positions outside a cluster are marked as unsafe to break and to concat
 abbrev pub flags_outside_of : ℕ → List ℕ → List ℕ → List ℕ
 flags_outside_of low [] ks = []
 flags_outside_of low (n ∷ ns) [] = []

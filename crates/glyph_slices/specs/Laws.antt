@@ -3,7 +3,7 @@ use Rattle.std.specs.Prelude.{ℕ, ◌≡◌, ◌≤◌, ◌↔◌, Bool, IsTrue
 use Rattle.std.specs.List.{All, flat_map}
 use Rattle.glyph_types.specs.declared.info.hb_glyph_info_t.{hb_glyph_info_t}
 use Rattle.glyph_types.specs.declared.level.BufferClusterLevel.{BufferClusterLevel}
-use Rattle.glyph_lists.specs.Items.{Place, strip, clusters}
+use Rattle.glyph_lists.specs.Items.{Position, strip, clusters}
 use Rattle.glyph_lists.specs.Order.{BringsNone}
 use Rattle.glyph_lists.specs.Deletions.{deleted}
 use Rattle.glyph_slices.specs.Turning.{groups, groups_turned, turned}
@@ -41,11 +41,11 @@ TurnsGroups = (joins : hb_glyph_info_t → hb_glyph_info_t → Bool) (gs : List 
 
 -- turning round groups brings no cluster number, with merges or without
 abbrev pub TurningBringsNone : Type 0
-TurningBringsNone = (merge : Bool) (level : BufferClusterLevel) (joins : hb_glyph_info_t → hb_glyph_info_t → Bool) (gs : List hb_glyph_info_t) (ps : List Place) → BringsNone (clusters gs) (clusters (turned merge level joins gs ps).glyphs)
+TurningBringsNone = (merge : Bool) (level : BufferClusterLevel) (joins : hb_glyph_info_t → hb_glyph_info_t → Bool) (gs : List hb_glyph_info_t) (ps : List Position) → BringsNone (clusters gs) (clusters (turned merge level joins gs ps).glyphs)
 
 -- a walk of deletions brings none
 abbrev pub DeletingBringsNone : Type 0
-DeletingBringsNone = (level : BufferClusterLevel) (goes : hb_glyph_info_t → Bool) (gs : List hb_glyph_info_t) (ps : List Place) → BringsNone (clusters gs) (clusters (all_passed level goes gs ps).kept)
+DeletingBringsNone = (level : BufferClusterLevel) (goes : hb_glyph_info_t → Bool) (gs : List hb_glyph_info_t) (ps : List Position) → BringsNone (clusters gs) (clusters (all_passed level goes gs ps).kept)
 
 -- a sort of a range brings none
 abbrev pub SortingBringsNone : Type 0

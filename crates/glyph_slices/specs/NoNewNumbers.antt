@@ -72,7 +72,7 @@ groups_bring (suc n) merge level p t k h = first_brings merge level (group_lengt
 pub turning_brings_none : TurningBringsNone
 turning_brings_none merge level joins gs ps n h =
     let all : Turning = turned merge level joins gs ps in
-    groups_bring (length gs) merge level joins (record { glyphs = []; places = []; ahead = gs; places_ahead = ps; is_marked = false }) n (cluster_left n all.glyphs all.ahead h)
+    groups_bring (length gs) merge level joins (record { glyphs = []; positions = []; ahead = gs; positions_ahead = ps; is_marked = false }) n (cluster_left n all.glyphs all.ahead h)
 
 gone_brings : (level : Level) (w : Passed) (g : Glyph) (back : List Glyph) → BringsNone (clusters (w.kept ++ g ∷ back)) (clusters ((without_glyph level w g back).kept ++ (without_glyph level w g back).ahead))
 gone_brings level w g back n h =
@@ -96,9 +96,9 @@ many_bring (suc n) level p w k h = passed_brings level p w w.ahead refl k (many_
 pub deleting_brings_none : DeletingBringsNone
 deleting_brings_none level goes gs ps n h =
     let all : Passed = all_passed level goes gs ps in
-    many_bring (length gs) level goes (record { kept = []; kept_places = []; ahead = gs; places_ahead = ps; is_marked = false }) n (cluster_left n all.kept all.ahead h)
+    many_bring (length gs) level goes (record { kept = []; kept_positions = []; ahead = gs; positions_ahead = ps; is_marked = false }) n (cluster_left n all.kept all.ahead h)
 
--- what a merge of some places keeps, the merges of all spans keep
+-- what a merge of some positions keeps, the merges of all spans keep
 spans_keep : (P : List Glyph → Type 0) (level : Level) → ((from to : ℕ) (hs : List Glyph) → from ≤ to → P hs → P (glyphs_merged_at level from to hs))
     → (start : ℕ) (order : List Keyed) (left begin place : ℕ) (s : Spanned) → begin ≤ place → P s.glyphs → P (spans_merged level start order begin place left s).glyphs
 spans_keep P level keeps start order zero begin place s le h = h

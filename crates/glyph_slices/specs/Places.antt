@@ -1,4 +1,4 @@
--- The places of a range in the order by a key.
+-- The positions of a range in the order by a key.
 use Rattle.std.specs.Prelude.{slice_range}
 use Rattle.std.specs.List.{All}
 use Rattle.std.proofs.Common.{ℕ, suc, zero, ◌≡◌, ◌≤◌, ◌<◌, ◌+◌, ◌-◌, ◌==◌, min, List, [], ◌∷◌, length, drop, arith, ap, sym, ◌∙◌}
@@ -21,7 +21,7 @@ pub all_keyed : (k : Glyph → ℕ) (i n : ℕ) (gs : List Glyph) → i + length
 all_keyed k i n [] le = All-nil (λ (e : Keyed). e.place < n)
 all_keyed k i n (g ∷ gs) le = All-cons (λ (e : Keyed). e.place < n) (record { key = k g; place = i }) (keyed_from k (i + 1) gs) (omega arith) (all_keyed k (i + 1) n gs (omega arith))
 
--- the places of a range are within it
+-- the positions of a range are within it
 pub places_within : (k : Glyph → ℕ) (gs : List Glyph) → All (λ (e : Keyed). e.place < length gs) (places_by_key k gs)
 places_within k gs = all_in_order (λ (e : Keyed). e.place < length gs) (λ (e : Keyed). e.key) (keyed_from k 0 gs) (all_keyed k 0 (length gs) gs (omega arith))
 

@@ -3,7 +3,7 @@ use Rattle.std.specs.Prelude.{ℕ, zero, suc, ◌||◌, Bool, true, false, if◌
 use Rattle.std.specs.List.{flat_map}
 use Rattle.glyph_types.specs.declared.info.hb_glyph_info_t.{hb_glyph_info_t}
 use Rattle.glyph_types.specs.declared.level.BufferClusterLevel.{BufferClusterLevel}
-use Rattle.glyph_lists.specs.Items.{Place, clusters}
+use Rattle.glyph_lists.specs.Items.{Position, clusters}
 use Rattle.glyph_lists.specs.Events.{stretch}
 use Rattle.glyph_lists.specs.Glyphs.{glyphs_merged_at, beside_merged, is_marked_at}
 use Rattle.glyph_slices.specs.Groups.{group_length}
@@ -23,19 +23,19 @@ groups p (x ∷ xs) = in_front p x (groups p xs)
 abbrev pub groups_turned : {X : Type 0} → (X → X → Bool) → List X → List X
 groups_turned p xs = flat_map (λ ys. ys) (reverse (groups p xs))
 
--- the places from `start` up to before `end` are turned round
+-- the indices from `start` up to before `end` are turned round
 abbrev pub part_turned : {X : Type 0} → ℕ → ℕ → List X → List X
 part_turned start end xs = take start xs ++ reverse (slice_range xs start end) ++ drop end xs
 
--- glyphs and places of the groups that were found, the last in front, and of what is ahead; and whether a merge marked one
+-- glyphs and positions of the groups that were found, the last in front, and of what is ahead; and whether a merge marked one
 pub record Turning : Type 0 where
   pub glyphs : List hb_glyph_info_t
-  pub places : List Place
+  pub positions : List Position
   pub ahead : List hb_glyph_info_t
-  pub places_ahead : List Place
+  pub positions_ahead : List Position
   pub is_marked : Bool
 
--- a merge of some places where it is asked for
+-- a merge of some positions where it is asked for
 abbrev pub merged_if : Bool → BufferClusterLevel → ℕ → ℕ → List hb_glyph_info_t → List hb_glyph_info_t
 merged_if true level from to gs = glyphs_merged_at level from to gs
 merged_if false level from to gs = gs
@@ -54,9 +54,9 @@ beside_if false level range gs = gs
 abbrev pub first_turned : Bool → BufferClusterLevel → ℕ → Turning → Turning
 first_turned merge level n t = record {
   glyphs = take n (merged_if merge level 0 n t.ahead) ++ beside_if merge level (stretch 0 n (clusters t.ahead)) t.glyphs;
-  places = take n t.places_ahead ++ t.places;
+  positions = take n t.positions_ahead ++ t.positions;
   ahead = drop n (merged_if merge level 0 n t.ahead);
-  places_ahead = drop n t.places_ahead;
+  positions_ahead = drop n t.positions_ahead;
   is_marked = t.is_marked || is_marked_if merge level 0 n (clusters t.ahead);
 }
 
@@ -69,10 +69,10 @@ abbrev pub all_turned : Bool → BufferClusterLevel → (hb_glyph_info_t → hb_
 all_turned merge level p zero t = t
 all_turned merge level p (suc n) t = all_turned merge level p n (group_turned merge level p t)
 
--- glyphs and places of which those before a place were turned round
-abbrev pub turning_at : ℕ → List hb_glyph_info_t → List Place → Bool → Turning
-turning_at start gs ps marked = record { glyphs = reverse (take start gs); places = reverse (take start ps); ahead = drop start gs; places_ahead = drop start ps; is_marked = marked }
+-- glyphs and positions of which those before a place were turned round
+abbrev pub turning_at : ℕ → List hb_glyph_info_t → List Position → Bool → Turning
+turning_at start gs ps marked = record { glyphs = reverse (take start gs); positions = reverse (take start ps); ahead = drop start gs; positions_ahead = drop start ps; is_marked = marked }
 
 -- all groups, of which there are no more than glyphs
-abbrev pub turned : Bool → BufferClusterLevel → (hb_glyph_info_t → hb_glyph_info_t → Bool) → List hb_glyph_info_t → List Place → Turning
-turned merge level p gs ps = all_turned merge level p (length gs) (record { glyphs = []; places = []; ahead = gs; places_ahead = ps; is_marked = false })
+abbrev pub turned : Bool → BufferClusterLevel → (hb_glyph_info_t → hb_glyph_info_t → Bool) → List hb_glyph_info_t → List Position → Turning
+turned merge level p gs ps = all_turned merge level p (length gs) (record { glyphs = []; positions = []; ahead = gs; positions_ahead = ps; is_marked = false })

@@ -5,7 +5,7 @@ ghost use Rattle.glyph_lists.specs.Events.{first_of, is_number, last_of};
 ghost use Rattle.glyph_lists.specs.Order.{BringsNone, IsOrdered};
 ghost use Rattle.glyph_slices.specs.Deleting.{recast, end_recast, IsEndRun};
 ghost use Rattle.glyph_slices.specs.DeletionWalk.{Deletes, Tells, all_passed};
-ghost use Rattle.glyph_slices.specs.Facts.{clusters_kept, items_kept, places_kept};
+ghost use Rattle.glyph_slices.specs.Facts.{clusters_kept, items_kept, positions_kept};
 ghost use Rattle.glyph_slices.specs.Flags.{flags_kept};
 
 mod walk;
@@ -122,25 +122,25 @@ fn delete_first(rest: &mut [hb_glyph_info_t], level: BufferClusterLevel, in_orde
 }
 
 /// Deletes the glyphs that `filter` picks, from the left, and answers how many stay and whether a merge marked one. Those
-/// that stay stand at the front of both slices, places beside their glyphs; what is behind them has no meaning. A glyph
+/// that stay stand at the front of both slices, positions beside their glyphs; what is behind them has no meaning. A glyph
 /// is tested as it stands when the walk reaches it. It takes no memory, and linear time where all clusters are known to
 /// stand in order.
 pub fn delete_within<F: Fn(&hb_glyph_info_t) -> bool>(
     glyphs: &mut [hb_glyph_info_t],
-    places: &mut [GlyphPosition],
+    positions: &mut [GlyphPosition],
     level: BufferClusterLevel,
     in_order: bool,
     filter: F,
 ) -> (usize, bool)
     requires callable { F.IsAlwaysCallable filter }
-    requires placed { length places.old ≡ length glyphs.old }
+    requires placed { length positions.old ≡ length glyphs.old }
     requires known { in_order ≡ true → IsOrdered (clusters glyphs.old) }
     ensures within { result.0 ≤ length glyphs.old }
-    ensures glyphs { (goes : Glyph → Bool) → Tells F.Fn filter goes → take result.0 glyphs.new ≡ (all_passed level goes glyphs.old places.old).kept }
-    ensures places { (goes : Glyph → Bool) → Tells F.Fn filter goes → take result.0 places.new ≡ (all_passed level goes glyphs.old places.old).kept_places }
-    ensures marked { (goes : Glyph → Bool) → Tells F.Fn filter goes → result.1 ≡ (all_passed level goes glyphs.old places.old).is_marked }
+    ensures glyphs { (goes : Glyph → Bool) → Tells F.Fn filter goes → take result.0 glyphs.new ≡ (all_passed level goes glyphs.old positions.old).kept }
+    ensures positions { (goes : Glyph → Bool) → Tells F.Fn filter goes → take result.0 positions.new ≡ (all_passed level goes glyphs.old positions.old).kept_positions }
+    ensures marked { (goes : Glyph → Bool) → Tells F.Fn filter goes → result.1 ≡ (all_passed level goes glyphs.old positions.old).is_marked }
     ensures items { (q : Item → Bool) → Tells F.Fn filter (λ g. q (item_of g)) → strip (take result.0 glyphs.new) ≡ items_kept q (strip glyphs.old) }
-    ensures kept_places { (q : Item → Bool) → Tells F.Fn filter (λ g. q (item_of g)) → take result.0 places.new ≡ places_kept q (strip glyphs.old) places.old }
+    ensures kept_positions { (q : Item → Bool) → Tells F.Fn filter (λ g. q (item_of g)) → take result.0 positions.new ≡ positions_kept q (strip glyphs.old) positions.old }
     ensures clusters { (q : Item → Bool) → Tells F.Fn filter (λ g. q (item_of g)) → clusters (take result.0 glyphs.new) ≡ clusters_kept level q (strip glyphs.old) (clusters glyphs.old) }
     ensures numbers { (goes : Glyph → Bool) → Tells F.Fn filter goes → BringsNone (clusters glyphs.old) (clusters (take result.0 glyphs.new)) }
     ensures flags { (q : Item → Bool) → Tells F.Fn filter (λ g. q (item_of g)) → flags_of (take result.0 glyphs.new) ≡ flags_kept level q (strip glyphs.old) (clusters glyphs.old) (flags_of glyphs.old) }
@@ -151,7 +151,7 @@ pub fn delete_within<F: Fn(&hb_glyph_info_t) -> bool>(
         marked: false,
     };
     for at in 0..glyphs.len() {
-        walk = pass_glyph(glyphs, places, at, walk, level, in_order, &filter);
+        walk = pass_glyph(glyphs, positions, at, walk, level, in_order, &filter);
     }
     settle(glyphs, walk.kept, walk.due);
     (walk.kept, walk.marked)

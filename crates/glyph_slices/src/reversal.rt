@@ -3,7 +3,7 @@ ghost use Rattle.glyph_types.specs.declared.info.hb_glyph_info_t.{hb_glyph_info_
 ghost use Rattle.glyph_lists.specs.Items.{Item, clusters, flags_of, item_of, strip};
 ghost use Rattle.glyph_lists.specs.Order.{BringsNone, IsOrdered};
 ghost use Rattle.glyph_lists.specs.Readings.{IsMonotone};
-ghost use Rattle.glyph_slices.specs.Facts.{clusters_turned, places_turned};
+ghost use Rattle.glyph_slices.specs.Facts.{clusters_turned, positions_turned};
 ghost use Rattle.glyph_slices.specs.declared.due.Due.TheVariants.{Nothing};
 ghost use Rattle.glyph_slices.specs.Due.{MayBeDue, MayBeRound, meant};
 ghost use Rattle.glyph_slices.specs.Flags.{flags_turned};
@@ -19,28 +19,28 @@ use glyph_types::level::BufferClusterLevel;
 use glyph_types::position::GlyphPosition;
 use std::alloc::Global;
 
-/// Turns round the order of the groups, and keeps the order within each; places go with their glyphs. The groups are found
+/// Turns round the order of the groups, and keeps the order within each; positions go with their glyphs. The groups are found
 /// from the left; where `merge` is told, each is merged before the next is looked for. Answers whether a merge marked a
 /// glyph. Where all clusters are known to stand in order the merges take linear time in all. Else they are kept in a table
 /// and take n log n for n glyphs; where there is no memory for the table each takes the glyphs times its group.
 pub fn reverse_groups<F: Fn(&hb_glyph_info_t, &hb_glyph_info_t) -> bool>(
     alloc: Global,
     glyphs: &mut [hb_glyph_info_t],
-    places: &mut [GlyphPosition],
+    positions: &mut [GlyphPosition],
     level: BufferClusterLevel,
     in_order: bool,
     merge: bool,
     group: F,
 ) -> bool
     requires callable { F.IsAlwaysCallable group }
-    requires placed { length places.old ≡ length glyphs.old }
+    requires placed { length positions.old ≡ length glyphs.old }
     requires known { in_order ≡ true → IsOrdered (clusters glyphs.old) }
-    ensures glyphs { (joins : Glyph → Glyph → Bool) → Decides F.Fn group joins → glyphs.new ≡ (turned merge level joins glyphs.old places.old).glyphs }
-    ensures places { (joins : Glyph → Glyph → Bool) → Decides F.Fn group joins → places.new ≡ (turned merge level joins glyphs.old places.old).places }
+    ensures glyphs { (joins : Glyph → Glyph → Bool) → Decides F.Fn group joins → glyphs.new ≡ (turned merge level joins glyphs.old positions.old).glyphs }
+    ensures positions { (joins : Glyph → Glyph → Bool) → Decides F.Fn group joins → positions.new ≡ (turned merge level joins glyphs.old positions.old).positions }
     ensures plain { (joins : Glyph → Glyph → Bool) → Decides F.Fn group joins → merge ≡ false → glyphs.new ≡ groups_turned joins glyphs.old }
-    ensures marked { (joins : Glyph → Glyph → Bool) → Decides F.Fn group joins → result ≡ (turned merge level joins glyphs.old places.old).is_marked }
+    ensures marked { (joins : Glyph → Glyph → Bool) → Decides F.Fn group joins → result ≡ (turned merge level joins glyphs.old positions.old).is_marked }
     ensures items { (q : Item → Item → Bool) → Decides F.Fn group (λ g h. q (item_of g) (item_of h)) → strip glyphs.new ≡ groups_turned q (strip glyphs.old) }
-    ensures turned_places { (q : Item → Item → Bool) → Decides F.Fn group (λ g h. q (item_of g) (item_of h)) → places.new ≡ places_turned q (strip glyphs.old) places.old }
+    ensures turned_positions { (q : Item → Item → Bool) → Decides F.Fn group (λ g h. q (item_of g) (item_of h)) → positions.new ≡ positions_turned q (strip glyphs.old) positions.old }
     ensures clusters { (q : Item → Item → Bool) → Decides F.Fn group (λ g h. q (item_of g) (item_of h)) → clusters glyphs.new ≡ clusters_turned merge level q (strip glyphs.old) (clusters glyphs.old) }
     ensures numbers { (joins : Glyph → Glyph → Bool) → Decides F.Fn group joins → BringsNone (clusters glyphs.old) (clusters glyphs.new) }
     ensures flags { (q : Item → Item → Bool) → Decides F.Fn group (λ g h. q (item_of g) (item_of h)) → flags_of glyphs.new ≡ flags_turned merge level q (strip glyphs.old) (clusters glyphs.old) (flags_of glyphs.old) }
@@ -49,19 +49,19 @@ pub fn reverse_groups<F: Fn(&hb_glyph_info_t, &hb_glyph_info_t) -> bool>(
     let mut start = 0;
     while start < glyphs.len() {
         let end = end_of_meant_group(glyphs, start, &mut merges.due, &group);
-        merges = turn_group(glyphs, places, level, in_order, merge, start, end, merges);
+        merges = turn_group(glyphs, positions, level, in_order, merge, start, end, merges);
         start = end;
     }
     settle(glyphs, merges.due);
     glyphs.reverse();
-    places.reverse();
+    positions.reverse();
     merges.marked
 }
 
-/// Merges a group where that is asked for, and turns round its glyphs and places.
+/// Merges a group where that is asked for, and turns round its glyphs and positions.
 fn turn_group(
     glyphs: &mut [hb_glyph_info_t],
-    places: &mut [GlyphPosition],
+    positions: &mut [GlyphPosition],
     level: BufferClusterLevel,
     in_order: bool,
     merge: bool,
@@ -71,18 +71,18 @@ fn turn_group(
 ) -> Merges
     requires some { start < end }
     requires within { end ≤ length glyphs.old }
-    requires placed { length places.old ≡ length glyphs.old }
+    requires placed { length positions.old ≡ length glyphs.old }
     requires known { merge ≡ true → in_order ≡ true → IsMonotone level → IsOrdered (clusters (meant merges.due glyphs.old)) }
     requires due { MayBeDue level start merges.due glyphs.old }
     requires plain { merge ≡ false → merges.due ≡ Nothing }
-    ensures turned { turning_at end (meant result.due glyphs.new) places.new result.marked ≡ first_turned merge level (end - start) (turning_at start (meant merges.due glyphs.old) places.old merges.marked) }
+    ensures turned { turning_at end (meant result.due glyphs.new) positions.new result.marked ≡ first_turned merge level (end - start) (turning_at start (meant merges.due glyphs.old) positions.old merges.marked) }
     ensures order { merge ≡ true → IsMonotone level → IsOrdered (clusters (meant merges.due glyphs.old)) → IsOrdered (clusters (meant result.due glyphs.new)) }
     ensures due { MayBeDue level end result.due glyphs.new }
     ensures plain { merge ≡ false → result.due ≡ Nothing }
 {
     let merged = merge_group(glyphs, level, in_order, merge, start, end, merges);
     turn_part(glyphs, start, end);
-    turn_part(places, start, end);
+    turn_part(positions, start, end);
     merged
 }
 

@@ -107,11 +107,11 @@ fn merges_a_range(rt: HostRuntime) -> Result<(), Fail> {
 #[test]
 fn turns_groups_round(rt: HostRuntime) -> Result<(), Fail> {
     let mut glyphs = [glyph(1, 0, 0), glyph(2, 0, 0), glyph(3, 5, 0)];
-    let mut places = [place(10), place(20), place(30)];
+    let mut positions = [place(10), place(20), place(30)];
     let marked = reverse_groups(
         rt.alloc(),
         &mut glyphs,
-        &mut places,
+        &mut positions,
         BufferClusterLevel::MonotoneGraphemes,
         false,
         false,
@@ -119,7 +119,7 @@ fn turns_groups_round(rt: HostRuntime) -> Result<(), Fail> {
     );
     assert!(&rt; !marked);
     assert_eq!(&rt; glyphs, [glyph(3, 5, 0), glyph(1, 0, 0), glyph(2, 0, 0)]);
-    assert_eq!(&rt; places, [place(30), place(10), place(20)]);
+    assert_eq!(&rt; positions, [place(30), place(10), place(20)]);
     Ok(())
 }
 
@@ -131,11 +131,11 @@ fn merges_groups_as_they_are_found(rt: HostRuntime) -> Result<(), Fail> {
         glyph(2, 1, 0),
         glyph(3, 2, 0),
     ];
-    let mut places = [place(10), place(20), place(30), place(40)];
+    let mut positions = [place(10), place(20), place(30), place(40)];
     let marked = reverse_groups(
         rt.alloc(),
         &mut glyphs,
-        &mut places,
+        &mut positions,
         BufferClusterLevel::MonotoneGraphemes,
         false,
         true,
@@ -151,7 +151,7 @@ fn merges_groups_as_they_are_found(rt: HostRuntime) -> Result<(), Fail> {
             glyph(1, 0, 0)
         ]
     );
-    assert_eq!(&rt; places, [place(40), place(30), place(10), place(20)]);
+    assert_eq!(&rt; positions, [place(40), place(30), place(10), place(20)]);
     Ok(())
 }
 
@@ -176,10 +176,10 @@ fn deletes_in_falling_clusters(rt: HostRuntime) -> Result<(), Fail> {
         glyph(0, 7, 2),
         glyph(2, 6, 0),
     ];
-    let mut places = [place(10), place(20), place(30), place(40)];
+    let mut positions = [place(10), place(20), place(30), place(40)];
     let (kept, marked) = delete_within(
         &mut glyphs,
-        &mut places,
+        &mut positions,
         BufferClusterLevel::MonotoneGraphemes,
         true,
         |info| info.glyph_id == 0,
@@ -188,18 +188,18 @@ fn deletes_in_falling_clusters(rt: HostRuntime) -> Result<(), Fail> {
     assert!(&rt; !marked);
     assert_eq!(&rt; glyphs[0], glyph(1, 7, 2));
     assert_eq!(&rt; glyphs[1], glyph(2, 6, 0));
-    assert_eq!(&rt; places[0], place(10));
-    assert_eq!(&rt; places[1], place(40));
+    assert_eq!(&rt; positions[0], place(10));
+    assert_eq!(&rt; positions[1], place(40));
     Ok(())
 }
 
 #[test]
 fn deletes_the_first(rt: HostRuntime) -> Result<(), Fail> {
     let mut glyphs = [glyph(0, 0, 0), glyph(1, 1, 1), glyph(2, 1, 0)];
-    let mut places = [place(10), place(20), place(30)];
+    let mut positions = [place(10), place(20), place(30)];
     let (kept, marked) = delete_within(
         &mut glyphs,
-        &mut places,
+        &mut positions,
         BufferClusterLevel::MonotoneGraphemes,
         false,
         |info| info.glyph_id == 0,
@@ -341,7 +341,7 @@ fn merges_groups_that_share_falling_clusters(rt: HostRuntime) -> Result<(), Fail
         glyph(3, 3, 9),
         glyph(4, 1, 9),
     ];
-    let mut places = [
+    let mut positions = [
         place(10),
         place(20),
         place(30),
@@ -353,7 +353,7 @@ fn merges_groups_that_share_falling_clusters(rt: HostRuntime) -> Result<(), Fail
     let marked = reverse_groups(
         rt.alloc(),
         &mut glyphs,
-        &mut places,
+        &mut positions,
         BufferClusterLevel::MonotoneGraphemes,
         true,
         true,
@@ -373,7 +373,7 @@ fn merges_groups_that_share_falling_clusters(rt: HostRuntime) -> Result<(), Fail
         ]
     );
     assert_eq!(&rt;
-        places,
+        positions,
         [
             place(70),
             place(50),

@@ -239,17 +239,17 @@ run_text (s ∷ []) = plain_text s []
 run_text (s ∷ t ∷ more) = plain_text s (124 ∷ run_text (t ∷ more))
 
 join_is : (name_of : ℕ → Option (List ℕ)) (extents_of : ℕ → Option hb_glyph_extents_t) (before : List GlyphPosition)
-    (glyphs : List hb_glyph_info_t) (places : List GlyphPosition)
-    → join_with_byte 124 (glyph_texts name_of extents_of numbers_and_flags before glyphs places) ≡ run_text (map shown_of (zip glyphs places))
-join_is name_of extents_of before [] places = refl
+    (glyphs : List hb_glyph_info_t) (positions : List GlyphPosition)
+    → join_with_byte 124 (glyph_texts name_of extents_of numbers_and_flags before glyphs positions) ≡ run_text (map shown_of (zip glyphs positions))
+join_is name_of extents_of before [] positions = refl
 join_is name_of extents_of before (g ∷ glyphs) [] = refl
-join_is name_of extents_of before (g ∷ []) (p ∷ places) =
+join_is name_of extents_of before (g ∷ []) (p ∷ positions) =
     sym (append-nil _) ∙ glyph_text_is name_of extents_of before g p []
 join_is name_of extents_of before (g ∷ h ∷ glyphs) (p ∷ []) =
     sym (append-nil _) ∙ glyph_text_is name_of extents_of before g p []
-join_is name_of extents_of before (g ∷ h ∷ glyphs) (p ∷ q ∷ places) =
+join_is name_of extents_of before (g ∷ h ∷ glyphs) (p ∷ q ∷ positions) =
     ap (λ rest. glyph_text name_of extents_of numbers_and_flags (pen_after numbers_and_flags before) g p ++ (124 ∷ rest))
-    (join_is name_of extents_of (before ++ p ∷ []) (h ∷ glyphs) (q ∷ places))
+    (join_is name_of extents_of (before ++ p ∷ []) (h ∷ glyphs) (q ∷ positions))
     ∙ glyph_text_is name_of extents_of before g p _
 
 decimal_is_not_empty : (m : ℕ) (rest : List ℕ) → m < 2 ^ 64 → decimal m ++ rest ≡ [] → ⊥
@@ -305,7 +305,7 @@ typed_shown (e ∷ es) typed =
 
 pub equal_texts_show_equal_runs : EqualTextsShowEqualRuns
 unfolding printed_text
-equal_texts_show_equal_runs name_of other_name_of extents_of other_extents_of glyphs others places other_places typed other_typed e =
-    runs_split (map shown_of (zip glyphs places)) (map shown_of (zip others other_places))
-    (typed_shown (zip glyphs places) typed) (typed_shown (zip others other_places) other_typed)
-    (sym (join_is name_of extents_of [] glyphs places) ∙ (e ∙ join_is other_name_of other_extents_of [] others other_places))
+equal_texts_show_equal_runs name_of other_name_of extents_of other_extents_of glyphs others positions other_positions typed other_typed e =
+    runs_split (map shown_of (zip glyphs positions)) (map shown_of (zip others other_positions))
+    (typed_shown (zip glyphs positions) typed) (typed_shown (zip others other_positions) other_typed)
+    (sym (join_is name_of extents_of [] glyphs positions) ∙ (e ∙ join_is other_name_of other_extents_of [] others other_positions))

@@ -45,13 +45,13 @@ pen_after_more : (flags : SerializeFlags) (ps : List GlyphPosition) (p : GlyphPo
 pen_after_more flags ps p = pen_cases (drops_advances flags) _ _ _ _ p (sum_more (λ q. q.x_advance) ps p) (sum_more (λ q. q.y_advance) ps p)
 
 -- the same, by index
-pub pen_step : (flags : SerializeFlags) (places : List GlyphPosition) (i : ℕ) (d : GlyphPosition) (pen pen' : Pen)
-    → i < length places → pen ≡ pen_after flags (take i places) → pen' ≡ moved_pen flags pen (get_or places i d)
-    → pen' ≡ pen_after flags (take (i + 1) places)
-pen_step flags places i d pen pen' lt before moved =
-    moved ∙ (ap (λ q. moved_pen flags q (get_or places i d)) before
-    ∙ (sym (pen_after_more flags (take i places) (get_or places i d))
-    ∙ sym (ap (pen_after flags) (take_more places i d lt))))
+pub pen_step : (flags : SerializeFlags) (positions : List GlyphPosition) (i : ℕ) (d : GlyphPosition) (pen pen' : Pen)
+    → i < length positions → pen ≡ pen_after flags (take i positions) → pen' ≡ moved_pen flags pen (get_or positions i d)
+    → pen' ≡ pen_after flags (take (i + 1) positions)
+pen_step flags positions i d pen pen' lt before moved =
+    moved ∙ (ap (λ q. moved_pen flags q (get_or positions i d)) before
+    ∙ (sym (pen_after_more flags (take i positions) (get_or positions i d))
+    ∙ sym (ap (pen_after flags) (take_more positions i d lt))))
 
 -- what is left to print from the glyph with this index on
 abbrev pub left_from : ℕ → List (List ℕ) → List ℕ
@@ -75,29 +75,29 @@ drop_at xs i d lt = drop-cons xs i d lt ∙ ap (λ k. get_or xs i d ∷ drop k x
 
 -- the texts from a glyph on
 texts_cons : (name_of : ℕ → Option (List ℕ)) (extents_of : ℕ → Option hb_glyph_extents_t) (flags : SerializeFlags)
-    (before after : List GlyphPosition) (glyphs glyphs_after : List hb_glyph_info_t) (places places_after : List GlyphPosition) (glyph : hb_glyph_info_t) (place : GlyphPosition)
-    → glyphs ≡ glyph ∷ glyphs_after → places ≡ place ∷ places_after → after ≡ before ++ place ∷ []
-    → glyph_texts name_of extents_of flags before glyphs places
+    (before after : List GlyphPosition) (glyphs glyphs_after : List hb_glyph_info_t) (positions places_after : List GlyphPosition) (glyph : hb_glyph_info_t) (place : GlyphPosition)
+    → glyphs ≡ glyph ∷ glyphs_after → positions ≡ place ∷ places_after → after ≡ before ++ place ∷ []
+    → glyph_texts name_of extents_of flags before glyphs positions
     ≡ glyph_text name_of extents_of flags (pen_after flags before) glyph place ∷ glyph_texts name_of extents_of flags after glyphs_after places_after
-texts_cons name_of extents_of flags before after glyphs glyphs_after places places_after glyph place glyphs_is places_is after_is =
+texts_cons name_of extents_of flags before after glyphs glyphs_after positions places_after glyph place glyphs_is places_is after_is =
     rw (glyphs_is, places_is, after_is)
 
 -- what is left to print of the run from this index on
 abbrev pub left_at : (ℕ → Option (List ℕ)) → (ℕ → Option hb_glyph_extents_t) → SerializeFlags → List hb_glyph_info_t → List GlyphPosition → ℕ → List ℕ
-left_at name_of extents_of flags glyphs places i =
-    left_from i (glyph_texts name_of extents_of flags (take i places) (drop i glyphs) (drop i places))
+left_at name_of extents_of flags glyphs positions i =
+    left_from i (glyph_texts name_of extents_of flags (take i positions) (drop i glyphs) (drop i positions))
 
 -- the run after one glyph more
 pub printed_step : (name_of : ℕ → Option (List ℕ)) (extents_of : ℕ → Option hb_glyph_extents_t) (flags : SerializeFlags)
-    (glyphs : List hb_glyph_info_t) (places : List GlyphPosition) (i : ℕ) (pen : Pen) (glyph : hb_glyph_info_t) (place : GlyphPosition)
+    (glyphs : List hb_glyph_info_t) (positions : List GlyphPosition) (i : ℕ) (pen : Pen) (glyph : hb_glyph_info_t) (place : GlyphPosition)
     (old mid new : List ℕ)
-    → i < length glyphs → i < length places → pen ≡ pen_after flags (take i places)
-    → mid ≡ old ++ separator i → new ≡ mid ++ glyph_text name_of extents_of flags pen (get_or glyphs i glyph) (get_or places i place)
-    → new ++ left_at name_of extents_of flags glyphs places (i + 1) ≡ old ++ left_at name_of extents_of flags glyphs places i
-printed_step name_of extents_of flags glyphs places i pen glyph place old mid new in_glyphs in_places pen_is mid_is new_is =
-    let text : Pen → List ℕ = λ p. glyph_text name_of extents_of flags p (get_or glyphs i glyph) (get_or places i place) in
-    let rest : List (List ℕ) = glyph_texts name_of extents_of flags (take (i + 1) places) (drop (i + 1) glyphs) (drop (i + 1) places) in
-    let split = texts_cons name_of extents_of flags (take i places) (take (i + 1) places) (drop i glyphs) (drop (i + 1) glyphs) (drop i places) (drop (i + 1) places) _ _
-    (drop_at glyphs i glyph in_glyphs) (drop_at places i place in_places) (take_more places i place in_places)
+    → i < length glyphs → i < length positions → pen ≡ pen_after flags (take i positions)
+    → mid ≡ old ++ separator i → new ≡ mid ++ glyph_text name_of extents_of flags pen (get_or glyphs i glyph) (get_or positions i place)
+    → new ++ left_at name_of extents_of flags glyphs positions (i + 1) ≡ old ++ left_at name_of extents_of flags glyphs positions i
+printed_step name_of extents_of flags glyphs positions i pen glyph place old mid new in_glyphs in_places pen_is mid_is new_is =
+    let text : Pen → List ℕ = λ p. glyph_text name_of extents_of flags p (get_or glyphs i glyph) (get_or positions i place) in
+    let rest : List (List ℕ) = glyph_texts name_of extents_of flags (take (i + 1) positions) (drop (i + 1) glyphs) (drop (i + 1) positions) in
+    let split = texts_cons name_of extents_of flags (take i positions) (take (i + 1) positions) (drop i glyphs) (drop (i + 1) glyphs) (drop i positions) (drop (i + 1) positions) _ _
+    (drop_at glyphs i glyph in_glyphs) (drop_at positions i place in_places) (take_more positions i place in_places)
     ∙ ap (λ p. text p ∷ rest) (sym pen_is) in
     regrouped old mid new (separator i) (text pen) _ _ mid_is new_is (ap (left_from i) split ∙ left_step i _ _)

@@ -12,10 +12,10 @@ drops_advances flags = bit_and flags.0 32 == 32
 abbrev pub total : List ℤ → ℤ
 total numbers = fold ◌+ℤ◌ (pos 0) numbers
 
--- the pen after glyphs at these places: the sums of their advances, or at rest where the advances are printed
+-- the pen after glyphs at these positions: the sums of their advances, or at rest where the advances are printed
 abbrev pub pen_after : SerializeFlags → List GlyphPosition → Pen
-pen_after flags places = if drops_advances flags
-    then record { x = total (map (λ place. place.x_advance) places); y = total (map (λ place. place.y_advance) places) }
+pen_after flags positions = if drops_advances flags
+    then record { x = total (map (λ place. place.x_advance) positions); y = total (map (λ place. place.y_advance) positions) }
     else record { x = pos 0; y = pos 0 }
 
 -- the pen at a distance

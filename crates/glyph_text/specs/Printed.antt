@@ -95,13 +95,13 @@ glyph_text name_of extents_of flags pen glyph place = name_text name_of flags gl
     ++ (flag_text flags glyph.mask
     ++ extents_text extents_of flags glyph.glyph_id)))
 
--- the text of each glyph, the first with these places before it
+-- the text of each glyph, the first with these positions before it
 abbrev pub glyph_texts : Names → Boxes → SerializeFlags → List GlyphPosition → List hb_glyph_info_t → List GlyphPosition → List (List ℕ)
-glyph_texts name_of extents_of flags before [] places = []
+glyph_texts name_of extents_of flags before [] positions = []
 glyph_texts name_of extents_of flags before (glyph ∷ glyphs) [] = []
-glyph_texts name_of extents_of flags before (glyph ∷ glyphs) (place ∷ places) =
+glyph_texts name_of extents_of flags before (glyph ∷ glyphs) (place ∷ positions) =
     glyph_text name_of extents_of flags (pen_after flags before) glyph place
-    ∷ glyph_texts name_of extents_of flags (before ++ place ∷ []) glyphs places
+    ∷ glyph_texts name_of extents_of flags (before ++ place ∷ []) glyphs positions
 
 -- what stands in front of the glyph with this index
 abbrev pub separator : ℕ → List ℕ
@@ -109,4 +109,4 @@ separator index = if index == 0 then [] else codes "|"
 
 -- the run's text: its glyphs' texts with `|` between them
 unfoldable pub printed_text : Names → Boxes → SerializeFlags → List hb_glyph_info_t → List GlyphPosition → List ℕ
-printed_text name_of extents_of flags glyphs places = join_with_byte 124 (glyph_texts name_of extents_of flags [] glyphs places)
+printed_text name_of extents_of flags glyphs positions = join_with_byte 124 (glyph_texts name_of extents_of flags [] glyphs positions)

@@ -44,7 +44,7 @@ pub record HasTypedNumbers (e : hb_glyph_info_t × GlyphPosition) : Type 0 where
 -- two runs with equal texts of numbers and flags have equal numbers, clusters, offsets, advances and glyph flags
 abbrev pub EqualTextsShowEqualRuns : Type 0
 EqualTextsShowEqualRuns = (name_of other_name_of : Names) (extents_of other_extents_of : Boxes)
-    (glyphs others : List hb_glyph_info_t) (places other_places : List GlyphPosition)
-    → All HasTypedNumbers (zip glyphs places) → All HasTypedNumbers (zip others other_places)
-    → printed_text name_of extents_of numbers_and_flags glyphs places ≡ printed_text other_name_of other_extents_of numbers_and_flags others other_places
-    → map shown_of (zip glyphs places) ≡ map shown_of (zip others other_places)
+    (glyphs others : List hb_glyph_info_t) (positions other_positions : List GlyphPosition)
+    → All HasTypedNumbers (zip glyphs positions) → All HasTypedNumbers (zip others other_positions)
+    → printed_text name_of extents_of numbers_and_flags glyphs positions ≡ printed_text other_name_of other_extents_of numbers_and_flags others other_positions
+    → map shown_of (zip glyphs positions) ≡ map shown_of (zip others other_positions)

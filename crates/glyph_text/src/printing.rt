@@ -53,19 +53,19 @@ fn push_glyph<N: GlyphNames>(
 pub fn serialize<N: GlyphNames>(
     alloc: Global,
     glyphs: &[hb_glyph_info_t],
-    places: &[GlyphPosition],
+    positions: &[GlyphPosition],
     names: &N,
     flags: SerializeFlags,
 ) -> Result<String, AllocError>
-    requires same_length { length glyphs.now ≡ length places.now }
+    requires same_length { length glyphs.now ≡ length positions.now }
     requires numbers { asks_font flags ≡ true → HasGlyphNumbers glyphs.now }
     ensures { IfOk result (λ text. string_bytes text
-        ≡ printed_text (N.name_of names.now) (N.extents_of names.now) flags glyphs.now places.now) }
+        ≡ printed_text (N.name_of names.now) (N.extents_of names.now) flags glyphs.now positions.now) }
 {
     let mut text = String::new(alloc);
     let mut pen = Pen::default();
     for (index, glyph) in glyphs.iter().enumerate() {
-        let place = &places[index];
+        let place = &positions[index];
         push_separator(&mut text, index)?;
         push_glyph(&mut text, names, flags, pen, glyph, place)?;
         pen = pen.moved(flags, place);

@@ -57,13 +57,13 @@ fn prints(
     rt: &impl Abort,
     alloc: Global,
     glyphs: &[hb_glyph_info_t],
-    places: &[GlyphPosition],
+    positions: &[GlyphPosition],
     flags: u8,
     want: &str,
 ) {
-    assert_eq!(rt; glyphs.len(), places.len());
+    assert_eq!(rt; glyphs.len(), positions.len());
     assert!(rt; glyphs.iter().all(|glyph| glyph.glyph_id <= 65535));
-    let Ok(text) = serialize(alloc, glyphs, places, &TwoGlyphs, SerializeFlags(flags)) else {
+    let Ok(text) = serialize(alloc, glyphs, positions, &TwoGlyphs, SerializeFlags(flags)) else {
         panic!(rt; "no memory for {want}");
     };
     assert_eq!(rt; text.as_str(), want, "flags {flags}");
@@ -72,8 +72,8 @@ fn prints(
 #[test]
 fn prints_runs(rt: HostRuntime) {
     let glyphs = [glyph(1, 0, 0), glyph(2, 1, 0)];
-    let places = [place(500, 0, 0, 0), place(600, 0, 0, 0)];
-    prints(&rt, rt.alloc(), &glyphs, &places, 4, "1=0+500|2=1+600");
+    let positions = [place(500, 0, 0, 0), place(600, 0, 0, 0)];
+    prints(&rt, rt.alloc(), &glyphs, &positions, 4, "1=0+500|2=1+600");
     prints(&rt, rt.alloc(), &[], &[], 4, "");
     prints(
         &rt,
@@ -88,7 +88,7 @@ fn prints_runs(rt: HostRuntime) {
 #[test]
 fn prints_what_the_flags_ask(rt: HostRuntime) {
     let glyphs = [glyph(7, 3, 0xFFFF_FFF8), glyph(2, 3, 13)];
-    let places = [place(500, 0, 0, 20), place(-600, 1, -500, 0)];
+    let positions = [place(500, 0, 0, 20), place(-600, 1, -500, 0)];
     for (flags, want) in [
         (0, "gid7=3@0,20+500|two=3@-500,0+-600,1"),
         (1, "gid7@0,20+500|two@-500,0+-600,1"),
@@ -103,19 +103,19 @@ fn prints_what_the_flags_ask(rt: HostRuntime) {
         (34, "gid7=3|two=3"),
         (63, "7<0,0,0,0>|2#5<10,700,480,-710>"),
     ] {
-        prints(&rt, rt.alloc(), &glyphs, &places, flags, want);
+        prints(&rt, rt.alloc(), &glyphs, &positions, flags, want);
     }
 }
 
 #[test]
 fn sums_advances_beyond_their_type(rt: HostRuntime) {
     let glyphs = [glyph(1, 0, 0); 3];
-    let places = [place(2147483647, -2147483648, 0, 0); 3];
+    let positions = [place(2147483647, -2147483648, 0, 0); 3];
     prints(
         &rt,
         rt.alloc(),
         &glyphs,
-        &places,
+        &positions,
         36,
         "1=0|1=0@2147483647,-2147483648|1=0@4294967294,-4294967296",
     );

@@ -61,14 +61,14 @@ ligated_cut n k s lt = rw (ligated_front n k s lt, ligated_rest n k s) refl
 sides_stripped : (s : Sides) → items_of s ≡ whole (cut_of s)
 sides_stripped s = map-append item_of s.behind s.ahead
 
-ligated_followed : (n k : ℕ) (s : Sides) → 0 < length s.ahead → s.places ≡ []
+ligated_followed : (n k : ℕ) (s : Sides) → 0 < length s.ahead → s.positions ≡ []
     → clusters (all_glyphs (with_replaced n (k ∷ []) s)) ≡ replaced_at s.level (length s.behind) n 1 (clusters (all_glyphs s))
     → IsFollowed (acted_read (ligature_cut n k (cut_of s)) (Replace (length (cut_of s).front) n 1 ∷ [])) (run_of s) (run_of (with_replaced n (k ∷ []) s))
-ligated_followed n k s lt placeless are =
+ligated_followed n k s lt no_positions are =
     let new = with_replaced n (k ∷ []) s in
     let items : strip (all_glyphs new) ≡ whole (ligature_cut n k (cut_of s)) = sides_stripped new ∙ ap whole (ligated_cut n k s lt) in
     let front : length (cut_of s).front ≡ length s.behind = length-map s.behind item_of in
-    rw front (follows_replacement (length s.behind) n 1 (whole (ligature_cut n k (cut_of s))) [] (run_of s) (run_of new) items placeless refl are)
+    rw front (follows_replacement (length s.behind) n 1 (whole (ligature_cut n k (cut_of s))) [] (run_of s) (run_of new) items no_positions refl are)
 
 ligated_read : (n k : ℕ) (s : Sides) → 0 < length s.ahead → 0 < n → n ≤ length s.ahead → IsRead s (with_replaced n (k ∷ []) s)
 ligated_read n k s lt some le =
@@ -100,31 +100,31 @@ ligature_fits mask components gs lt e =
     omega (arith, fit, left, lt)
 
 -- all that a ligature does
-pub ligature_acted : (n k : ℕ) (s : Sides) → 0 < length s.ahead → 0 < n → n ≤ length s.ahead → k ≤ 65535 → s.places ≡ []
+pub ligature_acted : (n k : ℕ) (s : Sides) → 0 < length s.ahead → 0 < n → n ≤ length s.ahead → k ≤ 65535 → s.positions ≡ []
     → clusters (all_glyphs (with_replaced n (k ∷ []) s)) ≡ replaced_at s.level (length s.behind) n 1 (clusters (all_glyphs s))
     → flags_of (all_glyphs (with_replaced n (k ∷ []) s)) ≡ replaced (length s.behind) n 1 (flags_merged_at s.level (length s.behind) (length s.behind + n) (all_glyphs s))
     → IsActed (ligature_cut n k (cut_of s)) (Replace (length (cut_of s).front) n 1 ∷ []) s (with_replaced n (k ∷ []) s)
-ligature_acted n k s lt some le small placeless numbers flags =
+ligature_acted n k s lt some le small no_positions numbers flags =
     let new = with_replaced n (k ∷ []) s in
     record {
       cut_is = ligated_cut n k s lt;
-      followed = ligated_followed n k s lt placeless numbers;
-      still = record { is_open = refl; placeless = refl; level = refl; limit = refl; refused = refl; direction = refl; script = refl };
+      followed = ligated_followed n k s lt no_positions numbers;
+      still = record { is_open = refl; no_positions = refl; level = refl; limit = refl; refused = refl; direction = refl; script = refl };
       counts = ligated_read n k s lt some le;
       numbers = λ e. ap are_glyphs (sides_stripped new ∙ ap whole (ligated_cut n k s lt)) ∙ glyphs_replaced n k (strip s.behind) (strip s.ahead) small (ap are_glyphs (sym (sides_stripped s)) ∙ e);
       flags = λ m e. ap (list_all (λ f. f == 0)) flags ∙ no_flags_replaced s.level (length s.behind) n 1 (all_glyphs s) m e;
     }
 
-pub ligature_does : (mask : ℕ) (l : LigatureTable) (s new : Sides) → 0 < length s.ahead → begins_with mask l.components (drop 1 (strip s.ahead)) ≡ true → l.glyph ≤ 65535 → s.places ≡ []
+pub ligature_does : (mask : ℕ) (l : LigatureTable) (s new : Sides) → 0 < length s.ahead → begins_with mask l.components (drop 1 (strip s.ahead)) ≡ true → l.glyph ≤ 65535 → s.positions ≡ []
     → new ≡ with_replaced (1 + length l.components) (l.glyph ∷ []) s
     → clusters (all_glyphs new) ≡ replaced_at s.level (length s.behind) (1 + length l.components) 1 (clusters (all_glyphs s))
     → flags_of (all_glyphs new) ≡ replaced (length s.behind) (1 + length l.components) 1 (flags_merged_at s.level (length s.behind) (length s.behind + (1 + length l.components)) (all_glyphs s))
     → Does (ligature_rule mask l (cut_of s)) true s new
-ligature_does mask l s new lt matches small placeless is numbers flags =
+ligature_does mask l s new lt matches small no_positions is numbers flags =
     let n = 1 + length l.components in
     let done = with_replaced n (l.glyph ∷ []) s in
     let P : Sides → Type 0 = λ t. clusters (all_glyphs t) ≡ replaced_at s.level (length s.behind) n 1 (clusters (all_glyphs s)) in
     let Q : Sides → Type 0 = λ t. flags_of (all_glyphs t) ≡ replaced (length s.behind) n 1 (flags_merged_at s.level (length s.behind) (length s.behind + n) (all_glyphs s)) in
-    let acted = ligature_acted n l.glyph s lt (omega arith) (ligature_fits mask l.components s.ahead lt matches) small placeless (subst P is numbers) (subst Q is flags) in
+    let acted = ligature_acted n l.glyph s lt (omega arith) (ligature_fits mask l.components s.ahead lt matches) small no_positions (subst P is numbers) (subst Q is flags) in
     let R : Sides → Type 0 = λ t. IsActed (ligature_cut n l.glyph (cut_of s)) (Replace (length (cut_of s).front) n 1 ∷ []) s t in
     rw matches (refl, subst R (sym is) acted)

@@ -12,9 +12,9 @@ use Rattle.layout_gsub.specs.Actions.{Cut, whole, Outcome, Passes, Acts, Refuses
 abbrev pub cut_of : Sides → Cut
 cut_of s = record { front = strip s.behind; rest = strip s.ahead }
 
--- the reading of a list that a rule left; while an output is open there are no places
+-- the reading of a list that a rule left; while an output is open there are no positions
 abbrev pub acted_read : Cut → List Event → Read
-acted_read c events = record { items = whole c; places = []; at_graphemes = events; at_characters = events }
+acted_read c events = record { items = whole c; positions = []; at_graphemes = events; at_characters = events }
 
 -- each item has a number that a glyph can have
 abbrev pub are_glyphs : List Item → Bool
@@ -27,7 +27,7 @@ have_no_flags gs = list_all (λ f. f == 0) (flags_of gs)
 -- a call that changes an open buffer's glyphs leaves all else
 pub record IsOpenStill (old new : Sides) : Type 0 where
   pub is_open : new.is_open ≡ old.is_open
-  pub placeless : new.places ≡ old.places
+  pub no_positions : new.positions ≡ old.positions
   pub level : new.level ≡ old.level
   pub limit : new.max_len ≡ old.max_len
   pub refused : new.has_refused ≡ old.has_refused

@@ -57,7 +57,7 @@ fn apply_ligature(
     buffer: &mut hb_buffer_t,
 ) -> Result<bool, ShapeCause>
     requires open { buffer.old.is_open ≡ true }
-    requires placeless { buffer.old.places ≡ [] }
+    requires no_positions { buffer.old.positions ≡ [] }
     requires there { 0 < length buffer.old.ahead }
     requires room { length buffer.old.behind < buffer.old.max_len }
     ensures ok { IfOk result (λ acted. Does (ligature_rule mask ligature.now (cut_of buffer.old)) acted buffer.old buffer.new) }
@@ -81,7 +81,7 @@ fn apply_ligatures(
     buffer: &mut hb_buffer_t,
 ) -> Result<bool, ShapeCause>
     requires open { buffer.old.is_open ≡ true }
-    requires placeless { buffer.old.places ≡ [] }
+    requires no_positions { buffer.old.positions ≡ [] }
     requires there { 0 < length buffer.old.ahead }
     requires room { length buffer.old.behind < buffer.old.max_len }
     ensures ok { IfOk result (λ acted. Does (first_rule (ligature_rule mask) ligatures.now (cut_of buffer.old)) acted buffer.old buffer.new) }
@@ -103,7 +103,7 @@ pub(crate) fn apply_ligature_subst(
     buffer: &mut hb_buffer_t,
 ) -> Result<bool, ShapeCause>
     requires open { buffer.old.is_open ≡ true }
-    requires placeless { buffer.old.places ≡ [] }
+    requires no_positions { buffer.old.positions ≡ [] }
     requires there { 0 < length buffer.old.ahead }
     requires room { length buffer.old.behind < buffer.old.max_len }
     requires number { are_glyphs (items_of buffer.old) ≡ true }

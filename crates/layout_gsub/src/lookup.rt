@@ -17,7 +17,7 @@ fn apply_subtables(
     buffer: &mut hb_buffer_t,
 ) -> Result<bool, ShapeCause>
     requires open { buffer.old.is_open ≡ true }
-    requires placeless { buffer.old.places ≡ [] }
+    requires no_positions { buffer.old.positions ≡ [] }
     requires there { 0 < length buffer.old.ahead }
     requires room { length buffer.old.behind < buffer.old.max_len }
     requires number { are_glyphs (items_of buffer.old) ≡ true }
@@ -41,7 +41,7 @@ pub fn apply_lookup(
     buffer: &mut hb_buffer_t,
 ) -> Result<bool, ShapeCause>
     requires open { buffer.old.is_open ≡ true }
-    requires placeless { buffer.old.places ≡ [] }
+    requires no_positions { buffer.old.positions ≡ [] }
     requires there { 0 < length buffer.old.ahead }
     requires room { length buffer.old.behind < buffer.old.max_len }
     requires number { are_glyphs (items_of buffer.old) ≡ true }

@@ -5,10 +5,10 @@ use Rattle.std.proofs.lemmas.Bool.Decides.{nat_tests}
 use Rattle.glyph_lists.specs.Items.{item_of, strip}
 use Rattle.glyph_lists.specs.Readings.{Reading, Run, Follows, IsMonotone, always, read_of}
 use Rattle.glyph_lists.specs.Steps.{follows_then, follows_eventless}
-use Rattle.glyph_buffer.specs.Sides.{Sides, all_glyphs, run_of, with_output, synced, fits_joined, zero_places, zero_place}
+use Rattle.glyph_buffer.specs.Sides.{Sides, all_glyphs, run_of, with_output, synced, fits_joined, zero_positions, zero_position}
 use Rattle.layout_gsub.specs.Actions.{whole, uncut, Action}
 use Rattle.layout_gsub.specs.Buffers.{cut_of, IsOpenStill}
-use Rattle.layout_stages.specs.Lookups.{tried, unplaced, looked_up}
+use Rattle.layout_stages.specs.Lookups.{tried, unpositioned, looked_up}
 use Rattle.layout_stages.specs.Steps.{IsSane, IsStep, IsReady, IsDone}
 
 -- from an opened buffer so many steps are left
@@ -24,7 +24,7 @@ pub begun : (act : Action) (count : ℕ) (s : Sides) → length s.ahead ≡ coun
 begun act count s len none =
     let zero_left : count - 0 ≡ count = omega arith in
     record {
-      still = record { is_open = refl; placeless = refl; level = refl; limit = refl; refused = refl; direction = refl; script = refl };
+      still = record { is_open = refl; no_positions = refl; level = refl; limit = refl; refused = refl; direction = refl; script = refl };
       total = refl;
       front = rw none (omega arith);
       enough = omega (arith, len);
@@ -35,7 +35,7 @@ begun act count s len none =
 then_still : (a b c : Sides) → IsOpenStill a b → IsOpenStill b c → IsOpenStill a c
 then_still a b c f g = record {
   is_open = g.is_open ∙ f.is_open;
-  placeless = g.placeless ∙ f.placeless;
+  no_positions = g.no_positions ∙ f.no_positions;
   level = g.level ∙ f.level;
   limit = g.limit ∙ f.limit;
   refused = g.refused ∙ f.refused;
@@ -72,27 +72,27 @@ fits act count left start now u unrefused within =
     let le : nat_le (length (all_glyphs now) + 0) now.max_len ≡ true = grind (arith, nat_tests, total, front, limit, sides, within) in
     rw (refused, le) refl
 
-other_places : (r : Reading) (s : Sides) (final : Run) → Follows r (run_of (with_output s)) final → Follows r (run_of s) final
-other_places (Ok r) s final f = record { items = f.items; places = f.places; parts = f.parts; known = f.known; level = f.level }
-other_places (Err e) s final f = absurd f
+other_positions : (r : Reading) (s : Sides) (final : Run) → Follows r (run_of (with_output s)) final → Follows r (run_of s) final
+other_positions (Ok r) s final f = record { items = f.items; positions = f.positions; parts = f.parts; known = f.known; level = f.level }
+other_positions (Err e) s final f = absurd f
 
 empty : {X : Type 0} (xs : List X) → length xs ≤ 0 → xs ≡ []
 empty [] e = refl
 empty (x ∷ xs) e = absurd (omega (arith, e))
 
 -- at the end nothing is left to read
-ended_follows : (act : Action) (now : Sides) → now.places ≡ [] → Follows (tried act 0 (cut_of now)) (run_of now) (run_of now)
-ended_follows act now placeless = follows_eventless (whole (cut_of now)) [] (run_of now) (run_of now) (map-append item_of now.behind now.ahead) placeless refl refl
+ended_follows : (act : Action) (now : Sides) → now.positions ≡ [] → Follows (tried act 0 (cut_of now)) (run_of now) (run_of now)
+ended_follows act now no_positions = follows_eventless (whole (cut_of now)) [] (run_of now) (run_of now) (map-append item_of now.behind now.ahead) no_positions refl refl
 
-synced_follows : (mid : Sides) → Follows (read_of (always unplaced) (run_of mid)) (run_of mid) (run_of (synced mid))
-synced_follows mid = follows_eventless _ _ (run_of mid) (run_of (synced mid)) refl (ap zero_places (sym (length-map (all_glyphs mid) item_of))) refl refl
+synced_follows : (mid : Sides) → Follows (read_of (always unpositioned) (run_of mid)) (run_of mid) (run_of (synced mid))
+synced_follows mid = follows_eventless _ _ (run_of mid) (run_of (synced mid)) refl (ap zero_positions (sym (length-map (all_glyphs mid) item_of))) refl refl
 
 looked_up_follows : (act : Action) (s mid : Sides) → IsUnderway act (length (all_glyphs s)) 0 (with_output s) mid → Follows (read_of (looked_up act) (run_of s)) (run_of s) (run_of (synced mid))
 looked_up_follows act s mid u =
     let first : Follows (tried act (length (all_glyphs s)) (uncut (strip (all_glyphs s)))) (run_of s) (run_of mid) =
-    other_places (tried act (length (all_glyphs s)) (uncut (strip (all_glyphs s)))) s (run_of mid) (u.follows (run_of mid) (ended_follows act mid u.still.placeless)) in
+    other_positions (tried act (length (all_glyphs s)) (uncut (strip (all_glyphs s)))) s (run_of mid) (u.follows (run_of mid) (ended_follows act mid u.still.no_positions)) in
     let n : length (strip (all_glyphs s)) ≡ length (all_glyphs s) = length-map (all_glyphs s) item_of in
-    follows_then (tried act (length (strip (all_glyphs s))) (uncut (strip (all_glyphs s)))) (always unplaced) (run_of s) (run_of mid) (run_of (synced mid)) (rw n first) (synced_follows mid)
+    follows_then (tried act (length (strip (all_glyphs s))) (uncut (strip (all_glyphs s)))) (always unpositioned) (run_of s) (run_of mid) (run_of (synced mid)) (rw n first) (synced_follows mid)
 
 -- a lookup that was tried everywhere, once both sides are one list
 pub looked_up_done : (act : Action) (count at : ℕ) (s mid new : Sides) → IsReady s → count ≡ length (all_glyphs s) → count ≤ at → IsUnderway act count (count - at) (with_output s) mid → new ≡ synced mid → IsDone (looked_up act) s new
@@ -104,7 +104,7 @@ looked_up_done act count at s mid new ready len le u is =
     let P : Sides → Type 0 = λ t. IsDone (looked_up act) s t in
     let kept : IsDone (looked_up act) s (synced mid) = record {
       follows = looked_up_follows act s mid done;
-      ready = record { closed = refl; front = refl; unread = refl; placed = length-replicate (length (all_glyphs mid)) zero_place; unrefused = u.still.refused ∙ ready.unrefused };
+      ready = record { closed = refl; front = refl; unread = refl; placed = length-replicate (length (all_glyphs mid)) zero_position; unrefused = u.still.refused ∙ ready.unrefused };
       level = u.still.level;
       limit = u.still.limit;
       direction = u.still.direction;

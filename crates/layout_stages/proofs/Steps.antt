@@ -14,7 +14,7 @@ use Rattle.layout_stages.specs.Lookups.{tried}
 use Rattle.layout_stages.specs.Steps.{IsStep}
 
 same_still : (s : Sides) → IsOpenStill s s
-same_still s = record { is_open = refl; placeless = refl; level = refl; limit = refl; refused = refl; direction = refl; script = refl }
+same_still s = record { is_open = refl; no_positions = refl; level = refl; limit = refl; refused = refl; direction = refl; script = refl }
 
 empty : {X : Type 0} (xs : List X) → length xs ≡ 0 → xs ≡ []
 empty [] e = refl
@@ -73,7 +73,7 @@ moved_step act s lt passes =
     let one = length-take-le 1 s.ahead (omega (arith, lt)) in
     let more = length-append s.behind (take 1 s.ahead) in
     record {
-      still = record { is_open = refl; placeless = refl; level = refl; limit = refl; refused = refl; direction = refl; script = refl };
+      still = record { is_open = refl; no_positions = refl; level = refl; limit = refl; refused = refl; direction = refl; script = refl };
       total = omega (arith, left, lt);
       front = omega (arith, more, one);
       less = omega (arith, left);

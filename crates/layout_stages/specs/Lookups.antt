@@ -1,8 +1,8 @@
 -- A lookup tried at each place of a list, and the lookups of a stage (OpenType, chapter 2).
 use Rattle.std.specs.Prelude.{ℕ, suc, zero, List, [], ◌∷◌, length, Option, Some, None, Ok, Err, slice_get}
-use Rattle.glyph_lists.specs.Items.{Item, Place}
+use Rattle.glyph_lists.specs.Items.{Item, Position}
 use Rattle.glyph_lists.specs.Readings.{Read, Reading, Stage, behind, and_then, eventless, always, as_it_is}
-use Rattle.glyph_buffer.specs.Sides.{zero_places}
+use Rattle.glyph_buffer.specs.Sides.{zero_positions}
 use Rattle.layout_font.specs.Layout.{LookupTable}
 use Rattle.layout_map.specs.declared.stage.lookup_map_t.{lookup_map_t}
 use Rattle.layout_gsub.specs.Actions.{Cut, whole, uncut, past_item, Outcome, Passes, Acts, Refuses, Action}
@@ -15,18 +15,18 @@ after_outcome Passes next c = next (past_item c)
 after_outcome (Acts cut events) next c = behind (acted_read cut events) (next cut)
 after_outcome (Refuses cause) next c = Err cause
 
--- a rule tried at so many places, the first of them the cut
+-- a rule tried at so many positions, the first of them the cut
 abbrev pub tried : Action → ℕ → Cut → Reading
 tried act zero c = Ok (eventless (whole c) [])
 tried act (suc n) c = after_outcome (act c) (tried act n) c
 
--- what came of a list stands at places of nothing
-abbrev pub unplaced : List Item → List Place → Read
-unplaced xs ps = eventless xs (zero_places (length xs))
+-- what came of a list stands at positions of nothing
+abbrev pub unpositioned : List Item → List Position → Read
+unpositioned xs ps = eventless xs (zero_positions (length xs))
 
 -- a rule tried at each place of a list once, from the left; what it made is not tried again
 abbrev pub looked_up : Action → Stage
-looked_up act xs ps = and_then (tried act (length xs) (uncut xs)) (always unplaced)
+looked_up act xs ps = and_then (tried act (length xs) (uncut xs)) (always unpositioned)
 
 -- a lookup with a mask; a place without a lookup does nothing
 abbrev pub lookup_stage : Option LookupTable → ℕ → Stage

@@ -25,10 +25,10 @@ pub record IsReady (s : Sides) : Type 0 where
   pub closed : s.is_open ≡ false
   pub front : s.behind ≡ []
   pub unread : s.read ≡ 0
-  pub placed : length s.places ≡ length (all_glyphs s)
+  pub placed : length s.positions ≡ length (all_glyphs s)
   pub unrefused : s.has_refused ≡ false
 
--- a stage was done on a buffer: its glyphs, places and clusters follow what is read of them, and the rest stays
+-- a stage was done on a buffer: its glyphs, positions and clusters follow what is read of them, and the rest stays
 pub record IsDone (stage : Stage) (old new : Sides) : Type 0 where
   pub follows : Follows (read_of stage (run_of old)) (run_of old) (run_of new)
   pub ready : IsReady new

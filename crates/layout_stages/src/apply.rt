@@ -17,7 +17,7 @@ use layout_map::stage::lookup_map_t;
 #[tactic(auto, using(crate::proofs::Steps::step_ended, crate::proofs::Steps::step_passed, crate::proofs::Steps::step_acted, crate::proofs::Steps::nothing_done))]
 fn apply_next(lookup: &Lookup, mask: u32, buffer: &mut hb_buffer_t) -> Result<(), ShapeCause>
     requires open { buffer.old.is_open ≡ true }
-    requires placeless { buffer.old.places ≡ [] }
+    requires no_positions { buffer.old.positions ≡ [] }
     requires front { length buffer.old.behind ≤ buffer.old.read }
     requires limit { buffer.old.read + length buffer.old.ahead ≤ buffer.old.max_len }
     requires numbers { are_glyphs (items_of buffer.old) ≡ true }

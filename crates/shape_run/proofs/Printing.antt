@@ -76,12 +76,12 @@ text_plain text = plain_from 0 (chars text)
 -- ---- the line
 
 pub line_follows : (flags : SerializeFlags) (r : Reading) (old new : Run) → old.level ≡ MonotoneGraphemes → IsOrdered (clusters old.glyphs) → has_no_flags new.glyphs ≡ true → Follows r old new
-    → line_of_reading flags (clusters old.glyphs) r ≡ Ok (printed_line flags new.glyphs new.places)
+    → line_of_reading flags (clusters old.glyphs) r ≡ Ok (printed_line flags new.glyphs new.positions)
 line_follows flags (Ok r) old new level ordered none f =
     let parts = (rw level at f.parts) tt ordered in
     let again : glyphs_of r.items (after_events r.at_graphemes (clusters old.glyphs)) ≡ new.glyphs =
     rw (← f.items, ← parts) (glyphs_again new.glyphs none) in
-    rw (again, f.places) refl
+    rw (again, f.positions) refl
 line_follows flags (Err e) old new level ordered none f = absurd f
 
 -- the line of a text that fits and does not wait
@@ -97,7 +97,7 @@ pub line_shaped : (options : Options) (font : FontKeys) (text : List ℕ) (b : S
     → waits options.features.items (text_buffer options text).script (text_buffer options text).direction (items_of (text_buffer options text)) ≡ false
     → Follows (read_of (shaping font options.features.items (text_buffer options text).script (text_buffer options text).direction) (run_of (text_buffer options text))) (run_of (text_buffer options text)) (run_of b)
     → has_no_flags (all_glyphs b) ≡ true
-    → line ≡ printed_line options.flags (all_glyphs b) b.places
+    → line ≡ printed_line options.flags (all_glyphs b) b.positions
     → line_of options font text ≡ Ok line
 line_shaped options font text b line fits here f none e =
     let s = text_buffer options text in

@@ -10,12 +10,12 @@ use Rattle.std.proofs.lemmas.Slice.{drop-append-drop}
 use Rattle.std.specs.List.{list_all}
 use Rattle.glyph_types.specs.declared.info.hb_glyph_info_t.{hb_glyph_info_t}
 use Rattle.font_json.specs.Keys.{FontKeys}
-use Rattle.glyph_lists.specs.Items.{Place}
+use Rattle.glyph_lists.specs.Items.{Position}
 use Rattle.glyph_lists.specs.Lists.{take_next, drop_next}
-use Rattle.glyph_buffer.specs.Sides.{Sides, all_glyphs, moved_on, fits_next, fits_joined, synced, with_output, with_cleared_places, zero_places}
-use Rattle.glyph_buffer.specs.Lending.{with_glyph_ahead, with_current_place}
-use Rattle.shape_run.specs.Path.{advance_place}
-use Rattle.shape_run.specs.Stages.{mapped_glyph, is_glyph_number, advance_places, with_advances, with_mapped, with_next_mapped, with_first_mapped, with_next_advanced, with_first_advanced}
+use Rattle.glyph_buffer.specs.Sides.{Sides, all_glyphs, moved_on, fits_next, fits_joined, synced, with_output, with_cleared_positions, zero_positions}
+use Rattle.glyph_buffer.specs.Lending.{with_glyph_ahead, with_current_position}
+use Rattle.shape_run.specs.Path.{advance_position}
+use Rattle.shape_run.specs.Stages.{mapped_glyph, is_glyph_number, advance_positions, with_advances, with_mapped, with_next_mapped, with_first_mapped, with_next_advanced, with_first_advanced}
 
 front_mapped : (font : FontKeys) (gs : List hb_glyph_info_t) (g : hb_glyph_info_t) → slice_get gs 0 ≡ Some g
     → take 1 (set gs 0 (mapped_glyph font g)) ≡ map (mapped_glyph font) (take 1 gs)
@@ -76,50 +76,50 @@ first_number (x ∷ xs) g h e =
     let here : (nat_le g.glyph_id 65535 && list_all is_glyph_number []) ≡ true = rw same at h in
     grind (arith, nat_tests, here)
 
--- ---- places
+-- ---- positions
 
-abbrev at_front : FontKeys → List hb_glyph_info_t → List Place → List Place
-at_front font gs ps = advance_places font (take 1 gs) ++ ps
+abbrev at_front : FontKeys → List hb_glyph_info_t → List Position → List Position
+at_front font gs ps = advance_positions font (take 1 gs) ++ ps
 
-front_advanced : (font : FontKeys) (gs : List hb_glyph_info_t) (g : hb_glyph_info_t) (ps : List Place) → slice_get gs 0 ≡ Some g
-    → advance_place font g.glyph_id ∷ ps ≡ at_front font gs ps
+front_advanced : (font : FontKeys) (gs : List hb_glyph_info_t) (g : hb_glyph_info_t) (ps : List Position) → slice_get gs 0 ≡ Some g
+    → advance_position font g.glyph_id ∷ ps ≡ at_front font gs ps
 front_advanced font [] g ps e = cc
 front_advanced font (h ∷ gs) g ps e = let same : h ≡ g = cc in rw same refl
 
-pub advanced_next : (font : FontKeys) (s : Sides) (g : hb_glyph_info_t) → slice_get s.ahead 0 ≡ Some g → s.read < length s.places
-    → moved_on 1 (with_current_place (advance_place font g.glyph_id) s) ≡ with_next_advanced font s
+pub advanced_next : (font : FontKeys) (s : Sides) (g : hb_glyph_info_t) → slice_get s.ahead 0 ≡ Some g → s.read < length s.positions
+    → moved_on 1 (with_current_position (advance_position font g.glyph_id) s) ≡ with_next_advanced font s
 advanced_next font s g e lt =
-    let cut : set s.places s.read (advance_place font g.glyph_id) ≡ take s.read s.places ++ advance_place font g.glyph_id ∷ drop (s.read + 1) s.places =
-    rw add-one (set_split s.places s.read (advance_place font g.glyph_id) lt) in
-    rw (cut, front_advanced font s.ahead g (drop (s.read + 1) s.places) e) refl
+    let cut : set s.positions s.read (advance_position font g.glyph_id) ≡ take s.read s.positions ++ advance_position font g.glyph_id ∷ drop (s.read + 1) s.positions =
+    rw add-one (set_split s.positions s.read (advance_position font g.glyph_id) lt) in
+    rw (cut, front_advanced font s.ahead g (drop (s.read + 1) s.positions) e) refl
 
-length_advanced : (font : FontKeys) (n : ℕ) (gs : List hb_glyph_info_t) → n ≤ length gs → length (advance_places font (take n gs)) ≡ n
+length_advanced : (font : FontKeys) (n : ℕ) (gs : List hb_glyph_info_t) → n ≤ length gs → length (advance_positions font (take n gs)) ≡ n
 length_advanced font n gs le = rw (length-map, length-take-le) refl
 
 pub advanced_step : (font : FontKeys) (n : ℕ) (s : Sides) → n < length s.ahead
     → with_next_advanced font (with_first_advanced font n s) ≡ with_first_advanced font (n + 1) s
 advanced_step font n s lt =
-    let f : hb_glyph_info_t → Place = λ g. advance_place font g.glyph_id in
-    let long : length (advance_places font (take n s.ahead)) ≡ n = length_advanced font n s.ahead (omega arith) in
-    let front : take n (advance_places font (take n s.ahead) ++ drop n s.places) ≡ advance_places font (take n s.ahead) = rw long at (take-append_seam (advance_places font (take n s.ahead)) (drop n s.places)) in
-    let back : drop (n + 1) (advance_places font (take n s.ahead) ++ drop n s.places) ≡ drop (n + 1) s.places = drop-append-drop n s.places (advance_places font (take n s.ahead)) (n + 1) (omega arith) long in
-    let more : advance_places font (take (n + 1) s.ahead) ≡ advance_places font (take n s.ahead) ++ advance_places font (take 1 (drop n s.ahead)) =
+    let f : hb_glyph_info_t → Position = λ g. advance_position font g.glyph_id in
+    let long : length (advance_positions font (take n s.ahead)) ≡ n = length_advanced font n s.ahead (omega arith) in
+    let front : take n (advance_positions font (take n s.ahead) ++ drop n s.positions) ≡ advance_positions font (take n s.ahead) = rw long at (take-append_seam (advance_positions font (take n s.ahead)) (drop n s.positions)) in
+    let back : drop (n + 1) (advance_positions font (take n s.ahead) ++ drop n s.positions) ≡ drop (n + 1) s.positions = drop-append-drop n s.positions (advance_positions font (take n s.ahead)) (n + 1) (omega arith) long in
+    let more : advance_positions font (take (n + 1) s.ahead) ≡ advance_positions font (take n s.ahead) ++ advance_positions font (take 1 (drop n s.ahead)) =
     rw (take_next s.ahead n) (map-append f (take n s.ahead) (take 1 (drop n s.ahead))) in
     let taken = take_next s.ahead n in
     let left = drop_next s.ahead n in
-    let grown = append_assoc (advance_places font (take n s.ahead)) (advance_places font (take 1 (drop n s.ahead))) (drop (n + 1) s.places) in
+    let grown = append_assoc (advance_positions font (take n s.ahead)) (advance_positions font (take 1 (drop n s.ahead))) (drop (n + 1) s.positions) in
     cc
 
-pub advanced_whole : (font : FontKeys) (s : Sides) → s.behind ≡ [] → s.read ≡ 0 → length s.places ≡ length s.ahead
-    → with_first_advanced font (length s.ahead) (with_cleared_places s) ≡ with_advances font s
+pub advanced_whole : (font : FontKeys) (s : Sides) → s.behind ≡ [] → s.read ≡ 0 → length s.positions ≡ length s.ahead
+    → with_first_advanced font (length s.ahead) (with_cleared_positions s) ≡ with_advances font s
 advanced_whole font s b r p =
     let none : drop (length s.ahead) s.ahead ≡ [] = drop_all (length s.ahead) s.ahead (omega arith) in
     let whole : take (length s.ahead) s.ahead ≡ s.ahead = take_all (length s.ahead) s.ahead (omega arith) in
-    let gone : drop (length s.ahead) (zero_places (length s.places)) ≡ [] = drop_all (length s.ahead) (zero_places (length s.places)) (simp length-replicate (omega arith)) in
+    let gone : drop (length s.ahead) (zero_positions (length s.positions)) ≡ [] = drop_all (length s.ahead) (zero_positions (length s.positions)) (simp length-replicate (omega arith)) in
     rw (none, whole, gone, append-nil, b) refl
 
-pub advanced_length : (font : FontKeys) (n : ℕ) (s : Sides) → n ≤ length s.ahead → length s.places ≡ length s.ahead
-    → length (with_first_advanced font n s).places ≡ length s.ahead
+pub advanced_length : (font : FontKeys) (n : ℕ) (s : Sides) → n ≤ length s.ahead → length s.positions ≡ length s.ahead
+    → length (with_first_advanced font n s).positions ≡ length s.ahead
 advanced_length font n s le p = rw (length-append, length_advanced font n s.ahead le, length-drop) (omega (arith, p, le))
 
 -- a part of some glyphs with glyphs' numbers

@@ -10,25 +10,25 @@ use Rattle.glyph_types.specs.declared.info.hb_glyph_info_t.{hb_glyph_info_t}
 use Rattle.glyph_types.specs.declared.level.BufferClusterLevel.{BufferClusterLevel}
 use Rattle.glyph_types.specs.declared.level.BufferClusterLevel.TheVariants.{MonotoneGraphemes, MonotoneCharacters, Characters}
 use Rattle.font_json.specs.Keys.{FontKeys}
-use Rattle.glyph_lists.specs.Items.{Item, Place, item_of, strip, clusters}
+use Rattle.glyph_lists.specs.Items.{Item, Position, item_of, strip, clusters}
 use Rattle.glyph_lists.specs.Events.{Reverse, after_events}
 use Rattle.glyph_lists.specs.Order.{BringsNone}
 use Rattle.glyph_lists.specs.Readings.{Reading, Stage, IsFollowed, Follows, IsMonotone, events_at, eventless, always, and_then, read_of}
 use Rattle.glyph_lists.specs.Steps.{follows_then, follows_eventless}
 use Rattle.glyph_lists.specs.Lemmas.Events.{keeps_numbers}
-use Rattle.glyph_buffer.specs.Sides.{Sides, all_glyphs, items_of, run_of, reversed, zero_place}
+use Rattle.glyph_buffer.specs.Sides.{Sides, all_glyphs, items_of, run_of, reversed, zero_position}
 use Rattle.glyph_buffer.specs.Masks.{with_masks, glyph_masked, item_masked}
 use Rattle.layout_map.specs.Map.{OtMap}
 use Rattle.layout_gsub.specs.Buffers.{are_glyphs, have_no_flags}
 use Rattle.layout_stages.specs.Steps.{IsReady, IsDone}
-use Rattle.shape_run.specs.Path.{turned_round, is_turned, native_order, native_direction, mapped, mapped_item, advanced, advance_place, drawn_order, is_numeral, is_letter, masked, substituted, before_substitution, after_substitution, shaped_with}
-use Rattle.shape_run.specs.Stages.{ordered, mapped_glyph, with_mapped, with_advances, advance_places, drawn, is_glyph_number}
+use Rattle.shape_run.specs.Path.{turned_round, is_turned, native_order, native_direction, mapped, mapped_item, advanced, advance_position, drawn_order, is_numeral, is_letter, masked, substituted, before_substitution, after_substitution, shaped_with}
+use Rattle.shape_run.specs.Stages.{ordered, mapped_glyph, with_mapped, with_advances, advance_positions, drawn, is_glyph_number}
 use Rattle.shape_run.specs.Output.{has_no_flags}
 use Rattle.shape_run.proofs.Turned.{map-reverse, list_all-reverse}
 
 -- ---- a list turned round
 
-turned_events : (level : BufferClusterLevel) (xs : List Item) (ps : List Place) → events_at level (turned_round xs ps) ≡ Reverse ∷ []
+turned_events : (level : BufferClusterLevel) (xs : List Item) (ps : List Position) → events_at level (turned_round xs ps) ≡ Reverse ∷ []
 turned_events MonotoneGraphemes xs ps = refl
 turned_events MonotoneCharacters xs ps = refl
 turned_events Characters xs ps = refl
@@ -37,27 +37,27 @@ turned_events Characters xs ps = refl
 all_reversed : (s : Sides) → all_glyphs (reversed s) ≡ reverse (all_glyphs s)
 all_reversed s = take-append-drop s.read (reverse (all_glyphs s))
 
-reversed_followed : (s : Sides) → IsFollowed (turned_round (items_of s) s.places) (run_of s) (run_of (reversed s))
+reversed_followed : (s : Sides) → IsFollowed (turned_round (items_of s) s.positions) (run_of s) (run_of (reversed s))
 reversed_followed s =
     let numbers : clusters (all_glyphs (reversed s)) ≡ after_events (Reverse ∷ []) (clusters (all_glyphs s)) =
     ap clusters (all_reversed s) ∙ map-reverse (λ (g : hb_glyph_info_t). g.cluster) (all_glyphs s) in
     record {
       items = ap strip (all_reversed s) ∙ map-reverse item_of (all_glyphs s);
-      places = refl;
-      parts = λ m o. numbers ∙ ap (λ es. after_events es (clusters (all_glyphs s))) (sym (turned_events s.level (items_of s) s.places));
+      positions = refl;
+      parts = λ m o. numbers ∙ ap (λ es. after_events es (clusters (all_glyphs s))) (sym (turned_events s.level (items_of s) s.positions));
       known = subst (λ (ns : List ℕ). BringsNone (clusters (all_glyphs s)) ns) (sym numbers) (keeps_numbers (Reverse ∷ []) (clusters (all_glyphs s)));
       level = refl;
     }
 
-same_followed : (s : Sides) → IsFollowed (eventless (items_of s) s.places) (run_of s) (run_of s)
-same_followed s = follows_eventless (items_of s) s.places (run_of s) (run_of s) refl refl refl refl
+same_followed : (s : Sides) → IsFollowed (eventless (items_of s) s.positions) (run_of s) (run_of s)
+same_followed s = follows_eventless (items_of s) s.positions (run_of s) (run_of s) refl refl refl refl
 
 -- ---- the stages
 
-ordered_followed : (s : Sides) → IsFollowed (native_order s.script s.direction (items_of s) s.places) (run_of s) (run_of (ordered s))
+ordered_followed : (s : Sides) → IsFollowed (native_order s.script s.direction (items_of s) s.positions) (run_of s) (run_of (ordered s))
 ordered_followed s =
     elim (is_turned s.script s.direction (items_of s)) as (λ t.
-    IsFollowed (if t then turned_round (items_of s) s.places else eventless (items_of s) s.places) (run_of s)
+    IsFollowed (if t then turned_round (items_of s) s.positions else eventless (items_of s) s.positions) (run_of s)
     (run_of (if t then record (reversed s) { direction = opposite s.direction } else s)))
     [ true ↦ reversed_followed s | false ↦ same_followed s ]
 
@@ -69,27 +69,27 @@ mapped_clusters : (font : FontKeys) (gs : List hb_glyph_info_t) → clusters (ma
 mapped_clusters font [] = refl
 mapped_clusters font (g ∷ gs) = rw (mapped_clusters font gs) refl
 
-mapped_followed : (font : FontKeys) (s : Sides) → IsFollowed (mapped font (items_of s) s.places) (run_of s) (run_of (with_mapped font s))
+mapped_followed : (font : FontKeys) (s : Sides) → IsFollowed (mapped font (items_of s) s.positions) (run_of s) (run_of (with_mapped font s))
 mapped_followed font s =
     follows_eventless _ _ (run_of s) (run_of (with_mapped font s)) (mapped_items font (all_glyphs s)) (rw (length-map (all_glyphs s) item_of) refl) (mapped_clusters font (all_glyphs s)) refl
 
-advanced_items : (font : FontKeys) (gs : List hb_glyph_info_t) → advance_places font gs ≡ map (λ (x : Item). advance_place font x.number) (strip gs)
+advanced_items : (font : FontKeys) (gs : List hb_glyph_info_t) → advance_positions font gs ≡ map (λ (x : Item). advance_position font x.number) (strip gs)
 advanced_items font [] = refl
 advanced_items font (g ∷ gs) = rw (advanced_items font gs) refl
 
-advanced_followed : (font : FontKeys) (s : Sides) → IsFollowed (advanced font (items_of s) s.places) (run_of s) (run_of (with_advances font s))
+advanced_followed : (font : FontKeys) (s : Sides) → IsFollowed (advanced font (items_of s) s.positions) (run_of s) (run_of (with_advances font s))
 advanced_followed font s =
     let all = append-nil (all_glyphs s) in
     follows_eventless _ _ (run_of s) (run_of (with_advances font s)) (rw all refl) (advanced_items font (all_glyphs s)) (rw all refl) refl
 
-drawn_followed : (s : Sides) → IsFollowed (drawn_order s.direction (items_of s) s.places) (run_of s) (run_of (drawn s))
+drawn_followed : (s : Sides) → IsFollowed (drawn_order s.direction (items_of s) s.positions) (run_of s) (run_of (drawn s))
 drawn_followed s =
     elim (is_backward s.direction) as (λ t.
-    IsFollowed (if t then turned_round (items_of s) s.places else eventless (items_of s) s.places) (run_of s) (run_of (if t then reversed s else s)))
+    IsFollowed (if t then turned_round (items_of s) s.positions else eventless (items_of s) s.positions) (run_of s) (run_of (if t then reversed s else s)))
     [ true ↦ reversed_followed s | false ↦ same_followed s ]
 
-drawn_in : (d : Direction) (s : Sides) → s.direction ≡ d → IsFollowed (drawn_order d (items_of s) s.places) (run_of s) (run_of (drawn s))
-drawn_in d s e = subst (λ (w : Direction). IsFollowed (drawn_order w (items_of s) s.places) (run_of s) (run_of (drawn s))) e (drawn_followed s)
+drawn_in : (d : Direction) (s : Sides) → s.direction ≡ d → IsFollowed (drawn_order d (items_of s) s.positions) (run_of s) (run_of (drawn s))
+drawn_in d s e = subst (λ (w : Direction). IsFollowed (drawn_order w (items_of s) s.positions) (run_of s) (run_of (drawn s))) e (drawn_followed s)
 
 ordered_direction : (s : Sides) → (ordered s).direction ≡ native_direction s.script s.direction (items_of s)
 ordered_direction s =
@@ -109,7 +109,7 @@ clusters_masked : (m : ℕ) (gs : List hb_glyph_info_t) → clusters (map (glyph
 clusters_masked m [] = refl
 clusters_masked m (g ∷ gs) = rw (clusters_masked m gs) refl
 
-masked_followed : (m : ℕ) (s : Sides) → IsFollowed (masked m (items_of s) s.places) (run_of s) (run_of (with_masks m s))
+masked_followed : (m : ℕ) (s : Sides) → IsFollowed (masked m (items_of s) s.positions) (run_of s) (run_of (with_masks m s))
 masked_followed m s =
     follows_eventless _ _ (run_of s) (run_of (with_masks m s)) (ap strip (all_masked m s) ∙ items_masked m (all_glyphs s)) refl (ap clusters (all_masked m s) ∙ clusters_masked m (all_glyphs s)) refl
 
@@ -137,12 +137,12 @@ before_follows : (font : FontKeys) (m : ℕ) (s : Sides) → Follows (read_of (b
 before_follows font m s =
     let s₁ = with_masks m s in
     let s₂ = ordered s₁ in
-    let r₁ : Reading = Ok (masked m (items_of s) s.places) in
+    let r₁ : Reading = Ok (masked m (items_of s) s.positions) in
     let f₂ = follows_then r₁ (always (native_order s.script s.direction)) (run_of s) (run_of s₁) (run_of s₂) (masked_followed m s) (ordered_followed s₁) in
     follows_then (and_then r₁ (always (native_order s.script s.direction))) (always (mapped font)) (run_of s) (run_of s₂) (run_of (with_mapped font s₂)) f₂ (mapped_followed font s₂)
 
 after_follows : (font : FontKeys) (d : Direction) (s : Sides) → s.direction ≡ d → Follows (read_of (after_substitution font d) (run_of s)) (run_of s) (run_of (placed font s))
-after_follows font d s e = follows_then (Ok (advanced font (items_of s) s.places)) (always (drawn_order d)) (run_of s) (run_of (with_advances font s)) (run_of (placed font s)) (advanced_followed font s) (drawn_in d (with_advances font s) e)
+after_follows font d s e = follows_then (Ok (advanced font (items_of s) s.positions)) (always (drawn_order d)) (run_of s) (run_of (with_advances font s)) (run_of (placed font s)) (advanced_followed font s) (drawn_in d (with_advances font s) e)
 
 -- the whole way, where the substitutions were done between
 pub shaped_follows : (font : FontKeys) (m : OtMap) (s now : Sides) → IsDone (substituted font.gsub m) (glyphs_made font m.global_mask s) now
@@ -223,7 +223,7 @@ made_ready font m s closed unrefused = record {
   closed = ordered_open (with_masks m s) ∙ closed;
   front = refl;
   unread = refl;
-  placed = length-replicate (length (all_glyphs (ordered (with_masks m s)))) zero_place ∙ sym (length-map (all_glyphs (ordered (with_masks m s))) (mapped_glyph font));
+  placed = length-replicate (length (all_glyphs (ordered (with_masks m s)))) zero_position ∙ sym (length-map (all_glyphs (ordered (with_masks m s))) (mapped_glyph font));
   unrefused = ordered_refused (with_masks m s) ∙ unrefused;
 }
 

@@ -14,11 +14,11 @@ use Rattle.run_options.specs.declared.fault.RunFault.TheVariants.{NotJson, NotUt
 use Rattle.run_options.specs.declared.options.Options.{Options}
 use Rattle.run_options.specs.Fault.{run_fault_of, fault_of_cause}
 use Rattle.font_json.specs.Keys.{FontKeys, face_of, tables_of}
-use Rattle.glyph_lists.specs.Items.{Place, strip, clusters}
+use Rattle.glyph_lists.specs.Items.{Position, strip, clusters}
 use Rattle.glyph_lists.specs.Events.{or, after_events}
 use Rattle.glyph_lists.specs.Readings.{Reading}
 use Rattle.glyph_text.specs.Printed.{printed_text}
-use Rattle.glyph_buffer.specs.Sides.{empty_buffer, zero_places}
+use Rattle.glyph_buffer.specs.Sides.{empty_buffer, zero_positions}
 use Rattle.glyph_buffer.specs.Segment.{first_script, guessed_direction}
 use Rattle.glyph_buffer.specs.Text.{added_text, fits_text}
 use Rattle.shape_run.specs.Path.{shaping}
@@ -56,18 +56,18 @@ of_json (Err e) = Err (run_fault_of e)
 -- ---- glyphs
 
 -- the printed text of glyphs that have no names and no boxes, and a line feed
-abbrev pub printed_line : SerializeFlags → List hb_glyph_info_t → List Place → List ℕ
+abbrev pub printed_line : SerializeFlags → List hb_glyph_info_t → List Position → List ℕ
 printed_line flags gs ps = printed_text (λ _. None) (λ _. None) flags gs ps ++ 10 ∷ []
 
 -- the line of a reading: its printed text, with the clusters that its events make of those of the text, and a line feed
 abbrev pub line_of_reading : SerializeFlags → List ℕ → Reading → Result (List ℕ) RunFault
-line_of_reading flags ns (Ok r) = Ok (printed_line flags (glyphs_of r.items (after_events r.at_graphemes ns)) r.places)
+line_of_reading flags ns (Ok r) = Ok (printed_line flags (glyphs_of r.items (after_events r.at_graphemes ns)) r.positions)
 line_of_reading flags ns (Err e) = Err (fault_of_cause e)
 
 -- the line of characters that were added, in a direction and a script
 abbrev pub line_of_glyphs : FontKeys → SerializeFlags → List Feature → Direction → Option Script → List hb_glyph_info_t → Result (List ℕ) RunFault
 line_of_glyphs font flags features direction script gs = if waits features script direction (strip gs) then Err NotYet
-    else line_of_reading flags (clusters gs) (shaping font features script direction (strip gs) (zero_places (length gs)))
+    else line_of_reading flags (clusters gs) (shaping font features script direction (strip gs) (zero_positions (length gs)))
 
 -- the same, where what was not asked for is guessed
 abbrev pub line_of_guess : FontKeys → Options → Option Script → List hb_glyph_info_t → Result (List ℕ) RunFault

@@ -20,10 +20,10 @@ use Rattle.shaping_text.specs.declared.direction.Direction.{Direction}
 use Rattle.shaping_text.specs.declared.direction.Direction.TheVariants.{Invalid, LeftToRight, RightToLeft, BottomToTop}
 use Rattle.shaping_text.specs.declared.script.Script.{Script}
 use Rattle.font_json.specs.Keys.{FontKeys, glyph_of, advance_of}
-use Rattle.glyph_lists.specs.Items.{Item, Place}
+use Rattle.glyph_lists.specs.Items.{Item, Position}
 use Rattle.glyph_lists.specs.Events.{Reverse}
 use Rattle.glyph_lists.specs.Readings.{Read, Stage, and_then, eventless, always, as_it_is}
-use Rattle.glyph_buffer.specs.Sides.{zero_place, zero_places}
+use Rattle.glyph_buffer.specs.Sides.{zero_position, zero_positions}
 
 -- ---- native order
 
@@ -74,12 +74,12 @@ is_turned script text xs = runs_against text (written_direction script text xs)
 abbrev pub native_direction : Option Script → Direction → List Item → Direction
 native_direction script text xs = if is_turned script text xs then opposite text else text
 
--- items and places turned round
-abbrev pub turned_round : List Item → List Place → Read
-turned_round xs ps = record { items = reverse xs; places = reverse ps; at_graphemes = Reverse ∷ []; at_characters = Reverse ∷ [] }
+-- items and positions turned round
+abbrev pub turned_round : List Item → List Position → Read
+turned_round xs ps = record { items = reverse xs; positions = reverse ps; at_graphemes = Reverse ∷ []; at_characters = Reverse ∷ [] }
 
 -- a text is shaped in the order of its writing; below U+0080 each character is a grapheme
-abbrev pub native_order : Option Script → Direction → List Item → List Place → Read
+abbrev pub native_order : Option Script → Direction → List Item → List Position → Read
 native_order script text xs ps = if is_turned script text xs then turned_round xs ps else eventless xs ps
 
 -- ---- glyphs
@@ -93,29 +93,29 @@ abbrev pub mapped_item : FontKeys → Item → Item
 mapped_item font x = record x { number = nominal_glyph font x.number; glyph_index = nominal_glyph font x.number }
 
 -- each character becomes its glyph
-abbrev pub mapped : FontKeys → List Item → List Place → Read
-mapped font xs ps = eventless (map (mapped_item font) xs) (zero_places (length xs))
+abbrev pub mapped : FontKeys → List Item → List Position → Read
+mapped font xs ps = eventless (map (mapped_item font) xs) (zero_positions (length xs))
 
--- ---- places
+-- ---- positions
 
 -- a place that moves the pen by the glyph's advance
-abbrev pub advance_place : FontKeys → ℕ → Place
-advance_place font glyph = record zero_place { x_advance = pos (advance_of font glyph) }
+abbrev pub advance_position : FontKeys → ℕ → Position
+advance_position font glyph = record zero_position { x_advance = pos (advance_of font glyph) }
 
 -- each glyph gets its advance
-abbrev pub advanced : FontKeys → List Item → List Place → Read
-advanced font xs ps = eventless xs (map (λ (x : Item). advance_place font x.number) xs)
+abbrev pub advanced : FontKeys → List Item → List Position → Read
+advanced font xs ps = eventless xs (map (λ (x : Item). advance_position font x.number) xs)
 
 -- ---- order on the line
 
 -- glyphs stand as they are drawn, from left to right
-abbrev pub drawn_order : Direction → List Item → List Place → Read
+abbrev pub drawn_order : Direction → List Item → List Position → Read
 drawn_order direction xs ps = if is_backward direction then turned_round xs ps else eventless xs ps
 
 -- ---- masks and substitution
 
 -- each item has the mask
-abbrev pub masked : ℕ → List Item → List Place → Read
+abbrev pub masked : ℕ → List Item → List Position → Read
 masked mask xs ps = eventless (map (item_masked mask) xs) ps
 
 -- the tag of the feature for ligatures that text has where nothing else is asked

@@ -3,12 +3,12 @@ use Rattle.std.specs.Prelude.{ℕ, ◌+◌, Bool, nat_le, if◌then◌else◌, L
 use Rattle.glyph_types.specs.declared.info.hb_glyph_info_t.{hb_glyph_info_t}
 use Rattle.shaping_text.specs.Direction.{opposite, is_backward}
 use Rattle.font_json.specs.Keys.{FontKeys}
-use Rattle.glyph_lists.specs.Items.{Place}
-use Rattle.glyph_buffer.specs.Sides.{Sides, all_glyphs, items_of, reversed, zero_places, with_added, empty_buffer}
+use Rattle.glyph_lists.specs.Items.{Position}
+use Rattle.glyph_buffer.specs.Sides.{Sides, all_glyphs, items_of, reversed, zero_positions, with_added, empty_buffer}
 use Rattle.glyph_buffer.specs.Segment.{guessed, with_segment}
 use Rattle.glyph_buffer.specs.Text.{added_text}
 use Rattle.run_options.specs.declared.options.Options.{Options}
-use Rattle.shape_run.specs.Path.{is_turned, nominal_glyph, advance_place}
+use Rattle.shape_run.specs.Path.{is_turned, nominal_glyph, advance_position}
 
 -- the buffer of a text, with what was not asked for guessed
 abbrev pub text_buffer : Options → List ℕ → Sides
@@ -24,15 +24,15 @@ mapped_glyph font g = record g { glyph_id = nominal_glyph font g.glyph_id; glyph
 
 -- the buffer with glyphs in place of characters, and the cursor in front of them
 abbrev pub with_mapped : FontKeys → Sides → Sides
-with_mapped font s = record s { behind = []; ahead = map (mapped_glyph font) (all_glyphs s); places = zero_places (length (all_glyphs s)); read = 0 }
+with_mapped font s = record s { behind = []; ahead = map (mapped_glyph font) (all_glyphs s); positions = zero_positions (length (all_glyphs s)); read = 0 }
 
--- the places of glyphs by their advances
-abbrev pub advance_places : FontKeys → List hb_glyph_info_t → List Place
-advance_places font gs = map (λ (g : hb_glyph_info_t). advance_place font g.glyph_id) gs
+-- the positions of glyphs by their advances
+abbrev pub advance_positions : FontKeys → List hb_glyph_info_t → List Position
+advance_positions font gs = map (λ (g : hb_glyph_info_t). advance_position font g.glyph_id) gs
 
 -- the buffer with the advances of its glyphs, and the cursor behind them
 abbrev pub with_advances : FontKeys → Sides → Sides
-with_advances font s = record s { behind = all_glyphs s; ahead = []; places = advance_places font (all_glyphs s); read = length (all_glyphs s) }
+with_advances font s = record s { behind = all_glyphs s; ahead = []; positions = advance_positions font (all_glyphs s); read = length (all_glyphs s) }
 
 -- the buffer as it is drawn
 abbrev pub drawn : Sides → Sides
@@ -57,7 +57,7 @@ abbrev pub with_next_advanced : FontKeys → Sides → Sides
 with_next_advanced font s = record s {
   behind = s.behind ++ take 1 s.ahead;
   ahead = drop 1 s.ahead;
-  places = take s.read s.places ++ (advance_places font (take 1 s.ahead) ++ drop (s.read + 1) s.places);
+  positions = take s.read s.positions ++ (advance_positions font (take 1 s.ahead) ++ drop (s.read + 1) s.positions);
   read = s.read + 1;
 }
 
@@ -66,6 +66,6 @@ abbrev pub with_first_advanced : FontKeys → ℕ → Sides → Sides
 with_first_advanced font n s = record s {
   behind = take n s.ahead;
   ahead = drop n s.ahead;
-  places = advance_places font (take n s.ahead) ++ drop n s.places;
+  positions = advance_positions font (take n s.ahead) ++ drop n s.positions;
   read = n;
 }

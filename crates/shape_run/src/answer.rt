@@ -115,7 +115,7 @@ fn print(
     requires closed { buffer.is_open ≡ false }
     requires numbers { list_all is_glyph_number (all_glyphs buffer) ≡ true }
     ensures { IfOk result (λ line.
-        string_bytes line ≡ printed_line flags (all_glyphs buffer) buffer.places) }
+        string_bytes line ≡ printed_line flags (all_glyphs buffer) buffer.positions) }
 {
     let glyphs = GlyphBuffer::from_buffer(buffer);
     let mut line = glyphs.serialize(alloc, face, flags)?;

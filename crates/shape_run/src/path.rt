@@ -9,7 +9,7 @@ ghost use Rattle.layout_stages.specs.Steps.{IsDone, IsReady};
 ghost use Rattle.std.specs.Option.{option_copied};
 ghost use Rattle.std.specs.List.{list_any, list_all};
 ghost use Rattle.unicode.specs.GeneralCategory.{general_category};
-ghost use Rattle.shape_run.specs.Path.{advance_place, is_decimal_number, is_letter, is_regional_indicator, is_number_text, is_numeral, native_direction, nominal_glyph, runs_against, script_direction, shaping, substituted, substitution_map, with_numbers, written_direction};
+ghost use Rattle.shape_run.specs.Path.{advance_position, is_decimal_number, is_letter, is_regional_indicator, is_number_text, is_numeral, native_direction, nominal_glyph, runs_against, script_direction, shaping, substituted, substitution_map, with_numbers, written_direction};
 ghost use Rattle.shape_run.specs.Output.{has_no_flags};
 ghost use Rattle.shape_run.specs.Stages.{drawn, is_glyph_number, mapped_glyph, ordered, with_advances, with_mapped, with_next_advanced, with_next_mapped};
 
@@ -177,8 +177,8 @@ fn map_glyphs(face: &FontFace, buffer: &mut hb_buffer_t) -> Result<(), ShapeCaus
     Ok(())
 }
 
-fn advance_place(face: &FontFace, glyph: u16) -> GlyphPosition
-    ensures { result ≡ advance_place face.now glyph }
+fn advance_position(face: &FontFace, glyph: u16) -> GlyphPosition
+    ensures { result ≡ advance_position face.now glyph }
 {
     GlyphPosition {
         x_advance: i32::from(face.glyph_h_advance(glyph)),
@@ -192,10 +192,10 @@ fn advance_next(face: &FontFace, buffer: &mut hb_buffer_t)
     requires closed { buffer.old.is_open ≡ false }
     requires there { 0 < length buffer.old.ahead }
     requires number { list_all is_glyph_number (take 1 buffer.old.ahead) ≡ true }
-    requires placed { buffer.old.read < length buffer.old.places }
+    requires placed { buffer.old.read < length buffer.old.positions }
     ensures { buffer.new ≡ with_next_advanced face.now buffer.old }
 {
-    let place = advance_place(face, buffer.cur(0).as_glyph().0);
+    let place = advance_position(face, buffer.cur(0).as_glyph().0);
     *buffer.cur_pos_mut() = place;
     let _ = buffer.next_glyph();
 }
@@ -206,7 +206,7 @@ fn position_glyphs(face: &FontFace, buffer: &mut hb_buffer_t)
     requires front { buffer.old.behind ≡ [] }
     requires unread { buffer.old.read ≡ 0 }
     requires numbers { list_all is_glyph_number (all_glyphs buffer.old) ≡ true }
-    requires placed { length buffer.old.places ≡ length (all_glyphs buffer.old) }
+    requires placed { length buffer.old.positions ≡ length (all_glyphs buffer.old) }
     ensures { buffer.new ≡ with_advances face.now buffer.old }
 {
     let count = buffer.len();

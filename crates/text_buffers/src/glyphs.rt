@@ -12,7 +12,7 @@ use glyph_types::position::GlyphPosition;
 use std::alloc::{AllocError, Global};
 use std::marker::Model;
 
-/// What came of shaping a text: glyphs with their places, in the order in which they are drawn.
+/// What came of shaping a text: glyphs with their positions, in the order in which they are drawn.
 #[derive(Drop)]
 pub struct GlyphBuffer {
     buffer: hb_buffer_t,
@@ -50,7 +50,7 @@ impl GlyphBuffer {
     }
 
     pub fn glyph_positions(&self) -> &[GlyphPosition]
-        ensures same { result.now ≡ self.now.places }
+        ensures same { result.now ≡ self.now.positions }
         ensures len { length result.now ≡ length (all_glyphs self.now) }
     {
         self.buffer.pos_slice()
@@ -92,7 +92,7 @@ impl GlyphBuffer {
         flags: SerializeFlags,
     ) -> Result<String, AllocError>
         requires { asks_font flags ≡ true → HasGlyphNumbers (all_glyphs self.now) }
-        ensures { IfOk result (λ text. string_bytes text ≡ printed_text (N.name_of names.now) (N.extents_of names.now) flags (all_glyphs self.now) self.now.places) }
+        ensures { IfOk result (λ text. string_bytes text ≡ printed_text (N.name_of names.now) (N.extents_of names.now) flags (all_glyphs self.now) self.now.positions) }
     {
         serialize(
             alloc,

@@ -45,11 +45,11 @@ fn holds(rt: &impl Abort, glyphs: &[hb_glyph_info_t], want: &[(char, u32)]) {
     }
 }
 
-/// Asserts that there are so many places, each nothing.
-fn holds_no_places(rt: &impl Abort, places: &[GlyphPosition], count: usize) {
-    assert_eq!(rt; places.len(), count);
+/// Asserts that there are so many positions, each nothing.
+fn holds_zero_positions(rt: &impl Abort, positions: &[GlyphPosition], count: usize) {
+    assert_eq!(rt; positions.len(), count);
     assert!(rt;
-        places
+        positions
             .iter()
             .all(|place| *place == GlyphPosition::default())
     );
@@ -70,7 +70,7 @@ fn numbers_characters_by_bytes(rt: HostRuntime) -> Result<(), Fail> {
         assert_eq!(rt; buffer.is_empty(), want.is_empty());
         let buffer = buffer.into_buffer();
         holds(&rt, buffer.info_slice(), want);
-        holds_no_places(&rt, buffer.pos_slice(), want.len());
+        holds_zero_positions(&rt, buffer.pos_slice(), want.len());
     }
     Ok(())
 }

@@ -5,7 +5,7 @@ ghost use Rattle.glyph_lists.specs.Merges.{merged_at};
 ghost use Rattle.glyph_lists.specs.Order.{BringsNone};
 ghost use Rattle.glyph_lists.specs.Glyphs.{flags_flagged, flags_marked, glyphs_merged};
 ghost use Rattle.glyph_buffer.specs.Sides.{all_glyphs, items_of};
-ghost use Rattle.glyph_buffer.specs.Merging.{flags_output_merged_at, place_of, with_glyphs, with_output_merged};
+ghost use Rattle.glyph_buffer.specs.Merging.{flags_output_merged_at, index_in_all, with_glyphs, with_output_merged};
 ghost use Rattle.glyph_buffer.specs.Marking.{asks_concat, concat_marked_across, end_or, marked_across, start_or, with_flagged, with_marked};
 
 use super::hb_buffer_t;
@@ -61,7 +61,7 @@ impl hb_buffer_t {
         ensures marked { self.new ≡ marked_across 3 start end self.old }
         ensures items { items_of self.new ≡ items_of self.old }
         ensures clusters { clusters (all_glyphs self.new) ≡ clusters (all_glyphs self.old) }
-        ensures flags { flags_of (all_glyphs self.new) ≡ flags_marked 3 (start_or start) (place_of (end_or end self.old) self.old) (all_glyphs self.old) }
+        ensures flags { flags_of (all_glyphs self.new) ≡ flags_marked 3 (start_or start) (index_in_all (end_or end self.old) self.old) (all_glyphs self.old) }
     {
         let count = self.info.len();
         self.mark_both(
@@ -81,7 +81,7 @@ impl hb_buffer_t {
         ensures marked { self.new ≡ concat_marked_across start end self.old }
         ensures items { items_of self.new ≡ items_of self.old }
         ensures clusters { clusters (all_glyphs self.new) ≡ clusters (all_glyphs self.old) }
-        ensures flags { flags_of (all_glyphs self.new) ≡ (if asks_concat self.old then flags_flagged 2 (start_or start) (place_of (end_or end self.old) self.old) (all_glyphs self.old) else flags_of (all_glyphs self.old)) }
+        ensures flags { flags_of (all_glyphs self.new) ≡ (if asks_concat self.old then flags_flagged 2 (start_or start) (index_in_all (end_or end self.old) self.old) (all_glyphs self.old) else flags_of (all_glyphs self.old)) }
     {
         if self.asks_concat() {
             let count = self.info.len();
@@ -95,10 +95,10 @@ impl hb_buffer_t {
         requires begins { start ≤ length self.old.behind }
         requires unread { self.old.read ≤ end }
         requires within { end ≤ self.old.read + length self.old.ahead }
-        ensures marked { self.new ≡ with_marked flags start (place_of end self.old) self.old }
+        ensures marked { self.new ≡ with_marked flags start (index_in_all end self.old) self.old }
         ensures items { items_of self.new ≡ items_of self.old }
         ensures clusters { clusters (all_glyphs self.new) ≡ clusters (all_glyphs self.old) }
-        ensures flags { flags_of (all_glyphs self.new) ≡ flags_marked flags start (place_of end self.old) (all_glyphs self.old) }
+        ensures flags { flags_of (all_glyphs self.new) ≡ flags_marked flags start (index_in_all end self.old) (all_glyphs self.old) }
     {
         let order = self.order.settled(self.lent, &self.out_info, &self.info);
         let out = &mut self.out_info;
@@ -114,10 +114,10 @@ impl hb_buffer_t {
         requires begins { start ≤ length self.old.behind }
         requires unread { self.old.read ≤ end }
         requires within { end ≤ self.old.read + length self.old.ahead }
-        ensures marked { self.new ≡ with_flagged flags start (place_of end self.old) self.old }
+        ensures marked { self.new ≡ with_flagged flags start (index_in_all end self.old) self.old }
         ensures items { items_of self.new ≡ items_of self.old }
         ensures clusters { clusters (all_glyphs self.new) ≡ clusters (all_glyphs self.old) }
-        ensures flags { flags_of (all_glyphs self.new) ≡ flags_flagged flags start (place_of end self.old) (all_glyphs self.old) }
+        ensures flags { flags_of (all_glyphs self.new) ≡ flags_flagged flags start (index_in_all end self.old) (all_glyphs self.old) }
     {
         let order = self.order.settled(self.lent, &self.out_info, &self.info);
         let out = &mut self.out_info;

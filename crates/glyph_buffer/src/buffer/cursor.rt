@@ -97,7 +97,7 @@ impl hb_buffer_t {
     pub fn cur_pos_mut(&mut self) -> &mut GlyphPosition
         requires closed { self.old.is_open ≡ false }
         requires there { 0 < length self.old.ahead }
-        ensures value { slice_get self.old.places self.old.read ≡ Some result.now }
+        ensures value { slice_get self.old.positions self.old.read ≡ Some result.now }
         ensures* writes_back { sem 𝓛 (LendsPlace self.entry result) }
     {
         &mut self.pos[self.idx]
@@ -131,7 +131,7 @@ impl hb_buffer_t {
         Ok(true)
     }
 
-    /// Puts what is ahead of the cursor behind the output, which becomes the list, with places of nothing and the cursor
+    /// Puts what is ahead of the cursor behind the output, which becomes the list, with positions of nothing and the cursor
     /// at its front; answers false, and joins nothing, where the list would have more than it may or a call before was
     /// refused for length.
     pub fn sync(&mut self) -> Result<bool, AllocError>

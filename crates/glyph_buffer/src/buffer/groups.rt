@@ -7,7 +7,7 @@ ghost use Rattle.glyph_lists.specs.Items.{Item, clusters, flags_of, item_of, str
 ghost use Rattle.glyph_lists.specs.Order.{BringsNone, IsOrdered};
 ghost use Rattle.glyph_slices.specs.Turning.{groups_turned, turned};
 ghost use Rattle.glyph_slices.specs.Flags.{flags_kept, flags_turned};
-ghost use Rattle.glyph_slices.specs.Facts.{clusters_kept, clusters_turned, items_kept, places_kept, places_turned};
+ghost use Rattle.glyph_slices.specs.Facts.{clusters_kept, clusters_turned, items_kept, positions_kept, positions_turned};
 ghost use Rattle.glyph_slices.specs.DeletionWalk.{Tells, all_passed};
 ghost use Rattle.glyph_buffer.specs.Grouping.{with_groups_turned, with_picked_deleted};
 
@@ -61,7 +61,7 @@ impl hb_buffer_t {
         groups::group_end(&self.info, start, group)
     }
 
-    /// Turns round the order of the groups, and keeps the order within each; places go with their glyphs. Where `merge` is
+    /// Turns round the order of the groups, and keeps the order within each; positions go with their glyphs. Where `merge` is
     /// told, the glyphs of each group are merged before, as by `merge_clusters`. Where clusters are in no order that takes
     /// memory for a table; without it, it only takes longer.
     pub fn reverse_groups<F: Fn(&hb_glyph_info_t, &hb_glyph_info_t) -> bool>(
@@ -73,7 +73,7 @@ impl hb_buffer_t {
         requires closed { self.old.is_open ≡ false }
         ensures turned { (joins : Glyph → Glyph → Bool) → Decides F.Fn group joins → self.new ≡ with_groups_turned merge joins self.old }
         ensures items { (q : Item → Item → Bool) → Decides F.Fn group (λ g h. q (item_of g) (item_of h)) → items_of self.new ≡ groups_turned q (items_of self.old) }
-        ensures places { (q : Item → Item → Bool) → Decides F.Fn group (λ g h. q (item_of g) (item_of h)) → self.new.places ≡ places_turned q (items_of self.old) self.old.places }
+        ensures positions { (q : Item → Item → Bool) → Decides F.Fn group (λ g h. q (item_of g) (item_of h)) → self.new.positions ≡ positions_turned q (items_of self.old) self.old.positions }
         ensures clusters { (q : Item → Item → Bool) → Decides F.Fn group (λ g h. q (item_of g) (item_of h)) → clusters (all_glyphs self.new) ≡ clusters_turned merge self.old.level q (items_of self.old) (clusters (all_glyphs self.old)) }
         ensures numbers { (joins : Glyph → Glyph → Bool) → Decides F.Fn group joins → BringsNone (clusters (all_glyphs self.old)) (clusters (all_glyphs self.new)) }
         ensures flags { (q : Item → Item → Bool) → Decides F.Fn group (λ g h. q (item_of g) (item_of h)) → flags_of (all_glyphs self.new) ≡ flags_turned merge self.old.level q (items_of self.old) (clusters (all_glyphs self.old)) (flags_of (all_glyphs self.old)) }
@@ -93,14 +93,14 @@ impl hb_buffer_t {
         self.scratch_flags = telling_flags(marked, self.scratch_flags);
     }
 
-    /// Takes out the glyphs that `filter` picks, and their places, from the left: what becomes of clusters is what
+    /// Takes out the glyphs that `filter` picks, and their positions, from the left: what becomes of clusters is what
     /// `delete_glyph` leaves of each. It takes no memory.
     pub fn delete_glyphs_inplace<F: Fn(&hb_glyph_info_t) -> bool>(&mut self, filter: F)
         requires callable { F.IsAlwaysCallable filter }
         requires closed { self.old.is_open ≡ false }
         ensures deleted { (goes : Glyph → Bool) → Tells F.Fn filter goes → self.new ≡ with_picked_deleted goes self.old }
         ensures items { (q : Item → Bool) → Tells F.Fn filter (λ g. q (item_of g)) → items_of self.new ≡ items_kept q (items_of self.old) }
-        ensures places { (q : Item → Bool) → Tells F.Fn filter (λ g. q (item_of g)) → self.new.places ≡ places_kept q (items_of self.old) self.old.places }
+        ensures positions { (q : Item → Bool) → Tells F.Fn filter (λ g. q (item_of g)) → self.new.positions ≡ positions_kept q (items_of self.old) self.old.positions }
         ensures clusters { (q : Item → Bool) → Tells F.Fn filter (λ g. q (item_of g)) → clusters (all_glyphs self.new) ≡ clusters_kept self.old.level q (items_of self.old) (clusters (all_glyphs self.old)) }
         ensures numbers { (goes : Glyph → Bool) → Tells F.Fn filter goes → BringsNone (clusters (all_glyphs self.old)) (clusters (all_glyphs self.new)) }
         ensures flags { (q : Item → Bool) → Tells F.Fn filter (λ g. q (item_of g)) → flags_of (all_glyphs self.new) ≡ flags_kept self.old.level q (items_of self.old) (clusters (all_glyphs self.old)) (flags_of (all_glyphs self.old)) }
@@ -123,51 +123,51 @@ impl hb_buffer_t {
 
 fn turn_groups<F: Fn(&hb_glyph_info_t, &hb_glyph_info_t) -> bool>(
     info: &mut Vec<hb_glyph_info_t>,
-    places: &mut Vec<GlyphPosition>,
+    positions: &mut Vec<GlyphPosition>,
     level: BufferClusterLevel,
     in_order: bool,
     merge: bool,
     group: F,
 ) -> bool
     requires callable { F.IsAlwaysCallable group }
-    requires placed { vec_len places.old ≡ vec_len info.old }
+    requires placed { vec_len positions.old ≡ vec_len info.old }
     requires known { in_order ≡ true → IsOrdered (clusters info.old.items) }
-    ensures glyphs { (joins : Glyph → Glyph → Bool) → Decides F.Fn group joins → info.new.items ≡ (turned merge level joins info.old.items places.old.items).glyphs }
-    ensures places { (joins : Glyph → Glyph → Bool) → Decides F.Fn group joins → places.new.items ≡ (turned merge level joins info.old.items places.old.items).places }
-    ensures marked { (joins : Glyph → Glyph → Bool) → Decides F.Fn group joins → result ≡ (turned merge level joins info.old.items places.old.items).is_marked }
+    ensures glyphs { (joins : Glyph → Glyph → Bool) → Decides F.Fn group joins → info.new.items ≡ (turned merge level joins info.old.items positions.old.items).glyphs }
+    ensures positions { (joins : Glyph → Glyph → Bool) → Decides F.Fn group joins → positions.new.items ≡ (turned merge level joins info.old.items positions.old.items).positions }
+    ensures marked { (joins : Glyph → Glyph → Bool) → Decides F.Fn group joins → result ≡ (turned merge level joins info.old.items positions.old.items).is_marked }
     ensures items { (q : Item → Item → Bool) → Decides F.Fn group (λ g h. q (item_of g) (item_of h)) → strip info.new.items ≡ groups_turned q (strip info.old.items) }
-    ensures turned_places { (q : Item → Item → Bool) → Decides F.Fn group (λ g h. q (item_of g) (item_of h)) → places.new.items ≡ places_turned q (strip info.old.items) places.old.items }
+    ensures turned_positions { (q : Item → Item → Bool) → Decides F.Fn group (λ g h. q (item_of g) (item_of h)) → positions.new.items ≡ positions_turned q (strip info.old.items) positions.old.items }
     ensures clusters { (q : Item → Item → Bool) → Decides F.Fn group (λ g h. q (item_of g) (item_of h)) → clusters info.new.items ≡ clusters_turned merge level q (strip info.old.items) (clusters info.old.items) }
     ensures flags { (q : Item → Item → Bool) → Decides F.Fn group (λ g h. q (item_of g) (item_of h)) → flags_of info.new.items ≡ flags_turned merge level q (strip info.old.items) (clusters info.old.items) (flags_of info.old.items) }
     ensures info_len { vec_len info.new ≡ vec_len info.old }
-    ensures places_len { vec_len places.new ≡ vec_len places.old }
+    ensures places_len { vec_len positions.new ≡ vec_len positions.old }
 {
     let alloc = *info.allocator();
-    reversal::reverse_groups(alloc, info, places, level, in_order, merge, group)
+    reversal::reverse_groups(alloc, info, positions, level, in_order, merge, group)
 }
 
 fn delete_picked<F: Fn(&hb_glyph_info_t) -> bool>(
     info: &mut Vec<hb_glyph_info_t>,
-    places: &mut Vec<GlyphPosition>,
+    positions: &mut Vec<GlyphPosition>,
     level: BufferClusterLevel,
     in_order: bool,
     filter: F,
 ) -> bool
     requires callable { F.IsAlwaysCallable filter }
-    requires placed { vec_len places.old ≡ vec_len info.old }
+    requires placed { vec_len positions.old ≡ vec_len info.old }
     requires known { in_order ≡ true → IsOrdered (clusters info.old.items) }
-    ensures glyphs { (goes : Glyph → Bool) → Tells F.Fn filter goes → info.new.items ≡ (all_passed level goes info.old.items places.old.items).kept }
-    ensures places { (goes : Glyph → Bool) → Tells F.Fn filter goes → places.new.items ≡ (all_passed level goes info.old.items places.old.items).kept_places }
-    ensures marked { (goes : Glyph → Bool) → Tells F.Fn filter goes → result ≡ (all_passed level goes info.old.items places.old.items).is_marked }
+    ensures glyphs { (goes : Glyph → Bool) → Tells F.Fn filter goes → info.new.items ≡ (all_passed level goes info.old.items positions.old.items).kept }
+    ensures positions { (goes : Glyph → Bool) → Tells F.Fn filter goes → positions.new.items ≡ (all_passed level goes info.old.items positions.old.items).kept_positions }
+    ensures marked { (goes : Glyph → Bool) → Tells F.Fn filter goes → result ≡ (all_passed level goes info.old.items positions.old.items).is_marked }
     ensures items { (q : Item → Bool) → Tells F.Fn filter (λ g. q (item_of g)) → strip info.new.items ≡ items_kept q (strip info.old.items) }
-    ensures kept_places { (q : Item → Bool) → Tells F.Fn filter (λ g. q (item_of g)) → places.new.items ≡ places_kept q (strip info.old.items) places.old.items }
+    ensures kept_positions { (q : Item → Bool) → Tells F.Fn filter (λ g. q (item_of g)) → positions.new.items ≡ positions_kept q (strip info.old.items) positions.old.items }
     ensures clusters { (q : Item → Bool) → Tells F.Fn filter (λ g. q (item_of g)) → clusters info.new.items ≡ clusters_kept level q (strip info.old.items) (clusters info.old.items) }
     ensures flags { (q : Item → Bool) → Tells F.Fn filter (λ g. q (item_of g)) → flags_of info.new.items ≡ flags_kept level q (strip info.old.items) (clusters info.old.items) (flags_of info.old.items) }
     ensures few { vec_len info.new ≤ vec_len info.old }
-    ensures even { vec_len places.new ≡ vec_len info.new }
+    ensures even { vec_len positions.new ≡ vec_len info.new }
 {
-    let (kept, marked) = delete_within(info, places, level, in_order, filter);
+    let (kept, marked) = delete_within(info, positions, level, in_order, filter);
     info.truncate(kept);
-    places.truncate(kept);
+    positions.truncate(kept);
     marked
 }

@@ -31,10 +31,10 @@ impl hb_buffer_t {
         &mut self.out_info
     }
 
-    /// The glyphs' places, to be written, while no output is open.
+    /// The glyphs' positions, to be written, while no output is open.
     pub fn pos_slice_mut(&mut self) -> &mut [GlyphPosition]
         requires { self.old.is_open ≡ false }
-        ensures value { result.now ≡ self.old.places }
+        ensures value { result.now ≡ self.old.positions }
         ensures* writes_back { sem 𝓛 (LendsPlaces self.entry result) }
     {
         &mut self.pos

@@ -2,7 +2,7 @@ ghost use Rattle.std.specs.Prelude.{◌≡◌, ◌+◌, ◌-◌, ◌≤◌, ◌<
 ghost use Rattle.glyph_lists.specs.Items.{clusters, flags_of};
 ghost use Rattle.glyph_lists.specs.Glyphs.{flags_flagged, flags_marked};
 ghost use Rattle.glyph_buffer.specs.Sides.{all_glyphs, items_of};
-ghost use Rattle.glyph_buffer.specs.Merging.{place_of};
+ghost use Rattle.glyph_buffer.specs.Merging.{index_in_all};
 ghost use Rattle.glyph_buffer.specs.Marking.{asks_concat, asks_tatweel, concat_marked, end_or, marked_range, start_or, tatweel_marked, with_flagged, with_marked};
 
 use super::hb_buffer_t;
@@ -22,7 +22,7 @@ impl hb_buffer_t {
         ensures marked { self.new ≡ marked_range 3 start end self.old }
         ensures items { items_of self.new ≡ items_of self.old }
         ensures clusters { clusters (all_glyphs self.new) ≡ clusters (all_glyphs self.old) }
-        ensures flags { flags_of (all_glyphs self.new) ≡ flags_marked 3 (place_of (start_or start) self.old) (place_of (end_or end self.old) self.old) (all_glyphs self.old) }
+        ensures flags { flags_of (all_glyphs self.new) ≡ flags_marked 3 (index_in_all (start_or start) self.old) (index_in_all (end_or end self.old) self.old) (all_glyphs self.old) }
     {
         let count = self.info.len();
         self.mark_range(
@@ -40,7 +40,7 @@ impl hb_buffer_t {
         ensures marked { self.new ≡ concat_marked start end self.old }
         ensures items { items_of self.new ≡ items_of self.old }
         ensures clusters { clusters (all_glyphs self.new) ≡ clusters (all_glyphs self.old) }
-        ensures flags { flags_of (all_glyphs self.new) ≡ (if asks_concat self.old then flags_flagged 2 (place_of (start_or start) self.old) (place_of (end_or end self.old) self.old) (all_glyphs self.old) else flags_of (all_glyphs self.old)) }
+        ensures flags { flags_of (all_glyphs self.new) ≡ (if asks_concat self.old then flags_flagged 2 (index_in_all (start_or start) self.old) (index_in_all (end_or end self.old) self.old) (all_glyphs self.old) else flags_of (all_glyphs self.old)) }
     {
         if self.asks_concat() {
             let count = self.info.len();
@@ -57,7 +57,7 @@ impl hb_buffer_t {
         ensures marked { self.new ≡ tatweel_marked start end self.old }
         ensures items { items_of self.new ≡ items_of self.old }
         ensures clusters { clusters (all_glyphs self.new) ≡ clusters (all_glyphs self.old) }
-        ensures flags { flags_of (all_glyphs self.new) ≡ (if asks_tatweel self.old then flags_marked 4 (place_of (start_or start) self.old) (place_of (end_or end self.old) self.old) (all_glyphs self.old) else flags_marked 3 (place_of (start_or start) self.old) (place_of (end_or end self.old) self.old) (all_glyphs self.old)) }
+        ensures flags { flags_of (all_glyphs self.new) ≡ (if asks_tatweel self.old then flags_marked 4 (index_in_all (start_or start) self.old) (index_in_all (end_or end self.old) self.old) (all_glyphs self.old) else flags_marked 3 (index_in_all (start_or start) self.old) (index_in_all (end_or end self.old) self.old) (all_glyphs self.old)) }
     {
         if self
             .flags
@@ -85,10 +85,10 @@ impl hb_buffer_t {
         requires ordered { start ≤ end }
         requires within { end ≤ self.old.read + length self.old.ahead }
         requires unread { self.old.is_open ≡ true → self.old.read ≤ start }
-        ensures marked { self.new ≡ with_marked flags (place_of start self.old) (place_of end self.old) self.old }
+        ensures marked { self.new ≡ with_marked flags (index_in_all start self.old) (index_in_all end self.old) self.old }
         ensures items { items_of self.new ≡ items_of self.old }
         ensures clusters { clusters (all_glyphs self.new) ≡ clusters (all_glyphs self.old) }
-        ensures flags { flags_of (all_glyphs self.new) ≡ flags_marked flags (place_of start self.old) (place_of end self.old) (all_glyphs self.old) }
+        ensures flags { flags_of (all_glyphs self.new) ≡ flags_marked flags (index_in_all start self.old) (index_in_all end self.old) (all_glyphs self.old) }
     {
         let order = self.order.settled(self.lent, &self.out_info, &self.info);
         let from = self.first_of_input();
@@ -103,10 +103,10 @@ impl hb_buffer_t {
         requires ordered { start ≤ end }
         requires within { end ≤ self.old.read + length self.old.ahead }
         requires unread { self.old.is_open ≡ true → self.old.read ≤ start }
-        ensures marked { self.new ≡ with_flagged flags (place_of start self.old) (place_of end self.old) self.old }
+        ensures marked { self.new ≡ with_flagged flags (index_in_all start self.old) (index_in_all end self.old) self.old }
         ensures items { items_of self.new ≡ items_of self.old }
         ensures clusters { clusters (all_glyphs self.new) ≡ clusters (all_glyphs self.old) }
-        ensures flags { flags_of (all_glyphs self.new) ≡ flags_flagged flags (place_of start self.old) (place_of end self.old) (all_glyphs self.old) }
+        ensures flags { flags_of (all_glyphs self.new) ≡ flags_flagged flags (index_in_all start self.old) (index_in_all end self.old) (all_glyphs self.old) }
     {
         let order = self.order.settled(self.lent, &self.out_info, &self.info);
         let from = self.first_of_input();

@@ -5,7 +5,7 @@ ghost use Rattle.glyph_lists.specs.Order.{BringsNone};
 ghost use Rattle.glyph_lists.specs.Glyphs.{flags_merged_at};
 ghost use Rattle.glyph_slices.specs.Deleting.{recast};
 ghost use Rattle.glyph_buffer.specs.Sides.{all_glyphs, items_of};
-ghost use Rattle.glyph_buffer.specs.Merging.{place_of, telling_flags, with_merged};
+ghost use Rattle.glyph_buffer.specs.Merging.{index_in_all, telling_flags, with_merged};
 
 use super::hb_buffer_t;
 use glyph_sides::merges::merge_lists;
@@ -23,11 +23,11 @@ impl hb_buffer_t {
         requires ordered { start ≤ end }
         requires within { end ≤ self.old.read + length self.old.ahead }
         requires unread { self.old.is_open ≡ true → self.old.read ≤ start }
-        ensures merged { self.new ≡ with_merged (place_of start self.old) (place_of end self.old) self.old }
+        ensures merged { self.new ≡ with_merged (index_in_all start self.old) (index_in_all end self.old) self.old }
         ensures items { items_of self.new ≡ items_of self.old }
-        ensures clusters { clusters (all_glyphs self.new) ≡ merged_at self.old.level (place_of start self.old) (place_of end self.old) (clusters (all_glyphs self.old)) }
+        ensures clusters { clusters (all_glyphs self.new) ≡ merged_at self.old.level (index_in_all start self.old) (index_in_all end self.old) (clusters (all_glyphs self.old)) }
         ensures numbers { BringsNone (clusters (all_glyphs self.old)) (clusters (all_glyphs self.new)) }
-        ensures flags { flags_of (all_glyphs self.new) ≡ flags_merged_at self.old.level (place_of start self.old) (place_of end self.old) (all_glyphs self.old) }
+        ensures flags { flags_of (all_glyphs self.new) ≡ flags_merged_at self.old.level (index_in_all start self.old) (index_in_all end self.old) (all_glyphs self.old) }
     {
         let order = self.order.settled(self.lent, &self.out_info, &self.info);
         let from = self.first_of_input();

@@ -1,7 +1,7 @@
 ghost use Rattle.std.specs.Prelude.{◌≡◌, ◌≤◌, false, length, reverse, vec_len};
 ghost use Rattle.glyph_lists.specs.Items.{clusters};
 ghost use Rattle.glyph_lists.specs.Order.{BringsNone, BringsNone};
-ghost use Rattle.glyph_buffer.specs.Sides.{all_glyphs, flags_of, items_of, reversed, with_cleared_places};
+ghost use Rattle.glyph_buffer.specs.Sides.{all_glyphs, flags_of, items_of, reversed, with_cleared_positions};
 ghost use Rattle.glyph_buffer.specs.Moving.{range_reversed, with_range_reversed};
 
 use super::hb_buffer_t;
@@ -10,7 +10,7 @@ use glyph_types::info::hb_glyph_info_t;
 use glyph_types::position::GlyphPosition;
 
 impl hb_buffer_t {
-    /// Turns the list of glyphs round, and their places with it.
+    /// Turns the list of glyphs round, and their positions with it.
     pub fn reverse(&mut self)
         requires { self.old.is_open ≡ false }
         ensures turned { self.new ≡ reversed self.old }
@@ -28,7 +28,7 @@ impl hb_buffer_t {
         self.pos.reverse();
     }
 
-    /// Turns the glyphs from `start` up to before `end` round, and their places with them.
+    /// Turns the glyphs from `start` up to before `end` round, and their positions with them.
     pub fn reverse_range(&mut self, start: usize, end: usize)
         requires closed { self.old.is_open ≡ false }
         requires ordered { start ≤ end }
@@ -42,12 +42,12 @@ impl hb_buffer_t {
         self.order = KnownOrder::Unknown;
         self.lent = None;
         turn_glyphs(&mut self.info, start, end);
-        turn_places(&mut self.pos, start, end);
+        turn_positions(&mut self.pos, start, end);
     }
 
     /// Makes each place nothing.
     pub fn clear_positions(&mut self)
-        ensures { self.new ≡ with_cleared_places self.old }
+        ensures { self.new ≡ with_cleared_positions self.old }
     {
         self.pos.fill(GlyphPosition::default());
     }
@@ -62,11 +62,11 @@ fn turn_glyphs(glyphs: &mut Vec<hb_glyph_info_t>, start: usize, end: usize)
     glyphs[start..end].reverse();
 }
 
-fn turn_places(places: &mut Vec<GlyphPosition>, start: usize, end: usize)
+fn turn_positions(positions: &mut Vec<GlyphPosition>, start: usize, end: usize)
     requires ordered { start ≤ end }
-    requires within { end ≤ vec_len places.old }
-    ensures items { places.new.items ≡ range_reversed start end places.old.items }
-    ensures len { vec_len places.new ≡ vec_len places.old }
+    requires within { end ≤ vec_len positions.old }
+    ensures items { positions.new.items ≡ range_reversed start end positions.old.items }
+    ensures len { vec_len positions.new ≡ vec_len positions.old }
 {
-    places[start..end].reverse();
+    positions[start..end].reverse();
 }

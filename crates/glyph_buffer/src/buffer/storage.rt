@@ -1,6 +1,6 @@
 ghost use Rattle.std.specs.Prelude.{◌≡◌, ◌+◌, ◌≤◌, ◌<◌, ◌^◌, ◌==◌, ◌++◌, ◌∷◌, [], length, replicate, nat_le, false, true, Ok, OnOk, OnErr, IfOk, IsTrue, vec_len, vec_capacity};
 ghost use Rattle.std.specs.Str.{chars};
-ghost use Rattle.glyph_buffer.specs.Sides.{all_glyphs, items_of, with_added, has_room, refused, zero_place, zero_places};
+ghost use Rattle.glyph_buffer.specs.Sides.{all_glyphs, items_of, with_added, has_room, refused, zero_position, zero_positions};
 ghost use Rattle.glyph_lists.specs.Items.{clusters, flags_of, item_of};
 ghost use Rattle.glyph_sides.specs.Known.{HasOrder, is_known};
 ghost use Rattle.glyph_buffer.specs.Text.{added_glyph, added_text, fits_text, offsets_fit, offsets_from, text_items};
@@ -46,10 +46,10 @@ impl hb_buffer_t {
         &self.info
     }
 
-    /// The glyphs' places while no output is open.
+    /// The glyphs' positions while no output is open.
     pub fn pos_slice(&self) -> &[GlyphPosition]
         requires { self.now.is_open ≡ false }
-        ensures same { result.now ≡ self.now.places }
+        ensures same { result.now ≡ self.now.positions }
         ensures len { length result.now ≡ length (all_glyphs self.now) }
     {
         &self.pos
@@ -81,7 +81,7 @@ impl hb_buffer_t {
         Ok(true)
     }
 
-    /// Cuts the list at n glyphs, or fills it up with glyphs and places of nothing; the cursor stands no further than its
+    /// Cuts the list at n glyphs, or fills it up with glyphs and positions of nothing; the cursor stands no further than its
     /// end. It answers false, and changes nothing, where the list would have more than it may.
     pub fn set_len(&mut self, n: usize) -> Result<bool, AllocError>
         requires { self.old.is_open ≡ false }
@@ -131,17 +131,17 @@ impl hb_buffer_t {
 
 fn resize_lists(
     glyphs: &mut Vec<hb_glyph_info_t>,
-    places: &mut Vec<GlyphPosition>,
+    positions: &mut Vec<GlyphPosition>,
     n: usize,
 ) -> Result<(), AllocError>
     ensures glyphs_ok { OnOk result (glyphs.new.items ≡ of_length n zero_glyph glyphs.old.items) }
-    ensures places_ok { OnOk result (places.new.items ≡ of_length n zero_place places.old.items) }
+    ensures places_ok { OnOk result (positions.new.items ≡ of_length n zero_position positions.old.items) }
     ensures glyphs_err { OnErr result (glyphs.new.items ≡ glyphs.old.items) }
-    ensures places_err { OnErr result (places.new.items ≡ places.old.items) }
+    ensures places_err { OnErr result (positions.new.items ≡ positions.old.items) }
 {
     let missing = n.saturating_sub(glyphs.len());
     glyphs.reserve(missing)?;
-    places.resize(n, GlyphPosition::default())?;
+    positions.resize(n, GlyphPosition::default())?;
     glyphs.resize(n, hb_glyph_info_t::default()).unwrap();
     Ok(())
 }
@@ -179,30 +179,30 @@ fn offsets_fit(text: &str) -> bool
 #[tactic(auto, using(crate::proofs::Chars::length_added))]
 fn append_text(
     glyphs: &mut Vec<hb_glyph_info_t>,
-    places: &mut Vec<GlyphPosition>,
+    positions: &mut Vec<GlyphPosition>,
     text: &str,
     count: usize,
 ) -> Result<(), AllocError>
     requires counted { count ≡ length (chars text.now) }
     requires fit { IsTrue (offsets_fit 0 (chars text.now)) }
-    requires even { vec_len places.old ≡ vec_len glyphs.old }
+    requires even { vec_len positions.old ≡ vec_len glyphs.old }
     requires small { vec_len glyphs.old + count < 2 ^ 64 }
-    ensures ok { OnOk result (IsAppended (added_text text.now) glyphs.old.items places.old.items glyphs.new.items places.new.items) }
+    ensures ok { OnOk result (IsAppended (added_text text.now) glyphs.old.items positions.old.items glyphs.new.items positions.new.items) }
     ensures glyphs_err { OnErr result (glyphs.new.items ≡ glyphs.old.items) }
-    ensures places_err { OnErr result (places.new.items ≡ places.old.items) }
+    ensures places_err { OnErr result (positions.new.items ≡ positions.old.items) }
 {
     glyphs.reserve(count)?;
-    extend_places(places, count)?;
+    extend_positions(positions, count)?;
     push_chars(glyphs, text);
     Ok(())
 }
 
-fn extend_places(places: &mut Vec<GlyphPosition>, count: usize) -> Result<(), AllocError>
-    requires { vec_len places.old + count < 2 ^ 64 }
-    ensures ok { OnOk result (places.new.items ≡ places.old.items ++ zero_places count) }
-    ensures err { OnErr result (places.new.items ≡ places.old.items) }
+fn extend_positions(positions: &mut Vec<GlyphPosition>, count: usize) -> Result<(), AllocError>
+    requires { vec_len positions.old + count < 2 ^ 64 }
+    ensures ok { OnOk result (positions.new.items ≡ positions.old.items ++ zero_positions count) }
+    ensures err { OnErr result (positions.new.items ≡ positions.old.items) }
 {
-    places.resize(places.len() + count, GlyphPosition::default())
+    positions.resize(positions.len() + count, GlyphPosition::default())
 }
 
 #[tactic(auto, using(crate::proofs::Chars::added_none, crate::proofs::Chars::added_step, crate::proofs::Chars::fit_step, crate::proofs::Chars::count_step, crate::proofs::Chars::utf8_step))]

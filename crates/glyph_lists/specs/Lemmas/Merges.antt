@@ -172,7 +172,7 @@ merge_joins_order falls from to ns le o =
 merge_joins_ordered : (from to : ℕ) (ns : List ℕ) → from ≤ to → IsOrdered ns → merged_numbers (stretch from to ns) ns ≡ after_event ns (Join from to)
 merge_joins_ordered from to ns le o = elim o [ inl rises ↦ merge_joins_order false from to ns le rises | inr falls ↦ merge_joins_order true from to ns le falls ]
 
--- in order, at a monotone level, a merge of the places from `from` up to before `to` is a join
+-- in order, at a monotone level, a merge of the indices from `from` up to before `to` is a join
 pub merge_joins : (level : BufferClusterLevel) (from to : ℕ) (ns : List ℕ) → from ≤ to → IsMonotone level → IsOrdered ns → merged_at level from to ns ≡ after_event ns (Join from to)
 merge_joins MonotoneGraphemes from to ns le mono o = merge_joins_ordered from to ns le o
 merge_joins MonotoneCharacters from to ns le mono o = merge_joins_ordered from to ns le o

@@ -1,7 +1,7 @@
 ghost use Rattle.std.specs.Prelude.{◌≡◌, ◌+◌, ◌<◌, ◌≤◌, ◌++◌, ◌||◌, ◌∷◌, [], None, true, false, Bool, List, Some, length, take, drop};
 ghost use Rattle.glyph_types.specs.declared.info.hb_glyph_info_t.{hb_glyph_info_t as Glyph};
 ghost use Rattle.glyph_types.specs.declared.level.BufferClusterLevel.{BufferClusterLevel as Level};
-ghost use Rattle.glyph_lists.specs.Items.{Place, clusters};
+ghost use Rattle.glyph_lists.specs.Items.{Position, clusters};
 ghost use Rattle.glyph_lists.specs.Events.{first_of, last_of, is_number};
 ghost use Rattle.glyph_lists.specs.Order.{IsOrdered};
 ghost use Rattle.glyph_slices.specs.Deleting.{Left, deletion_marks, end_recast, glyphs_deleted};
@@ -39,22 +39,22 @@ pub(super) fn settle(glyphs: &mut [hb_glyph_info_t], kept: usize, due: Option<hb
 #[tactic(auto, using(crate::proofs::Walking::keep_front, crate::proofs::Walking::keep_ahead))]
 fn keep_glyph(
     glyphs: &mut [hb_glyph_info_t],
-    places: &mut [GlyphPosition],
+    positions: &mut [GlyphPosition],
     at: usize,
     walk: Walk,
 ) -> Walk
     requires within { at < length glyphs.old }
-    requires placed { length places.old ≡ length glyphs.old }
+    requires placed { length positions.old ≡ length glyphs.old }
     requires few { walk.kept ≤ at }
     ensures glyphs { take (walk.kept + 1) glyphs.new ≡ settled walk.due (take walk.kept glyphs.old) ++ take 1 (drop at glyphs.old) }
     ensures ahead { drop (at + 1) glyphs.new ≡ drop (at + 1) glyphs.old }
-    ensures places { take (walk.kept + 1) places.new ≡ take walk.kept places.old ++ take 1 (drop at places.old) }
-    ensures places_ahead { drop (at + 1) places.new ≡ drop (at + 1) places.old }
+    ensures positions { take (walk.kept + 1) positions.new ≡ take walk.kept positions.old ++ take 1 (drop at positions.old) }
+    ensures positions_ahead { drop (at + 1) positions.new ≡ drop (at + 1) positions.old }
     ensures walk { result ≡ record { kept = walk.kept + 1; due = None; marked = walk.marked } }
 {
     settle(glyphs, walk.kept, walk.due);
     move_glyph(glyphs, walk.kept, at);
-    move_place(places, walk.kept, at);
+    move_position(positions, walk.kept, at);
     Walk {
         kept: walk.kept + 1,
         due: None,
@@ -73,13 +73,13 @@ fn move_glyph(glyphs: &mut [hb_glyph_info_t], to: usize, from: usize)
 }
 
 #[tactic(auto, using(crate::proofs::Walking::moved_front, crate::proofs::Walking::moved_back))]
-fn move_place(places: &mut [GlyphPosition], to: usize, from: usize)
+fn move_position(positions: &mut [GlyphPosition], to: usize, from: usize)
     requires ordered { to ≤ from }
-    requires within { from < length places.old }
-    ensures front { take (to + 1) places.new ≡ take to places.old ++ take 1 (drop from places.old) }
-    ensures back { drop (from + 1) places.new ≡ drop (from + 1) places.old }
+    requires within { from < length positions.old }
+    ensures front { take (to + 1) positions.new ≡ take to positions.old ++ take 1 (drop from positions.old) }
+    ensures back { drop (from + 1) positions.new ≡ drop (from + 1) positions.old }
 {
-    places[to] = places[from];
+    positions[to] = positions[from];
 }
 
 /// The cluster of the last glyph that stays, once it took what is due.
@@ -133,7 +133,7 @@ pub(super) fn delete_glyph(
 ) -> Walk
     requires within { at < length glyphs.old }
     requires sound { IsWalk in_order at walk glyphs.old }
-    ensures passed { (ps : List Place) (g : Glyph) (back : List Glyph) → drop at glyphs.old ≡ g ∷ back → passed_at (at + 1) result glyphs.new ps ≡ without_glyph level (passed_at at walk glyphs.old ps) g back }
+    ensures passed { (ps : List Position) (g : Glyph) (back : List Glyph) → drop at glyphs.old ≡ g ∷ back → passed_at (at + 1) result glyphs.new ps ≡ without_glyph level (passed_at at walk glyphs.old ps) g back }
     ensures sound { IsWalk in_order (at + 1) result glyphs.new }
 {
     if walk.kept == 0 {
@@ -150,7 +150,7 @@ pub(super) fn delete_glyph(
 /// The glyph at `at` goes where the test picks it, else it stays.
 pub(super) fn pass_glyph<F: Fn(&hb_glyph_info_t) -> bool>(
     glyphs: &mut [hb_glyph_info_t],
-    places: &mut [GlyphPosition],
+    positions: &mut [GlyphPosition],
     at: usize,
     walk: Walk,
     level: BufferClusterLevel,
@@ -159,13 +159,13 @@ pub(super) fn pass_glyph<F: Fn(&hb_glyph_info_t) -> bool>(
 ) -> Walk
     requires callable { F.IsAlwaysCallable filter.now }
     requires within { at < length glyphs.old }
-    requires placed { length places.old ≡ length glyphs.old }
+    requires placed { length positions.old ≡ length glyphs.old }
     requires sound { IsWalk in_order at walk glyphs.old }
-    ensures passed { (goes : Glyph → Bool) → Tells F.Fn filter.now goes → passed_at (at + 1) result glyphs.new places.new ≡ first_passed level goes (passed_at at walk glyphs.old places.old) }
+    ensures passed { (goes : Glyph → Bool) → Tells F.Fn filter.now goes → passed_at (at + 1) result glyphs.new positions.new ≡ first_passed level goes (passed_at at walk glyphs.old positions.old) }
     ensures sound { IsWalk in_order (at + 1) result glyphs.new }
 {
     if filter(&glyphs[at]) {
         return delete_glyph(glyphs, at, walk, level, in_order);
     }
-    keep_glyph(glyphs, places, at, walk)
+    keep_glyph(glyphs, positions, at, walk)
 }

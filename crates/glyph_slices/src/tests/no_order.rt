@@ -69,11 +69,11 @@ fn sorts_spans_that_share_clusters_in_no_order(rt: HostRuntime) -> Result<(), Fa
 #[test]
 fn merges_groups_that_share_clusters_in_no_order(rt: HostRuntime) -> Result<(), Fail> {
     let mut glyphs = glyphs_of([(1, 9, 9), (1, 4, 9), (2, 9, 9), (2, 6, 9), (3, 7, 9)]);
-    let mut places = places_of([10, 20, 30, 40, 50]);
+    let mut positions = places_of([10, 20, 30, 40, 50]);
     let marked = reverse_groups(
         rt.alloc(),
         &mut glyphs,
-        &mut places,
+        &mut positions,
         BufferClusterLevel::MonotoneCharacters,
         false,
         true,
@@ -84,18 +84,18 @@ fn merges_groups_that_share_clusters_in_no_order(rt: HostRuntime) -> Result<(), 
         glyphs,
         glyphs_of([(3, 7, 9), (2, 4, 8), (2, 4, 8), (1, 4, 8), (1, 4, 9)])
     );
-    assert_eq!(&rt; places, places_of([50, 30, 40, 10, 20]));
+    assert_eq!(&rt; positions, places_of([50, 30, 40, 10, 20]));
     Ok(())
 }
 
 #[test]
 fn finds_groups_by_what_merges_left(rt: HostRuntime) -> Result<(), Fail> {
     let mut glyphs = glyphs_of([(1, 8, 9), (1, 3, 9), (1, 6, 9), (2, 8, 9), (3, 3, 9)]);
-    let mut places = places_of([10, 20, 30, 40, 50]);
+    let mut positions = places_of([10, 20, 30, 40, 50]);
     let marked = reverse_groups(
         rt.alloc(),
         &mut glyphs,
-        &mut places,
+        &mut positions,
         BufferClusterLevel::MonotoneGraphemes,
         false,
         true,
@@ -106,6 +106,6 @@ fn finds_groups_by_what_merges_left(rt: HostRuntime) -> Result<(), Fail> {
         glyphs,
         glyphs_of([(2, 3, 8), (3, 3, 9), (1, 3, 8), (1, 3, 9), (1, 3, 8)])
     );
-    assert_eq!(&rt; places, places_of([40, 50, 10, 20, 30]));
+    assert_eq!(&rt; positions, places_of([40, 50, 10, 20, 30]));
     Ok(())
 }

@@ -14,7 +14,7 @@ pub loop-at-init : goal.loop-at-init
 loop-at-init g c = record {
   placed = c.requires.placed;
   sound = record { few = omega arith; due = tt; known = c.requires.known };
-  rest = λ goes same. passes_begin c.args.level goes c.args.glyphs.now c.args.places.now;
+  rest = λ goes same. passes_begin c.args.level goes c.args.glyphs.now c.args.positions.now;
 }
 
 pub loop-at-preserved : goal.loop-at-preserved
@@ -23,7 +23,7 @@ loop-at-preserved g c =
     record {
       placed = omega (arith, inv.placed);
       sound = c.pass_glyph-walk.ensures.sound;
-      rest = λ goes same. passes_on c.args.level goes c.loop-at.at c.loop-at.walk c.pass_glyph-walk.result c.loop-at.glyphs c.pass_glyph-walk.new.glyphs c.loop-at.places c.pass_glyph-walk.new.places _
+      rest = λ goes same. passes_on c.args.level goes c.loop-at.at c.loop-at.walk c.pass_glyph-walk.result c.loop-at.glyphs c.pass_glyph-walk.new.glyphs c.loop-at.positions c.pass_glyph-walk.new.positions _
           (omega arith) (omega arith) (c.pass_glyph-walk.ensures.passed goes same) (inv.rest goes same);
     }
 
@@ -33,26 +33,26 @@ returns-clause-within g c = omega (arith, c.loop-at.invariant.sound.few)
 pub returns-clause-glyphs : goal.returns-clause-glyphs
 returns-clause-glyphs g c = λ goes same.
     let few : c.loop-at.walk.kept ≤ length c.loop-at.glyphs = omega (arith, c.loop-at.invariant.sound.few) in
-    settled_front c.loop-at.walk.due c.loop-at.walk.kept c.loop-at.glyphs c.settle.new.glyphs few c.settle.ensures ∙ ap (λ (w : Passed). w.kept) (passes_end c.args.level goes c.loop-at.at c.loop-at.walk c.loop-at.glyphs c.loop-at.places _ (omega arith) (c.loop-at.invariant.rest goes same))
+    settled_front c.loop-at.walk.due c.loop-at.walk.kept c.loop-at.glyphs c.settle.new.glyphs few c.settle.ensures ∙ ap (λ (w : Passed). w.kept) (passes_end c.args.level goes c.loop-at.at c.loop-at.walk c.loop-at.glyphs c.loop-at.positions _ (omega arith) (c.loop-at.invariant.rest goes same))
 
-pub returns-clause-places : goal.returns-clause-places
-returns-clause-places g c = λ goes same. ap (λ (w : Passed). w.kept_places) (passes_end c.args.level goes c.loop-at.at c.loop-at.walk c.loop-at.glyphs c.loop-at.places _ (omega arith) (c.loop-at.invariant.rest goes same))
+pub returns-clause-positions : goal.returns-clause-positions
+returns-clause-positions g c = λ goes same. ap (λ (w : Passed). w.kept_positions) (passes_end c.args.level goes c.loop-at.at c.loop-at.walk c.loop-at.glyphs c.loop-at.positions _ (omega arith) (c.loop-at.invariant.rest goes same))
 
 pub returns-clause-marked : goal.returns-clause-marked
-returns-clause-marked g c = λ goes same. ap (λ (w : Passed). w.is_marked) (passes_end c.args.level goes c.loop-at.at c.loop-at.walk c.loop-at.glyphs c.loop-at.places _ (omega arith) (c.loop-at.invariant.rest goes same))
+returns-clause-marked g c = λ goes same. ap (λ (w : Passed). w.is_marked) (passes_end c.args.level goes c.loop-at.at c.loop-at.walk c.loop-at.glyphs c.loop-at.positions _ (omega arith) (c.loop-at.invariant.rest goes same))
 
 pub returns-clause-items : goal.returns-clause-items
-returns-clause-items g c = λ q same. ap strip (returns-clause-glyphs g c (λ h. q (item_of h)) same) ∙ items_all c.args.level q c.args.glyphs.now c.args.places.now
+returns-clause-items g c = λ q same. ap strip (returns-clause-glyphs g c (λ h. q (item_of h)) same) ∙ items_all c.args.level q c.args.glyphs.now c.args.positions.now
 
-pub returns-clause-kept_places : goal.returns-clause-kept_places
-returns-clause-kept_places g c = λ q same. returns-clause-places g c (λ h. q (item_of h)) same ∙ places_all c.args.level q c.args.glyphs.now c.args.places.now
+pub returns-clause-kept_positions : goal.returns-clause-kept_positions
+returns-clause-kept_positions g c = λ q same. returns-clause-positions g c (λ h. q (item_of h)) same ∙ places_all c.args.level q c.args.glyphs.now c.args.positions.now
 
 pub returns-clause-clusters : goal.returns-clause-clusters
-returns-clause-clusters g c = λ q same. ap clusters (returns-clause-glyphs g c (λ h. q (item_of h)) same) ∙ clusters_all c.args.level q c.args.glyphs.now c.args.places.now
+returns-clause-clusters g c = λ q same. ap clusters (returns-clause-glyphs g c (λ h. q (item_of h)) same) ∙ clusters_all c.args.level q c.args.glyphs.now c.args.positions.now
 
 pub returns-clause-flags : goal.returns-clause-flags
-returns-clause-flags g c = λ q same. ap flags_of (returns-clause-glyphs g c (λ h. q (item_of h)) same) ∙ flags_all c.args.level q c.args.glyphs.now c.args.places.now
+returns-clause-flags g c = λ q same. ap flags_of (returns-clause-glyphs g c (λ h. q (item_of h)) same) ∙ flags_all c.args.level q c.args.glyphs.now c.args.positions.now
 
 pub returns-clause-numbers : goal.returns-clause-numbers
 returns-clause-numbers g c = λ goes same.
-    subst (λ (gs : List Glyph). BringsNone (clusters c.args.glyphs.now) (clusters gs)) (sym (returns-clause-glyphs g c goes same)) (deleting_brings_none c.args.level goes c.args.glyphs.now c.args.places.now)
+    subst (λ (gs : List Glyph). BringsNone (clusters c.args.glyphs.now) (clusters gs)) (sym (returns-clause-glyphs g c goes same)) (deleting_brings_none c.args.level goes c.args.glyphs.now c.args.positions.now)

@@ -6,7 +6,7 @@ use Rattle.glyph_slices.proofs.deletion.delete_within.Given as goal
 -- what is left to pass, after what was passed, gives the whole
 abbrev pub invariant-loop-at : goal.invariant-loop-at
 invariant-loop-at g l = record {
-  placed : length l.places ≡ length l.glyphs;
+  placed : length l.positions ≡ length l.glyphs;
   sound : IsWalk l.in_order l.at l.walk l.glyphs;
-  rest : (goes : Glyph → Bool) → Tells g.F.Fn l.filter goes → many_passed l.level goes (length l.glyphs - l.at) (passed_at l.at l.walk l.glyphs l.places) ≡ all_passed l.level goes l.fn.glyphs l.fn.places;
+  rest : (goes : Glyph → Bool) → Tells g.F.Fn l.filter goes → many_passed l.level goes (length l.glyphs - l.at) (passed_at l.at l.walk l.glyphs l.positions) ≡ all_passed l.level goes l.fn.glyphs l.fn.positions;
 }

@@ -23,8 +23,8 @@ loop-start-init g c =
       known = λ asked sure mono. subst (λ (hs : List Glyph). IsOrdered (clusters hs)) (sym none.meant) (c.requires.known sure);
       due = none.due;
       plain = λ off. none.none (elim c.if-merge.branch [ then-merge w ↦ let on = w.if-merge.true in cc | else-merge w ↦ w.no_merges-is ∙ off ]) off;
-      rest = λ joins same. subst (λ (hs : List Glyph). Rest c.args.merge c.args.level joins 0 hs c.args.places.now c.no_merges-merges.result.marked (turned c.args.merge c.args.level joins c.args.glyphs.now c.args.places.now)) (sym none.meant)
-          (subst (λ (m : Bool). Rest c.args.merge c.args.level joins 0 c.args.glyphs.now c.args.places.now m (turned c.args.merge c.args.level joins c.args.glyphs.now c.args.places.now)) (sym none.marked) (rest_begins c.args.merge c.args.level joins c.args.glyphs.now c.args.places.now));
+      rest = λ joins same. subst (λ (hs : List Glyph). Rest c.args.merge c.args.level joins 0 hs c.args.positions.now c.no_merges-merges.result.marked (turned c.args.merge c.args.level joins c.args.glyphs.now c.args.positions.now)) (sym none.meant)
+          (subst (λ (m : Bool). Rest c.args.merge c.args.level joins 0 c.args.glyphs.now c.args.positions.now m (turned c.args.merge c.args.level joins c.args.glyphs.now c.args.positions.now)) (sym none.marked) (rest_begins c.args.merge c.args.level joins c.args.glyphs.now c.args.positions.now));
     }
 
 pub loop-start-preserved : goal.loop-start-preserved
@@ -44,10 +44,10 @@ loop-start-preserved g c =
       known = λ asked sure mono. turn.order asked mono (subst (λ (hs : List Glyph). IsOrdered (clusters hs)) (sym found.ensures.meant) (inv.known asked sure mono));
       due = turn.due;
       plain = turn.plain;
-      rest = λ joins same. rest_goes_on c.args.merge c.args.level joins start end (meant c.loop-start.merges.due old) (meant c.turn_group-merges.result.due new) c.loop-start.places c.turn_group-merges.new.places
-          c.loop-start.merges.marked c.turn_group-merges.result.marked (turned c.args.merge c.args.level joins c.args.glyphs.now c.args.places.now) (omega (arith, before, c.loop-start-test.true)) found.ensures.some (omega (arith, before, after, c.turn_group-merges.auto.glyphs, found.auto.glyphs))
+      rest = λ joins same. rest_goes_on c.args.merge c.args.level joins start end (meant c.loop-start.merges.due old) (meant c.turn_group-merges.result.due new) c.loop-start.positions c.turn_group-merges.new.positions
+          c.loop-start.merges.marked c.turn_group-merges.result.marked (turned c.args.merge c.args.level joins c.args.glyphs.now c.args.positions.now) (omega (arith, before, c.loop-start-test.true)) found.ensures.some (omega (arith, before, after, c.turn_group-merges.auto.glyphs, found.auto.glyphs))
           (found.ensures.end joins same)
-          (turn.turned ∙ ap (λ (hs : List Glyph). first_turned c.args.merge c.args.level (end - start) (turning_at start hs c.loop-start.places c.loop-start.merges.marked)) found.ensures.meant) (inv.rest joins same);
+          (turn.turned ∙ ap (λ (hs : List Glyph). first_turned c.args.merge c.args.level (end - start) (turning_at start hs c.loop-start.positions c.loop-start.merges.marked)) found.ensures.meant) (inv.rest joins same);
     }
 
 pub settle-requires : goal.settle-requires
@@ -58,36 +58,36 @@ returns-clause-glyphs g c = λ joins same.
     let inv = c.loop-start.invariant in
     let long : length (meant c.loop-start.merges.due c.loop-start.glyphs) ≡ length c.loop-start.glyphs = meant_long c.args.level c.loop-start.start c.loop-start.merges.due c.loop-start.glyphs inv.within inv.due in
     c.reverse.ensures.after ∙ ap reverse c.settle.ensures
-    ∙ ap (λ (t : Turning). t.glyphs) (rest_ends c.args.merge c.args.level joins c.loop-start.start (meant c.loop-start.merges.due c.loop-start.glyphs) c.loop-start.places c.loop-start.merges.marked _ (omega (arith, long, c.loop-start-test.false)) (omega (arith, long, inv.placed)) (inv.rest joins same))
+    ∙ ap (λ (t : Turning). t.glyphs) (rest_ends c.args.merge c.args.level joins c.loop-start.start (meant c.loop-start.merges.due c.loop-start.glyphs) c.loop-start.positions c.loop-start.merges.marked _ (omega (arith, long, c.loop-start-test.false)) (omega (arith, long, inv.placed)) (inv.rest joins same))
 
-pub returns-clause-places : goal.returns-clause-places
-returns-clause-places g c = λ joins same.
+pub returns-clause-positions : goal.returns-clause-positions
+returns-clause-positions g c = λ joins same.
     let inv = c.loop-start.invariant in
     let long : length (meant c.loop-start.merges.due c.loop-start.glyphs) ≡ length c.loop-start.glyphs = meant_long c.args.level c.loop-start.start c.loop-start.merges.due c.loop-start.glyphs inv.within inv.due in
     c.reverse-2.ensures.after
-    ∙ ap (λ (t : Turning). t.places) (rest_ends c.args.merge c.args.level joins c.loop-start.start (meant c.loop-start.merges.due c.loop-start.glyphs) c.loop-start.places c.loop-start.merges.marked _ (omega (arith, long, c.loop-start-test.false)) (omega (arith, long, inv.placed)) (inv.rest joins same))
+    ∙ ap (λ (t : Turning). t.positions) (rest_ends c.args.merge c.args.level joins c.loop-start.start (meant c.loop-start.merges.due c.loop-start.glyphs) c.loop-start.positions c.loop-start.merges.marked _ (omega (arith, long, c.loop-start-test.false)) (omega (arith, long, inv.placed)) (inv.rest joins same))
 
 pub returns-clause-marked : goal.returns-clause-marked
 returns-clause-marked g c = λ joins same.
     let inv = c.loop-start.invariant in
     let long : length (meant c.loop-start.merges.due c.loop-start.glyphs) ≡ length c.loop-start.glyphs = meant_long c.args.level c.loop-start.start c.loop-start.merges.due c.loop-start.glyphs inv.within inv.due in
-    ap (λ (t : Turning). t.is_marked) (rest_ends c.args.merge c.args.level joins c.loop-start.start (meant c.loop-start.merges.due c.loop-start.glyphs) c.loop-start.places c.loop-start.merges.marked _ (omega (arith, long, c.loop-start-test.false)) (omega (arith, long, inv.placed)) (inv.rest joins same))
+    ap (λ (t : Turning). t.is_marked) (rest_ends c.args.merge c.args.level joins c.loop-start.start (meant c.loop-start.merges.due c.loop-start.glyphs) c.loop-start.positions c.loop-start.merges.marked _ (omega (arith, long, c.loop-start-test.false)) (omega (arith, long, inv.placed)) (inv.rest joins same))
 
 pub returns-clause-plain : goal.returns-clause-plain
-returns-clause-plain g c = λ joins same off. returns-clause-glyphs g c joins same ∙ ap (λ t. (turned t c.args.level joins c.args.glyphs.now c.args.places.now).glyphs) off ∙ turned_plain c.args.level joins c.args.glyphs.now c.args.places.now
+returns-clause-plain g c = λ joins same off. returns-clause-glyphs g c joins same ∙ ap (λ t. (turned t c.args.level joins c.args.glyphs.now c.args.positions.now).glyphs) off ∙ turned_plain c.args.level joins c.args.glyphs.now c.args.positions.now
 
 pub returns-clause-items : goal.returns-clause-items
-returns-clause-items g c = λ q same. ap strip (returns-clause-glyphs g c (λ h k. q (item_of h) (item_of k)) same) ∙ items_turned c.args.merge c.args.level q c.args.glyphs.now c.args.places.now
+returns-clause-items g c = λ q same. ap strip (returns-clause-glyphs g c (λ h k. q (item_of h) (item_of k)) same) ∙ items_turned c.args.merge c.args.level q c.args.glyphs.now c.args.positions.now
 
-pub returns-clause-turned_places : goal.returns-clause-turned_places
-returns-clause-turned_places g c = λ q same. returns-clause-places g c (λ h k. q (item_of h) (item_of k)) same ∙ places_beside c.args.merge c.args.level q c.args.glyphs.now c.args.places.now
+pub returns-clause-turned_positions : goal.returns-clause-turned_positions
+returns-clause-turned_positions g c = λ q same. returns-clause-positions g c (λ h k. q (item_of h) (item_of k)) same ∙ places_beside c.args.merge c.args.level q c.args.glyphs.now c.args.positions.now
 
 pub returns-clause-clusters : goal.returns-clause-clusters
-returns-clause-clusters g c = λ q same. ap clusters (returns-clause-glyphs g c (λ h k. q (item_of h) (item_of k)) same) ∙ clusters_beside c.args.merge c.args.level q c.args.glyphs.now c.args.places.now
+returns-clause-clusters g c = λ q same. ap clusters (returns-clause-glyphs g c (λ h k. q (item_of h) (item_of k)) same) ∙ clusters_beside c.args.merge c.args.level q c.args.glyphs.now c.args.positions.now
 
 pub returns-clause-flags : goal.returns-clause-flags
-returns-clause-flags g c = λ q same. ap flags_of (returns-clause-glyphs g c (λ h k. q (item_of h) (item_of k)) same) ∙ flags_beside c.args.merge c.args.level q c.args.glyphs.now c.args.places.now
+returns-clause-flags g c = λ q same. ap flags_of (returns-clause-glyphs g c (λ h k. q (item_of h) (item_of k)) same) ∙ flags_beside c.args.merge c.args.level q c.args.glyphs.now c.args.positions.now
 
 pub returns-clause-numbers : goal.returns-clause-numbers
 returns-clause-numbers g c = λ joins same.
-    subst (λ (gs : List Glyph). BringsNone (clusters c.args.glyphs.now) (clusters gs)) (sym (returns-clause-glyphs g c joins same)) (turning_brings_none c.args.merge c.args.level joins c.args.glyphs.now c.args.places.now)
+    subst (λ (gs : List Glyph). BringsNone (clusters c.args.glyphs.now) (clusters gs)) (sym (returns-clause-glyphs g c joins same)) (turning_brings_none c.args.merge c.args.level joins c.args.glyphs.now c.args.positions.now)

@@ -14,11 +14,11 @@ use Rattle.glyph_slices.proofs.reversal.reverse_groups.Given as goal
 abbrev pub invariant-loop-start : goal.invariant-loop-start
 invariant-loop-start g l = record {
   within : l.start ≤ length l.glyphs;
-  placed : length l.places ≡ length l.glyphs;
+  placed : length l.positions ≡ length l.glyphs;
   known : l.merge ≡ true → l.in_order ≡ true → IsMonotone l.level → IsOrdered (clusters (meant l.merges.due l.glyphs));
   due : MayBeDue l.level l.start l.merges.due l.glyphs;
   plain : l.merge ≡ false → l.merges.due ≡ Nothing;
-  rest : (joins : Glyph → Glyph → Bool) → Decides g.F.Fn l.group joins → Rest l.merge l.level joins l.start (meant l.merges.due l.glyphs) l.places l.merges.marked (turned l.merge l.level joins l.fn.glyphs l.fn.places);
+  rest : (joins : Glyph → Glyph → Bool) → Decides g.F.Fn l.group joins → Rest l.merge l.level joins l.start (meant l.merges.due l.glyphs) l.positions l.merges.marked (turned l.merge l.level joins l.fn.glyphs l.fn.positions);
 }
 
 abbrev pub decreases-loop-start : goal.decreases-loop-start

@@ -17,7 +17,7 @@ returns-clause-turned c =
     let le : c.args.start ≤ c.args.end = omega (arith, c.requires.some) in
     let turned : new ≡ part_turned c.args.start c.args.end mid = ap (meant merged.result.due) c.turn_part.ensures ∙ meant_turned c.args.level c.args.start c.args.end merged.result.due merged.new.glyphs le (omega (arith, c.requires.within, merged.auto.glyphs)) merged.ensures.due merged.ensures.round in
     ap (turning_at c.args.end new c.turn_part-2.new.items) merged.ensures.marked
-    ∙ group_placed c.args.merge c.args.level c.args.start c.args.end old mid new c.args.places.now c.turn_part-2.new.items c.args.merges.marked (is_marked_if c.args.merge c.args.level c.args.start c.args.end (clusters old))
+    ∙ group_placed c.args.merge c.args.level c.args.start c.args.end old mid new c.args.positions.now c.turn_part-2.new.items c.args.merges.marked (is_marked_if c.args.merge c.args.level c.args.start c.args.end (clusters old))
     le (omega (arith, c.requires.within, long)) (omega (arith, c.requires.placed, long)) merged.ensures.merged refl turned c.turn_part-2.ensures
 
 pub returns-clause-order : goal.returns-clause-order

@@ -4,7 +4,7 @@ use Rattle.glyph_text.proofs.printing.serialize.Goals as goal
 
 pub loop-index-preserved : goal.loop-index-preserved
 loop-index-preserved g c =
-    let in_places : c.loop-index.index < length c.args.places.now = omega arith in
+    let in_places : c.loop-index.index < length c.args.positions.now = omega arith in
     record {
       pen = pen_step _ _ _ _ _ _ in_places c.loop-index.invariant.pen c.moved-pen.ensures.value;
       near = near_more _ _ (c.moved-pen.ensures.near _ c.loop-index.invariant.near);

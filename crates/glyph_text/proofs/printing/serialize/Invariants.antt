@@ -6,8 +6,8 @@ use Rattle.glyph_text.proofs.printing.serialize.Given as goal
 
 abbrev pub invariant-loop-index : goal.invariant-loop-index
 invariant-loop-index g l = record {
-  pen : l.pen ≡ pen_after l.flags (take l.index l.places);
+  pen : l.pen ≡ pen_after l.flags (take l.index l.positions);
   near : IsWithin (2 ^ 31 * l.index) l.pen;
-  printed : string_bytes l.text ++ left_at (g.N.GlyphNames.name_of l.names) (g.N.GlyphNames.extents_of l.names) l.flags l.glyphs l.places l.index
-      ≡ printed_text (g.N.GlyphNames.name_of l.names) (g.N.GlyphNames.extents_of l.names) l.flags l.glyphs l.places;
+  printed : string_bytes l.text ++ left_at (g.N.GlyphNames.name_of l.names) (g.N.GlyphNames.extents_of l.names) l.flags l.glyphs l.positions l.index
+      ≡ printed_text (g.N.GlyphNames.name_of l.names) (g.N.GlyphNames.extents_of l.names) l.flags l.glyphs l.positions;
 }

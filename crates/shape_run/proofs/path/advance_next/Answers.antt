@@ -1,5 +1,5 @@
 use Rattle.std.proofs.Common.{◌≡◌, ◌∙◌}
-use Rattle.shape_run.specs.Path.{advance_place}
+use Rattle.shape_run.specs.Path.{advance_position}
 use Rattle.shape_run.proofs.Steps.{first_number, advanced_next}
 use Rattle.shape_run.proofs.path.advance_next.Goals as goal
 
@@ -8,6 +8,6 @@ as_glyph-requires c = first_number c.args.buffer.now.ahead c.cur.result.now c.re
 
 pub returns : goal.returns
 returns c =
-    let place : c.advance_place-place.result ≡ advance_place c.args.face.now c.cur.result.now.glyph_id = rw c.as_glyph.ensures at c.advance_place-place.ensures in
+    let place : c.advance_position-place.result ≡ advance_position c.args.face.now c.cur.result.now.glyph_id = rw c.as_glyph.ensures at c.advance_position-place.ensures in
     let moved = c.next_glyph.ensures.moved (c.next_glyph.ensures.in_place c.requires.closed) in
     moved ∙ rw place (advanced_next c.args.face.now c.args.buffer.now c.cur.result.now c.cur.ensures c.requires.placed)

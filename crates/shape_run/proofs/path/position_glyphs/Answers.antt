@@ -22,7 +22,7 @@ advance_next-requires-clause-placed c =
     let count = rw c.requires.front at (c.len-count.ensures.count c.requires.closed) in
     let even = rw c.requires.front at c.requires.placed in
     let s = c.clear_positions.new.self in
-    let long : length s.places ≡ length s.ahead = rw (c.clear_positions.ensures, length-replicate) even in
+    let long : length s.positions ≡ length s.ahead = rw (c.clear_positions.ensures, length-replicate) even in
     let within : c.loop.counter ≤ length s.ahead = rw c.clear_positions.ensures (omega (arith, count)) in
     let kept = advanced_length c.args.face.now c.loop.counter s within long in
     rw (c.loop.invariant, kept, c.clear_positions.ensures) (omega (arith, count))

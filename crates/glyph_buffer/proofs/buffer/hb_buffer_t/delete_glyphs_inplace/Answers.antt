@@ -16,7 +16,7 @@ returns-clause-deleted g c goes tells =
     let picked = c.delete_picked-marked in
     let count : c.len.result ≡ length picked.new.info.items = first_of (search rules, grind (arith, common_steps)) in
     let flags = c.telling_flags-self-inside.ensures ∙ ap (λ any. telling_flags any b.scratch_flags) (picked.ensures.marked goes tells) in
-    picked_view b picked.new.info picked.new.places Unknown None goes c.min-self-inside.result _ closed (picked.ensures.glyphs goes tells) (picked.ensures.places goes tells) (c.min-self-inside.ensures ∙ ap (min b.idx) count) flags
+    picked_view b picked.new.info picked.new.positions Unknown None goes c.min-self-inside.result _ closed (picked.ensures.glyphs goes tells) (picked.ensures.positions goes tells) (c.min-self-inside.ensures ∙ ap (min b.idx) count) flags
     ∙ ap (with_picked_deleted goes) c.self.view_is
 
 pub returns-clause-numbers : goal.returns-clause-numbers

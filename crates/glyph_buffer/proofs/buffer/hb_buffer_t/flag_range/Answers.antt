@@ -3,7 +3,7 @@ use Rattle.std.proofs.lemmas.Grind.{common_steps}
 use Rattle.glyph_lists.specs.Items.{clusters, flags_of}
 use Rattle.glyph_buffer.specs.Sides.{Sides, all_glyphs, items_of}
 use Rattle.glyph_buffer.specs.Inside.{start_of}
-use Rattle.glyph_buffer.specs.Merging.{place_of}
+use Rattle.glyph_buffer.specs.Merging.{index_in_all}
 use Rattle.glyph_buffer.specs.Marking.{with_flagged}
 use Rattle.glyph_buffer.proofs.Marked.{places_order, flagged_items, flagged_clusters, flagged_flags, flagged_view, order_flagged}
 use Rattle.glyph_buffer.proofs.Ordered.{known_ahead, known_back}
@@ -12,22 +12,22 @@ use Rattle.glyph_buffer.proofs.buffer.hb_buffer_t.flag_range.Goals as goal
 pub returns-clause-marked : goal.returns-clause-marked
 returns-clause-marked c =
     flagged_view c.self.inside c.flag_in.new.info c.settled-order.result None c.args.flags c.first_of_input-from.result c.args.start c.args.end _ c.self.invariant.cursor c.requires.ordered (rw (← c.self.view_is) at c.requires.unread) (rw (← c.self.view_is) at c.first_of_input-from.ensures) c.flag_in.ensures.items (c.telling_flags-self-inside.ensures)
-    ∙ ap (λ (s : Sides). with_flagged c.args.flags (place_of c.args.start s) (place_of c.args.end s) s) c.self.view_is
+    ∙ ap (λ (s : Sides). with_flagged c.args.flags (index_in_all c.args.start s) (index_in_all c.args.end s) s) c.self.view_is
 
 pub returns-clause-items : goal.returns-clause-items
 returns-clause-items c =
     let s = c.args.self.now in
-    ap items_of (returns-clause-marked c) ∙ flagged_items c.args.flags (place_of c.args.start s) (place_of c.args.end s) s c.requires.glyph_flags (places_order c.args.start c.args.end s c.requires.ordered)
+    ap items_of (returns-clause-marked c) ∙ flagged_items c.args.flags (index_in_all c.args.start s) (index_in_all c.args.end s) s c.requires.glyph_flags (places_order c.args.start c.args.end s c.requires.ordered)
 
 pub returns-clause-clusters : goal.returns-clause-clusters
 returns-clause-clusters c =
     let s = c.args.self.now in
-    ap (λ (s : Sides). clusters (all_glyphs s)) (returns-clause-marked c) ∙ flagged_clusters c.args.flags (place_of c.args.start s) (place_of c.args.end s) s (places_order c.args.start c.args.end s c.requires.ordered)
+    ap (λ (s : Sides). clusters (all_glyphs s)) (returns-clause-marked c) ∙ flagged_clusters c.args.flags (index_in_all c.args.start s) (index_in_all c.args.end s) s (places_order c.args.start c.args.end s c.requires.ordered)
 
 pub returns-clause-flags : goal.returns-clause-flags
 returns-clause-flags c =
     let s = c.args.self.now in
-    ap (λ (s : Sides). flags_of (all_glyphs s)) (returns-clause-marked c) ∙ flagged_flags c.args.flags (place_of c.args.start s) (place_of c.args.end s) s c.requires.glyph_flags
+    ap (λ (s : Sides). flags_of (all_glyphs s)) (returns-clause-marked c) ∙ flagged_flags c.args.flags (index_in_all c.args.start s) (index_in_all c.args.end s) s c.requires.glyph_flags
 
 pub invariant_of-self : goal.invariant_of-self
 invariant_of-self c =

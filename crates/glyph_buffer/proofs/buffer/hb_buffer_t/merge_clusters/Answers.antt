@@ -4,7 +4,7 @@ use Rattle.glyph_buffer.specs.Inside.{start_of}
 use Rattle.glyph_buffer.proofs.Ordered.{known_ordered, known_ahead, known_back, order_merged}
 use Rattle.glyph_lists.specs.Items.{clusters, flags_of}
 use Rattle.glyph_buffer.specs.Sides.{Sides, all_glyphs, items_of}
-use Rattle.glyph_buffer.specs.Merging.{place_of, telling_flags, with_merged}
+use Rattle.glyph_buffer.specs.Merging.{index_in_all, telling_flags, with_merged}
 use Rattle.glyph_buffer.proofs.Merged.{merged_view, merged_items, merged_clusters, merged_flags}
 use Rattle.glyph_lists.specs.Lemmas.Merges.{merged_at_brings}
 use Rattle.glyph_buffer.proofs.Brings.{brings_same}
@@ -14,7 +14,7 @@ pub returns-clause-merged : goal.returns-clause-merged
 returns-clause-merged c =
     let flags = c.telling_flags-self-inside.ensures ∙ ap (λ any. telling_flags any c.self.inside.scratch_flags) c.merge_lists-marked.ensures.any in
     merged_view c.self.inside c.merge_lists-marked.new.info c.merge_lists-marked.new.out c.walked-self-inside.result None c.first_of_input-from.result c.args.start c.args.end _ c.self.invariant.cursor c.requires.ordered (rw (← c.self.view_is) at c.requires.unread) (rw (← c.self.view_is) at c.first_of_input-from.ensures) c.merge_lists-marked.ensures.input c.merge_lists-marked.ensures.output flags
-    ∙ ap (λ (s : Sides). with_merged (place_of c.args.start s) (place_of c.args.end s) s) c.self.view_is
+    ∙ ap (λ (s : Sides). with_merged (index_in_all c.args.start s) (index_in_all c.args.end s) s) c.self.view_is
 
 pub returns-clause-items : goal.returns-clause-items
 returns-clause-items c = ap items_of (returns-clause-merged c) ∙ merged_items c.args.start c.args.end c.args.self.now c.requires.ordered

@@ -10,7 +10,7 @@ use Rattle.glyph_buffer.proofs.buffer.hb_buffer_t.reverse_range.Goals as goal
 pub returns-clause-turned : goal.returns-clause-turned
 returns-clause-turned c =
     let closed : c.self.inside.have_output ≡ false = rw (← c.self.view_is) at c.requires.closed in
-    range_view c.self.inside c.turn_glyphs.new.glyphs c.turn_places.new.places Unknown None c.args.start c.args.end closed c.turn_glyphs.ensures.items c.turn_places.ensures.items ∙ ap (with_range_reversed c.args.start c.args.end) c.self.view_is
+    range_view c.self.inside c.turn_glyphs.new.glyphs c.turn_positions.new.positions Unknown None c.args.start c.args.end closed c.turn_glyphs.ensures.items c.turn_positions.ensures.items ∙ ap (with_range_reversed c.args.start c.args.end) c.self.view_is
 
 pub returns-clause-items : goal.returns-clause-items
 returns-clause-items c = ap items_of (returns-clause-turned c) ∙ range_items c.args.start c.args.end c.args.self.now

@@ -10,7 +10,7 @@ pub returns-clause-set : goal.returns-clause-set
 returns-clause-set c = λ e.
     let b = c.self.inside in
     let closed : b.have_output ≡ false = rw (← c.self.view_is) at c.requires in
-    resized_view b c.resize_lists.new.glyphs c.resize_lists.new.places Unknown None c.min-self-inside.result c.args.n closed c.in_ok-resize_lists.ensures.glyphs_ok c.in_ok-resize_lists.ensures.places_ok c.min-self-inside.ensures
+    resized_view b c.resize_lists.new.glyphs c.resize_lists.new.positions Unknown None c.min-self-inside.result c.args.n closed c.in_ok-resize_lists.ensures.glyphs_ok c.in_ok-resize_lists.ensures.places_ok c.min-self-inside.ensures
     ∙ ap (with_len c.args.n) c.self.view_is
 
 pub returns-clause-items : goal.returns-clause-items
