@@ -5,7 +5,7 @@ use Rattle.glyph_types.specs.declared.level.BufferClusterLevel.{BufferClusterLev
 use Rattle.glyph_types.specs.declared.level.BufferClusterLevel.TheVariants.{MonotoneGraphemes}
 pub use Rattle.glyph_lists.specs.Items.{flags_of}
 use Rattle.glyph_lists.specs.Items.{Item, Position, strip}
-use Rattle.glyph_lists.specs.Readings.{Run}
+use Rattle.glyph_lists.specs.PartReadings.{Run}
 use Rattle.shaping_text.specs.declared.constants.BufferFlags.{BufferFlags}
 use Rattle.shaping_text.specs.declared.direction.Direction.{Direction}
 use Rattle.shaping_text.specs.declared.direction.Direction.TheVariants.{Invalid}

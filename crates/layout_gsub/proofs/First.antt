@@ -5,7 +5,7 @@ use Rattle.std.proofs.lemmas.Bool.Decides.{nat_tests}
 use Rattle.std.proofs.lemmas.List.{map-append}
 use Rattle.glyph_types.specs.declared.info.hb_glyph_info_t.{hb_glyph_info_t}
 use Rattle.glyph_lists.specs.Items.{Item, item_of, strip}
-use Rattle.glyph_lists.specs.Events.{first_of}
+use Rattle.glyph_lists.specs.Parts.{first_of}
 use Rattle.glyph_buffer.specs.Sides.{Sides, items_of}
 use Rattle.layout_font.specs.Layout.{LigatureSetTable, LookupTable, ligature_set_of}
 use Rattle.layout_gsub.specs.Actions.{Passes, at_first, first_rule}

@@ -9,10 +9,10 @@ use Rattle.glyph_types.specs.declared.info.hb_glyph_info_t.{hb_glyph_info_t}
 use Rattle.glyph_types.specs.declared.level.BufferClusterLevel.{BufferClusterLevel}
 use Rattle.glyph_types.specs.declared.level.BufferClusterLevel.TheVariants.{MonotoneGraphemes, MonotoneCharacters, Characters}
 use Rattle.glyph_lists.specs.Items.{Item, clusters, glyph_flags, flags_of}
-use Rattle.glyph_lists.specs.Events.{first_of, last_of, or, copies, replaced, stretch}
+use Rattle.glyph_lists.specs.Parts.{first_of, last_of, or, copies, replaced, stretch}
 use Rattle.glyph_lists.specs.Merges.{merged}
 use Rattle.glyph_lists.specs.Glyphs.{flags_merged, flags_merged_at}
-use Rattle.glyph_lists.specs.Readings.{IsMonotone}
+use Rattle.glyph_lists.specs.PartReadings.{IsMonotone}
 use Rattle.layout_gsub.specs.Ligatures.{with_number}
 use Rattle.layout_gsub.specs.Buffers.{are_glyphs}
 

@@ -7,13 +7,13 @@ use Rattle.std.proofs.lemmas.Grind.{common_steps}
 use Rattle.std.proofs.Math.Seq.{take-append_seam, drop-append_seam}
 use Rattle.glyph_types.specs.declared.info.hb_glyph_info_t.{hb_glyph_info_t}
 use Rattle.glyph_lists.specs.Items.{Item, item_of, strip, clusters, flags_of}
-use Rattle.glyph_lists.specs.Events.{Replace, first_of, last_of, or, replaced}
+use Rattle.glyph_lists.specs.Parts.{ReplaceParts, first_of, last_of, or, replaced}
 use Rattle.glyph_lists.specs.Merges.{replaced_at}
 use Rattle.glyph_lists.specs.Glyphs.{glyphs_merged_at, flags_merged_at}
 use Rattle.glyph_lists.specs.Replacements.{copied, glyph_numbered}
 use Rattle.glyph_lists.specs.Lemmas.Glyphs.{strip_merged_at}
-use Rattle.glyph_lists.specs.Readings.{IsFollowed}
-use Rattle.glyph_lists.specs.Steps.{follows_replacement}
+use Rattle.glyph_lists.specs.PartReadings.{IsFollowed}
+use Rattle.glyph_lists.specs.PartSteps.{follows_replacement}
 use Rattle.glyph_buffer.specs.Sides.{Sides, all_glyphs, items_of, run_of}
 use Rattle.glyph_buffer.specs.Merging.{with_replaced}
 use Rattle.layout_font.specs.Layout.{LigatureTable}
@@ -63,7 +63,7 @@ sides_stripped s = map-append item_of s.behind s.ahead
 
 ligated_followed : (n k : ℕ) (s : Sides) → 0 < length s.ahead → s.positions ≡ []
     → clusters (all_glyphs (with_replaced n (k ∷ []) s)) ≡ replaced_at s.level (length s.behind) n 1 (clusters (all_glyphs s))
-    → IsFollowed (acted_read (ligature_cut n k (cut_of s)) (Replace (length (cut_of s).front) n 1 ∷ [])) (run_of s) (run_of (with_replaced n (k ∷ []) s))
+    → IsFollowed (acted_read (ligature_cut n k (cut_of s)) (ReplaceParts (length (cut_of s).front) n 1 ∷ [])) (run_of s) (run_of (with_replaced n (k ∷ []) s))
 ligated_followed n k s lt no_positions are =
     let new = with_replaced n (k ∷ []) s in
     let items : strip (all_glyphs new) ≡ whole (ligature_cut n k (cut_of s)) = sides_stripped new ∙ ap whole (ligated_cut n k s lt) in
@@ -103,7 +103,7 @@ ligature_fits mask components gs lt e =
 pub ligature_acted : (n k : ℕ) (s : Sides) → 0 < length s.ahead → 0 < n → n ≤ length s.ahead → k ≤ 65535 → s.positions ≡ []
     → clusters (all_glyphs (with_replaced n (k ∷ []) s)) ≡ replaced_at s.level (length s.behind) n 1 (clusters (all_glyphs s))
     → flags_of (all_glyphs (with_replaced n (k ∷ []) s)) ≡ replaced (length s.behind) n 1 (flags_merged_at s.level (length s.behind) (length s.behind + n) (all_glyphs s))
-    → IsActed (ligature_cut n k (cut_of s)) (Replace (length (cut_of s).front) n 1 ∷ []) s (with_replaced n (k ∷ []) s)
+    → IsActed (ligature_cut n k (cut_of s)) (ReplaceParts (length (cut_of s).front) n 1 ∷ []) s (with_replaced n (k ∷ []) s)
 ligature_acted n k s lt some le small no_positions numbers flags =
     let new = with_replaced n (k ∷ []) s in
     record {
@@ -126,5 +126,5 @@ ligature_does mask l s new lt matches small no_positions is numbers flags =
     let P : Sides → Type 0 = λ t. clusters (all_glyphs t) ≡ replaced_at s.level (length s.behind) n 1 (clusters (all_glyphs s)) in
     let Q : Sides → Type 0 = λ t. flags_of (all_glyphs t) ≡ replaced (length s.behind) n 1 (flags_merged_at s.level (length s.behind) (length s.behind + n) (all_glyphs s)) in
     let acted = ligature_acted n l.glyph s lt (omega arith) (ligature_fits mask l.components s.ahead lt matches) small no_positions (subst P is numbers) (subst Q is flags) in
-    let R : Sides → Type 0 = λ t. IsActed (ligature_cut n l.glyph (cut_of s)) (Replace (length (cut_of s).front) n 1 ∷ []) s t in
+    let R : Sides → Type 0 = λ t. IsActed (ligature_cut n l.glyph (cut_of s)) (ReplaceParts (length (cut_of s).front) n 1 ∷ []) s t in
     rw matches (refl, subst R (sym is) acted)

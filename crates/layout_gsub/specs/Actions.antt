@@ -2,7 +2,7 @@
 use Rattle.std.specs.Prelude.{List, [], ◌∷◌, ◌++◌, take, drop, Option, Some, None}
 use Rattle.glyph_types.specs.declared.cause.ShapeCause.{ShapeCause}
 use Rattle.glyph_lists.specs.Items.{Item}
-use Rattle.glyph_lists.specs.Events.{Event}
+use Rattle.glyph_lists.specs.Parts.{PartEvent}
 
 -- a list cut in two: what is done, and what is left
 pub record Cut : Type 0 where
@@ -26,7 +26,7 @@ pub data Outcome : Type 0 where
   -- it doesn't match: nothing happens
   Passes : Outcome
   -- it makes another cut, and so much happens to the parts of the text
-  Acts : (cut : Cut) → (events : List Event) → Outcome
+  Acts : (cut : Cut) → (events : List PartEvent) → Outcome
   -- it gives up
   Refuses : (cause : ShapeCause) → Outcome
 

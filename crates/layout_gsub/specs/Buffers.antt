@@ -3,8 +3,8 @@ use Rattle.std.specs.Prelude.{◌≡◌, ◌≤◌, ◌<◌, ◌+◌, ◌==◌, 
 use Rattle.std.specs.List.{list_all}
 use Rattle.glyph_types.specs.declared.info.hb_glyph_info_t.{hb_glyph_info_t}
 use Rattle.glyph_lists.specs.Items.{Item, strip, flags_of}
-use Rattle.glyph_lists.specs.Events.{Event}
-use Rattle.glyph_lists.specs.Readings.{Read, IsFollowed, IsMonotone}
+use Rattle.glyph_lists.specs.Parts.{PartEvent}
+use Rattle.glyph_lists.specs.PartReadings.{Read, IsFollowed, IsMonotone}
 use Rattle.glyph_buffer.specs.Sides.{Sides, all_glyphs, items_of, run_of}
 use Rattle.layout_gsub.specs.Actions.{Cut, whole, Outcome, Passes, Acts, Refuses}
 
@@ -13,7 +13,7 @@ abbrev pub cut_of : Sides → Cut
 cut_of s = record { front = strip s.behind; rest = strip s.ahead }
 
 -- the reading of a list that a rule left; while an output is open there are no positions
-abbrev pub acted_read : Cut → List Event → Read
+abbrev pub acted_read : Cut → List PartEvent → Read
 acted_read c events = record { items = whole c; positions = []; at_graphemes = events; at_characters = events }
 
 -- each item has a number that a glyph can have
@@ -41,7 +41,7 @@ pub record IsRead (old new : Sides) : Type 0 where
   pub front : length new.behind + old.read ≤ length old.behind + new.read
 
 -- a rule made a cut of a buffer, and so much happened to the parts of the text
-pub record IsActed (cut : Cut) (events : List Event) (old new : Sides) : Type 0 where
+pub record IsActed (cut : Cut) (events : List PartEvent) (old new : Sides) : Type 0 where
   pub cut_is : cut_of new ≡ cut
   pub followed : IsFollowed (acted_read cut events) (run_of old) (run_of new)
   pub still : IsOpenStill old new

@@ -1,7 +1,7 @@
 -- Ligature substitution (OpenType, GSUB lookup type 4): several glyphs become one.
 use Rattle.std.specs.Prelude.{ℕ, ◌+◌, ◌==◌, ◌&&◌, Bool, true, false, not, if◌then◌else◌, List, [], ◌∷◌, ◌++◌, map, length, take, drop, Option, Some, None, bit_and}
 use Rattle.glyph_lists.specs.Items.{Item}
-use Rattle.glyph_lists.specs.Events.{Replace, first_of}
+use Rattle.glyph_lists.specs.Parts.{ReplaceParts, first_of}
 use Rattle.layout_font.specs.Layout.{LigatureTable, LigatureSetTable, SubtableList, ligature_subtables, LookupTable, ligature_set_of}
 use Rattle.layout_gsub.specs.Actions.{Cut, Outcome, Passes, Acts, Action, first_rule, at_first}
 
@@ -29,7 +29,7 @@ ligature_cut count glyph c = record { front = c.front ++ map (with_number glyph)
 
 -- their parts of the text become one
 abbrev pub ligated : ℕ → ℕ → Cut → Outcome
-ligated count glyph c = Acts (ligature_cut count glyph c) (Replace (length c.front) count 1 ∷ [])
+ligated count glyph c = Acts (ligature_cut count glyph c) (ReplaceParts (length c.front) count 1 ∷ [])
 
 -- a ligature takes the place of the item at the cut and its components behind it
 abbrev pub ligature_rule : ℕ → LigatureTable → Action

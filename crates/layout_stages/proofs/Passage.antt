@@ -3,8 +3,8 @@ use Rattle.std.proofs.Common.{ℕ, suc, ◌≡◌, ◌≤◌, ◌<◌, ◌+◌, 
 use Rattle.std.proofs.lemmas.List.{map-append, length-map, length-append, length-replicate}
 use Rattle.std.proofs.lemmas.Bool.Decides.{nat_tests}
 use Rattle.glyph_lists.specs.Items.{item_of, strip}
-use Rattle.glyph_lists.specs.Readings.{Reading, Run, Follows, IsMonotone, always, read_of}
-use Rattle.glyph_lists.specs.Steps.{follows_then, follows_eventless}
+use Rattle.glyph_lists.specs.PartReadings.{Reading, Run, Follows, IsMonotone, always, read_of}
+use Rattle.glyph_lists.specs.PartSteps.{follows_then, follows_eventless}
 use Rattle.glyph_buffer.specs.Sides.{Sides, all_glyphs, run_of, with_output, synced, fits_joined, zero_positions, zero_position}
 use Rattle.layout_gsub.specs.Actions.{whole, uncut, Action}
 use Rattle.layout_gsub.specs.Buffers.{cut_of, IsOpenStill}

@@ -2,8 +2,8 @@
 use Rattle.std.proofs.Common.{ℕ, ◌≡◌, ◌≤◌, ◌<◌, ◌+◌, List, ◌∷◌, length, drop, get_or, refl, sym, subst, ◌∙◌}
 use Rattle.std.specs.Prelude.{slice_get, None, Option}
 use Rattle.std.proofs.lemmas.List.{drop_more, drop_all}
-use Rattle.glyph_lists.specs.Readings.{Run, Follows, read_of}
-use Rattle.glyph_lists.specs.Steps.{follows_then, follows_same}
+use Rattle.glyph_lists.specs.PartReadings.{Run, Follows, read_of}
+use Rattle.glyph_lists.specs.PartSteps.{follows_then, follows_same}
 use Rattle.glyph_buffer.specs.Sides.{Sides, run_of}
 use Rattle.layout_font.specs.Layout.{LookupTable}
 use Rattle.layout_map.specs.declared.stage.lookup_map_t.{lookup_map_t}

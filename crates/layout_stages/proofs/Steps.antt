@@ -2,9 +2,9 @@
 use Rattle.std.proofs.Common.{ℕ, suc, ◌≡◌, ◌<◌, true, false, List, [], ◌∷◌, ◌++◌, length, take, drop, refl, sym, ap, subst, ◌∙◌, arith, append_assoc, Ok}
 use Rattle.std.proofs.lemmas.List.{append-nil, map-append, take-map, drop-map, take-append-drop, length-append, length-drop, length-take-le}
 use Rattle.glyph_lists.specs.Items.{strip}
-use Rattle.glyph_lists.specs.Events.{Event}
-use Rattle.glyph_lists.specs.Readings.{Reading, Run, Follows, behind}
-use Rattle.glyph_lists.specs.Steps.{follows_then}
+use Rattle.glyph_lists.specs.Parts.{PartEvent}
+use Rattle.glyph_lists.specs.PartReadings.{Reading, Run, Follows, behind}
+use Rattle.glyph_lists.specs.PartSteps.{follows_then}
 use Rattle.glyph_buffer.specs.Sides.{Sides, all_glyphs, run_of, moved_on}
 use Rattle.layout_font.specs.Layout.{LookupTable}
 use Rattle.layout_gsub.specs.Actions.{Cut, past_item, Outcome, Passes, Acts, Refuses, Action}
@@ -88,7 +88,7 @@ step_passed mask l s mid new lt d is =
     let P : Sides → Type 0 = λ t. IsStep (lookup_action mask l) s t in
     subst P (sym same) (moved_step (lookup_action mask l) s lt (passes_of (lookup_action mask l (cut_of s)) s mid d))
 
-acted : (act : Action) (n : ℕ) (s new : Sides) (final : Run) (cut : Cut) (events : List Event) → act (cut_of s) ≡ Acts cut events → IsActed cut events s new → Follows (tried act n (cut_of new)) (run_of new) final → Follows (tried act (suc n) (cut_of s)) (run_of s) final
+acted : (act : Action) (n : ℕ) (s new : Sides) (final : Run) (cut : Cut) (events : List PartEvent) → act (cut_of s) ≡ Acts cut events → IsActed cut events s new → Follows (tried act n (cut_of new)) (run_of new) final → Follows (tried act (suc n) (cut_of s)) (run_of s) final
 acted act n s new final cut events acts a f =
     let P : Reading → Type 0 = λ r. Follows r (run_of s) final in
     let Q : Cut → Type 0 = λ c. Follows (tried act n c) (run_of new) final in

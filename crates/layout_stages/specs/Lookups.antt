@@ -1,7 +1,7 @@
 -- A lookup tried at each place of a list, and the lookups of a stage (OpenType, chapter 2).
 use Rattle.std.specs.Prelude.{ℕ, suc, zero, List, [], ◌∷◌, length, Option, Some, None, Ok, Err, slice_get}
 use Rattle.glyph_lists.specs.Items.{Item, Position}
-use Rattle.glyph_lists.specs.Readings.{Read, Reading, Stage, behind, and_then, eventless, always, as_it_is}
+use Rattle.glyph_lists.specs.PartReadings.{Read, Reading, Stage, behind, and_then, eventless, always, as_it_is}
 use Rattle.glyph_buffer.specs.Sides.{zero_positions}
 use Rattle.layout_font.specs.Layout.{LookupTable}
 use Rattle.layout_map.specs.declared.stage.lookup_map_t.{lookup_map_t}

@@ -1,6 +1,6 @@
 -- What one step of a lookup over a buffer leaves.
 use Rattle.std.specs.Prelude.{ℕ, suc, ◌≡◌, ◌≤◌, ◌+◌, ◌-◌, true, false, [], length}
-use Rattle.glyph_lists.specs.Readings.{Run, IsMonotone, Follows, read_of, Stage}
+use Rattle.glyph_lists.specs.PartReadings.{Run, IsMonotone, Follows, read_of, Stage}
 use Rattle.glyph_buffer.specs.Sides.{Sides, all_glyphs, items_of, run_of}
 use Rattle.layout_gsub.specs.Actions.{Action}
 use Rattle.layout_gsub.specs.Buffers.{cut_of, are_glyphs, have_no_flags, IsOpenStill}

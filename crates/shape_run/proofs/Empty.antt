@@ -5,10 +5,10 @@ use Rattle.std.proofs.lemmas.Str.{chars-nil}
 use Rattle.shaping_text.specs.Direction.{is_backward}
 use Rattle.glyph_types.specs.declared.flags.SerializeFlags.{SerializeFlags}
 use Rattle.font_json.specs.Keys.{FontKeys}
-use Rattle.glyph_lists.specs.Events.{or}
+use Rattle.glyph_lists.specs.Parts.{or}
 use Rattle.glyph_buffer.specs.Segment.{guessed_direction}
-use Rattle.glyph_lists.specs.Readings.{Stage, eventless, always, and_then}
-use Rattle.glyph_lists.specs.Steps.{behind_eventless}
+use Rattle.glyph_lists.specs.PartReadings.{Stage, eventless, always, and_then}
+use Rattle.glyph_lists.specs.PartSteps.{behind_eventless}
 use Rattle.layout_font.specs.Layout.{LayoutLists, LookupTable}
 use Rattle.layout_map.specs.declared.stage.lookup_map_t.{lookup_map_t}
 use Rattle.layout_map.specs.Map.{OtMap}

@@ -11,9 +11,9 @@ use Rattle.glyph_types.specs.declared.info.hb_glyph_info_t.{hb_glyph_info_t}
 use Rattle.glyph_types.specs.declared.flags.SerializeFlags.{SerializeFlags}
 use Rattle.glyph_types.specs.declared.level.BufferClusterLevel.TheVariants.{MonotoneGraphemes}
 use Rattle.glyph_lists.specs.Items.{item_of, strip, clusters, without_flags}
-use Rattle.glyph_lists.specs.Events.{after_events}
+use Rattle.glyph_lists.specs.Parts.{after_part_events}
 use Rattle.glyph_lists.specs.Order.{AllFrom, IsRising, IsOrdered}
-use Rattle.glyph_lists.specs.Readings.{Reading, Run, Follows, read_of}
+use Rattle.glyph_lists.specs.PartReadings.{Reading, Run, Follows, read_of}
 use Rattle.glyph_buffer.specs.Text.{added_from, added_text, fits_text}
 use Rattle.shape_run.specs.Output.{has_no_flags, glyph_of, glyphs_of}
 use Rattle.shape_run.specs.Stages.{is_glyph_number, text_buffer}
@@ -79,7 +79,7 @@ pub line_follows : (flags : SerializeFlags) (r : Reading) (old new : Run) → ol
     → line_of_reading flags (clusters old.glyphs) r ≡ Ok (printed_line flags new.glyphs new.positions)
 line_follows flags (Ok r) old new level ordered none f =
     let parts = (rw level at f.parts) tt ordered in
-    let again : glyphs_of r.items (after_events r.at_graphemes (clusters old.glyphs)) ≡ new.glyphs =
+    let again : glyphs_of r.items (after_part_events r.at_graphemes (clusters old.glyphs)) ≡ new.glyphs =
     rw (← f.items, ← parts) (glyphs_again new.glyphs none) in
     rw (again, f.positions) refl
 line_follows flags (Err e) old new level ordered none f = absurd f

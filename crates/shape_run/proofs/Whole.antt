@@ -11,11 +11,11 @@ use Rattle.glyph_types.specs.declared.level.BufferClusterLevel.{BufferClusterLev
 use Rattle.glyph_types.specs.declared.level.BufferClusterLevel.TheVariants.{MonotoneGraphemes, MonotoneCharacters, Characters}
 use Rattle.font_json.specs.Keys.{FontKeys}
 use Rattle.glyph_lists.specs.Items.{Item, Position, item_of, strip, clusters}
-use Rattle.glyph_lists.specs.Events.{Reverse, after_events}
+use Rattle.glyph_lists.specs.Parts.{ReverseParts, after_part_events}
 use Rattle.glyph_lists.specs.Order.{BringsNone}
-use Rattle.glyph_lists.specs.Readings.{Reading, Stage, IsFollowed, Follows, IsMonotone, events_at, eventless, always, and_then, read_of}
-use Rattle.glyph_lists.specs.Steps.{follows_then, follows_eventless}
-use Rattle.glyph_lists.specs.Lemmas.Events.{keeps_numbers}
+use Rattle.glyph_lists.specs.PartReadings.{Reading, Stage, IsFollowed, Follows, IsMonotone, events_at, eventless, always, and_then, read_of}
+use Rattle.glyph_lists.specs.PartSteps.{follows_then, follows_eventless}
+use Rattle.glyph_lists.specs.Lemmas.Parts.{keeps_numbers}
 use Rattle.glyph_buffer.specs.Sides.{Sides, all_glyphs, items_of, run_of, reversed, zero_position}
 use Rattle.glyph_buffer.specs.Masks.{with_masks, glyph_masked, item_masked}
 use Rattle.layout_map.specs.Map.{OtMap}
@@ -28,7 +28,7 @@ use Rattle.shape_run.proofs.Turned.{map-reverse, list_all-reverse}
 
 -- ---- a list turned round
 
-turned_events : (level : BufferClusterLevel) (xs : List Item) (ps : List Position) → events_at level (turned_round xs ps) ≡ Reverse ∷ []
+turned_events : (level : BufferClusterLevel) (xs : List Item) (ps : List Position) → events_at level (turned_round xs ps) ≡ ReverseParts ∷ []
 turned_events MonotoneGraphemes xs ps = refl
 turned_events MonotoneCharacters xs ps = refl
 turned_events Characters xs ps = refl
@@ -39,13 +39,13 @@ all_reversed s = take-append-drop s.read (reverse (all_glyphs s))
 
 reversed_followed : (s : Sides) → IsFollowed (turned_round (items_of s) s.positions) (run_of s) (run_of (reversed s))
 reversed_followed s =
-    let numbers : clusters (all_glyphs (reversed s)) ≡ after_events (Reverse ∷ []) (clusters (all_glyphs s)) =
+    let numbers : clusters (all_glyphs (reversed s)) ≡ after_part_events (ReverseParts ∷ []) (clusters (all_glyphs s)) =
     ap clusters (all_reversed s) ∙ map-reverse (λ (g : hb_glyph_info_t). g.cluster) (all_glyphs s) in
     record {
       items = ap strip (all_reversed s) ∙ map-reverse item_of (all_glyphs s);
       positions = refl;
-      parts = λ m o. numbers ∙ ap (λ es. after_events es (clusters (all_glyphs s))) (sym (turned_events s.level (items_of s) s.positions));
-      known = subst (λ (ns : List ℕ). BringsNone (clusters (all_glyphs s)) ns) (sym numbers) (keeps_numbers (Reverse ∷ []) (clusters (all_glyphs s)));
+      parts = λ m o. numbers ∙ ap (λ es. after_part_events es (clusters (all_glyphs s))) (sym (turned_events s.level (items_of s) s.positions));
+      known = subst (λ (ns : List ℕ). BringsNone (clusters (all_glyphs s)) ns) (sym numbers) (keeps_numbers (ReverseParts ∷ []) (clusters (all_glyphs s)));
       level = refl;
     }
 

@@ -15,8 +15,8 @@ use Rattle.run_options.specs.declared.options.Options.{Options}
 use Rattle.run_options.specs.Fault.{run_fault_of, fault_of_cause}
 use Rattle.font_json.specs.Keys.{FontKeys, face_of, tables_of}
 use Rattle.glyph_lists.specs.Items.{Position, strip, clusters}
-use Rattle.glyph_lists.specs.Events.{or, after_events}
-use Rattle.glyph_lists.specs.Readings.{Reading}
+use Rattle.glyph_lists.specs.Parts.{or, after_part_events}
+use Rattle.glyph_lists.specs.PartReadings.{Reading}
 use Rattle.glyph_text.specs.Printed.{printed_text}
 use Rattle.glyph_buffer.specs.Sides.{empty_buffer, zero_positions}
 use Rattle.glyph_buffer.specs.Segment.{first_script, guessed_direction}
@@ -61,7 +61,7 @@ printed_line flags gs ps = printed_text (λ _. None) (λ _. None) flags gs ps ++
 
 -- the line of a reading: its printed text, with the clusters that its events make of those of the text, and a line feed
 abbrev pub line_of_reading : SerializeFlags → List ℕ → Reading → Result (List ℕ) RunFault
-line_of_reading flags ns (Ok r) = Ok (printed_line flags (glyphs_of r.items (after_events r.at_graphemes ns)) r.positions)
+line_of_reading flags ns (Ok r) = Ok (printed_line flags (glyphs_of r.items (after_part_events r.at_graphemes ns)) r.positions)
 line_of_reading flags ns (Err e) = Err (fault_of_cause e)
 
 -- the line of characters that were added, in a direction and a script

@@ -21,8 +21,8 @@ use Rattle.shaping_text.specs.declared.direction.Direction.TheVariants.{Invalid,
 use Rattle.shaping_text.specs.declared.script.Script.{Script}
 use Rattle.font_json.specs.Keys.{FontKeys, glyph_of, advance_of}
 use Rattle.glyph_lists.specs.Items.{Item, Position}
-use Rattle.glyph_lists.specs.Events.{Reverse}
-use Rattle.glyph_lists.specs.Readings.{Read, Stage, and_then, eventless, always, as_it_is}
+use Rattle.glyph_lists.specs.Parts.{ReverseParts}
+use Rattle.glyph_lists.specs.PartReadings.{Read, Stage, and_then, eventless, always, as_it_is}
 use Rattle.glyph_buffer.specs.Sides.{zero_position, zero_positions}
 
 -- ---- native order
@@ -76,7 +76,7 @@ native_direction script text xs = if is_turned script text xs then opposite text
 
 -- items and positions turned round
 abbrev pub turned_round : List Item → List Position → Read
-turned_round xs ps = record { items = reverse xs; positions = reverse ps; at_graphemes = Reverse ∷ []; at_characters = Reverse ∷ [] }
+turned_round xs ps = record { items = reverse xs; positions = reverse ps; at_graphemes = ReverseParts ∷ []; at_characters = ReverseParts ∷ [] }
 
 -- a text is shaped in the order of its writing; below U+0080 each character is a grapheme
 abbrev pub native_order : Option Script → Direction → List Item → List Position → Read

@@ -1,7 +1,7 @@
 //! Shaping of a text: its order, its glyphs, the substitutions of its font, and advances.
 ghost use Rattle.std.specs.Prelude.{◌≡◌, ◌≢◌, Err, ◌≤◌, ◌<◌, ◌&&◌, ◌||◌, false, true, Ok, [], length, take, map, IfOk, IfErr, OnOk};
 ghost use Rattle.glyph_lists.specs.Items.{strip};
-ghost use Rattle.glyph_lists.specs.Readings.{Follows, IsMonotone, read_of};
+ghost use Rattle.glyph_lists.specs.PartReadings.{Follows, IsMonotone, read_of};
 ghost use Rattle.glyph_buffer.specs.Sides.{all_glyphs, fits_next, items_of, run_of};
 ghost use Rattle.glyph_buffer.specs.Masks.{with_masks};
 ghost use Rattle.layout_gsub.specs.Buffers.{are_glyphs};

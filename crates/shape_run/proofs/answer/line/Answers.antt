@@ -1,6 +1,6 @@
 use Rattle.std.proofs.Common.{◌≡◌, false, List, sym, subst, ◌∙◌}
 use Rattle.feature_text.specs.declared.feature.Feature.{Feature}
-use Rattle.glyph_lists.specs.Readings.{Follows, IsMonotone, read_of}
+use Rattle.glyph_lists.specs.PartReadings.{Follows, IsMonotone, read_of}
 use Rattle.glyph_buffer.specs.Sides.{Sides, items_of, run_of}
 use Rattle.shape_run.specs.Path.{shaping}
 use Rattle.shape_run.specs.Stages.{text_buffer}

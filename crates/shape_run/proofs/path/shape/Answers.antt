@@ -2,7 +2,7 @@ use Rattle.std.proofs.Common.{◌≡◌, true, ap, subst, sym, ◌∙◌}
 use Rattle.std.specs.Prelude.{Option}
 use Rattle.std.specs.List.{list_all}
 use Rattle.std.specs.Int.RustNames.{bit_and}
-use Rattle.glyph_lists.specs.Readings.{Follows, read_of}
+use Rattle.glyph_lists.specs.PartReadings.{Follows, read_of}
 use Rattle.glyph_buffer.specs.Sides.{Sides, all_glyphs, run_of}
 use Rattle.layout_font.specs.Layout.{LayoutLists}
 use Rattle.layout_map.specs.Map.{OtMap}
