@@ -7,7 +7,7 @@ use Rattle.std.specs.Char.{len_utf8}
 use Rattle.std.specs.Str.{chars}
 use Rattle.glyph_types.specs.declared.info.hb_glyph_info_t.{hb_glyph_info_t}
 use Rattle.glyph_lists.specs.Items.{item_of, strip, clusters, glyph_flags, flags_of}
-use Rattle.glyph_lists.specs.Events.{replaced}
+use Rattle.glyph_lists.specs.Parts.{replaced}
 use Rattle.glyph_lists.specs.Lists.{take_one}
 use Rattle.glyph_lists.specs.Replacements.{glyph_numbered, glyphs_replaced, items_replaced}
 use Rattle.glyph_lists.specs.Lemmas.Replacements.{strip_replaced, clusters_replaced, flags_of_replaced}

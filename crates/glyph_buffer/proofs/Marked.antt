@@ -7,7 +7,7 @@ use Rattle.std.proofs.lemmas.List.{take-append-drop, length-take-le}
 use Rattle.std.proofs.Math.Seq.{take-append_seam, drop-append_seam}
 use Rattle.glyph_types.specs.declared.info.hb_glyph_info_t.{hb_glyph_info_t}
 use Rattle.glyph_lists.specs.Items.{strip, clusters, flags_of}
-use Rattle.glyph_lists.specs.Events.{stretch}
+use Rattle.glyph_lists.specs.Parts.{stretch}
 use Rattle.glyph_lists.specs.Glyphs.{glyphs_marked, glyphs_flagged, flags_marked, flags_flagged, tells_apart}
 use Rattle.glyph_lists.specs.Lemmas.Glyphs.{marked_beyond, flagged_beyond, stretch_beyond, strip_marked, strip_flagged, clusters_marked, clusters_flagged, flags_of_marked, flags_of_flagged}
 use Rattle.glyph_buffer.specs.declared.buffer.hb_buffer_t.TheInside.{Inside}

@@ -6,7 +6,7 @@ use Rattle.glyph_types.specs.declared.info.hb_glyph_info_t.{hb_glyph_info_t}
 use Rattle.glyph_types.specs.declared.level.BufferClusterLevel.{BufferClusterLevel}
 use Rattle.glyph_types.specs.declared.level.BufferClusterLevel.TheVariants.{MonotoneGraphemes, MonotoneCharacters, Characters}
 use Rattle.glyph_lists.specs.Items.{strip, clusters, flags_of}
-use Rattle.glyph_lists.specs.Events.{stretch}
+use Rattle.glyph_lists.specs.Parts.{stretch}
 use Rattle.glyph_lists.specs.Merges.{merged_at}
 use Rattle.glyph_lists.specs.Glyphs.{glyphs_merged_at, beside_merged, flags_merged_at, is_marked_at, tells_apart}
 use Rattle.glyph_lists.specs.Lemmas.Glyphs.{merged_at_beyond, length_beside, stretch_beyond, strip_merged_at, clusters_merged_at, flags_of_merged_at}

@@ -6,13 +6,13 @@ use Rattle.glyph_types.specs.declared.info.hb_glyph_info_t.{hb_glyph_info_t}
 use Rattle.glyph_types.specs.declared.level.BufferClusterLevel.{BufferClusterLevel}
 use Rattle.glyph_types.specs.declared.level.BufferClusterLevel.TheVariants.{MonotoneGraphemes, MonotoneCharacters, Characters}
 use Rattle.glyph_lists.specs.Items.{clusters}
-use Rattle.glyph_lists.specs.Events.{Join, first_of, last_of, or, replaced, stretch}
+use Rattle.glyph_lists.specs.Parts.{JoinParts, first_of, last_of, or, replaced, stretch}
 use Rattle.glyph_lists.specs.Merges.{merged_at}
 use Rattle.glyph_lists.specs.Order.{IsInOrder, IsOrdered}
 use Rattle.glyph_lists.specs.Glyphs.{beside_merged, glyphs_merged_at}
 use Rattle.glyph_lists.specs.Replacements.{copied, glyph_numbered, glyphs_replaced}
 use Rattle.glyph_lists.specs.Lemmas.Drawn.{IsDrawn, drawn_replaced, drawn_second, drawn_drop}
-use Rattle.glyph_lists.specs.Lemmas.Events.{event_keeps_order, order_drawn}
+use Rattle.glyph_lists.specs.Lemmas.Parts.{event_keeps_order, order_drawn}
 use Rattle.glyph_lists.specs.Lemmas.Glyphs.{merged_at_beyond, clusters_merged_at}
 use Rattle.glyph_lists.specs.Lemmas.Merges.{merge_joins}
 use Rattle.glyph_lists.specs.Lemmas.Replacements.{clusters_replaced}
@@ -62,8 +62,8 @@ clusters_back gs i g d lt =
     sym (ap (λ ns. set ns i (get_or gs i d).cluster) (map-set f gs i g) ∙ set-set (clusters gs) i (f g) (get_or gs i d).cluster ∙ ap (set (clusters gs) i) (sym seen) ∙ set-get_or (clusters gs) i (f d))
 
 merge_order : (falls : Bool) (level : BufferClusterLevel) (from to : ℕ) (ns : List ℕ) → from ≤ to → IsInOrder falls ns → IsInOrder falls (merged_at level from to ns)
-merge_order falls MonotoneGraphemes from to ns le h = subst (IsInOrder falls) (sym (merge_joins MonotoneGraphemes from to ns le tt (ordered_from falls ns h))) (event_keeps_order (Join from to) falls ns h)
-merge_order falls MonotoneCharacters from to ns le h = subst (IsInOrder falls) (sym (merge_joins MonotoneCharacters from to ns le tt (ordered_from falls ns h))) (event_keeps_order (Join from to) falls ns h)
+merge_order falls MonotoneGraphemes from to ns le h = subst (IsInOrder falls) (sym (merge_joins MonotoneGraphemes from to ns le tt (ordered_from falls ns h))) (event_keeps_order (JoinParts from to) falls ns h)
+merge_order falls MonotoneCharacters from to ns le h = subst (IsInOrder falls) (sym (merge_joins MonotoneCharacters from to ns le tt (ordered_from falls ns h))) (event_keeps_order (JoinParts from to) falls ns h)
 merge_order falls Characters from to ns le h = h
 
 pub order_merged_at : (o : KnownOrder) (level : BufferClusterLevel) (from to : ℕ) (ns : List ℕ) → from ≤ to → HasOrder o ns → HasOrder o (merged_at level from to ns)

@@ -7,7 +7,7 @@ use Rattle.std.proofs.lemmas.List.{append-nil, length-map, drop-drop, length-tak
 use Rattle.std.proofs.Math.Seq.{take-append_seam, drop-append_seam, drop-append-add}
 use Rattle.glyph_types.specs.declared.info.hb_glyph_info_t.{hb_glyph_info_t}
 use Rattle.glyph_lists.specs.Items.{strip, clusters, flags_of}
-use Rattle.glyph_lists.specs.Events.{first_of, last_of, or, replaced, stretch}
+use Rattle.glyph_lists.specs.Parts.{first_of, last_of, or, replaced, stretch}
 use Rattle.glyph_lists.specs.Merges.{replaced_at}
 use Rattle.glyph_lists.specs.Glyphs.{glyphs_merged_at, beside_merged, flags_merged_at, is_marked_at}
 use Rattle.glyph_lists.specs.Replacements.{copied, glyph_numbered, glyphs_replaced, items_replaced}

@@ -1,7 +1,7 @@
 -- What requests for glyph flags make of a buffer.
 use Rattle.std.specs.Prelude.{ℕ, ◌+◌, ◌==◌, Bool, if◌then◌else◌, nat_lt, length, Option, unwrap_or, bit_and}
 use Rattle.glyph_lists.specs.Items.{clusters}
-use Rattle.glyph_lists.specs.Events.{stretch}
+use Rattle.glyph_lists.specs.Parts.{stretch}
 use Rattle.glyph_lists.specs.Glyphs.{glyphs_marked, glyphs_flagged, tells_apart}
 use Rattle.glyph_buffer.specs.Sides.{Sides, all_glyphs}
 use Rattle.glyph_buffer.specs.Merging.{index_in_all, with_glyphs, telling_flags}

@@ -5,7 +5,7 @@ use Rattle.glyph_types.specs.declared.info.hb_glyph_info_t.{hb_glyph_info_t}
 use Rattle.glyph_types.specs.declared.level.BufferClusterLevel.{BufferClusterLevel}
 use Rattle.glyph_types.specs.declared.level.BufferClusterLevel.TheVariants.{MonotoneGraphemes, MonotoneCharacters, Characters}
 use Rattle.glyph_lists.specs.Items.{clusters, flags_of}
-use Rattle.glyph_lists.specs.Events.{first_of, last_of, or, stretch}
+use Rattle.glyph_lists.specs.Parts.{first_of, last_of, or, stretch}
 use Rattle.glyph_lists.specs.Glyphs.{flags_merged, glyphs_merged, glyphs_merged_at, is_marked_at}
 use Rattle.glyph_lists.specs.Replacements.{copied, glyph_numbered}
 use Rattle.glyph_buffer.specs.Sides.{Sides, all_glyphs, has_output_room}

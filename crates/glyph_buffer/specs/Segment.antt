@@ -8,7 +8,7 @@ use Rattle.shaping_text.specs.declared.direction.Direction.TheVariants.{Invalid,
 use Rattle.shaping_text.specs.declared.script.Script.{Script}
 use Rattle.shaping_text.specs.declared.script.TheConstants.{COMMON, INHERITED, UNKNOWN}
 use Rattle.unicode_chars.specs.Scripts.{script_of}
-use Rattle.glyph_lists.specs.Events.{or}
+use Rattle.glyph_lists.specs.Parts.{or}
 use Rattle.glyph_buffer.specs.Sides.{Sides, all_glyphs}
 
 -- whether a script belongs to no one writing system

@@ -1,11 +1,12 @@
 -- A buffer as its clients see it: the glyphs behind the cursor and the glyphs ahead of it.
-use Rattle.std.specs.Prelude.{ℕ, ℤ, pos, ◌+◌, Bool, true, false, nat_le, not, ◌&&◌, if◌then◌else◌, List, [], ◌++◌, length, take, drop, reverse, replicate, Option, None}
+use Rattle.std.specs.Prelude.{ℕ, ℤ, pos, ◌+◌, ◌==◌, bit_and, Bool, true, false, nat_le, not, ◌&&◌, if◌then◌else◌, List, [], ◌++◌, length, take, drop, reverse, replicate, Option, None}
 use Rattle.glyph_types.specs.declared.info.hb_glyph_info_t.{hb_glyph_info_t}
 use Rattle.glyph_types.specs.declared.level.BufferClusterLevel.{BufferClusterLevel}
 use Rattle.glyph_types.specs.declared.level.BufferClusterLevel.TheVariants.{MonotoneGraphemes}
 pub use Rattle.glyph_lists.specs.Items.{flags_of}
 use Rattle.glyph_lists.specs.Items.{Item, Position, strip}
-use Rattle.glyph_lists.specs.Readings.{Run}
+use Rattle.glyph_lists.specs.Origins.{origins, Asks}
+use Rattle.glyph_lists.specs.Readings.{View, Run}
 use Rattle.shaping_text.specs.declared.constants.BufferFlags.{BufferFlags}
 use Rattle.shaping_text.specs.declared.direction.Direction.{Direction}
 use Rattle.shaping_text.specs.declared.direction.Direction.TheVariants.{Invalid}
@@ -49,9 +50,44 @@ all_glyphs s = s.behind ++ s.ahead
 abbrev pub items_of : Sides → List Item
 items_of s = strip (all_glyphs s)
 
--- what a stage of shaping sees
+-- the scratch flags but the one that there are glyph flags
+abbrev pub told_of : ℕ → ℕ
+told_of flags = bit_and flags 0xFFFF_FFDF
+
+-- what the stages of shaping see of a buffer; it has no random state of its own, and each draws from 1
+abbrev pub view_of : Sides → View
+view_of s = record { items = items_of s; positions = s.positions; lig_id = s.lig_id; max_ops = s.max_ops; random = 1; max_len = s.max_len; direction = s.direction; told = told_of s.scratch_flags }
+
+-- what is asked of glyph flags
+abbrev pub asks_of : Sides → Asks
+asks_of s = record { concat = bit_and s.flags.0 64 == 64; tatweel = bit_and s.flags.0 128 == 128 }
+
+-- a buffer as the stages of shaping know it
 abbrev pub run_of : Sides → Run
-run_of s = record { glyphs = all_glyphs s; positions = s.positions; level = s.level }
+run_of s = record { view = view_of s; origins = origins (all_glyphs s); level = s.level; asks = asks_of s }
+
+-- what is set for a text, and no stage of shaping changes
+pub record Settings : Type 0 where
+  pub level : BufferClusterLevel
+  pub script : Option Script
+  pub language : Option Language
+  pub pre_context : List ℕ
+  pub post_context : List ℕ
+  pub invisible : Option ℕ
+  pub not_found_variation_selector : Option ℕ
+  pub flags : BufferFlags
+
+abbrev pub settings_of : Sides → Settings
+settings_of s = record {
+  level = s.level;
+  script = s.script;
+  language = s.language;
+  pre_context = s.pre_context;
+  post_context = s.post_context;
+  invisible = s.invisible;
+  not_found_variation_selector = s.not_found_variation_selector;
+  flags = s.flags;
+}
 
 abbrev pub zero_position : Position
 zero_position = record { x_advance = pos 0; y_advance = pos 0; x_offset = pos 0; y_offset = pos 0; attach_chain = pos 0; attach_type = 0 }

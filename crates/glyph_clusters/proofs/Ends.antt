@@ -9,7 +9,7 @@ use Rattle.glyph_lists.specs.Items.{clusters}
 use Rattle.glyph_lists.specs.Order.{IsChain, IsOrdered, has_number}
 use Rattle.glyph_lists.specs.Merges.{least_number, merged}
 use Rattle.glyph_lists.specs.Glyphs.{in_cluster, glyphs_merged, renamed}
-use Rattle.glyph_lists.specs.Lemmas.Events.{Stands, stands_self}
+use Rattle.glyph_lists.specs.Lemmas.Parts.{Stands, stands_self}
 use Rattle.glyph_lists.specs.Lemmas.Ends.{from_first, from_has}
 use Rattle.glyph_lists.specs.Lemmas.Merges.{chain_left, chain_right, chain_across}
 use Rattle.glyph_lists.specs.Lemmas.Numbers.{Has, has_here, has_more, has_right, has_cases}

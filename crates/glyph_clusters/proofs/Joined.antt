@@ -4,11 +4,11 @@ use Rattle.std.proofs.Common.{ℕ, zero, suc, ◌≡◌, ◌≤◌, ◌<◌, ◌
 use Rattle.std.proofs.lemmas.List.{map-append, drop-drop, length-map}
 use Rattle.glyph_types.specs.declared.info.hb_glyph_info_t.{hb_glyph_info_t}
 use Rattle.glyph_lists.specs.Items.{clusters}
-use Rattle.glyph_lists.specs.Events.{first_of, last_of, stretch, last_from}
+use Rattle.glyph_lists.specs.Parts.{first_of, last_of, stretch, last_from}
 use Rattle.glyph_lists.specs.Order.{IsChain, IsOrdered}
 use Rattle.glyph_lists.specs.Merges.{least_number}
 use Rattle.glyph_lists.specs.Glyphs.{in_cluster, glyphs_merged, renamed}
-use Rattle.glyph_lists.specs.Lemmas.Events.{Stands, stands_self}
+use Rattle.glyph_lists.specs.Lemmas.Parts.{Stands, stands_self}
 use Rattle.glyph_lists.specs.Lemmas.Ends.{from_first, to_last}
 use Rattle.glyph_lists.specs.Lemmas.Glyphs.{cut_out}
 use Rattle.glyph_lists.specs.Lemmas.Deletions.{last_is}

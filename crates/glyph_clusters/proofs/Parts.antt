@@ -6,7 +6,7 @@ use Rattle.std.proofs.Common.{ℕ, ◌≡◌, ◌≤◌, ◌+◌, ◌-◌, ◌==
 use Rattle.std.proofs.lemmas.List.{map-append, take-append-drop, drop-drop}
 use Rattle.glyph_types.specs.declared.info.hb_glyph_info_t.{hb_glyph_info_t}
 use Rattle.glyph_lists.specs.Items.{clusters}
-use Rattle.glyph_lists.specs.Events.{stretch}
+use Rattle.glyph_lists.specs.Parts.{stretch}
 use Rattle.glyph_lists.specs.Order.{has_number}
 use Rattle.glyph_lists.specs.Merges.{least_number, merged}
 use Rattle.glyph_lists.specs.Glyphs.{in_cluster, glyphs_merged, marked_outside, glyphs_marked, tells_apart, flagged, glyphs_flagged}

@@ -1,7 +1,7 @@
 ghost use Rattle.std.specs.Prelude.{◌≡◌, ◌==◌, ◌≤◌, ◌++◌, not, length, map};
 ghost use Rattle.std.specs.List.{list_any};
 ghost use Rattle.glyph_lists.specs.Items.{clusters};
-ghost use Rattle.glyph_lists.specs.Events.{stretch};
+ghost use Rattle.glyph_lists.specs.Parts.{stretch};
 ghost use Rattle.glyph_lists.specs.Merges.{least_number};
 ghost use Rattle.glyph_lists.specs.Glyphs.{flagged, glyphs_flagged, glyphs_marked, marked_outside, tells_apart};
 

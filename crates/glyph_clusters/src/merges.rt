@@ -1,6 +1,6 @@
 ghost use Rattle.std.specs.Prelude.{◌≡◌, ◌≤◌, length, slice_range, map};
 ghost use Rattle.glyph_lists.specs.Items.{clusters, without_flags};
-ghost use Rattle.glyph_lists.specs.Events.{stretch};
+ghost use Rattle.glyph_lists.specs.Parts.{stretch};
 ghost use Rattle.glyph_lists.specs.Order.{has_number};
 ghost use Rattle.glyph_lists.specs.Merges.{least_number, merged};
 ghost use Rattle.glyph_lists.specs.Glyphs.{glyphs_merged, in_cluster};

@@ -1,6 +1,6 @@
 ghost use Rattle.std.specs.Prelude.{◌≡◌, ◌≤◌, ◌<◌, ◌++◌, ◌∷◌, [], Some, true, length};
 ghost use Rattle.glyph_lists.specs.Items.{clusters};
-ghost use Rattle.glyph_lists.specs.Events.{first_of, last_of, stretch};
+ghost use Rattle.glyph_lists.specs.Parts.{first_of, last_of, stretch};
 ghost use Rattle.glyph_lists.specs.Order.{IsOrdered};
 ghost use Rattle.glyph_lists.specs.Glyphs.{glyphs_merged, renamed};
 

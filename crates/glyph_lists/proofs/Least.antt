@@ -1,16 +1,22 @@
 -- The least number of parts in order stays.
 use Rattle.std.proofs.Common.{ℕ, zero, suc, ◌≡◌, ◌≢◌, ◌≤◌, ◌<◌, ◌+◌, ◌-◌, ◌||◌, ◌⊎◌, inl, inr, Bool, true, false, min, max, if◌then◌else◌, List, [], ◌∷◌, ◌++◌, Option, Some, None, map, take, drop, replicate, arith, refl, ap, subst, sym, ◌∙◌, append_assoc}
+use Rattle.std.specs.Prelude.{IsTrue}
+use Rattle.std.specs.List.{list_any}
 use Rattle.std.proofs.lemmas.Bool.Decides.{nat_tests}
 use Rattle.std.proofs.lemmas.Grind.{common_steps}
-use Rattle.std.proofs.lemmas.List.{drop-drop, take-append-drop, take-map, drop-map, map-id}
-use Rattle.glyph_lists.specs.Events.{Event, Join, Replace, Delete, Circle, Reverse, united, united_all, joined, stretch, last_from, first_of, last_of, or, copies, is_number, with_neighbour, united_if_last, left_by, without, replaced, after_event, after_events}
-use Rattle.glyph_lists.specs.Order.{IsInOrder, IsLeast, BringsNone, IsGiving, turned}
-use Rattle.glyph_lists.specs.Laws.{KeepsLeast}
+use Rattle.std.proofs.lemmas.List.{drop-drop, take-append-drop, take-map, drop-map, map-id, map-append, append-nil}
+use Rattle.glyph_lists.specs.Parts.{PartEvent, JoinParts, ReplaceParts, DeletePart, CirclePart, ReverseParts, united, united_all, joined, stretch, last_from, first_of, last_of, or, copies, is_number, with_neighbour, united_if_last, before_deletion, without, replaced, after_part_event, after_part_events}
+use Rattle.glyph_lists.specs.Order.{IsInOrder, IsOrdered, IsLeast, BringsNone, IsKept, shares_part, has_number, falls_after}
+use Rattle.glyph_lists.specs.Laws.{KeepsLeast, OriginsKeepOrder, OriginsKeepLeast}
+use Rattle.glyph_lists.specs.Origins.{Origin, numbers}
+use Rattle.glyph_lists.specs.Events.{origins_after}
+use Rattle.glyph_lists.specs.EventParts.{parts_of}
+use Rattle.glyph_lists.specs.Lemmas.EventParts.{origins_are_parts}
 use Rattle.glyph_lists.specs.Lemmas.Deletions.{no_first, no_last, without_map}
 use Rattle.glyph_lists.specs.Lemmas.Drawn.{drawn_drop, drawn_take}
-use Rattle.glyph_lists.specs.Lemmas.Numbers.{Has, MayHave, has_here, has_cases, has_left, has_right, has_either, has_drop, has_reverse, has_map, map_has, has_first, has_last, has_last_before, has_first_from}
+use Rattle.glyph_lists.specs.Lemmas.Numbers.{Has, MayHave, has_here, has_more, has_cases, has_left, has_right, has_either, has_drop, has_reverse, has_map, map_has, has_first, has_last, has_last_before, has_first_from}
 use Rattle.glyph_lists.specs.Lemmas.Unions.{Unites, joined_unites}
-use Rattle.glyph_lists.specs.Lemmas.Events.{order_drawn, event_keeps_order, event_keeps_numbers, keeps_numbers}
+use Rattle.glyph_lists.specs.Lemmas.Parts.{order_drawn, keeps_order, event_keeps_order, event_keeps_numbers, keeps_numbers}
 use Rattle.glyph_lists.specs.Lemmas.Ends.{joined_alike}
 
 -- a union leaves the least number as it is
@@ -70,7 +76,7 @@ stretch_alike falls at gone n ns (x ∷ xs) e o h =
 stretch_order : (falls : Bool) (at gone : ℕ) (ns : List ℕ) → IsInOrder falls ns → IsInOrder falls (take gone (drop at ns))
 stretch_order falls at gone ns h = order_drawn falls (drawn_take gone (drop at ns)) (order_drawn falls (drawn_drop at ns) h)
 
-replace_has : (falls : Bool) (at taken given k : ℕ) (ns : List ℕ) → 0 < given → IsInOrder falls ns → IsLeast k ns → Has (after_event ns (Replace at taken given)) k
+replace_has : (falls : Bool) (at taken given k : ℕ) (ns : List ℕ) → 0 < given → IsInOrder falls ns → IsLeast k ns → Has (after_part_event ns (ReplaceParts at taken given)) k
 replace_has falls at taken given k ns lt o l =
     let wide : at + taken - at ≡ taken = omega arith in
     let s = stretch at (at + taken) ns in
@@ -143,7 +149,7 @@ may_right (Some n) xs ys h = has_right n xs ys h
 none_beside : (xs ys : List ℕ) → last_of xs ≡ None → first_of ys ≡ None → xs ++ ys ≡ []
 none_beside xs ys e d = rw (no_last xs e, no_first ys d) refl
 
-left_at : (at n : ℕ) (ns rest : List ℕ) → drop at ns ≡ n ∷ rest → IsLeft ns (without at ns) (left_by at ns) n
+left_at : (at n : ℕ) (ns rest : List ℕ) → drop at ns ≡ n ∷ rest → IsLeft ns (without at ns) (before_deletion at ns) n
 left_at at n ns rest e =
     let before = last_of (take at ns) in
     let after = first_of (drop (at + 1) ns) in
@@ -156,10 +162,10 @@ left_at at n ns rest e =
     here
     (none_beside (take at ns) (drop (at + 1) ns)))
 
-deleted_has : (at k : ℕ) (ns rest : List ℕ) → drop at ns ≡ rest → IsLeast k ns → without at (left_by at ns) ≢ [] → Has (without at (left_by at ns)) k
+deleted_has : (at k : ℕ) (ns rest : List ℕ) → drop at ns ≡ rest → IsLeast k ns → without at (before_deletion at ns) ≢ [] → Has (without at (before_deletion at ns)) k
 deleted_has at k ns [] e l some =
     let P : List ℕ → Type 0 = λ ms. Has (without at ms) k in
-    let same : left_by at ns ≡ ns = rw e refl in
+    let same : before_deletion at ns ≡ ns = rw e refl in
     subst P (sym same) (elim (has_at k at ns l.among) [
       | inl front ↦ has_left k (take at ns) (drop (at + 1) ns) front
       | inr behind ↦ let none = rw e at behind in cc
@@ -167,8 +173,8 @@ deleted_has at k ns [] e l some =
 deleted_has at k ns (n ∷ rest) e l some =
     let left = left_at at n ns rest e in
     let others = without at ns in
-    let after : without at (left_by at ns) ≡ map left.f others = ap (without at) left.is ∙ without_map left.f at ns in
-    let kept : (p : ℕ) → Has others p → left.f p ≡ k → Has (without at (left_by at ns)) k =
+    let after : without at (before_deletion at ns) ≡ map left.f others = ap (without at) left.is ∙ without_map left.f at ns in
+    let kept : (p : ℕ) → Has others p → left.f p ≡ k → Has (without at (before_deletion at ns)) k =
     λ p h same. subst (λ (ms : List ℕ). Has ms k) (sym after) (subst (Has (map left.f others)) same (map_has left.f p others h)) in
     elim (has_at k at ns l.among) [
       | inl front ↦ kept k (has_left k (take at ns) (drop (at + 1) ns) front) (left.least k l)
@@ -181,27 +187,66 @@ deleted_has at k ns (n ∷ rest) e l some =
       ]
     ]
 
+any_of : (q : ℕ → Bool) (ns : List ℕ) → list_any q ns ≡ true → (n : ℕ) × Has ns n × (q n ≡ true)
+any_of q [] h = cc
+any_of q (n ∷ ns) h = by_first (q n) refl h (any_of q ns)
+  where
+    by_first : (t : Bool) → q n ≡ t → (t || list_any q ns) ≡ true → (list_any q ns ≡ true → (m : ℕ) × Has ns m × (q m ≡ true)) → (m : ℕ) × Has (n ∷ ns) m × (q m ≡ true)
+    by_first true e k later = (n, has_here n ns, e)
+    by_first false e k later = let found = later k in (found.0, has_more n found.0 ns found.1, found.2)
+
+-- those before and after a stretch of a changed list
+others_map : (f : ℕ → ℕ) (at taken : ℕ) (ns : List ℕ) → take at (map f ns) ++ drop (at + taken) (map f ns) ≡ map f (take at ns ++ drop (at + taken) ns)
+others_map f at taken ns = ap (λ xs. xs ++ drop (at + taken) (map f ns)) (take-map f at ns) ∙ ap (λ xs. map f (take at ns) ++ xs) (drop-map f (at + taken) ns) ∙ sym (map-append f (take at ns) (drop (at + taken) ns))
+
+no_copies : (o : Option ℕ) → copies 0 o ≡ []
+no_copies None = refl
+no_copies (Some n) = refl
+
+-- a list whose stretch went
+gone_is : (at taken : ℕ) (ns : List ℕ) → replaced at taken 0 ns ≡ take at ns ++ drop (at + taken) ns
+gone_is at taken ns = ap (λ xs. take at ns ++ xs ++ drop (at + taken) ns) (no_copies (or (first_of (drop at ns)) (last_of (take at ns)))) ∙ ap (λ xs. xs ++ drop (at + taken) ns) (append-nil (take at ns))
+
+-- what a joined stretch shares with a part that stays it shares after the join
+shared_has : (falls : Bool) (at taken k : ℕ) (ns s : List ℕ) → stretch at (at + taken) ns ≡ s → IsInOrder falls s → list_any (has_number (take at ns ++ drop (at + taken) ns)) s ≡ true → Has (joined s ns) k
+    → Has (take at (joined s ns) ++ drop (at + taken) (joined s ns)) k
+shared_has falls at taken k ns [] e o h there = cc
+shared_has falls at taken k ns (x ∷ xs) e o h there =
+    let f = united (min x (last_from x xs)) (max x (last_from x xs)) in
+    let others = take at ns ++ drop (at + taken) ns in
+    let p = any_of (has_number others) (x ∷ xs) h in
+    let from = has_map f k ns there in
+    let P : List ℕ → Type 0 = λ ys. Has ys k in
+    let wide : at + taken - at ≡ taken = omega arith in
+    let cut : take taken (drop at ns) ≡ x ∷ xs = ap (λ n. take n (drop at ns)) (sym wide) ∙ e in
+    subst P (sym (others_map f at taken ns)) (elim (has_at from.0 at ns from.1) [
+      | inl front ↦ subst (Has (map f others)) from.2 (map_has f from.0 others (has_left from.0 (take at ns) (drop (at + taken) ns) front))
+      | inr rest ↦ elim (has_at from.0 taken (drop at ns) rest) [
+        | inl inside ↦
+          let same : f p.0 ≡ k = joined_alike falls x p.0 xs o p.1 ∙ sym (joined_alike falls x from.0 xs o (subst (λ (ys : List ℕ). Has ys from.0) cut inside)) ∙ from.2 in
+          subst (Has (map f others)) same (map_has f p.0 others p.2)
+        | inr back ↦ subst (Has (map f others)) from.2 (map_has f from.0 others (has_right from.0 (take at ns) (drop (at + taken) ns) (subst (λ (ys : List ℕ). Has ys from.0) (drop-drop taken at ns) back)))
+      ]
+    ])
+
+gone_has : (falls : Bool) (at taken k : ℕ) (ns : List ℕ) → shares_part at taken ns ≡ true → IsInOrder falls ns → IsLeast k ns → Has (after_part_event ns (ReplaceParts at taken 0)) k
+gone_has falls at taken k ns h o l =
+    let s = stretch at (at + taken) ns in
+    let P : List ℕ → Type 0 = λ ys. Has ys k in
+    let order : IsInOrder falls s = order_drawn falls (drawn_take (at + taken - at) (drop at ns)) (order_drawn falls (drawn_drop at ns) o) in
+    subst P (sym (gone_is at taken (joined s ns))) (shared_has falls at taken k ns s refl order h (joined_unites (λ xs. Has xs k) at (at + taken) ns (least_unites k ns l)))
+
+kept_has : (falls : Bool) (at taken given k : ℕ) (ns : List ℕ) → (0 < given) ⊎ IsTrue (shares_part at taken ns) → IsInOrder falls ns → IsLeast k ns → Has (after_part_event ns (ReplaceParts at taken given)) k
+kept_has falls at taken zero k ns g o l = elim g [ inl some ↦ absurd (omega arith) | inr shares ↦ gone_has falls at taken k ns shares o l ]
+kept_has falls at taken (suc given) k ns g o l = replace_has falls at taken (suc given) k ns (omega arith) o l
+
 -- the least number is there after one event
-event_has_least : (e : Event) (falls : Bool) (k : ℕ) (ns : List ℕ) → IsGiving (e ∷ []) → IsInOrder falls ns → IsLeast k ns → after_event ns e ≢ [] → Has (after_event ns e) k
-event_has_least (Join from to) falls k ns g o l some = joined_unites (λ xs. Has xs k) from to ns (least_unites k ns l)
-event_has_least (Replace at taken given) falls k ns g o l some = replace_has falls at taken given k ns g.0 o l
-event_has_least (Delete at) falls k ns g o l some = deleted_has at k ns (drop at ns) refl l some
-event_has_least (Circle beside) falls k ns g o l some = doubled_has beside k ns l.among
-event_has_least Reverse falls k ns g o l some = has_reverse k ns ∙ l.among
-
-giving_first : (e : Event) (es : List Event) → IsGiving (e ∷ es) → IsGiving (e ∷ [])
-giving_first (Replace at taken given) es g = (g.0, tt)
-giving_first Reverse es g = tt
-giving_first (Join from to) es g = tt
-giving_first (Delete at) es g = tt
-giving_first (Circle beside) es g = tt
-
-giving_rest : (e : Event) (es : List Event) → IsGiving (e ∷ es) → IsGiving es
-giving_rest (Replace at taken given) es g = g.1
-giving_rest Reverse es g = g
-giving_rest (Join from to) es g = g
-giving_rest (Delete at) es g = g
-giving_rest (Circle beside) es g = g
+event_has_least : (e : PartEvent) (falls : Bool) (k : ℕ) (ns : List ℕ) → IsKept e ns → IsInOrder falls ns → IsLeast k ns → after_part_event ns e ≢ [] → Has (after_part_event ns e) k
+event_has_least (JoinParts from to) falls k ns g o l some = joined_unites (λ xs. Has xs k) from to ns (least_unites k ns l)
+event_has_least (ReplaceParts at taken given) falls k ns g o l some = kept_has falls at taken given k ns g o l
+event_has_least (DeletePart at) falls k ns g o l some = deleted_has at k ns (drop at ns) refl l some
+event_has_least (CirclePart beside) falls k ns g o l some = doubled_has beside k ns l.among
+event_has_least ReverseParts falls k ns g o l some = has_reverse k ns ∙ l.among
 
 no_numbers : (ns : List ℕ) → BringsNone [] ns → ns ≡ []
 no_numbers [] h = refl
@@ -210,8 +255,25 @@ no_numbers (n ∷ ns) h = let none = h n (has_here n ns) in cc
 pub keeps_least : KeepsLeast
 keeps_least [] falls ns k g o l some = l
 keeps_least (e ∷ es) falls ns k g o l some =
-    let mid = after_event ns e in
-    let left : mid ≢ [] = λ none. some (ap (after_events es) none ∙ no_numbers (after_events es []) (keeps_numbers es [])) in
-    keeps_least es (turned falls (e ∷ [])) mid k (giving_rest e es g) (event_keeps_order e falls ns o)
-    (record { among = event_has_least e falls k ns (giving_first e es g) o l left; below = λ n h. l.below n (event_keeps_numbers e ns n h) })
+    let mid = after_part_event ns e in
+    let left : mid ≢ [] = λ none. some (ap (after_part_events es) none ∙ no_numbers (after_part_events es []) (keeps_numbers es [])) in
+    keeps_least es (falls_after falls (e ∷ [])) mid k g.1 (event_keeps_order e falls ns o)
+    (record { among = event_has_least e falls k ns g.0 o l left; below = λ n h. l.below n (event_keeps_numbers e ns n h) })
     some
+
+in_order : (falls : Bool) (ns : List ℕ) → IsInOrder falls ns → IsOrdered ns
+in_order false ns h = inl h
+in_order true ns h = inr h
+
+pub origins_keep_order : OriginsKeepOrder
+origins_keep_order asks level es falls os mono plain o =
+    subst (IsInOrder (falls_after falls (parts_of level es))) (sym (origins_are_parts asks level es os mono plain (in_order falls (numbers os) o))) (keeps_order (parts_of level es) falls (numbers os) o)
+
+no_origins : (os : List Origin) → numbers os ≡ [] → os ≡ []
+no_origins [] e = refl
+no_origins (o ∷ os) e = cc
+
+pub origins_keep_least : OriginsKeepLeast
+origins_keep_least asks level es falls os m mono plain giving o l some =
+    let same = origins_are_parts asks level es os mono plain (in_order falls (numbers os) o) in
+    subst (IsLeast m) (sym same) (keeps_least (parts_of level es) falls (numbers os) m giving o l (λ none. some (no_origins (origins_after asks level es os) (same ∙ none))))

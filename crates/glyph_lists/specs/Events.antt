@@ -1,92 +1,73 @@
--- The parts of a text, and what shaping does to them. A list has for each item the number of its part.
-use Rattle.std.specs.Prelude.{ℕ, ◌+◌, ◌-◌, ◌==◌, ◌&&◌, ◌||◌, Bool, false, nat_le, min, max, if◌then◌else◌, List, [], ◌∷◌, ◌++◌, Option, Some, None, map, take, drop, reverse, replicate, fold, length, slice_get}
+-- What one call of a buffer does to where its glyphs come from.
+use Rattle.std.specs.Prelude.{ℕ, ◌+◌, Bool, true, false, List, [], ◌∷◌, fold, length, reverse}
+use Rattle.glyph_types.specs.declared.level.BufferClusterLevel.{BufferClusterLevel}
+use Rattle.glyph_lists.specs.Parts.{replaced_among}
+use Rattle.glyph_lists.specs.Origins.{Origin, Merging, InList, manner, merged_as, origins_deleted, arranged, origins_circled, origins_marked, origins_flagged, Asks, origins_spread, without_marks}
 
--- one step of shaping, by indices of the list before it
+-- one call, by indices of the whole list before it
 pub data Event : Type 0 where
-  -- the parts from the first to the last that occur at the indices from `from` up to before `to` become one
-  Join : (from to : ℕ) → Event
-  -- so many items at a place become one part, and make room for new items of that part
+  -- the indices from `from` up to before `to` merge
+  Merge : (how : Merging) → (from to : ℕ) → Event
+  -- so many glyphs at a place merge and make room for copies of the first, past the end of the one before; none may be taken, or none given
   Replace : (at taken given : ℕ) → Event
-  -- the item at a place goes
+  -- a glyph comes in before or after that at an index, of its cluster, with the flags of another
+  Circle : (after : Bool) → (beside like : ℕ) → Event
+  -- the glyph at a place goes, and its cluster stays somewhere
   Delete : (at : ℕ) → Event
-  -- a dotted circle comes in beside the item at a place, and belongs to its part
-  Circle : (beside : ℕ) → Event
-  -- the list is turned round
+  -- the glyphs from a place on merge, as many as the order has, and come to stand in that order
+  Move : (how : Merging) → (from : ℕ) → (order : List ℕ) → Event
+  -- they come to stand in that order, and no more
+  Arrange : (from : ℕ) → (order : List ℕ) → Event
+  -- the list is reversed
   Reverse : Event
+  -- such indices are unsafe to break, where texts may not be put together, or safe for a tatweel
+  Break : (from to : ℕ) → Event
+  Concat : (from to : ℕ) → Event
+  Tatweel : (from to : ℕ) → Event
+  -- the glyphs of each cluster get one set of flags
+  Spread : Event
+  -- all flags go
+  Reset : Event
 
--- the number among parts of which all from `low` to `high` become `low`
-abbrev pub united : ℕ → ℕ → ℕ → ℕ
-united low high n = if nat_le low n && nat_le n high then low else n
+-- flags that are set only where that is asked for
+abbrev pub concat_marked : Bool → ℕ → ℕ → List Origin → List Origin
+concat_marked true from to os = origins_flagged 2 from to os
+concat_marked false from to os = os
 
--- all parts from one to another become the least of them
-abbrev pub united_all : ℕ → ℕ → List ℕ → List ℕ
-united_all m n ns = map (united (min m n) (max m n)) ns
+abbrev pub tatweel_marked : Bool → ℕ → ℕ → List Origin → List Origin
+tatweel_marked true from to os = origins_marked 4 from to os
+tatweel_marked false from to os = origins_marked 3 from to os
 
-abbrev pub last_from : ℕ → List ℕ → ℕ
-last_from n [] = n
-last_from n (m ∷ ms) = last_from m ms
+abbrev pub origins_after_event : Asks → BufferClusterLevel → List Origin → Event → List Origin
+origins_after_event asks level os (Merge how from to) = merged_as (manner how level) from to os
+origins_after_event asks level os (Replace at taken given) = replaced_among at taken given (merged_as (manner InList level) at (at + taken) os)
+origins_after_event asks level os (Circle after beside like) = origins_circled after beside like os
+origins_after_event asks level os (Delete at) = origins_deleted level at os
+origins_after_event asks level os (Move how from order) = arranged from order (merged_as (manner how level) from (from + length order) os)
+origins_after_event asks level os (Arrange from order) = arranged from order os
+origins_after_event asks level os Reverse = reverse os
+origins_after_event asks level os (Break from to) = origins_marked 3 from to os
+origins_after_event asks level os (Concat from to) = concat_marked asks.concat from to os
+origins_after_event asks level os (Tatweel from to) = tatweel_marked asks.tatweel from to os
+origins_after_event asks level os Spread = origins_spread asks os
+origins_after_event asks level os Reset = without_marks os
 
--- a list after the parts of a stretch of it became one
-abbrev pub joined : List ℕ → List ℕ → List ℕ
-joined [] ns = ns
-joined (n ∷ rest) ns = united_all n (last_from n rest) ns
+-- where the glyphs come from after a list of events, at every level and for clusters in any order
+abbrev pub origins_after : Asks → BufferClusterLevel → List Event → List Origin → List Origin
+origins_after asks level es os = fold (origins_after_event asks level) os es
 
--- the indices from `from` up to before `to`
-abbrev pub stretch : ℕ → ℕ → List ℕ → List ℕ
-stretch from to ns = take (to - from) (drop from ns)
-
-abbrev pub first_of : {X : Type 0} → List X → Option X
-first_of [] = None
-first_of (x ∷ xs) = Some x
-
-abbrev pub last_of : {X : Type 0} → List X → Option X
-last_of xs = slice_get xs (length xs - 1)
-
-abbrev pub or : {X : Type 0} → Option X → Option X → Option X
-or None o = o
-or (Some x) o = Some x
-
--- so many copies of what there is
-abbrev pub copies : {X : Type 0} → ℕ → Option X → List X
-copies n None = []
-copies n (Some x) = replicate n x
-
--- some items at a place make room for others of the part of the first, past the end of the part before
-abbrev pub replaced : ℕ → ℕ → ℕ → List ℕ → List ℕ
-replaced at taken given ns = take at ns ++ copies given (or (first_of (drop at ns)) (last_of (take at ns))) ++ drop (at + taken) ns
-
-abbrev pub is_number : Option ℕ → ℕ → Bool
-is_number None n = false
-is_number (Some m) n = m == n
-
--- a part unites with that of the neighbour before, else with that of the neighbour after
-abbrev pub with_neighbour : Option ℕ → Option ℕ → ℕ → List ℕ → List ℕ
-with_neighbour (Some p) after n ns = united_all p n ns
-with_neighbour None (Some q) n ns = united_all n q ns
-with_neighbour None None n ns = ns
-
--- a part that loses its last item unites with a neighbour's
-abbrev pub united_if_last : Option ℕ → Option ℕ → ℕ → List ℕ → List ℕ
-united_if_last before after n ns = if is_number before n || is_number after n then ns else with_neighbour before after n ns
-
-abbrev pub united_without : Option ℕ → Option ℕ → Option ℕ → List ℕ → List ℕ
-united_without before None after ns = ns
-united_without before (Some n) after ns = united_if_last before after n ns
-
--- the list as the item at a place is about to go
-abbrev pub left_by : ℕ → List ℕ → List ℕ
-left_by at ns = united_without (last_of (take at ns)) (first_of (drop at ns)) (first_of (drop (at + 1) ns)) ns
-
-abbrev pub without : ℕ → List ℕ → List ℕ
-without at ns = take at ns ++ drop (at + 1) ns
-
-abbrev pub after_event : List ℕ → Event → List ℕ
-after_event ns (Join from to) = joined (stretch from to ns) ns
-after_event ns (Replace at taken given) = replaced at taken given (joined (stretch at (at + taken) ns) ns)
-after_event ns (Delete at) = without at (left_by at ns)
-after_event ns (Circle beside) = take beside ns ++ copies 2 (first_of (drop beside ns)) ++ drop (beside + 1) ns
-after_event ns Reverse = reverse ns
-
--- the parts after a list of events
-abbrev pub after_events : List Event → List ℕ → List ℕ
-after_events es ns = fold after_event ns es
+-- a reversal of the list is the only order that a list without this gets
+abbrev pub IsPlain : List Event → Type 0
+IsPlain [] = Unit {0}
+IsPlain (Arrange from order ∷ es) = ⊥
+IsPlain (Merge how from to ∷ es) = IsPlain es
+IsPlain (Replace at taken given ∷ es) = IsPlain es
+IsPlain (Circle after beside like ∷ es) = IsPlain es
+IsPlain (Delete at ∷ es) = IsPlain es
+IsPlain (Move how from order ∷ es) = IsPlain es
+IsPlain (Reverse ∷ es) = IsPlain es
+IsPlain (Break from to ∷ es) = IsPlain es
+IsPlain (Concat from to ∷ es) = IsPlain es
+IsPlain (Tatweel from to ∷ es) = IsPlain es
+IsPlain (Spread ∷ es) = IsPlain es
+IsPlain (Reset ∷ es) = IsPlain es

@@ -4,9 +4,9 @@ use Rattle.std.specs.List.{list_any}
 use Rattle.std.specs.Int.RustNames.{bit_or}
 use Rattle.glyph_types.specs.declared.info.hb_glyph_info_t.{hb_glyph_info_t}
 use Rattle.glyph_types.specs.declared.level.BufferClusterLevel.{BufferClusterLevel}
-use Rattle.glyph_types.specs.declared.level.BufferClusterLevel.TheVariants.{MonotoneGraphemes, MonotoneCharacters, Characters}
+use Rattle.glyph_lists.specs.Levels.{InList, Manner, Unites, Marks, Keeps, manner}
 use Rattle.glyph_lists.specs.Items.{clusters, without_flags, glyph_flags, flags_of}
-use Rattle.glyph_lists.specs.Events.{stretch}
+use Rattle.glyph_lists.specs.Parts.{stretch}
 use Rattle.glyph_lists.specs.Merges.{least_number, merged}
 
 -- a glyph in a cluster: where it was in another, its three flags go
@@ -33,23 +33,33 @@ marked_outside bits low g = if g.cluster == low then g else record g { mask = bi
 abbrev pub glyphs_marked : ℕ → ℕ → ℕ → List hb_glyph_info_t → List hb_glyph_info_t
 glyphs_marked bits from to gs = take from gs ++ map (marked_outside bits (least_number (stretch from to (clusters gs)))) (slice_range gs from to) ++ drop to gs
 
+-- what becomes of glyphs where such indices are to merge
+abbrev pub glyphs_merged_as : Manner → ℕ → ℕ → List hb_glyph_info_t → List hb_glyph_info_t
+glyphs_merged_as Unites from to gs = glyphs_merged (stretch from to (clusters gs)) gs
+glyphs_merged_as Marks from to gs = glyphs_marked 3 from to gs
+glyphs_merged_as Keeps from to gs = gs
+
 -- what a merge of such indices leaves: at the level that keeps characters apart they are marked as unsafe to break and to concat
 abbrev pub glyphs_merged_at : BufferClusterLevel → ℕ → ℕ → List hb_glyph_info_t → List hb_glyph_info_t
-glyphs_merged_at MonotoneGraphemes from to gs = glyphs_merged (stretch from to (clusters gs)) gs
-glyphs_merged_at MonotoneCharacters from to gs = glyphs_merged (stretch from to (clusters gs)) gs
-glyphs_merged_at Characters from to gs = glyphs_marked 3 from to gs
+glyphs_merged_at level from to gs = glyphs_merged_as (manner InList level) from to gs
 
 -- what such a merge leaves of glyphs that stand in another list than the range
+abbrev pub beside_merged_as : Manner → List ℕ → List hb_glyph_info_t → List hb_glyph_info_t
+beside_merged_as Unites range gs = glyphs_merged range gs
+beside_merged_as Marks range gs = gs
+beside_merged_as Keeps range gs = gs
+
 abbrev pub beside_merged : BufferClusterLevel → List ℕ → List hb_glyph_info_t → List hb_glyph_info_t
-beside_merged MonotoneGraphemes range gs = glyphs_merged range gs
-beside_merged MonotoneCharacters range gs = glyphs_merged range gs
-beside_merged Characters range gs = gs
+beside_merged level range gs = beside_merged_as (manner InList level) range gs
 
 -- whether a merge of such indices marks a glyph
+abbrev pub is_marked_as : Manner → ℕ → ℕ → List ℕ → Bool
+is_marked_as Unites from to ns = false
+is_marked_as Marks from to ns = tells_apart (stretch from to ns)
+is_marked_as Keeps from to ns = false
+
 abbrev pub is_marked_at : BufferClusterLevel → ℕ → ℕ → List ℕ → Bool
-is_marked_at MonotoneGraphemes from to ns = false
-is_marked_at MonotoneCharacters from to ns = false
-is_marked_at Characters from to ns = tells_apart (stretch from to ns)
+is_marked_at level from to ns = is_marked_as (manner InList level) from to ns
 
 -- the glyph flags after a merge: a glyph whose cluster changes has none
 abbrev pub flags_merged : List ℕ → List hb_glyph_info_t → List ℕ
@@ -63,11 +73,15 @@ flags_outside bits low g = if g.cluster == low then glyph_flags g else bit_or (g
 abbrev pub flags_marked : ℕ → ℕ → ℕ → List hb_glyph_info_t → List ℕ
 flags_marked bits from to gs = take from (flags_of gs) ++ map (flags_outside bits (least_number (stretch from to (clusters gs)))) (slice_range gs from to) ++ drop to (flags_of gs)
 
+-- the glyph flags where such indices are to merge
+abbrev pub flags_merged_as : Manner → ℕ → ℕ → List hb_glyph_info_t → List ℕ
+flags_merged_as Unites from to gs = flags_merged (stretch from to (clusters gs)) gs
+flags_merged_as Marks from to gs = flags_marked 3 from to gs
+flags_merged_as Keeps from to gs = flags_of gs
+
 -- the glyph flags after a merge of such indices
 abbrev pub flags_merged_at : BufferClusterLevel → ℕ → ℕ → List hb_glyph_info_t → List ℕ
-flags_merged_at MonotoneGraphemes from to gs = flags_merged (stretch from to (clusters gs)) gs
-flags_merged_at MonotoneCharacters from to gs = flags_merged (stretch from to (clusters gs)) gs
-flags_merged_at Characters from to gs = flags_marked 3 from to gs
+flags_merged_at level from to gs = flags_merged_as (manner InList level) from to gs
 
 -- a glyph with flags set
 abbrev pub flagged : ℕ → hb_glyph_info_t → hb_glyph_info_t

@@ -1,23 +1,27 @@
 -- What holds of all lists of events, of merges and of deletions.
-use Rattle.std.specs.Prelude.{ℕ, ◌≡◌, ◌≢◌, Bool, List, [], ◌∷◌, ◌++◌, length}
+use Rattle.std.specs.Prelude.{ℕ, ◌≡◌, ◌≢◌, Bool, false, List, [], ◌∷◌, ◌++◌, length}
 use Rattle.glyph_types.specs.declared.level.BufferClusterLevel.{BufferClusterLevel}
-use Rattle.glyph_lists.specs.Events.{Event, Delete, joined, after_event, after_events}
+use Rattle.glyph_lists.specs.Parts.{PartEvent, DeletePart, joined, after_part_event, after_part_events}
 use Rattle.glyph_lists.specs.Deletions.{deleted}
 use Rattle.glyph_lists.specs.Readings.{IsMonotone}
+use Rattle.glyph_lists.specs.Origins.{Origin, Asks, numbers, origins_spread}
+use Rattle.glyph_lists.specs.Events.{Event, IsPlain, origins_after}
+use Rattle.glyph_lists.specs.EventParts.{parts_of, AreEvenRuns, HaveNoConcat}
+use Rattle.glyph_lists.specs.Order.{IsOrdered}
 use Rattle.glyph_lists.specs.Merges.{merged, merged_numbers, IsLeastCoarsening}
-use Rattle.glyph_lists.specs.Order.{IsInOrder, IsLeast, BringsNone, IsGiving, turned}
+use Rattle.glyph_lists.specs.Order.{IsInOrder, IsLeast, BringsNone, IsGiving, falls_after}
 
--- parts in order stay in order, turned as often as the list is
+-- parts in order stay in order, in the other direction after each reversal of the list
 abbrev pub KeepsOrder : Type 0
-KeepsOrder = (es : List Event) (falls : Bool) (ns : List ℕ) → IsInOrder falls ns → IsInOrder (turned falls es) (after_events es ns)
+KeepsOrder = (es : List PartEvent) (falls : Bool) (ns : List ℕ) → IsInOrder falls ns → IsInOrder (falls_after falls es) (after_part_events es ns)
 
 -- the least number of parts in order stays while an item is left
 abbrev pub KeepsLeast : Type 0
-KeepsLeast = (es : List Event) (falls : Bool) (ns : List ℕ) (m : ℕ) → IsGiving es → IsInOrder falls ns → IsLeast m ns → after_events es ns ≢ [] → IsLeast m (after_events es ns)
+KeepsLeast = (es : List PartEvent) (falls : Bool) (ns : List ℕ) (m : ℕ) → IsGiving es ns → IsInOrder falls ns → IsLeast m ns → after_part_events es ns ≢ [] → IsLeast m (after_part_events es ns)
 
 -- no number is new
 abbrev pub KeepsNumbers : Type 0
-KeepsNumbers = (es : List Event) (ns : List ℕ) → BringsNone ns (after_events es ns)
+KeepsNumbers = (es : List PartEvent) (ns : List ℕ) → BringsNone ns (after_part_events es ns)
 
 -- a merge unites the numbers of its range, and no more
 abbrev pub MergeUnites : Type 0
@@ -29,4 +33,30 @@ MergeIsJoin = (falls : Bool) (front range back : List ℕ) → IsInOrder falls (
 
 -- in order, at a monotone level, a deletion is the event: a part that loses its last item unites with a neighbour's
 abbrev pub DeletionIsEvent : Type 0
-DeletionIsEvent = (level : BufferClusterLevel) (falls : Bool) (front : List ℕ) (n : ℕ) (back : List ℕ) → IsMonotone level → IsInOrder falls (front ++ n ∷ back) → deleted level front n back ≡ after_event (front ++ n ∷ back) (Delete (length front))
+DeletionIsEvent = (level : BufferClusterLevel) (falls : Bool) (front : List ℕ) (n : ℕ) (back : List ℕ) → IsMonotone level → IsInOrder falls (front ++ n ∷ back) → deleted level front n back ≡ after_part_event (front ++ n ∷ back) (DeletePart (length front))
+
+-- no event brings a cluster number, at whatever level
+abbrev pub OriginsKeepNumbers : Type 0
+OriginsKeepNumbers = (asks : Asks) (level : BufferClusterLevel) (es : List Event) (os : List Origin) → BringsNone (numbers os) (numbers (origins_after asks level es os))
+
+-- at a monotone level, on clusters in order, events do to clusters what they do to the parts of the text
+abbrev pub OriginsAreParts : Type 0
+OriginsAreParts = (asks : Asks) (level : BufferClusterLevel) (es : List Event) (os : List Origin) → IsMonotone level → IsPlain es → IsOrdered (numbers os) → numbers (origins_after asks level es os) ≡ after_part_events (parts_of level es) (numbers os)
+
+-- clusters in order stay in order at a monotone level, in the other direction after each reversal
+abbrev pub OriginsKeepOrder : Type 0
+OriginsKeepOrder = (asks : Asks) (level : BufferClusterLevel) (es : List Event) (falls : Bool) (os : List Origin) → IsMonotone level → IsPlain es → IsInOrder falls (numbers os)
+    → IsInOrder (falls_after falls (parts_of level es)) (numbers (origins_after asks level es os))
+
+-- their least stays while a glyph is left, where no replacement drops the last glyph of a part
+abbrev pub OriginsKeepLeast : Type 0
+OriginsKeepLeast = (asks : Asks) (level : BufferClusterLevel) (es : List Event) (falls : Bool) (os : List Origin) (m : ℕ) → IsMonotone level → IsPlain es → IsGiving (parts_of level es) (numbers os)
+    → IsInOrder falls (numbers os) → IsLeast m (numbers os) → origins_after asks level es os ≢ [] → IsLeast m (numbers (origins_after asks level es os))
+
+-- once flags were spread, neighbours of one cluster have the same
+abbrev pub SpreadIsEven : Type 0
+SpreadIsEven = (asks : Asks) (os : List Origin) → AreEvenRuns (origins_spread asks os)
+
+-- and no glyph tells where texts may not be put together but where that was asked for
+abbrev pub SpreadHasNoConcat : Type 0
+SpreadHasNoConcat = (tatweel : Bool) (os : List Origin) → HaveNoConcat (origins_spread (record { concat = false; tatweel = tatweel }) os)

@@ -1,7 +1,11 @@
 pub mod Items
-pub mod Events
+pub mod Levels
+pub mod Parts
 pub mod Order
 pub mod Merges
+pub mod Origins
+pub mod Events
+pub mod EventParts
 pub mod Glyphs
 pub mod Replacements
 pub mod Deletions
@@ -10,3 +14,5 @@ pub mod Laws
 pub mod Lists
 pub mod Lemmas
 pub mod Steps
+pub mod PartReadings
+pub mod PartSteps

@@ -1,8 +1,8 @@
 -- What a merge of a range does to cluster numbers.
 use Rattle.std.specs.Prelude.{ℕ, ◌≡◌, ◌+◌, min, if◌then◌else◌, IsTrue, List, [], ◌∷◌, map, fold}
 use Rattle.glyph_types.specs.declared.level.BufferClusterLevel.{BufferClusterLevel}
-use Rattle.glyph_types.specs.declared.level.BufferClusterLevel.TheVariants.{MonotoneGraphemes, MonotoneCharacters, Characters}
-use Rattle.glyph_lists.specs.Events.{replaced, stretch}
+use Rattle.glyph_lists.specs.Levels.{InList, Manner, Unites, Marks, Keeps, manner}
+use Rattle.glyph_lists.specs.Parts.{replaced, stretch}
 use Rattle.glyph_lists.specs.Order.{has_number}
 
 -- the least of the numbers, or 0 where there is none
@@ -18,11 +18,15 @@ merged range n = if has_number range n then least_number range else n
 abbrev pub merged_numbers : List ℕ → List ℕ → List ℕ
 merged_numbers range ns = map (merged range) ns
 
--- what a merge of the indices from `from` up to before `to` leaves: only at the monotone levels do numbers change
+-- what becomes of the numbers where the indices from `from` up to before `to` are to merge: only a union changes them
+abbrev pub numbers_merged_as : Manner → ℕ → ℕ → List ℕ → List ℕ
+numbers_merged_as Unites from to ns = merged_numbers (stretch from to ns) ns
+numbers_merged_as Marks from to ns = ns
+numbers_merged_as Keeps from to ns = ns
+
+-- what a merge of the indices from `from` up to before `to` leaves
 abbrev pub merged_at : BufferClusterLevel → ℕ → ℕ → List ℕ → List ℕ
-merged_at MonotoneGraphemes from to ns = merged_numbers (stretch from to ns) ns
-merged_at MonotoneCharacters from to ns = merged_numbers (stretch from to ns) ns
-merged_at Characters from to ns = ns
+merged_at level from to ns = numbers_merged_as (manner InList level) from to ns
 
 -- what is left where so many items at a place are merged and make room for others of the cluster of the first
 abbrev pub replaced_at : BufferClusterLevel → ℕ → ℕ → ℕ → List ℕ → List ℕ

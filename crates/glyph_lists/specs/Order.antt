@@ -1,14 +1,14 @@
 -- Cluster numbers in order.
-use Rattle.std.specs.Prelude.{ℕ, ◌≤◌, ◌<◌, ◌==◌, ◌⊎◌, Bool, true, false, not, IsTrue, List, [], ◌∷◌}
+use Rattle.std.specs.Prelude.{ℕ, ◌≤◌, ◌<◌, ◌==◌, ◌+◌, ◌⊎◌, Bool, true, false, not, IsTrue, List, [], ◌∷◌, ◌++◌, take, drop}
 use Rattle.std.specs.List.{list_any}
-use Rattle.glyph_lists.specs.Events.{Event, Join, Replace, Delete, Circle, Reverse}
+use Rattle.glyph_lists.specs.Parts.{PartEvent, JoinParts, ReplaceParts, DeletePart, CirclePart, ReverseParts, stretch, after_part_event}
 
 -- m is related to each number of the list
 abbrev pub AllFrom : (ℕ → ℕ → Type 0) → ℕ → List ℕ → Type 0
 AllFrom R m [] = Unit {0}
 AllFrom R m (n ∷ ns) = R m n × AllFrom R m ns
 
--- each number is related to all that stand behind it
+-- each number is related to all after it
 abbrev pub IsChain : (ℕ → ℕ → Type 0) → List ℕ → Type 0
 IsChain R [] = Unit {0}
 IsChain R (n ∷ ns) = AllFrom R n ns × IsChain R ns
@@ -44,19 +44,27 @@ abbrev pub BringsNone : List ℕ → List ℕ → Type 0
 BringsNone old new = (n : ℕ) → IsTrue (has_number new n) → IsTrue (has_number old n)
 
 -- which way the numbers stand after some events
-abbrev pub turned : Bool → List Event → Bool
-turned falls [] = falls
-turned falls (Reverse ∷ es) = turned (not falls) es
-turned falls (Join from to ∷ es) = turned falls es
-turned falls (Replace at taken given ∷ es) = turned falls es
-turned falls (Delete at ∷ es) = turned falls es
-turned falls (Circle beside ∷ es) = turned falls es
+abbrev pub falls_after : Bool → List PartEvent → Bool
+falls_after falls [] = falls
+falls_after falls (ReverseParts ∷ es) = falls_after (not falls) es
+falls_after falls (JoinParts from to ∷ es) = falls_after falls es
+falls_after falls (ReplaceParts at taken given ∷ es) = falls_after falls es
+falls_after falls (DeletePart at ∷ es) = falls_after falls es
+falls_after falls (CirclePart beside ∷ es) = falls_after falls es
 
--- no items make room for none
-abbrev pub IsGiving : List Event → Type 0
-IsGiving [] = Unit {0}
-IsGiving (Replace at taken given ∷ es) = (0 < given) × IsGiving es
-IsGiving (Reverse ∷ es) = IsGiving es
-IsGiving (Join from to ∷ es) = IsGiving es
-IsGiving (Delete at ∷ es) = IsGiving es
-IsGiving (Circle beside ∷ es) = IsGiving es
+-- one of the parts that go from an index on has an item that stays
+abbrev pub shares_part : ℕ → ℕ → List ℕ → Bool
+shares_part at taken ns = list_any (has_number (take at ns ++ drop (at + taken) ns)) (stretch at (at + taken) ns)
+
+-- a replacement gives an item, or shares a part with what stays
+abbrev pub IsKept : PartEvent → List ℕ → Type 0
+IsKept (ReplaceParts at taken given) ns = (0 < given) ⊎ IsTrue (shares_part at taken ns)
+IsKept ReverseParts ns = Unit {0}
+IsKept (JoinParts from to) ns = Unit {0}
+IsKept (DeletePart at) ns = Unit {0}
+IsKept (CirclePart beside) ns = Unit {0}
+
+-- no replacement drops the last item of a part
+abbrev pub IsGiving : List PartEvent → List ℕ → Type 0
+IsGiving [] ns = Unit {0}
+IsGiving (e ∷ es) ns = IsKept e ns × IsGiving es (after_part_event ns e)

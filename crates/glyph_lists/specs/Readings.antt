@@ -1,90 +1,84 @@
--- The reading of a text: items and positions, and what happens to the parts of the text on the way, or the cause of a refusal.
-use Rattle.std.specs.Prelude.{◌≡◌, List, [], ◌∷◌, ◌++◌, Result, Ok, Err}
-use Rattle.glyph_types.specs.declared.info.hb_glyph_info_t.{hb_glyph_info_t}
+-- The reading of a text: what its glyphs are, and what happens on the way to where they come from, or the cause of a refusal.
+use Rattle.std.specs.Prelude.{ℕ, ℤ, ◌≡◌, List, [], ◌++◌, Result, Ok, Err}
 use Rattle.glyph_types.specs.declared.cause.ShapeCause.{ShapeCause}
 use Rattle.glyph_types.specs.declared.level.BufferClusterLevel.{BufferClusterLevel}
-use Rattle.glyph_types.specs.declared.level.BufferClusterLevel.TheVariants.{MonotoneGraphemes, MonotoneCharacters, Characters}
-use Rattle.glyph_lists.specs.Items.{Item, Position, strip, clusters}
-use Rattle.glyph_lists.specs.Events.{Event, after_events}
-use Rattle.glyph_lists.specs.Order.{IsOrdered, BringsNone}
+use Rattle.shaping_text.specs.declared.direction.Direction.{Direction}
+pub use Rattle.glyph_lists.specs.Levels.{IsMonotone}
+use Rattle.glyph_lists.specs.Items.{Item, Position}
+use Rattle.glyph_lists.specs.Origins.{Origin, Asks}
+use Rattle.glyph_lists.specs.Events.{Event, origins_after}
 
--- items and their positions, and the events on the way to them at each of the monotone levels
-pub record Read : Type 0 where
+-- what the stages of shaping see and change; it has no cluster, no level and no glyph flag
+pub record View : Type 0 where
   pub items : List Item
   pub positions : List Position
-  pub at_graphemes : List Event
-  pub at_characters : List Event
+  -- the ligature number that was given last
+  pub lig_id : ℕ
+  -- how many nested lookups may still be done
+  pub max_ops : ℤ
+  -- the state from which alternates are drawn at random
+  pub random : ℕ
+  -- how many items a side of the list may hold
+  pub max_len : ℕ
+  pub direction : Direction
+  -- what the stages tell each other, but that there are glyph flags
+  pub told : ℕ
+
+-- what was read, and the events on the way to it at each level
+pub record Read : Type 0 where
+  pub view : View
+  pub events : BufferClusterLevel → List Event
 
 -- what was read, or the first cause of a refusal
 abbrev pub Reading : Type 0
 Reading = Result Read ShapeCause
 
--- a part of a reading: a function of items and positions alone
+-- a part of a reading
 abbrev pub Stage : Type 0
-Stage = List Item → List Position → Reading
+Stage = View → Reading
 
 -- what the second read, with the events of both
 abbrev pub then_read : Read → Read → Read
-then_read r s = record { items = s.items; positions = s.positions; at_graphemes = r.at_graphemes ++ s.at_graphemes; at_characters = r.at_characters ++ s.at_characters }
+then_read r s = record { view = s.view; events = λ level. r.events level ++ s.events level }
 
 -- a reading that comes after the events of another
-abbrev pub behind : Read → Reading → Reading
-behind r (Ok s) = Ok (then_read r s)
-behind r (Err e) = Err e
+abbrev pub then_reading : Read → Reading → Reading
+then_reading r (Ok s) = Ok (then_read r s)
+then_reading r (Err e) = Err e
 
 -- a reading, and then a stage
 abbrev pub and_then : Reading → Stage → Reading
-and_then (Ok r) next = behind r (next r.items r.positions)
+and_then (Ok r) next = then_reading r (next r.view)
 and_then (Err e) next = Err e
 
--- items and positions on the way to which nothing happened to the parts
-abbrev pub eventless : List Item → List Position → Read
-eventless xs ps = record { items = xs; positions = ps; at_graphemes = []; at_characters = [] }
-
--- items and positions on the way to which one thing happened to the parts, at whatever level
-abbrev pub with_event : Event → List Item → List Position → Read
-with_event e xs ps = record { items = xs; positions = ps; at_graphemes = e ∷ []; at_characters = e ∷ [] }
+-- a view on the way to which so much happened, at whatever level
+abbrev pub with_events : List Event → View → Read
+with_events es v = record { view = v; events = λ level. es }
 
 -- the stage that leaves all as it is
 abbrev pub as_it_is : Stage
-as_it_is xs ps = Ok (eventless xs ps)
+as_it_is v = Ok (with_events [] v)
 
 -- a stage that never refuses
-abbrev pub always : (List Item → List Position → Read) → Stage
-always f xs ps = Ok (f xs ps)
+abbrev pub always : (View → Read) → Stage
+always f v = Ok (f v)
 
--- what a stage sees of a buffer
+-- a buffer as stages of shaping know it
 pub record Run : Type 0 where
-  pub glyphs : List hb_glyph_info_t
-  pub positions : List Position
+  pub view : View
+  pub origins : List Origin
   pub level : BufferClusterLevel
+  pub asks : Asks
 
--- the levels at which clusters stay in order
-abbrev pub IsMonotone : BufferClusterLevel → Type 0
-IsMonotone MonotoneGraphemes = Unit {0}
-IsMonotone MonotoneCharacters = Unit {0}
-IsMonotone Characters = ⊥
+-- a run after what was read
+abbrev pub run_after : Read → Run → Run
+run_after r run = record { view = r.view; origins = origins_after run.asks run.level (r.events run.level) run.origins; level = run.level; asks = run.asks }
 
--- a reading's events at a monotone level
-abbrev pub events_at : BufferClusterLevel → Read → List Event
-events_at MonotoneGraphemes r = r.at_graphemes
-events_at MonotoneCharacters r = r.at_characters
-events_at Characters r = r.at_characters
-
--- the new run has the items and positions that were read; its clusters, where they are kept in order, are the old ones
--- after the reading's events, and at no level is one of them new
-pub record IsFollowed (r : Read) (old new : Run) : Type 0 where
-  pub items : strip new.glyphs ≡ r.items
-  pub positions : new.positions ≡ r.positions
-  pub parts : IsMonotone old.level → IsOrdered (clusters old.glyphs) → clusters new.glyphs ≡ after_events (events_at old.level r) (clusters old.glyphs)
-  pub known : BringsNone (clusters old.glyphs) (clusters new.glyphs)
-  pub level : new.level ≡ old.level
-
--- the way from one run to another is a reading
+-- the way from one run to another is a reading: all is told of the new one
 abbrev pub Follows : Reading → Run → Run → Type 0
-Follows (Ok r) old new = IsFollowed r old new
+Follows (Ok r) old new = new ≡ run_after r old
 Follows (Err e) old new = ⊥
 
--- a stage, at the items and positions of a run
+-- a stage, at the view of a run
 abbrev pub read_of : Stage → Run → Reading
-read_of stage run = stage (strip run.glyphs) run.positions
+read_of stage run = stage run.view

@@ -2,7 +2,7 @@
 use Rattle.std.specs.Prelude.{ℕ, ◌+◌, List, [], ◌++◌, Option, Some, None, map, take, drop}
 use Rattle.glyph_types.specs.declared.info.hb_glyph_info_t.{hb_glyph_info_t}
 use Rattle.glyph_lists.specs.Items.{Item}
-use Rattle.glyph_lists.specs.Events.{first_of, last_of, or}
+use Rattle.glyph_lists.specs.Parts.{first_of, last_of, or}
 
 -- copies of what there is, one for each number
 abbrev pub copied : {X : Type 0} → (X → ℕ → X) → Option X → List ℕ → List X

@@ -3,7 +3,7 @@ use Rattle.std.proofs.Common.{ℕ, zero, suc, ◌≡◌, ◌≤◌, ◌<◌, ◌
 use Rattle.std.proofs.lemmas.List.{take_more, map-append}
 use Rattle.glyph_types.specs.declared.info.hb_glyph_info_t.{hb_glyph_info_t}
 use Rattle.glyph_lists.specs.Items.{clusters}
-use Rattle.glyph_lists.specs.Events.{last_from}
+use Rattle.glyph_lists.specs.Parts.{last_from}
 use Rattle.glyph_lists.specs.Order.{AllFrom, IsFalling}
 use Rattle.glyph_sides.proofs.Between.{chain_first}
 use Rattle.glyph_sides.specs.Known.{IsFallingTo, first_number}

@@ -3,9 +3,9 @@ use Rattle.std.proofs.Common.{ℕ, zero, suc, ◌≡◌, ◌≤◌, ◌<◌, ◌
 use Rattle.std.proofs.lemmas.List.{set-get_or, get_or-map, take_more, map-append}
 use Rattle.glyph_types.specs.declared.info.hb_glyph_info_t.{hb_glyph_info_t}
 use Rattle.glyph_lists.specs.Items.{clusters}
-use Rattle.glyph_lists.specs.Events.{Reverse, last_from}
+use Rattle.glyph_lists.specs.Parts.{ReverseParts, last_from}
 use Rattle.glyph_lists.specs.Order.{AllFrom, IsInOrder, IsRising}
-use Rattle.glyph_lists.specs.Lemmas.Events.{event_keeps_order}
+use Rattle.glyph_lists.specs.Lemmas.Parts.{event_keeps_order}
 use Rattle.glyph_sides.specs.declared.order.KnownOrder.{KnownOrder}
 use Rattle.glyph_sides.specs.declared.order.KnownOrder.TheVariants.{Unknown, Rising, Falling}
 use Rattle.glyph_sides.proofs.Between.{chain_first}
@@ -23,10 +23,10 @@ back_in_place gs i c d lt e =
     ap (set (clusters gs) i) (sym seen) ∙ set-get_or (clusters gs) i c
 
 pub rises_turned : (ns : List ℕ) → IsInOrder false ns → IsInOrder true (reverse ns)
-rises_turned ns h = event_keeps_order Reverse false ns h
+rises_turned ns h = event_keeps_order ReverseParts false ns h
 
 pub falls_turned : (ns : List ℕ) → IsInOrder true ns → IsInOrder false (reverse ns)
-falls_turned ns h = event_keeps_order Reverse true ns h
+falls_turned ns h = event_keeps_order ReverseParts true ns h
 
 all_least : (m n : ℕ) (ns : List ℕ) → m ≤ n → AllFrom (λ x y. x ≤ y) m ns → AllFrom (λ x y. x ≤ y) m (ns ++ n ∷ [])
 all_least m n [] le h = (le, tt)

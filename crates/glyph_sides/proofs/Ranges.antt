@@ -4,14 +4,14 @@ use Rattle.std.proofs.Common.{ℕ, ◌≡◌, ◌≤◌, ◌-◌, ◌+◌, true,
 use Rattle.std.proofs.lemmas.List.{length-take-le, drop_at, take-map, drop-map, map-append}
 use Rattle.glyph_types.specs.declared.info.hb_glyph_info_t.{hb_glyph_info_t}
 use Rattle.glyph_lists.specs.Items.{clusters}
-use Rattle.glyph_lists.specs.Events.{stretch}
+use Rattle.glyph_lists.specs.Parts.{stretch}
 use Rattle.glyph_lists.specs.Order.{IsOrdered}
 use Rattle.glyph_lists.specs.Lists.{range_beyond}
 use Rattle.glyph_lists.specs.Merges.{merged}
 use Rattle.glyph_lists.specs.Glyphs.{in_cluster, glyphs_merged}
 use Rattle.united_clusters.specs.United.{Row, goes_by, renamed_by}
 use Rattle.glyph_lists.specs.Lemmas.Drawn.{IsDrawn, drawn_second, drawn_drop, drawn_take}
-use Rattle.glyph_lists.specs.Lemmas.Events.{order_drawn}
+use Rattle.glyph_lists.specs.Lemmas.Parts.{order_drawn}
 use Rattle.glyph_lists.specs.Lemmas.Glyphs.{cut_out}
 use Rattle.glyph_lists.specs.Lemmas.Merges.{chain_left, chain_right}
 

@@ -1,6 +1,6 @@
 -- What is known of the order of clusters.
 use Rattle.std.specs.Prelude.{ℕ, ◌≡◌, ◌==◌, ◌&&◌, ◌∷◌, Bool, true, false, if◌then◌else◌, List, [], length, nat_lt, Option, Some, None, slice_index_or, slice_set}
-use Rattle.glyph_lists.specs.Events.{last_from}
+use Rattle.glyph_lists.specs.Parts.{last_from}
 use Rattle.glyph_lists.specs.Order.{IsInOrder, IsFalling, IsRising}
 use Rattle.glyph_sides.specs.declared.order.KnownOrder.{KnownOrder}
 use Rattle.glyph_sides.specs.declared.order.KnownOrder.TheVariants.{Unknown, Rising, Falling}

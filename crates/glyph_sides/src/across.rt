@@ -1,6 +1,6 @@
 ghost use Rattle.std.specs.Prelude.{◌≡◌, ◌+◌, ◌-◌, ◌≤◌, ◌++◌, true, drop, length, map, nat_lt, slice_range, take, vec_len};
 ghost use Rattle.glyph_lists.specs.Items.{clusters};
-ghost use Rattle.glyph_lists.specs.Events.{stretch};
+ghost use Rattle.glyph_lists.specs.Parts.{stretch};
 ghost use Rattle.glyph_lists.specs.Merges.{least_number};
 ghost use Rattle.glyph_lists.specs.Order.{IsOrdered};
 ghost use Rattle.glyph_lists.specs.Glyphs.{flagged, glyphs_merged, marked_outside, tells_apart};

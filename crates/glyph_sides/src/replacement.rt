@@ -1,6 +1,6 @@
 ghost use Rattle.std.specs.Prelude.{◌≡◌, ◌+◌, ◌≤◌, ◌++◌, ◌∷◌, [], length, true, drop, map, vec_len, vec_capacity};
 ghost use Rattle.glyph_lists.specs.Items.{clusters};
-ghost use Rattle.glyph_lists.specs.Events.{first_of, last_of, or, stretch};
+ghost use Rattle.glyph_lists.specs.Parts.{first_of, last_of, or, stretch};
 ghost use Rattle.glyph_lists.specs.Order.{IsOrdered};
 ghost use Rattle.glyph_lists.specs.Glyphs.{beside_merged, glyphs_merged_at, is_marked_at};
 ghost use Rattle.glyph_lists.specs.Replacements.{copied, glyph_numbered};

@@ -7,13 +7,13 @@ use Rattle.std.proofs.lemmas.List.{map-append, take-take, take_more, drop-take, 
 use Rattle.std.proofs.Math.Seq.{take-append_seam, drop-append_seam}
 use Rattle.glyph_types.specs.declared.info.hb_glyph_info_t.{hb_glyph_info_t as Glyph}
 use Rattle.glyph_lists.specs.Items.{clusters, without_flags}
-use Rattle.glyph_lists.specs.Events.{stretch}
+use Rattle.glyph_lists.specs.Parts.{stretch}
 use Rattle.glyph_lists.specs.Order.{IsFalling, IsRising, IsOrdered, IsInOrder, IsChain, has_number}
 use Rattle.glyph_lists.specs.Merges.{least_number, merged}
 use Rattle.glyph_lists.specs.Glyphs.{in_cluster, glyphs_merged, glyphs_merged_at, is_marked_at}
 use Rattle.glyph_types.specs.declared.level.BufferClusterLevel.{BufferClusterLevel as Level}
 use Rattle.glyph_types.specs.declared.level.BufferClusterLevel.TheVariants.{MonotoneGraphemes, MonotoneCharacters, Characters}
-use Rattle.glyph_lists.specs.Readings.{IsMonotone}
+use Rattle.glyph_lists.specs.PartReadings.{IsMonotone}
 use Rattle.std.specs.List.{list_all}
 use Rattle.glyph_slices.specs.Merging.{direction_merged}
 use Rattle.glyph_slices.specs.Deleting.{IsEndRun}

@@ -7,10 +7,10 @@ use Rattle.std.proofs.lemmas.List.{length-map}
 use Rattle.std.specs.Int.RustNames.{bit_and}
 use Rattle.glyph_types.specs.declared.info.hb_glyph_info_t.{hb_glyph_info_t as Glyph}
 use Rattle.glyph_lists.specs.Items.{clusters, without_flags}
-use Rattle.glyph_lists.specs.Events.{last_of, last_from}
+use Rattle.glyph_lists.specs.Parts.{last_of, last_from}
 use Rattle.glyph_lists.specs.Order.{IsOrdered}
 use Rattle.glyph_lists.specs.Lemmas.Numbers.{Has, has_here, has_more, has_last_from}
-use Rattle.glyph_lists.specs.Lemmas.Events.{Stands, stands_self}
+use Rattle.glyph_lists.specs.Lemmas.Parts.{Stands, stands_self}
 use Rattle.glyph_lists.specs.Lemmas.Ends.{to_last}
 use Rattle.glyph_lists.specs.Lemmas.Merges.{chain_left, chain_across}
 use Rattle.glyph_lists.specs.Lemmas.Deletions.{last_is}

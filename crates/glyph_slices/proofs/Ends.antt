@@ -6,7 +6,7 @@ use Rattle.std.proofs.lemmas.Grind.{common_steps}
 use Rattle.std.proofs.lemmas.List.{drop_more, drop_all, take_all, length-drop, length-map, append-nil}
 use Rattle.glyph_types.specs.declared.info.hb_glyph_info_t.{hb_glyph_info_t as Glyph}
 use Rattle.glyph_lists.specs.Items.{clusters}
-use Rattle.glyph_lists.specs.Events.{last_of}
+use Rattle.glyph_lists.specs.Parts.{last_of}
 use Rattle.glyph_slices.specs.Deleting.{recast, end_recast_from, end_recast, IsEndRun}
 
 got_cluster : (gs : List Glyph) (i : ℕ) (d : Glyph) → i < length gs → slice_get (clusters gs) i ≡ Some (get_or gs i d).cluster

@@ -4,7 +4,7 @@ use Rattle.std.proofs.lemmas.List.{append-nil, drop-map, length-map, map-append}
 use Rattle.glyph_types.specs.declared.info.hb_glyph_info_t.{hb_glyph_info_t as Glyph}
 use Rattle.glyph_types.specs.declared.level.BufferClusterLevel.{BufferClusterLevel as Level}
 use Rattle.glyph_lists.specs.Items.{Item, Position, item_of, strip, clusters}
-use Rattle.glyph_lists.specs.Events.{first_of, last_of, is_number}
+use Rattle.glyph_lists.specs.Parts.{first_of, last_of, is_number}
 use Rattle.glyph_lists.specs.Glyphs.{glyphs_merged_at}
 use Rattle.glyph_lists.specs.Deletions.{end_renumbered, deleted_alone}
 use Rattle.glyph_lists.specs.Lemmas.Glyphs.{clusters_merged_at}

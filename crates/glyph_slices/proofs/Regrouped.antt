@@ -5,7 +5,7 @@ use Rattle.glyph_types.specs.declared.info.hb_glyph_info_t.{hb_glyph_info_t as G
 use Rattle.glyph_types.specs.declared.level.BufferClusterLevel.{BufferClusterLevel as Level}
 use Rattle.glyph_types.specs.declared.level.BufferClusterLevel.TheVariants.{MonotoneGraphemes, MonotoneCharacters, Characters}
 use Rattle.glyph_lists.specs.Items.{Item, Position, item_of, strip, clusters}
-use Rattle.glyph_lists.specs.Events.{stretch}
+use Rattle.glyph_lists.specs.Parts.{stretch}
 use Rattle.glyph_lists.specs.Merges.{merged_at}
 use Rattle.glyph_lists.specs.Lemmas.Glyphs.{strip_merged, strip_merged_at, clusters_merged, clusters_merged_at}
 use Rattle.glyph_slices.specs.Groups.{joined_behind, group_length}

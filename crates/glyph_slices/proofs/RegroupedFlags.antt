@@ -7,7 +7,7 @@ use Rattle.glyph_types.specs.declared.info.hb_glyph_info_t.{hb_glyph_info_t as G
 use Rattle.glyph_types.specs.declared.level.BufferClusterLevel.{BufferClusterLevel as Level}
 use Rattle.glyph_types.specs.declared.level.BufferClusterLevel.TheVariants.{MonotoneGraphemes, MonotoneCharacters, Characters}
 use Rattle.glyph_lists.specs.Items.{Item, Position, item_of, strip, clusters, flags_of, glyph_flags, without_flags}
-use Rattle.glyph_lists.specs.Events.{stretch}
+use Rattle.glyph_lists.specs.Parts.{stretch}
 use Rattle.glyph_lists.specs.Merges.{least_number, merged, merged_at}
 use Rattle.glyph_lists.specs.Order.{has_number}
 use Rattle.glyph_lists.specs.Glyphs.{in_cluster, marked_outside, flags_outside, glyphs_marked}

@@ -4,7 +4,7 @@ use Rattle.std.proofs.lemmas.List.{map-append, map-id, length-append, length-map
 use Rattle.std.proofs.Math.Seq.{take-append_seam, drop-append_seam}
 use Rattle.glyph_types.specs.declared.level.BufferClusterLevel.{BufferClusterLevel as Level}
 use Rattle.glyph_types.specs.declared.level.BufferClusterLevel.TheVariants.{MonotoneGraphemes, MonotoneCharacters, Characters}
-use Rattle.glyph_lists.specs.Events.{stretch}
+use Rattle.glyph_lists.specs.Parts.{stretch}
 use Rattle.glyph_lists.specs.Merges.{merged, merged_at}
 use Rattle.glyph_slices.specs.Groups.{joined_behind, group_length}
 use Rattle.glyph_slices.specs.Turning.{in_front, groups}

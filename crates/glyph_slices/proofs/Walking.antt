@@ -9,7 +9,7 @@ use Rattle.glyph_types.specs.declared.info.hb_glyph_info_t.{hb_glyph_info_t as G
 use Rattle.glyph_types.specs.declared.level.BufferClusterLevel.{BufferClusterLevel}
 use Rattle.glyph_types.specs.declared.level.BufferClusterLevel.TheVariants.{MonotoneGraphemes, MonotoneCharacters, Characters}
 use Rattle.glyph_lists.specs.Items.{clusters}
-use Rattle.glyph_lists.specs.Events.{first_of, last_of, is_number}
+use Rattle.glyph_lists.specs.Parts.{first_of, last_of, is_number}
 use Rattle.glyph_lists.specs.Deletions.{end_renumbered}
 use Rattle.glyph_lists.specs.Lemmas.Drawn.{last_more}
 use Rattle.glyph_lists.specs.Glyphs.{glyphs_merged_at, is_marked_at}

@@ -8,7 +8,7 @@ use Rattle.glyph_types.specs.declared.info.hb_glyph_info_t.{hb_glyph_info_t as G
 use Rattle.glyph_types.specs.declared.level.BufferClusterLevel.{BufferClusterLevel as Level}
 use Rattle.glyph_types.specs.declared.level.BufferClusterLevel.TheVariants.{MonotoneGraphemes, MonotoneCharacters, Characters}
 use Rattle.glyph_lists.specs.Items.{clusters, flags_of, glyph_flags, without_flags}
-use Rattle.glyph_lists.specs.Events.{first_of, last_of, is_number, stretch}
+use Rattle.glyph_lists.specs.Parts.{first_of, last_of, is_number, stretch}
 use Rattle.glyph_lists.specs.Glyphs.{in_cluster}
 use Rattle.glyph_lists.specs.Merges.{merged}
 use Rattle.glyph_lists.specs.Deletions.{end_renumbered}

@@ -5,7 +5,7 @@ use Rattle.std.specs.Int.RustNames.{bit_and}
 use Rattle.glyph_types.specs.declared.info.hb_glyph_info_t.{hb_glyph_info_t}
 use Rattle.glyph_types.specs.declared.level.BufferClusterLevel.{BufferClusterLevel}
 use Rattle.glyph_lists.specs.Items.{clusters, without_flags}
-use Rattle.glyph_lists.specs.Events.{first_of, last_of, is_number}
+use Rattle.glyph_lists.specs.Parts.{first_of, last_of, is_number}
 use Rattle.glyph_lists.specs.Glyphs.{glyphs_merged_at, is_marked_at}
 
 -- a glyph in a cluster: where it was in another, the three flags of a mask take the place of its own

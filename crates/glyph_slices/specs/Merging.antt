@@ -4,11 +4,11 @@ use Rattle.glyph_types.specs.declared.info.hb_glyph_info_t.{hb_glyph_info_t}
 use Rattle.glyph_types.specs.declared.level.BufferClusterLevel.{BufferClusterLevel}
 use Rattle.glyph_types.specs.declared.level.BufferClusterLevel.TheVariants.{MonotoneGraphemes, MonotoneCharacters, Characters}
 use Rattle.glyph_lists.specs.Items.{clusters}
-use Rattle.glyph_lists.specs.Events.{Join}
+use Rattle.glyph_lists.specs.Parts.{JoinParts}
 use Rattle.glyph_lists.specs.Merges.{merged_at}
 use Rattle.glyph_lists.specs.Order.{IsInOrder, IsOrdered}
 use Rattle.glyph_lists.specs.Glyphs.{glyphs_merged_at}
-use Rattle.glyph_lists.specs.Lemmas.Events.{event_keeps_order}
+use Rattle.glyph_lists.specs.Lemmas.Parts.{event_keeps_order}
 use Rattle.glyph_lists.specs.Lemmas.Glyphs.{clusters_merged_at}
 use Rattle.glyph_lists.specs.Lemmas.Merges.{merge_joins}
 
@@ -18,8 +18,8 @@ ordered_from true ns h = inr h
 
 -- rising clusters stay rising, and falling ones falling
 pub order_kept : (falls : Bool) (level : BufferClusterLevel) (from to : ℕ) (ns : List ℕ) → from ≤ to → IsInOrder falls ns → IsInOrder falls (merged_at level from to ns)
-order_kept falls MonotoneGraphemes from to ns le h = subst (IsInOrder falls) (sym (merge_joins MonotoneGraphemes from to ns le tt (ordered_from falls ns h))) (event_keeps_order (Join from to) falls ns h)
-order_kept falls MonotoneCharacters from to ns le h = subst (IsInOrder falls) (sym (merge_joins MonotoneCharacters from to ns le tt (ordered_from falls ns h))) (event_keeps_order (Join from to) falls ns h)
+order_kept falls MonotoneGraphemes from to ns le h = subst (IsInOrder falls) (sym (merge_joins MonotoneGraphemes from to ns le tt (ordered_from falls ns h))) (event_keeps_order (JoinParts from to) falls ns h)
+order_kept falls MonotoneCharacters from to ns le h = subst (IsInOrder falls) (sym (merge_joins MonotoneCharacters from to ns le tt (ordered_from falls ns h))) (event_keeps_order (JoinParts from to) falls ns h)
 order_kept falls Characters from to ns le h = h
 
 pub order_merged : (level : BufferClusterLevel) (from to : ℕ) (gs new : List hb_glyph_info_t) → from ≤ to → new ≡ glyphs_merged_at level from to gs → IsOrdered (clusters gs) → IsOrdered (clusters new)

@@ -6,12 +6,12 @@ use Rattle.glyph_types.specs.declared.info.hb_glyph_info_t.{hb_glyph_info_t as G
 use Rattle.glyph_types.specs.declared.level.BufferClusterLevel.{BufferClusterLevel as Level}
 use Rattle.glyph_types.specs.declared.level.BufferClusterLevel.TheVariants.{MonotoneGraphemes, MonotoneCharacters, Characters}
 use Rattle.glyph_lists.specs.Items.{clusters}
-use Rattle.glyph_lists.specs.Events.{Delete, first_of, last_of, last_from, is_number}
+use Rattle.glyph_lists.specs.Parts.{DeletePart, first_of, last_of, last_from, is_number}
 use Rattle.glyph_lists.specs.Deletions.{deleted}
 use Rattle.glyph_lists.specs.Order.{IsInOrder, IsOrdered}
-use Rattle.glyph_lists.specs.Readings.{IsMonotone}
+use Rattle.glyph_lists.specs.PartReadings.{IsMonotone}
 use Rattle.glyph_lists.specs.Lemmas.Deletions.{deletion_is_event, last_is, no_last}
-use Rattle.glyph_lists.specs.Lemmas.Events.{event_keeps_order}
+use Rattle.glyph_lists.specs.Lemmas.Parts.{event_keeps_order}
 use Rattle.glyph_slices.specs.Deleted.{clusters_deleted}
 use Rattle.glyph_slices.specs.Deleting.{Left, end_recast, glyphs_deleted, deletion_marks}
 use Rattle.glyph_slices.specs.DeletionWalk.{Deletes}
@@ -70,7 +70,7 @@ taken_less level front ahead new g rest p a last lt next n =
 
 -- clusters stay in order
 order_at : (falls : Bool) (level : Level) (front : List ℕ) (n : ℕ) (back : List ℕ) → IsMonotone level → IsInOrder falls (front ++ n ∷ back) → IsInOrder falls (deleted level front n back)
-order_at falls level front n back mono o = subst (IsInOrder falls) (sym (deletion_is_event level falls front n back mono o)) (event_keeps_order (Delete (length front)) falls (front ++ n ∷ back) o)
+order_at falls level front n back mono o = subst (IsInOrder falls) (sym (deletion_is_event level falls front n back mono o)) (event_keeps_order (DeletePart (length front)) falls (front ++ n ∷ back) o)
 
 tail_of : (falls : Bool) (n : ℕ) (ns : List ℕ) → IsInOrder falls (n ∷ ns) → IsInOrder falls ns
 tail_of false n ns o = o.1

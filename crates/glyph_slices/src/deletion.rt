@@ -1,7 +1,7 @@
 ghost use Rattle.std.specs.Prelude.{◌≡◌, ◌+◌, ◌<◌, ◌≤◌, [], Some, true, Bool, length, map, take, drop};
 ghost use Rattle.glyph_types.specs.declared.info.hb_glyph_info_t.{hb_glyph_info_t as Glyph};
 ghost use Rattle.glyph_lists.specs.Items.{Item, clusters, flags_of, item_of, strip};
-ghost use Rattle.glyph_lists.specs.Events.{first_of, is_number, last_of};
+ghost use Rattle.glyph_lists.specs.Parts.{first_of, is_number, last_of};
 ghost use Rattle.glyph_lists.specs.Order.{BringsNone, IsOrdered};
 ghost use Rattle.glyph_slices.specs.Deleting.{recast, end_recast, IsEndRun};
 ghost use Rattle.glyph_slices.specs.DeletionWalk.{Deletes, Tells, all_passed};

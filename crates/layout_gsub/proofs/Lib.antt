@@ -1,5 +1,4 @@
 pub mod Lists
 pub mod Kept
 pub mod Ligated
-pub mod Does
 pub mod First

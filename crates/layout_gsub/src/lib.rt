@@ -1,5 +1,4 @@
-// Substitution: what the subtables of a lookup do at the cursor of a buffer.
+// Substitution: what a subtable that calls no other lookup does at the cursor of a buffer.
 #![tactic(auto)]
 
-mod ligature;
-pub mod lookup;
+pub mod ligature;

@@ -1,15 +1,17 @@
-ghost use Rattle.std.specs.Prelude.{◌≡◌, ◌<◌, true, [], length, drop, slice_get, IfOk, IfErr};
+ghost use Rattle.std.specs.Prelude.{◌≡◌, ◌<◌, ◌+◌, ◌∷◌, true, [], length, drop, slice_get, IfOk, IfErr};
 ghost use Rattle.std.specs.Option.{option_copied};
 ghost use Rattle.glyph_lists.specs.Items.{item_of, strip};
+ghost use Rattle.glyph_lists.specs.Events.{Concat};
 ghost use Rattle.glyph_buffer.specs.Sides.{items_of};
-ghost use Rattle.layout_gsub.specs.Actions.{first_rule};
-ghost use Rattle.layout_gsub.specs.Buffers.{Does, are_glyphs, cut_of};
-ghost use Rattle.layout_gsub.specs.Ligatures.{begins_with, is_component, ligature_rule, ligature_subtable, shares_mask};
+ghost use Rattle.layout_rules.specs.Actions.{first_rule};
+ghost use Rattle.layout_rules.specs.Buffers.{Does, IsPassed, are_glyphs, cut_of};
+ghost use Rattle.layout_gsub.specs.Ligatures.{is_component, mismatch, ligature_rule, ligature_subtable};
 
 use glyph_buffer::buffer::hb_buffer_t;
 use glyph_types::cause::ShapeCause;
-use glyph_types::info::{DEFINED, hb_glyph_info_t};
+use glyph_types::info::hb_glyph_info_t;
 use layout_font::ligature::{Ligature, LigatureSubst};
+use layout_rules::mask::shares_mask;
 
 /// The i-th glyph from the cursor on, where there is one.
 fn ahead(buffer: &hb_buffer_t, i: usize) -> Option<&hb_glyph_info_t>
@@ -21,35 +23,41 @@ fn ahead(buffer: &hb_buffer_t, i: usize) -> Option<&hb_glyph_info_t>
     Some(buffer.cur(i))
 }
 
-pub(crate) fn shares_mask(mask: u32, info: &hb_glyph_info_t) -> bool
-    ensures { result ≡ shares_mask mask (item_of info.now).mask }
-{
-    // A mask of features has none of the glyph flags.
-    let features = info.mask - (info.mask & DEFINED);
-    features & mask != 0
-}
-
 fn is_component(mask: u32, glyph: u16, info: &hb_glyph_info_t) -> bool
     ensures { result ≡ is_component mask glyph (item_of info.now) }
 {
     info.glyph_id == u32::from(glyph) && shares_mask(mask, info)
 }
 
-#[tactic(auto, using(crate::proofs::Lists::begins_some, crate::proofs::Lists::begins_none, crate::proofs::Lists::begins_all))]
-/// Whether the glyphs behind the one at the cursor are the components, in order.
-fn match_components(components: &[u16], mask: u32, buffer: &hb_buffer_t) -> bool
-    ensures { result ≡ begins_with mask components.now (drop 1 (strip buffer.now.ahead)) }
+#[tactic(auto, using(crate::proofs::Lists::fits_there, crate::proofs::Lists::differs_there, crate::proofs::Lists::ends_there, crate::proofs::Lists::all_there))]
+/// Where the glyphs after the one at the cursor are not the components, in order: how many of them tell it.
+fn match_components(components: &[u16], mask: u32, buffer: &hb_buffer_t) -> Option<usize>
+    ensures { result ≡ mismatch mask 0 components.now (drop 1 (strip buffer.now.ahead)) }
 {
     for (i, component) in components.iter().enumerate() {
-        match ahead(buffer, i + 1) {
-            Some(info) if is_component(mask, *component, info) => {}
-            _ => return false,
+        let Some(info) = ahead(buffer, i + 1) else {
+            return Some(i);
+        };
+        if !is_component(mask, *component, info) {
+            return Some(i + 1);
         }
     }
-    true
+    None
 }
 
-#[tactic(auto, using(crate::proofs::Ligated::ligature_fits, crate::proofs::Ligated::ligature_does))]
+/// Marks the glyph at the cursor and so many after it as unsafe to concat, where that is asked for.
+#[tactic(auto, using(layout_rules::specs::Lemmas::Attempts::attempt_passed))]
+fn mark_attempt(count: usize, buffer: &mut hb_buffer_t)
+    requires open { buffer.old.is_open ≡ true }
+    requires there { count < length buffer.old.ahead }
+    ensures { IsPassed (Concat (length buffer.old.behind) (length buffer.old.behind + (count + 1)) ∷ []) buffer.old buffer.new }
+{
+    let at = buffer.idx();
+    let _end = buffer.len();
+    buffer.unsafe_to_concat(Some(at), Some(at + count + 1));
+}
+
+#[tactic(auto, using(crate::proofs::Ligated::mismatch_fits, crate::proofs::Ligated::ligature_fits, crate::proofs::Ligated::ligature_passes, crate::proofs::Ligated::ligature_does))]
 /// Puts a ligature in the place of its components, where they follow the cursor.
 fn apply_ligature(
     ligature: &Ligature,
@@ -63,7 +71,8 @@ fn apply_ligature(
     ensures ok { IfOk result (λ acted. Does (ligature_rule mask ligature.now (cut_of buffer.old)) acted buffer.old buffer.new) }
     ensures err { IfErr result (λ e. e ≡ ShapeCause.OutOfMemory) }
 {
-    if !match_components(ligature.components(), mask, buffer) {
+    if let Some(count) = match_components(ligature.components(), mask, buffer) {
+        mark_attempt(count, buffer);
         return Ok(false);
     }
     let count = 1 + ligature.components().len();
@@ -73,7 +82,7 @@ fn apply_ligature(
     Ok(true)
 }
 
-#[tactic(auto, using(crate::proofs::Does::does_first, crate::proofs::Does::passed_on, crate::proofs::Does::not_done, crate::proofs::Does::rule_step, crate::proofs::Does::no_rules))]
+#[tactic(auto, using(layout_rules::specs::Lemmas::Tried::tried_first, layout_rules::specs::Lemmas::Tried::tried_open, layout_rules::specs::Lemmas::Tried::tried_positions, layout_rules::specs::Lemmas::Tried::tried_limit, layout_rules::specs::Lemmas::Tried::tried_numbers, layout_rules::specs::Lemmas::Tried::tried_next, layout_rules::specs::Lemmas::Tried::tried_acted, layout_rules::specs::Lemmas::Tried::tried_all))]
 /// Puts the first ligature that matches in the place of its components.
 fn apply_ligatures(
     ligatures: &[Ligature],
@@ -95,9 +104,12 @@ fn apply_ligatures(
     Ok(false)
 }
 
-#[tactic(auto, using(crate::proofs::First::number_ahead))]
-/// Puts a ligature of the subtable in the place of the glyph at the cursor and those behind it, where one matches.
-pub(crate) fn apply_ligature_subst(
+#[tactic(auto, using(layout_rules::specs::Lemmas::Glyphs::number_ahead))]
+/// Ligature substitution (OpenType, GSUB lookup type 4) at the cursor: the first of the subtable's ligatures whose
+/// components follow the glyph at the cursor takes their place. It tells whether one did. Each ligature before it that
+/// begins with the glyph and doesn't match marks what it looked at as unsafe to concat, where that is asked for.
+/// Its one error is want of memory.
+pub fn apply_ligature_subst(
     subtable: &LigatureSubst,
     mask: u32,
     buffer: &mut hb_buffer_t,

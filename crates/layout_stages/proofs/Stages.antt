@@ -1,49 +1,40 @@
 -- Lookups one after another.
-use Rattle.std.proofs.Common.{ℕ, ◌≡◌, ◌≤◌, ◌<◌, ◌+◌, List, ◌∷◌, length, drop, get_or, refl, sym, subst, ◌∙◌}
+use Rattle.std.proofs.Common.{ℕ, ◌≡◌, ◌≤◌, ◌<◌, ◌+◌, List, ◌∷◌, length, drop, get_or, true, refl, sym, subst, ◌∙◌}
 use Rattle.std.specs.Prelude.{slice_get, None, Option}
 use Rattle.std.proofs.lemmas.List.{drop_more, drop_all}
 use Rattle.glyph_lists.specs.Readings.{Run, Follows, read_of}
 use Rattle.glyph_lists.specs.Steps.{follows_then, follows_same}
-use Rattle.glyph_buffer.specs.Sides.{Sides, run_of}
+use Rattle.glyph_buffer.specs.Sides.{Sides, settings_of, items_of, run_of}
 use Rattle.layout_font.specs.Layout.{LookupTable}
 use Rattle.layout_map.specs.declared.stage.lookup_map_t.{lookup_map_t}
 use Rattle.layout_stages.specs.Lookups.{lookup_stage, lookups_stage}
-use Rattle.layout_stages.specs.Steps.{IsSane, IsReady, IsDone}
-use Rattle.layout_stages.proofs.Passage.{then_sane}
+use Rattle.layout_rules.specs.Buffers.{are_glyphs}
+use Rattle.layout_rules.specs.Ready.{IsReady, IsDone}
 
 -- some lookups were done; whatever follows by those that are left follows by all
 pub record AreDone (table : List LookupTable) (all left : List lookup_map_t) (old now : Sides) : Type 0 where
   pub ready : IsReady now
-  pub level : now.level ≡ old.level
-  pub limit : now.max_len ≡ old.max_len
-  pub direction : now.direction ≡ old.direction
-  pub script : now.script ≡ old.script
-  pub sane : IsSane old now
+  pub settings : settings_of now ≡ settings_of old
+  pub numbers : are_glyphs (items_of old) ≡ true → are_glyphs (items_of now) ≡ true
   pub follows : (final : Run) → Follows (read_of (lookups_stage table left) (run_of now)) (run_of now) final → Follows (read_of (lookups_stage table all) (run_of old)) (run_of old) final
 
 pub none_done : (table : List LookupTable) (all : List lookup_map_t) (s : Sides) → IsReady s → AreDone table all (drop 0 all) s s
 none_done table all s ready = record {
   ready = ready;
-  level = refl;
-  limit = refl;
-  direction = refl;
-  script = refl;
-  sane = record { numbers = λ h. h; flags = λ m h. h };
+  settings = refl;
+  numbers = λ h. h;
   follows = λ final f. f;
 }
 
--- a place without a lookup
+-- an index without a lookup
 pub nothing_done : (mask : ℕ) (o : Option LookupTable) (s : Sides) → IsReady s → o ≡ None → IsDone (lookup_stage o mask) s s
 nothing_done mask o s ready none =
     let P : Option LookupTable → Type 0 = λ p. IsDone (lookup_stage p mask) s s in
     let same : IsDone (lookup_stage None mask) s s = record {
       follows = follows_same (run_of s);
       ready = ready;
-      level = refl;
-      limit = refl;
-      direction = refl;
-      script = refl;
-      sane = record { numbers = λ h. h; flags = λ m h. h };
+      settings = refl;
+      numbers = λ h. h;
     } in
     subst P (sym none) same
 
@@ -56,11 +47,8 @@ one_done table all k e old now next lt a d =
     let before = subst P left a in
     record {
       ready = d.ready;
-      level = d.level ∙ a.level;
-      limit = d.limit ∙ a.limit;
-      direction = d.direction ∙ a.direction;
-      script = d.script ∙ a.script;
-      sane = then_sane old now next a.level a.sane d.sane;
+      settings = d.settings ∙ a.settings;
+      numbers = λ h. d.numbers (a.numbers h);
       follows = λ final f. before.follows final (follows_then (read_of (lookup_stage (slice_get table m.index) m.mask) (run_of now)) (lookups_stage table (drop (k + 1) all)) (run_of now) (run_of next) final d.follows f);
     }
 
@@ -71,9 +59,6 @@ all_done table all k old now le a =
     record {
       follows = done.follows (run_of now) (follows_same (run_of now));
       ready = done.ready;
-      level = done.level;
-      limit = done.limit;
-      direction = done.direction;
-      script = done.script;
-      sane = done.sane;
+      settings = done.settings;
+      numbers = done.numbers;
     }

@@ -1,39 +1,55 @@
--- A lookup tried at each place of a list, and the lookups of a stage (OpenType, chapter 2).
-use Rattle.std.specs.Prelude.{ℕ, suc, zero, List, [], ◌∷◌, length, Option, Some, None, Ok, Err, slice_get}
-use Rattle.glyph_lists.specs.Items.{Item, Position}
-use Rattle.glyph_lists.specs.Readings.{Read, Reading, Stage, behind, and_then, eventless, always, as_it_is}
+-- A lookup by the type of its subtables, tried at each index of a list, and the lookups of a stage (OpenType, chapter 2).
+use Rattle.std.specs.Prelude.{ℕ, suc, zero, if◌then◌else◌, List, [], ◌∷◌, length, Option, Some, None, Ok, Err, slice_get}
+use Rattle.glyph_lists.specs.Items.{Item}
+use Rattle.glyph_lists.specs.Parts.{first_of}
+use Rattle.glyph_lists.specs.Readings.{View, Read, Reading, Stage, then_reading, and_then, with_events, always, as_it_is}
 use Rattle.glyph_buffer.specs.Sides.{zero_positions}
-use Rattle.layout_font.specs.Layout.{LookupTable}
+use Rattle.layout_font.specs.Layout.{SubtableList, ligature_subtables, LookupTable}
 use Rattle.layout_map.specs.declared.stage.lookup_map_t.{lookup_map_t}
-use Rattle.layout_gsub.specs.Actions.{Cut, whole, uncut, past_item, Outcome, Passes, Acts, Refuses, Action}
-use Rattle.layout_gsub.specs.Buffers.{acted_read}
-use Rattle.layout_gsub.specs.Ligatures.{lookup_action}
+use Rattle.layout_rules.specs.Masks.{shares_mask}
+use Rattle.layout_rules.specs.Actions.{Cut, view_at, uncut, past_item, Outcome, Passes, Acts, Refuses, Action, first_rule, at_first}
+use Rattle.layout_gsub.specs.Ligatures.{ligature_subtable}
+
+-- ---- at a cut
+
+-- the first subtable that acts
+abbrev pub subtables : ℕ → SubtableList → Action
+subtables mask (ligature_subtables tables) c = first_rule (ligature_subtable mask) tables c
+
+-- a lookup acts at items that have its mask
+abbrev pub lookup_at : ℕ → LookupTable → Item → Action
+lookup_at mask lookup x c = if shares_mask mask x.mask then subtables mask lookup.subtables c else Passes []
+
+abbrev pub lookup_action : ℕ → LookupTable → Action
+lookup_action mask lookup c = at_first (lookup_at mask lookup) (first_of c.rest) c
+
+-- ---- at all indices
 
 -- what comes of a list once a rule was tried at a cut: where it passes, one item more is done
-abbrev pub after_outcome : Outcome → (Cut → Reading) → Cut → Reading
-after_outcome Passes next c = next (past_item c)
-after_outcome (Acts cut events) next c = behind (acted_read cut events) (next cut)
-after_outcome (Refuses cause) next c = Err cause
+abbrev pub after_outcome : Outcome → (Cut → Reading) → View → Cut → Reading
+after_outcome (Passes events) next v c = then_reading (with_events events (view_at v c)) (next (past_item c))
+after_outcome (Acts cut events) next v c = then_reading (with_events events (view_at v cut)) (next cut)
+after_outcome (Refuses cause) next v c = Err cause
 
--- a rule tried at so many positions, the first of them the cut
-abbrev pub tried : Action → ℕ → Cut → Reading
-tried act zero c = Ok (eventless (whole c) [])
-tried act (suc n) c = after_outcome (act c) (tried act n) c
+-- a rule tried at so many indices, the first of them the cut
+abbrev pub tried : Action → View → ℕ → Cut → Reading
+tried act v zero c = Ok (with_events [] (view_at v c))
+tried act v (suc n) c = after_outcome (act c) (tried act v n) v c
 
 -- what came of a list stands at positions of nothing
-abbrev pub unpositioned : List Item → List Position → Read
-unpositioned xs ps = eventless xs (zero_positions (length xs))
+abbrev pub unplaced : View → Read
+unplaced v = with_events [] (record v { positions = zero_positions (length v.items) })
 
--- a rule tried at each place of a list once, from the left; what it made is not tried again
+-- a rule tried at each index of a list once, from the left; what it made is not tried again
 abbrev pub looked_up : Action → Stage
-looked_up act xs ps = and_then (tried act (length xs) (uncut xs)) (always unpositioned)
+looked_up act v = and_then (tried act v (length v.items) (uncut v)) (always unplaced)
 
--- a lookup with a mask; a place without a lookup does nothing
+-- a lookup with a mask; an index without a lookup does nothing
 abbrev pub lookup_stage : Option LookupTable → ℕ → Stage
-lookup_stage None mask xs ps = as_it_is xs ps
-lookup_stage (Some lookup) mask xs ps = looked_up (lookup_action mask lookup) xs ps
+lookup_stage None mask v = as_it_is v
+lookup_stage (Some lookup) mask v = looked_up (lookup_action mask lookup) v
 
 -- lookups of a table, one after another
 abbrev pub lookups_stage : List LookupTable → List lookup_map_t → Stage
-lookups_stage table [] xs ps = as_it_is xs ps
-lookups_stage table (m ∷ maps) xs ps = and_then (lookup_stage (slice_get table m.index) m.mask xs ps) (lookups_stage table maps)
+lookups_stage table [] v = as_it_is v
+lookups_stage table (m ∷ maps) v = and_then (lookup_stage (slice_get table m.index) m.mask v) (lookups_stage table maps)

@@ -1,20 +1,20 @@
 ghost use Rattle.std.specs.Prelude.{◌≡◌, ◌<◌, ◌≤◌, ◌+◌, true, false, [], length, slice_get, IfErr, OnOk};
 ghost use Rattle.glyph_buffer.specs.Sides.{items_of};
-ghost use Rattle.layout_gsub.specs.Buffers.{are_glyphs};
-ghost use Rattle.layout_gsub.specs.Ligatures.{lookup_action};
-ghost use Rattle.layout_stages.specs.Lookups.{looked_up, lookup_stage, lookups_stage};
-ghost use Rattle.layout_stages.specs.Steps.{IsDone, IsReady, IsStep};
+ghost use Rattle.layout_rules.specs.Buffers.{are_glyphs};
+ghost use Rattle.layout_stages.specs.Lookups.{looked_up, lookup_action, lookup_stage, lookups_stage};
+ghost use Rattle.layout_rules.specs.Ready.{IsDone, IsReady};
+ghost use Rattle.layout_stages.specs.Steps.{IsStep};
 
+use crate::lookup::apply_lookup;
 use glyph_buffer::buffer::hb_buffer_t;
 use glyph_types::cause::ShapeCause;
 use layout_font::lookup::Lookup;
 use layout_font::table::LayoutTable;
-use layout_gsub::lookup::apply_lookup;
 use layout_map::map::hb_ot_map_t;
 use layout_map::stage::lookup_map_t;
 
 /// Tries a lookup at the cursor, and goes on over the glyph where it doesn't act; at the end it does nothing.
-#[tactic(auto, using(crate::proofs::Steps::step_ended, crate::proofs::Steps::step_passed, crate::proofs::Steps::step_acted, crate::proofs::Steps::nothing_done))]
+#[tactic(auto, using(crate::proofs::Steps::step_ended, crate::proofs::Steps::step_passed, crate::proofs::Steps::step_acted))]
 fn apply_next(lookup: &Lookup, mask: u32, buffer: &mut hb_buffer_t) -> Result<(), ShapeCause>
     requires open { buffer.old.is_open ≡ true }
     requires no_positions { buffer.old.positions ≡ [] }
@@ -55,7 +55,7 @@ fn apply_forward(lookup: &Lookup, mask: u32, buffer: &mut hb_buffer_t) -> Result
     Ok(())
 }
 
-/// Does what the lookup at a place of the table does; a place without one does nothing.
+/// Does what the lookup at an index of the table does; an index without one does nothing.
 fn apply_mapped(
     table: &LayoutTable,
     lookup_map: &lookup_map_t,
@@ -73,7 +73,8 @@ fn apply_mapped(
     Ok(())
 }
 
-/// Does the lookups of a map one after another, each at all glyphs.
+/// Does the lookups of a map one after another, each at all glyphs: a lookup is tried at each glyph once, from the left,
+/// and goes on after what it made. Its one error is want of memory.
 #[tactic(auto, using(crate::proofs::Stages::none_done, crate::proofs::Stages::all_done))]
 pub fn apply_lookups(
     table: &LayoutTable,

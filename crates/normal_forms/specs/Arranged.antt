@@ -1,11 +1,11 @@
 -- Items, and what happens to the parts of the text on the way to them.
 use Rattle.std.specs.Prelude.{ℕ, ◌+◌, ◌==◌, ◌&&◌, if◌then◌else◌, List, [], ◌∷◌, ◌++◌, length, map}
 use Rattle.glyph_lists.specs.Items.{Item}
-use Rattle.glyph_lists.specs.Events.{Event, Join, Replace, Delete, Circle, Reverse}
+use Rattle.glyph_lists.specs.Parts.{PartEvent, JoinParts, ReplaceParts, DeletePart, CirclePart, ReverseParts}
 
 pub record Arranged : Type 0 where
   pub items : List Item
-  pub events : List Event
+  pub events : List PartEvent
 
 abbrev pub items : Arranged → List Item
 items a = a.items
@@ -16,15 +16,15 @@ kept xs = record { items = xs; events = [] }
 
 -- so many items make room for others
 abbrev pub replaced_by : ℕ → List Item → Arranged
-replaced_by taken given = record { items = given; events = if taken == 1 && length given == 1 then [] else Replace 0 taken (length given) ∷ [] }
+replaced_by taken given = record { items = given; events = if taken == 1 && length given == 1 then [] else ReplaceParts 0 taken (length given) ∷ [] }
 
 -- an event so many places further
-abbrev pub shifted : ℕ → Event → Event
-shifted n (Join from to) = Join (n + from) (n + to)
-shifted n (Replace at taken given) = Replace (n + at) taken given
-shifted n (Delete at) = Delete (n + at)
-shifted n (Circle beside) = Circle (n + beside)
-shifted n Reverse = Reverse
+abbrev pub shifted : ℕ → PartEvent → PartEvent
+shifted n (JoinParts from to) = JoinParts (n + from) (n + to)
+shifted n (ReplaceParts at taken given) = ReplaceParts (n + at) taken given
+shifted n (DeletePart at) = DeletePart (n + at)
+shifted n (CirclePart beside) = CirclePart (n + beside)
+shifted n ReverseParts = ReverseParts
 
 -- one stretch, and others behind it
 abbrev pub beside : Arranged → Arranged → Arranged

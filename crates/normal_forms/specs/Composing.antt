@@ -3,7 +3,7 @@
 use Rattle.std.specs.Prelude.{ℕ, ◌+◌, ◌==◌, ◌&&◌, Bool, true, nat_lt, if◌then◌else◌, List, [], ◌∷◌, ◌++◌, length, Option, None, option_map}
 use Rattle.std.specs.Option.{option_and_then, option_map_or}
 use Rattle.glyph_lists.specs.Items.{Item}
-use Rattle.glyph_lists.specs.Events.{Join, Delete}
+use Rattle.glyph_lists.specs.Parts.{JoinParts, DeletePart}
 use Rattle.normal_forms.specs.Arranged.{Arranged, kept}
 use Rattle.normal_forms.specs.Characters.{is_mark, mark_class, standing_for, with_glyph}
 use Rattle.normal_forms.specs.Normalizer.{Normalizer}
@@ -29,7 +29,7 @@ composite c starter between x =
 
 -- the stretch from a starter to a mark becomes one, and the mark goes
 abbrev pub with_composition : ℕ → ℕ → Arranged → Arranged
-with_composition starter mark a = record a { events = Join starter (mark + 1) ∷ Delete mark ∷ a.events }
+with_composition starter mark a = record a { events = JoinParts starter (mark + 1) ∷ DeletePart mark ∷ a.events }
 
 -- the items done, the last starter and what stands behind it, and the items ahead
 abbrev pub composed_from : Normalizer → List Item → Item → List Item → List Item → Arranged

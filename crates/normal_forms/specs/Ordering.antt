@@ -3,25 +3,25 @@
 use Rattle.std.specs.Prelude.{ℕ, ◌+◌, ◌==◌, ◌&&◌, ◌||◌, Bool, nat_le, if◌then◌else◌, List, [], ◌∷◌, ◌++◌, length, max, map}
 use Rattle.std.specs.List.{list_all}
 use Rattle.glyph_lists.specs.Items.{Item}
-use Rattle.glyph_lists.specs.Events.{Event, Join}
+use Rattle.glyph_lists.specs.Parts.{PartEvent, JoinParts}
 use Rattle.unicode_tables.specs.ClassOrder.{run_order}
 use Rattle.normal_forms.specs.Arranged.{Arranged, kept, in_turn}
 use Rattle.normal_forms.specs.Characters.{mark_class, shown}
 use Rattle.normal_forms.specs.declared.mode.TheConstants.{MAX_COMBINING_MARKS}
 
 -- a stretch of more than one place
-abbrev pub join_of : ℕ → ℕ → List Event
-join_of from count = if nat_le count 1 then [] else Join from (from + count) ∷ []
+abbrev pub join_of : ℕ → ℕ → List PartEvent
+join_of from count = if nat_le count 1 then [] else JoinParts from (from + count) ∷ []
 
 -- the smallest spans that a sort by class permutes: a span ends where no class behind it is less than one in it. So many
 -- places from `from` on belong to the span met last, whose greatest class is `high`
-abbrev pub joins_from : ℕ → ℕ → ℕ → List ℕ → List Event
+abbrev pub joins_from : ℕ → ℕ → ℕ → List ℕ → List PartEvent
 joins_from from count high [] = join_of from count
 joins_from from count high (k ∷ ks) =
     if list_all (λ l. nat_le high l) (k ∷ ks) then join_of from count ++ joins_from (from + count) 1 k ks
     else joins_from from (count + 1) (max high k) ks
 
-abbrev pub sort_joins : List ℕ → List Event
+abbrev pub sort_joins : List ℕ → List PartEvent
 sort_joins [] = []
 sort_joins (k ∷ ks) = joins_from 0 1 k ks
 

@@ -1,53 +1,69 @@
 -- The line of the empty text.
 use Rattle.std.proofs.Common.{ℕ, ◌≡◌, Bool, true, false, if◌then◌else◌, List, [], ◌∷◌, Ok, refl, ap, ◌∙◌}
-use Rattle.std.specs.Prelude.{None, Some, Option, slice_get}
+use Rattle.std.specs.Prelude.{None, Some, Option, pos, slice_get}
 use Rattle.std.proofs.lemmas.Str.{chars-nil}
-use Rattle.shaping_text.specs.Direction.{is_backward}
+use Rattle.shaping_text.specs.Direction.{is_backward, opposite}
+use Rattle.shaping_text.specs.declared.direction.Direction.{Direction}
 use Rattle.glyph_types.specs.declared.flags.SerializeFlags.{SerializeFlags}
+use Rattle.glyph_types.specs.declared.level.BufferClusterLevel.TheVariants.{MonotoneGraphemes}
 use Rattle.font_json.specs.Keys.{FontKeys}
-use Rattle.glyph_lists.specs.Events.{or}
+use Rattle.glyph_lists.specs.Parts.{or}
+use Rattle.glyph_lists.specs.Events.{Reverse, Reset}
 use Rattle.glyph_buffer.specs.Segment.{guessed_direction}
-use Rattle.glyph_lists.specs.Readings.{Stage, eventless, always, and_then}
-use Rattle.glyph_lists.specs.Steps.{behind_eventless}
+use Rattle.glyph_lists.specs.Readings.{View, Read, Stage, with_events, then_read, then_reading, always, and_then}
+use Rattle.glyph_lists.specs.Steps.{nothing_then}
 use Rattle.layout_font.specs.Layout.{LayoutLists, LookupTable}
 use Rattle.layout_map.specs.declared.stage.lookup_map_t.{lookup_map_t}
 use Rattle.layout_map.specs.Map.{OtMap}
 use Rattle.layout_stages.specs.Lookups.{lookup_stage, lookups_stage}
 use Rattle.glyph_text.specs.Printed.{printed_text}
-use Rattle.shape_run.specs.Path.{substituted, substitution_map, is_turned, native_direction, turned_round, mapped, advanced}
-use Rattle.shape_run.specs.Answer.{line_of_reading, printed_line}
+use Rattle.shape_run.specs.Path.{substituted, substitution_map, is_turned, reversed_view, masked, mapped, after_substitution}
+use Rattle.shape_run.specs.Answer.{line_of_reading, printed_line, text_run, nothing_asked}
 use Rattle.shape_run.specs.Laws.{EmptyTextGivesEmptyLine}
 
 empty_printed : (flags : SerializeFlags) → printed_line flags [] [] ≡ 10 ∷ []
 unfolding printed_text
 empty_printed flags = refl
 
--- no lookup finds a place in no items
-lookup_empty : (o : Option LookupTable) (mask : ℕ) → lookup_stage o mask [] [] ≡ Ok (eventless [] [])
-lookup_empty None mask = refl
-lookup_empty (Some lookup) mask = refl
+-- what is seen of a text without characters
+abbrev empty_view : Direction → View
+empty_view d = record { items = []; positions = []; lig_id = 0; max_ops = pos 0x1FFF_FFFF; random = 1; max_len = 0x3FFF_FFFF; direction = d; told = 0 }
 
-lookups_empty : (table : List LookupTable) (maps : List lookup_map_t) → lookups_stage table maps [] [] ≡ Ok (eventless [] [])
-lookups_empty table [] = refl
-lookups_empty table (m ∷ maps) = ap (λ r. and_then r (lookups_stage table maps)) (lookup_empty (slice_get table m.index) m.mask) ∙ behind_eventless [] [] (lookups_stage table maps [] []) ∙ lookups_empty table maps
+-- no lookup finds an index in no items
+lookup_empty : (o : Option LookupTable) (mask : ℕ) (d : Direction) → lookup_stage o mask (empty_view d) ≡ Ok (with_events [] (empty_view d))
+lookup_empty None mask d = refl
+lookup_empty (Some lookup) mask d = refl
 
-substituted_empty : (table : Option LayoutLists) (m : OtMap) → substituted table m [] [] ≡ Ok (eventless [] [])
-substituted_empty None m = refl
-substituted_empty (Some table) m = lookups_empty table.lookups m.lookups
+lookups_empty : (table : List LookupTable) (maps : List lookup_map_t) (d : Direction) → lookups_stage table maps (empty_view d) ≡ Ok (with_events [] (empty_view d))
+lookups_empty table [] d = refl
+lookups_empty table (m ∷ maps) d = ap (λ r. and_then r (lookups_stage table maps)) (lookup_empty (slice_get table m.index) m.mask d) ∙ nothing_then (empty_view d) (lookups_stage table maps (empty_view d)) ∙ lookups_empty table maps d
+
+substituted_empty : (table : Option LayoutLists) (m : OtMap) (d : Direction) → substituted table m (empty_view d) ≡ Ok (with_events [] (empty_view d))
+substituted_empty None m d = refl
+substituted_empty (Some table) m d = lookups_empty table.lookups m.lookups d
+
+-- the list in native order
+abbrev ordered_read : Bool → Direction → Read
+ordered_read turned d = if turned then with_events (Reverse ∷ []) (record (reversed_view (empty_view d)) { direction = opposite d }) else with_events [] (empty_view d)
+
+-- advances and the order on the line, of no items
+empty_placed : (font : FontKeys) (flags : SerializeFlags) (d : Direction) (turned backward : Bool) (e : Direction) → line_of_reading flags (text_run MonotoneGraphemes nothing_asked d [])
+    (then_reading (record { view = empty_view e; events = λ level. Reset ∷ (if turned then Reverse ∷ [] else []) }) (Ok (if backward then with_events (Reverse ∷ []) (empty_view e) else with_events [] (empty_view e)))) ≡ Ok (10 ∷ [])
+empty_placed font flags d true true e = ap Ok (empty_printed flags)
+empty_placed font flags d true false e = ap Ok (empty_printed flags)
+empty_placed font flags d false true e = ap Ok (empty_printed flags)
+empty_placed font flags d false false e = ap Ok (empty_printed flags)
 
 -- no items on the way, whichever way the line runs
-empty_read : (font : FontKeys) (flags : SerializeFlags) (stage : Stage) (turned backward : Bool) → stage [] [] ≡ Ok (eventless [] []) →
-    line_of_reading flags [] (and_then (and_then (and_then (and_then (Ok (eventless [] [])) (λ xs ps. Ok (if turned then turned_round xs ps else eventless xs ps))) (always (mapped font))) stage)
-    (λ xs ps. and_then (Ok (advanced font xs ps)) (λ ys qs. Ok (if backward then turned_round ys qs else eventless ys qs)))) ≡ Ok (10 ∷ [])
-empty_read font flags stage true true e = rw e (ap Ok (empty_printed flags))
-empty_read font flags stage true false e = rw e (ap Ok (empty_printed flags))
-empty_read font flags stage false true e = rw e (ap Ok (empty_printed flags))
-empty_read font flags stage false false e = rw e (ap Ok (empty_printed flags))
+empty_read : (font : FontKeys) (flags : SerializeFlags) (mask : ℕ) (stage : Stage) (turned : Bool) (d : Direction) → ((e : Direction) → stage (empty_view e) ≡ Ok (with_events [] (empty_view e))) →
+    line_of_reading flags (text_run MonotoneGraphemes nothing_asked d [])
+    (and_then (and_then (and_then (Ok (then_read (masked mask (empty_view d)) (ordered_read turned d))) (always (mapped font))) stage) (after_substitution font)) ≡ Ok (10 ∷ [])
+empty_read font flags mask stage true d none = rw (none (opposite d)) (empty_placed font flags d true (is_backward (opposite d)) (opposite d))
+empty_read font flags mask stage false d none = rw (none d) (empty_placed font flags d false (is_backward d) d)
 
 pub empty_text_gives_empty_line : EmptyTextGivesEmptyLine
 empty_text_gives_empty_line options font here =
     let script = or options.script None in
     let direction = guessed_direction options.direction script in
     let m = substitution_map font.gsub script options.features.items in
-    let none = substituted_empty font.gsub m in
-    rw (chars-nil, here) (empty_read font options.flags (substituted font.gsub m) (is_turned script direction []) (is_backward (native_direction script direction [])) none)
+    rw (chars-nil, here) (empty_read font options.flags m.global_mask (substituted font.gsub m) (is_turned script direction []) direction (substituted_empty font.gsub m))

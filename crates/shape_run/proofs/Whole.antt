@@ -1,100 +1,79 @@
 -- The stages of the first path follow its reading.
-use Rattle.std.proofs.Common.{ℕ, ◌≡◌, ◌==◌, Bool, true, false, if◌then◌else◌, List, [], ◌∷◌, Ok, map, length, reverse, refl, sym, ap, subst, ◌∙◌}
-use Rattle.std.specs.Prelude.{bit_and, Option}
+use Rattle.std.proofs.Common.{ℕ, ◌≡◌, Bool, true, false, if◌then◌else◌, List, [], ◌∷◌, Ok, map, length, reverse, refl, sym, ap, ◌∙◌}
+use Rattle.std.specs.Prelude.{bit_and}
 use Rattle.std.proofs.lemmas.List.{take-append-drop, length-map, length-replicate, append-nil}
-use Rattle.std.specs.List.{list_all, list_any}
+use Rattle.std.specs.List.{list_all}
 use Rattle.shaping_text.specs.Direction.{opposite, is_backward}
-use Rattle.shaping_text.specs.declared.direction.Direction.{Direction}
-use Rattle.shaping_text.specs.declared.script.Script.{Script}
 use Rattle.glyph_types.specs.declared.info.hb_glyph_info_t.{hb_glyph_info_t}
-use Rattle.glyph_types.specs.declared.level.BufferClusterLevel.{BufferClusterLevel}
-use Rattle.glyph_types.specs.declared.level.BufferClusterLevel.TheVariants.{MonotoneGraphemes, MonotoneCharacters, Characters}
 use Rattle.font_json.specs.Keys.{FontKeys}
-use Rattle.glyph_lists.specs.Items.{Item, Position, item_of, strip, clusters}
-use Rattle.glyph_lists.specs.Events.{Reverse, after_events}
-use Rattle.glyph_lists.specs.Order.{BringsNone}
-use Rattle.glyph_lists.specs.Readings.{Reading, Stage, IsFollowed, Follows, IsMonotone, events_at, eventless, always, and_then, read_of}
-use Rattle.glyph_lists.specs.Steps.{follows_then, follows_eventless}
-use Rattle.glyph_lists.specs.Lemmas.Events.{keeps_numbers}
-use Rattle.glyph_buffer.specs.Sides.{Sides, all_glyphs, items_of, run_of, reversed, zero_position}
+use Rattle.glyph_lists.specs.Items.{Item, item_of, strip}
+use Rattle.glyph_lists.specs.Origins.{Origin, origins, without_marks}
+use Rattle.glyph_lists.specs.Events.{Reverse, Reset}
+use Rattle.glyph_lists.specs.Readings.{Reading, Run, Stage, Follows, with_events, always, and_then, read_of}
+use Rattle.glyph_lists.specs.Steps.{follows_then, follows_events}
+use Rattle.glyph_buffer.specs.Sides.{Sides, all_glyphs, items_of, view_of, run_of, reversed, zero_position, zero_positions}
 use Rattle.glyph_buffer.specs.Masks.{with_masks, glyph_masked, item_masked}
+use Rattle.glyph_buffer.specs.FollowedCalls.{reversed_origins}
 use Rattle.layout_map.specs.Map.{OtMap}
-use Rattle.layout_gsub.specs.Buffers.{are_glyphs, have_no_flags}
-use Rattle.layout_stages.specs.Steps.{IsReady, IsDone}
-use Rattle.shape_run.specs.Path.{turned_round, is_turned, native_order, native_direction, mapped, mapped_item, advanced, advance_position, drawn_order, is_numeral, is_letter, masked, substituted, before_substitution, after_substitution, shaped_with}
+use Rattle.layout_rules.specs.Buffers.{are_glyphs}
+use Rattle.layout_rules.specs.Ready.{IsReady, IsDone}
+use Rattle.shape_run.specs.Path.{is_turned, reversed_view, native_order, mapped, mapped_item, advanced, advance_position, drawn_order, masked, substituted, before_substitution, after_substitution, shaped_with}
 use Rattle.shape_run.specs.Stages.{ordered, mapped_glyph, with_mapped, with_advances, advance_positions, drawn, is_glyph_number}
-use Rattle.shape_run.specs.Output.{has_no_flags}
 use Rattle.shape_run.proofs.Turned.{map-reverse, list_all-reverse}
 
--- ---- a list turned round
+-- ---- a list in reverse order
 
-turned_events : (level : BufferClusterLevel) (xs : List Item) (ps : List Position) → events_at level (turned_round xs ps) ≡ Reverse ∷ []
-turned_events MonotoneGraphemes xs ps = refl
-turned_events MonotoneCharacters xs ps = refl
-turned_events Characters xs ps = refl
-
--- the glyphs of a buffer that was turned round
+-- the glyphs of a buffer that was reversed
 all_reversed : (s : Sides) → all_glyphs (reversed s) ≡ reverse (all_glyphs s)
 all_reversed s = take-append-drop s.read (reverse (all_glyphs s))
 
-reversed_followed : (s : Sides) → IsFollowed (turned_round (items_of s) s.positions) (run_of s) (run_of (reversed s))
-reversed_followed s =
-    let numbers : clusters (all_glyphs (reversed s)) ≡ after_events (Reverse ∷ []) (clusters (all_glyphs s)) =
-    ap clusters (all_reversed s) ∙ map-reverse (λ (g : hb_glyph_info_t). g.cluster) (all_glyphs s) in
-    record {
-      items = ap strip (all_reversed s) ∙ map-reverse item_of (all_glyphs s);
-      positions = refl;
-      parts = λ m o. numbers ∙ ap (λ es. after_events es (clusters (all_glyphs s))) (sym (turned_events s.level (items_of s) s.positions));
-      known = subst (λ (ns : List ℕ). BringsNone (clusters (all_glyphs s)) ns) (sym numbers) (keeps_numbers (Reverse ∷ []) (clusters (all_glyphs s)));
-      level = refl;
-    }
-
-same_followed : (s : Sides) → IsFollowed (eventless (items_of s) s.positions) (run_of s) (run_of s)
-same_followed s = follows_eventless (items_of s) s.positions (run_of s) (run_of s) refl refl refl refl
+reversed_follows : (s : Sides) → Follows (Ok (with_events (Reverse ∷ []) (reversed_view (view_of s)))) (run_of s) (run_of (reversed s))
+reversed_follows s =
+    let items : items_of (reversed s) ≡ reverse (items_of s) = ap strip (all_reversed s) ∙ map-reverse item_of (all_glyphs s) in
+    let view : view_of (reversed s) ≡ reversed_view (view_of s) = ap (λ xs. record (reversed_view (view_of s)) { items = xs }) items in
+    follows_events (Reverse ∷ []) (reversed_view (view_of s)) (run_of s) (run_of (reversed s)) view (reversed_origins s) refl refl
 
 -- ---- the stages
 
-ordered_followed : (s : Sides) → IsFollowed (native_order s.script s.direction (items_of s) s.positions) (run_of s) (run_of (ordered s))
-ordered_followed s =
+ordered_follows : (s : Sides) → Follows (read_of (always (native_order s.script)) (run_of s)) (run_of s) (run_of (ordered s))
+ordered_follows s =
     elim (is_turned s.script s.direction (items_of s)) as (λ t.
-    IsFollowed (if t then turned_round (items_of s) s.positions else eventless (items_of s) s.positions) (run_of s)
+    Follows (Ok (if t then with_events (Reverse ∷ []) (record (reversed_view (view_of s)) { direction = opposite s.direction }) else with_events [] (view_of s))) (run_of s)
     (run_of (if t then record (reversed s) { direction = opposite s.direction } else s)))
-    [ true ↦ reversed_followed s | false ↦ same_followed s ]
+    [ true ↦ ap (λ (run : Run). record run { view = record run.view { direction = opposite s.direction } }) (reversed_follows s) | false ↦ refl ]
 
 mapped_items : (font : FontKeys) (gs : List hb_glyph_info_t) → strip (map (mapped_glyph font) gs) ≡ map (mapped_item font) (strip gs)
 mapped_items font [] = refl
 mapped_items font (g ∷ gs) = rw (mapped_items font gs) refl
 
-mapped_clusters : (font : FontKeys) (gs : List hb_glyph_info_t) → clusters (map (mapped_glyph font) gs) ≡ clusters gs
-mapped_clusters font [] = refl
-mapped_clusters font (g ∷ gs) = rw (mapped_clusters font gs) refl
+mapped_origins : (font : FontKeys) (gs : List hb_glyph_info_t) → origins (map (mapped_glyph font) gs) ≡ origins gs
+mapped_origins font [] = refl
+mapped_origins font (g ∷ gs) = rw (mapped_origins font gs) refl
 
-mapped_followed : (font : FontKeys) (s : Sides) → IsFollowed (mapped font (items_of s) s.positions) (run_of s) (run_of (with_mapped font s))
-mapped_followed font s =
-    follows_eventless _ _ (run_of s) (run_of (with_mapped font s)) (mapped_items font (all_glyphs s)) (rw (length-map (all_glyphs s) item_of) refl) (mapped_clusters font (all_glyphs s)) refl
+mapped_follows : (font : FontKeys) (s : Sides) → Follows (read_of (always (mapped font)) (run_of s)) (run_of s) (run_of (with_mapped font s))
+mapped_follows font s =
+    let v = (mapped font (view_of s)).view in
+    let items = ap (λ xs. record v { items = xs; positions = zero_positions (length (all_glyphs s)) }) (mapped_items font (all_glyphs s)) in
+    let places = ap (λ n. record v { positions = zero_positions n }) (sym (length-map (all_glyphs s) item_of)) in
+    follows_events [] v (run_of s) (run_of (with_mapped font s)) (items ∙ places) (mapped_origins font (all_glyphs s)) refl refl
 
 advanced_items : (font : FontKeys) (gs : List hb_glyph_info_t) → advance_positions font gs ≡ map (λ (x : Item). advance_position font x.number) (strip gs)
 advanced_items font [] = refl
 advanced_items font (g ∷ gs) = rw (advanced_items font gs) refl
 
-advanced_followed : (font : FontKeys) (s : Sides) → IsFollowed (advanced font (items_of s) s.positions) (run_of s) (run_of (with_advances font s))
-advanced_followed font s =
+advanced_follows : (font : FontKeys) (s : Sides) → Follows (read_of (always (advanced font)) (run_of s)) (run_of s) (run_of (with_advances font s))
+advanced_follows font s =
+    let v = (advanced font (view_of s)).view in
     let all = append-nil (all_glyphs s) in
-    follows_eventless _ _ (run_of s) (run_of (with_advances font s)) (rw all refl) (advanced_items font (all_glyphs s)) (rw all refl) refl
+    let items = ap (λ (gs : List hb_glyph_info_t). record v { items = strip gs; positions = advance_positions font (all_glyphs s) }) all in
+    let places = ap (λ ps. record v { positions = ps }) (advanced_items font (all_glyphs s)) in
+    follows_events [] v (run_of s) (run_of (with_advances font s)) (items ∙ places) (ap origins all) refl refl
 
-drawn_followed : (s : Sides) → IsFollowed (drawn_order s.direction (items_of s) s.positions) (run_of s) (run_of (drawn s))
-drawn_followed s =
+drawn_follows : (s : Sides) → Follows (read_of (always drawn_order) (run_of s)) (run_of s) (run_of (drawn s))
+drawn_follows s =
     elim (is_backward s.direction) as (λ t.
-    IsFollowed (if t then turned_round (items_of s) s.positions else eventless (items_of s) s.positions) (run_of s) (run_of (if t then reversed s else s)))
-    [ true ↦ reversed_followed s | false ↦ same_followed s ]
-
-drawn_in : (d : Direction) (s : Sides) → s.direction ≡ d → IsFollowed (drawn_order d (items_of s) s.positions) (run_of s) (run_of (drawn s))
-drawn_in d s e = subst (λ (w : Direction). IsFollowed (drawn_order w (items_of s) s.positions) (run_of s) (run_of (drawn s))) e (drawn_followed s)
-
-ordered_direction : (s : Sides) → (ordered s).direction ≡ native_direction s.script s.direction (items_of s)
-ordered_direction s =
-    elim (is_turned s.script s.direction (items_of s)) as (λ t. (if t then record (reversed s) { direction = opposite s.direction } else s).direction ≡ (if t then opposite s.direction else s.direction))
-    [ true ↦ refl | false ↦ refl ]
+    Follows (Ok (if t then with_events (Reverse ∷ []) (reversed_view (view_of s)) else with_events [] (view_of s))) (run_of s) (run_of (if t then reversed s else s)))
+    [ true ↦ reversed_follows s | false ↦ refl ]
 
 -- ---- masks
 
@@ -105,25 +84,15 @@ items_masked : (m : ℕ) (gs : List hb_glyph_info_t) → strip (map (glyph_maske
 items_masked m [] = refl
 items_masked m (g ∷ gs) = rw (items_masked m gs) refl
 
-clusters_masked : (m : ℕ) (gs : List hb_glyph_info_t) → clusters (map (glyph_masked m) gs) ≡ clusters gs
-clusters_masked m [] = refl
-clusters_masked m (g ∷ gs) = rw (clusters_masked m gs) refl
+origins_masked : (m : ℕ) (gs : List hb_glyph_info_t) → bit_and m 7 ≡ 0 → origins (map (glyph_masked m) gs) ≡ without_marks (origins gs)
+origins_masked m [] none = refl
+origins_masked m (g ∷ gs) none = rw (none, origins_masked m gs none) refl
 
-masked_followed : (m : ℕ) (s : Sides) → IsFollowed (masked m (items_of s) s.positions) (run_of s) (run_of (with_masks m s))
-masked_followed m s =
-    follows_eventless _ _ (run_of s) (run_of (with_masks m s)) (ap strip (all_masked m s) ∙ items_masked m (all_glyphs s)) refl (ap clusters (all_masked m s) ∙ clusters_masked m (all_glyphs s)) refl
-
--- a test of numbers doesn't see masks
-any_masked : (p : ℕ → Bool) (m : ℕ) (xs : List Item) → list_any (λ (x : Item). p x.number) (map (item_masked m) xs) ≡ list_any (λ (x : Item). p x.number) xs
-any_masked p m [] = refl
-any_masked p m (x ∷ xs) = rw (any_masked p m xs) refl
-
-native_masked : (m : ℕ) (script : Option Script) (text : Direction) (xs : List Item) → native_direction script text (map (item_masked m) xs) ≡ native_direction script text xs
-native_masked m script text xs = rw (any_masked is_numeral m xs, any_masked is_letter m xs) refl
-
-masked_direction : (m : ℕ) (s : Sides) → (ordered (with_masks m s)).direction ≡ native_direction s.script s.direction (items_of s)
-masked_direction m s =
-    ordered_direction (with_masks m s) ∙ ap (native_direction s.script s.direction) (ap strip (all_masked m s) ∙ items_masked m (all_glyphs s)) ∙ native_masked m s.script s.direction (items_of s)
+masked_follows : (m : ℕ) (s : Sides) → bit_and m 7 ≡ 0 → Follows (read_of (always (masked m)) (run_of s)) (run_of s) (run_of (with_masks m s))
+masked_follows m s none =
+    let v = (masked m (view_of s)).view in
+    let items = ap (λ xs. record v { items = xs }) (ap strip (all_masked m s) ∙ items_masked m (all_glyphs s)) in
+    follows_events (Reset ∷ []) v (run_of s) (run_of (with_masks m s)) items (ap origins (all_masked m s) ∙ origins_masked m (all_glyphs s) none) refl refl
 
 -- ---- what the stages leave, one after another
 
@@ -133,37 +102,30 @@ glyphs_made font m s = with_mapped font (ordered (with_masks m s))
 abbrev pub placed : FontKeys → Sides → Sides
 placed font s = drawn (with_advances font s)
 
-before_follows : (font : FontKeys) (m : ℕ) (s : Sides) → Follows (read_of (before_substitution font m s.script s.direction) (run_of s)) (run_of s) (run_of (glyphs_made font m s))
-before_follows font m s =
+before_follows : (font : FontKeys) (m : ℕ) (s : Sides) → bit_and m 7 ≡ 0 → Follows (read_of (before_substitution font m s.script) (run_of s)) (run_of s) (run_of (glyphs_made font m s))
+before_follows font m s none =
     let s₁ = with_masks m s in
     let s₂ = ordered s₁ in
-    let r₁ : Reading = Ok (masked m (items_of s) s.positions) in
-    let f₂ = follows_then r₁ (always (native_order s.script s.direction)) (run_of s) (run_of s₁) (run_of s₂) (masked_followed m s) (ordered_followed s₁) in
-    follows_then (and_then r₁ (always (native_order s.script s.direction))) (always (mapped font)) (run_of s) (run_of s₂) (run_of (with_mapped font s₂)) f₂ (mapped_followed font s₂)
+    let r₁ : Reading = Ok (masked m (view_of s)) in
+    let f₂ = follows_then r₁ (always (native_order s.script)) (run_of s) (run_of s₁) (run_of s₂) (masked_follows m s none) (ordered_follows s₁) in
+    follows_then (and_then r₁ (always (native_order s.script))) (always (mapped font)) (run_of s) (run_of s₂) (run_of (with_mapped font s₂)) f₂ (mapped_follows font s₂)
 
-after_follows : (font : FontKeys) (d : Direction) (s : Sides) → s.direction ≡ d → Follows (read_of (after_substitution font d) (run_of s)) (run_of s) (run_of (placed font s))
-after_follows font d s e = follows_then (Ok (advanced font (items_of s) s.positions)) (always (drawn_order d)) (run_of s) (run_of (with_advances font s)) (run_of (placed font s)) (advanced_followed font s) (drawn_in d (with_advances font s) e)
+after_follows : (font : FontKeys) (s : Sides) → Follows (read_of (after_substitution font) (run_of s)) (run_of s) (run_of (placed font s))
+after_follows font s = follows_then (Ok (advanced font (view_of s))) (always drawn_order) (run_of s) (run_of (with_advances font s)) (run_of (placed font s)) (advanced_follows font s) (drawn_follows (with_advances font s))
 
 -- the whole way, where the substitutions were done between
-pub shaped_follows : (font : FontKeys) (m : OtMap) (s now : Sides) → IsDone (substituted font.gsub m) (glyphs_made font m.global_mask s) now
-    → Follows (read_of (shaped_with font m s.script s.direction) (run_of s)) (run_of s) (run_of (placed font now))
-shaped_follows font m s now done =
+pub shaped_follows : (font : FontKeys) (m : OtMap) (s now : Sides) → bit_and m.global_mask 7 ≡ 0 → IsDone (substituted font.gsub m) (glyphs_made font m.global_mask s) now
+    → Follows (read_of (shaped_with font m s.script) (run_of s)) (run_of s) (run_of (placed font now))
+shaped_follows font m s now none done =
     let mid = glyphs_made font m.global_mask s in
-    let d = native_direction s.script s.direction (items_of s) in
-    let r = read_of (before_substitution font m.global_mask s.script s.direction) (run_of s) in
-    let f = follows_then r (substituted font.gsub m) (run_of s) (run_of mid) (run_of now) (before_follows font m.global_mask s) done.follows in
-    follows_then (and_then r (substituted font.gsub m)) (after_substitution font d) (run_of s) (run_of now) (run_of (placed font now)) f
-    (after_follows font d now (done.direction ∙ masked_direction m.global_mask s))
+    let r = read_of (before_substitution font m.global_mask s.script) (run_of s) in
+    let f = follows_then r (substituted font.gsub m) (run_of s) (run_of mid) (run_of now) (before_follows font m.global_mask s none) done.follows in
+    follows_then (and_then r (substituted font.gsub m)) (after_substitution font) (run_of s) (run_of now) (run_of (placed font now)) f (after_follows font now)
 
--- ---- flags and numbers
+-- ---- numbers
 
 reversed_all : (p : hb_glyph_info_t → Bool) (s : Sides) → list_all p (all_glyphs (reversed s)) ≡ list_all p (all_glyphs s)
 reversed_all p s = rw (all_reversed s) (list_all-reverse p (all_glyphs s))
-
-ordered_all : (p : hb_glyph_info_t → Bool) (s : Sides) → list_all p (all_glyphs (ordered s)) ≡ list_all p (all_glyphs s)
-ordered_all p s =
-    elim (is_turned s.script s.direction (items_of s)) as (λ t. list_all p (all_glyphs (if t then record (reversed s) { direction = opposite s.direction } else s)) ≡ list_all p (all_glyphs s))
-    [ true ↦ reversed_all p s | false ↦ refl ]
 
 drawn_all : (p : hb_glyph_info_t → Bool) (s : Sides) → list_all p (all_glyphs (drawn s)) ≡ list_all p (all_glyphs s)
 drawn_all p s =
@@ -173,43 +135,13 @@ drawn_all p s =
 pub placed_all : (p : hb_glyph_info_t → Bool) (font : FontKeys) (s : Sides) → list_all p (all_glyphs (placed font s)) ≡ list_all p (all_glyphs s)
 placed_all p font s = drawn_all p (with_advances font s) ∙ ap (list_all p) (append-nil (all_glyphs s))
 
-mapped_flags : (font : FontKeys) (gs : List hb_glyph_info_t) → has_no_flags (map (mapped_glyph font) gs) ≡ has_no_flags gs
-mapped_flags font [] = refl
-mapped_flags font (g ∷ gs) = rw (mapped_flags font gs) refl
-
-masked_flags : (m : ℕ) (gs : List hb_glyph_info_t) → bit_and m 7 ≡ 0 → has_no_flags (map (glyph_masked m) gs) ≡ true
-masked_flags m [] none = refl
-masked_flags m (g ∷ gs) none = rw (none, masked_flags m gs none) refl
-
--- the flags of glyphs, seen one by one
-flags_seen : (gs : List hb_glyph_info_t) → have_no_flags gs ≡ has_no_flags gs
-flags_seen [] = refl
-flags_seen (g ∷ gs) = rw (flags_seen gs) refl
-
-made_flags : (font : FontKeys) (m : ℕ) (s : Sides) → bit_and m 7 ≡ 0 → has_no_flags (all_glyphs (glyphs_made font m s)) ≡ true
-made_flags font m s none =
-    let no : hb_glyph_info_t → Bool = λ g. bit_and g.mask 7 == 0 in
-    mapped_flags font (all_glyphs (ordered (with_masks m s))) ∙ ordered_all no (with_masks m s) ∙ ap has_no_flags (all_masked m s) ∙ masked_flags m (all_glyphs s) none
-
-ordered_level : (s : Sides) → (ordered s).level ≡ s.level
-ordered_level s = elim (is_turned s.script s.direction (items_of s)) as (λ t. (if t then record (reversed s) { direction = opposite s.direction } else s).level ≡ s.level) [ true ↦ refl | false ↦ refl ]
-
-pub shaped_flags : (font : FontKeys) (m : OtMap) (s now : Sides) → bit_and m.global_mask 7 ≡ 0 → IsDone (substituted font.gsub m) (glyphs_made font m.global_mask s) now → IsMonotone s.level
-    → has_no_flags (all_glyphs (placed font now)) ≡ true
-shaped_flags font m s now none done monotone =
-    let mid = glyphs_made font m.global_mask s in
-    let before : have_no_flags (all_glyphs mid) ≡ true = flags_seen (all_glyphs mid) ∙ made_flags font m.global_mask s none in
-    let same_level : mid.level ≡ s.level = ordered_level (with_masks m.global_mask s) in
-    let after = done.sane.flags (subst IsMonotone (sym same_level) monotone) before in
-    placed_all (λ g. bit_and g.mask 7 == 0) font now ∙ sym (flags_seen (all_glyphs now)) ∙ after
-
 -- numbers of glyphs, seen one by one
 pub numbers_seen : (gs : List hb_glyph_info_t) → are_glyphs (strip gs) ≡ list_all is_glyph_number gs
 numbers_seen [] = refl
 numbers_seen (g ∷ gs) = rw (numbers_seen gs) refl
 
 pub numbers_stay : (stage : Stage) (old now : Sides) → IsDone stage old now → list_all is_glyph_number (all_glyphs old) ≡ true → list_all is_glyph_number (all_glyphs now) ≡ true
-numbers_stay stage old now done h = sym (numbers_seen (all_glyphs now)) ∙ done.sane.numbers (numbers_seen (all_glyphs old) ∙ h)
+numbers_stay stage old now done h = sym (numbers_seen (all_glyphs now)) ∙ done.numbers (numbers_seen (all_glyphs old) ∙ h)
 
 ordered_refused : (s : Sides) → (ordered s).has_refused ≡ s.has_refused
 ordered_refused s = elim (is_turned s.script s.direction (items_of s)) as (λ t. (if t then record (reversed s) { direction = opposite s.direction } else s).has_refused ≡ s.has_refused) [ true ↦ refl | false ↦ refl ]

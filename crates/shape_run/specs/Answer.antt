@@ -1,5 +1,5 @@
 -- What is printed for the bytes of tables, a font and a text, or the first fault that is found in them.
-use Rattle.std.specs.Prelude.{ℕ, ◌==◌, ◌-◌, if◌then◌else◌, List, [], ◌∷◌, ◌++◌, length, take, slice_index, Option, Some, None, Result, Ok, Err}
+use Rattle.std.specs.Prelude.{ℕ, pos, ◌==◌, ◌-◌, false, if◌then◌else◌, List, [], ◌∷◌, ◌++◌, length, take, slice_index, Option, Some, None, Result, Ok, Err}
 use Rattle.std.specs.Str.{is_utf8}
 use Rattle.serde_json.specs.Data.{Data}
 use Rattle.serde_json.specs.Read.{read}
@@ -14,9 +14,12 @@ use Rattle.run_options.specs.declared.fault.RunFault.TheVariants.{NotJson, NotUt
 use Rattle.run_options.specs.declared.options.Options.{Options}
 use Rattle.run_options.specs.Fault.{run_fault_of, fault_of_cause}
 use Rattle.font_json.specs.Keys.{FontKeys, face_of, tables_of}
-use Rattle.glyph_lists.specs.Items.{Position, strip, clusters}
-use Rattle.glyph_lists.specs.Events.{or, after_events}
-use Rattle.glyph_lists.specs.Readings.{Reading}
+use Rattle.glyph_types.specs.declared.level.BufferClusterLevel.{BufferClusterLevel}
+use Rattle.glyph_types.specs.declared.level.BufferClusterLevel.TheVariants.{MonotoneGraphemes}
+use Rattle.glyph_lists.specs.Items.{Position, strip}
+use Rattle.glyph_lists.specs.Parts.{or}
+use Rattle.glyph_lists.specs.Origins.{Asks, origins}
+use Rattle.glyph_lists.specs.Readings.{Reading, Run, run_after, read_of}
 use Rattle.glyph_text.specs.Printed.{printed_text}
 use Rattle.glyph_buffer.specs.Sides.{empty_buffer, zero_positions}
 use Rattle.glyph_buffer.specs.Segment.{first_script, guessed_direction}
@@ -59,19 +62,45 @@ of_json (Err e) = Err (run_fault_of e)
 abbrev pub printed_line : SerializeFlags → List hb_glyph_info_t → List Position → List ℕ
 printed_line flags gs ps = printed_text (λ _. None) (λ _. None) flags gs ps ++ 10 ∷ []
 
--- the line of a reading: its printed text, with the clusters that its events make of those of the text, and a line feed
-abbrev pub line_of_reading : SerializeFlags → List ℕ → Reading → Result (List ℕ) RunFault
-line_of_reading flags ns (Ok r) = Ok (printed_line flags (glyphs_of r.items (after_events r.at_graphemes ns)) r.positions)
-line_of_reading flags ns (Err e) = Err (fault_of_cause e)
+-- a text's characters as shaping begins with them, at a cluster level and with what is asked of glyph flags
+abbrev pub text_run : BufferClusterLevel → Asks → Direction → List hb_glyph_info_t → Run
+text_run level asks direction gs = record {
+  view = record {
+    items = strip gs;
+    positions = zero_positions (length gs);
+    lig_id = 0;
+    max_ops = pos 0x1FFF_FFFF;
+    random = 1;
+    max_len = 0x3FFF_FFFF;
+    direction = direction;
+    told = 0;
+  };
+  origins = origins gs;
+  level = level;
+  asks = asks;
+}
 
--- the line of characters that were added, in a direction and a script
-abbrev pub line_of_glyphs : FontKeys → SerializeFlags → List Feature → Direction → Option Script → List hb_glyph_info_t → Result (List ℕ) RunFault
-line_of_glyphs font flags features direction script gs = if waits features script direction (strip gs) then Err NotYet
-    else line_of_reading flags (clusters gs) (shaping font features script direction (strip gs) (zero_positions (length gs)))
+-- the line of a run: its items with the clusters and the glyph flags of their origins
+abbrev pub line_of_run : SerializeFlags → Run → List ℕ
+line_of_run flags run = printed_line flags (glyphs_of run.view.items run.origins) run.view.positions
 
--- the same, where what was not asked for is guessed
+-- the line of a reading: clusters and glyph flags are those of the text after its events at the level
+abbrev pub line_of_reading : SerializeFlags → Run → Reading → Result (List ℕ) RunFault
+line_of_reading flags run (Ok r) = Ok (line_of_run flags (run_after r run))
+line_of_reading flags run (Err e) = Err (fault_of_cause e)
+
+-- the line of a text that is not shaped yet, or of what shaping makes of it
+abbrev pub line_of_text : FontKeys → SerializeFlags → List Feature → Option Script → Run → Result (List ℕ) RunFault
+line_of_text font flags features script run = if waits features script run.view.direction run.view.items then Err NotYet
+    else line_of_reading flags run (read_of (shaping font features script) run)
+
+-- the level and the requests of a new buffer
+abbrev pub nothing_asked : Asks
+nothing_asked = record { concat = false; tatweel = false }
+
+-- the line of characters that were added, where a direction that was not asked for is guessed
 abbrev pub line_of_guess : FontKeys → Options → Option Script → List hb_glyph_info_t → Result (List ℕ) RunFault
-line_of_guess font options script gs = line_of_glyphs font options.flags options.features.items (guessed_direction options.direction script) script gs
+line_of_guess font options script gs = line_of_text font options.flags options.features.items script (text_run MonotoneGraphemes nothing_asked (guessed_direction options.direction script) gs)
 
 -- the line of a text
 abbrev pub line_of : Options → FontKeys → List ℕ → Result (List ℕ) RunFault

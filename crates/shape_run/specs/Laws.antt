@@ -2,7 +2,7 @@
 use Rattle.std.specs.Prelude.{◌≡◌, false, [], ◌∷◌, Ok, None}
 use Rattle.run_options.specs.declared.options.Options.{Options}
 use Rattle.font_json.specs.Keys.{FontKeys}
-use Rattle.glyph_lists.specs.Events.{or}
+use Rattle.glyph_lists.specs.Parts.{or}
 use Rattle.glyph_buffer.specs.Segment.{guessed_direction}
 use Rattle.shape_run.specs.Waiting.{waits}
 use Rattle.shape_run.specs.Answer.{line_of}

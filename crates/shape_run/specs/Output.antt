@@ -1,19 +1,15 @@
--- The line that is printed of a reading.
-use Rattle.std.specs.Prelude.{ℕ, ◌==◌, Bool, List, [], ◌∷◌, bit_and}
-use Rattle.std.specs.List.{list_all}
+-- The glyphs of a reading, as they are printed.
+use Rattle.std.specs.Prelude.{◌+◌, List, [], ◌∷◌}
 use Rattle.glyph_types.specs.declared.info.hb_glyph_info_t.{hb_glyph_info_t}
 use Rattle.glyph_lists.specs.Items.{Item}
+use Rattle.glyph_lists.specs.Origins.{Origin}
 
--- no glyph has a glyph flag
-abbrev pub has_no_flags : List hb_glyph_info_t → Bool
-has_no_flags gs = list_all (λ (g : hb_glyph_info_t). bit_and g.mask 7 == 0) gs
-
--- an item of a cluster as a glyph without flags
-abbrev pub glyph_of : Item → ℕ → hb_glyph_info_t
-glyph_of x cluster = record {
+-- an item as a glyph of a cluster, with its glyph flags
+abbrev pub glyph_of : Item → Origin → hb_glyph_info_t
+glyph_of x o = record {
   glyph_id = x.number;
-  mask = x.mask;
-  cluster = cluster;
+  mask = x.mask + o.flags;
+  cluster = o.cluster;
   glyph_index = x.glyph_index;
   unicode_props = record { 0 = x.unicode_props };
   modified_combining_class = x.class;
@@ -24,8 +20,8 @@ glyph_of x cluster = record {
   auxiliary = x.auxiliary;
 }
 
--- items and their clusters as glyphs without flags
-abbrev pub glyphs_of : List Item → List ℕ → List hb_glyph_info_t
-glyphs_of [] ns = []
+-- items and where they come from as glyphs
+abbrev pub glyphs_of : List Item → List Origin → List hb_glyph_info_t
+glyphs_of [] os = []
 glyphs_of (x ∷ xs) [] = []
-glyphs_of (x ∷ xs) (n ∷ ns) = glyph_of x n ∷ glyphs_of xs ns
+glyphs_of (x ∷ xs) (o ∷ os) = glyph_of x o ∷ glyphs_of xs os

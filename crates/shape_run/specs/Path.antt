@@ -21,8 +21,8 @@ use Rattle.shaping_text.specs.declared.direction.Direction.TheVariants.{Invalid,
 use Rattle.shaping_text.specs.declared.script.Script.{Script}
 use Rattle.font_json.specs.Keys.{FontKeys, glyph_of, advance_of}
 use Rattle.glyph_lists.specs.Items.{Item, Position}
-use Rattle.glyph_lists.specs.Events.{Reverse}
-use Rattle.glyph_lists.specs.Readings.{Read, Stage, and_then, eventless, always, as_it_is}
+use Rattle.glyph_lists.specs.Events.{Reverse, Reset}
+use Rattle.glyph_lists.specs.Readings.{View, Read, Stage, and_then, with_events, always, as_it_is}
 use Rattle.glyph_buffer.specs.Sides.{zero_position, zero_positions}
 
 -- ---- native order
@@ -74,13 +74,15 @@ is_turned script text xs = runs_against text (written_direction script text xs)
 abbrev pub native_direction : Option Script → Direction → List Item → Direction
 native_direction script text xs = if is_turned script text xs then opposite text else text
 
--- items and positions turned round
-abbrev pub turned_round : List Item → List Position → Read
-turned_round xs ps = record { items = reverse xs; positions = reverse ps; at_graphemes = Reverse ∷ []; at_characters = Reverse ∷ [] }
+-- items and positions in reverse order
+abbrev pub reversed_view : View → View
+reversed_view v = record v { items = reverse v.items; positions = reverse v.positions }
 
 -- a text is shaped in the order of its writing; below U+0080 each character is a grapheme
-abbrev pub native_order : Option Script → Direction → List Item → List Position → Read
-native_order script text xs ps = if is_turned script text xs then turned_round xs ps else eventless xs ps
+abbrev pub native_order : Option Script → View → Read
+native_order script v = if is_turned script v.direction v.items
+    then with_events (Reverse ∷ []) (record (reversed_view v) { direction = opposite v.direction })
+    else with_events [] v
 
 -- ---- glyphs
 
@@ -93,8 +95,8 @@ abbrev pub mapped_item : FontKeys → Item → Item
 mapped_item font x = record x { number = nominal_glyph font x.number; glyph_index = nominal_glyph font x.number }
 
 -- each character becomes its glyph
-abbrev pub mapped : FontKeys → List Item → List Position → Read
-mapped font xs ps = eventless (map (mapped_item font) xs) (zero_positions (length xs))
+abbrev pub mapped : FontKeys → View → Read
+mapped font v = with_events [] (record v { items = map (mapped_item font) v.items; positions = zero_positions (length v.items) })
 
 -- ---- positions
 
@@ -103,20 +105,20 @@ abbrev pub advance_position : FontKeys → ℕ → Position
 advance_position font glyph = record zero_position { x_advance = pos (advance_of font glyph) }
 
 -- each glyph gets its advance
-abbrev pub advanced : FontKeys → List Item → List Position → Read
-advanced font xs ps = eventless xs (map (λ (x : Item). advance_position font x.number) xs)
+abbrev pub advanced : FontKeys → View → Read
+advanced font v = with_events [] (record v { positions = map (λ (x : Item). advance_position font x.number) v.items })
 
 -- ---- order on the line
 
 -- glyphs stand as they are drawn, from left to right
-abbrev pub drawn_order : Direction → List Item → List Position → Read
-drawn_order direction xs ps = if is_backward direction then turned_round xs ps else eventless xs ps
+abbrev pub drawn_order : View → Read
+drawn_order v = if is_backward v.direction then with_events (Reverse ∷ []) (reversed_view v) else with_events [] v
 
 -- ---- masks and substitution
 
--- each item has the mask
-abbrev pub masked : ℕ → List Item → List Position → Read
-masked mask xs ps = eventless (map (item_masked mask) xs) ps
+-- each item has the mask, and no glyph flag
+abbrev pub masked : ℕ → View → Read
+masked mask v = with_events (Reset ∷ []) (record v { items = map (item_masked mask) v.items })
 
 -- the tag of the feature for ligatures that text has where nothing else is asked
 abbrev pub liga : Tag
@@ -129,23 +131,22 @@ substitution_map (Some table) script features = map_for table (wanted_tags scrip
 
 -- the font's lookups, in order
 abbrev pub substituted : Option LayoutLists → OtMap → Stage
-substituted None m xs ps = as_it_is xs ps
-substituted (Some table) m xs ps = lookups_stage table.lookups m.lookups xs ps
+substituted None m v = as_it_is v
+substituted (Some table) m v = lookups_stage table.lookups m.lookups v
 
 -- ---- all of it
 
 -- characters in the order of their writing become glyphs
-abbrev pub before_substitution : FontKeys → ℕ → Option Script → Direction → Stage
-before_substitution font mask script text xs ps = and_then (and_then (always (masked mask) xs ps) (always (native_order script text))) (always (mapped font))
+abbrev pub before_substitution : FontKeys → ℕ → Option Script → Stage
+before_substitution font mask script v = and_then (and_then (always (masked mask) v) (always (native_order script))) (always (mapped font))
 
 -- glyphs get their advances, and stand as they are drawn
-abbrev pub after_substitution : FontKeys → Direction → Stage
-after_substitution font direction xs ps = and_then (always (advanced font) xs ps) (always (drawn_order direction))
+abbrev pub after_substitution : FontKeys → Stage
+after_substitution font v = and_then (always (advanced font) v) (always drawn_order)
 
 -- the stages, where the substitutions are known
-abbrev pub shaped_with : FontKeys → OtMap → Option Script → Direction → Stage
-shaped_with font m script text xs ps =
-    and_then (and_then (before_substitution font m.global_mask script text xs ps) (substituted font.gsub m)) (after_substitution font (native_direction script text xs))
+abbrev pub shaped_with : FontKeys → OtMap → Option Script → Stage
+shaped_with font m script v = and_then (and_then (before_substitution font m.global_mask script v) (substituted font.gsub m)) (after_substitution font)
 
-abbrev pub shaping : FontKeys → List Feature → Option Script → Direction → Stage
-shaping font features script text xs ps = shaped_with font (substitution_map font.gsub script features) script text xs ps
+abbrev pub shaping : FontKeys → List Feature → Option Script → Stage
+shaping font features script v = shaped_with font (substitution_map font.gsub script features) script v

@@ -1,16 +1,15 @@
 //! Shaping of a text: its order, its glyphs, the substitutions of its font, and advances.
 ghost use Rattle.std.specs.Prelude.{◌≡◌, ◌≢◌, Err, ◌≤◌, ◌<◌, ◌&&◌, ◌||◌, false, true, Ok, [], length, take, map, IfOk, IfErr, OnOk};
 ghost use Rattle.glyph_lists.specs.Items.{strip};
-ghost use Rattle.glyph_lists.specs.Readings.{Follows, IsMonotone, read_of};
+ghost use Rattle.glyph_lists.specs.Readings.{Follows, read_of};
 ghost use Rattle.glyph_buffer.specs.Sides.{all_glyphs, fits_next, items_of, run_of};
 ghost use Rattle.glyph_buffer.specs.Masks.{with_masks};
-ghost use Rattle.layout_gsub.specs.Buffers.{are_glyphs};
-ghost use Rattle.layout_stages.specs.Steps.{IsDone, IsReady};
+ghost use Rattle.layout_rules.specs.Buffers.{are_glyphs};
+ghost use Rattle.layout_rules.specs.Ready.{IsDone, IsReady};
 ghost use Rattle.std.specs.Option.{option_copied};
 ghost use Rattle.std.specs.List.{list_any, list_all};
 ghost use Rattle.unicode.specs.GeneralCategory.{general_category};
 ghost use Rattle.shape_run.specs.Path.{advance_position, is_decimal_number, is_letter, is_regional_indicator, is_number_text, is_numeral, native_direction, nominal_glyph, runs_against, script_direction, shaping, substituted, substitution_map, with_numbers, written_direction};
-ghost use Rattle.shape_run.specs.Output.{has_no_flags};
 ghost use Rattle.shape_run.specs.Stages.{drawn, is_glyph_number, mapped_glyph, ordered, with_advances, with_mapped, with_next_advanced, with_next_mapped};
 
 use feature_text::feature::Feature;
@@ -299,9 +298,8 @@ pub(crate) fn shape(
     requires closed { buffer.old.is_open ≡ false }
     requires unrefused { buffer.old.has_refused ≡ false }
     ensures ok { OnOk result (Follows
-        (read_of (shaping face.now features.now buffer.old.script buffer.old.direction) (run_of buffer.old))
+        (read_of (shaping face.now features.now buffer.old.script) (run_of buffer.old))
         (run_of buffer.old) (run_of buffer.new)) }
-    ensures flags { OnOk result (IsMonotone buffer.old.level → has_no_flags (all_glyphs buffer.new) ≡ true) }
     ensures numbers { OnOk result (list_all is_glyph_number (all_glyphs buffer.new) ≡ true) }
     ensures still_closed { OnOk result (buffer.new.is_open ≡ false) }
     ensures err { IfErr result (λ e. e ≡ ShapeCause.OutOfMemory) }

@@ -1,6 +1,6 @@
 ghost use Rattle.std.specs.Prelude.{◌≡◌, ◌+◌, ◌≤◌, ◌<◌, if◌then◌else◌, true, length};
 ghost use Rattle.glyph_lists.specs.Items.{clusters, flags_of};
-ghost use Rattle.glyph_lists.specs.Events.{stretch};
+ghost use Rattle.glyph_lists.specs.Parts.{stretch};
 ghost use Rattle.glyph_lists.specs.Merges.{merged_at};
 ghost use Rattle.glyph_lists.specs.Order.{BringsNone};
 ghost use Rattle.glyph_lists.specs.Glyphs.{flags_flagged, flags_marked, glyphs_merged};

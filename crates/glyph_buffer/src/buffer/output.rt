@@ -1,6 +1,6 @@
 ghost use Rattle.std.specs.Prelude.{◌≡◌, ◌<◌, ◌+◌, ◌++◌, ◌∷◌, [], length, true, false, Ok, OnErr, IfOk};
 ghost use Rattle.glyph_lists.specs.Items.{clusters, flags_of, glyph_flags, item_of, strip};
-ghost use Rattle.glyph_lists.specs.Events.{replaced};
+ghost use Rattle.glyph_lists.specs.Parts.{replaced};
 ghost use Rattle.glyph_lists.specs.Replacements.{items_replaced};
 ghost use Rattle.glyph_lists.specs.Order.{BringsNone};
 ghost use Rattle.glyph_buffer.specs.Sides.{all_glyphs, has_output_room, items_of, refused};

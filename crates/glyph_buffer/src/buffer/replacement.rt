@@ -1,6 +1,6 @@
 ghost use Rattle.std.specs.Prelude.{◌≡◌, ◌+◌, ◌≤◌, not, length, true, false, Ok, OnErr, IfOk};
 ghost use Rattle.glyph_lists.specs.Items.{clusters, flags_of};
-ghost use Rattle.glyph_lists.specs.Events.{replaced};
+ghost use Rattle.glyph_lists.specs.Parts.{replaced};
 ghost use Rattle.glyph_lists.specs.Merges.{replaced_at};
 ghost use Rattle.glyph_lists.specs.Order.{BringsNone};
 ghost use Rattle.glyph_lists.specs.Glyphs.{flags_merged_at};

@@ -20,14 +20,14 @@ chain_push : (R : ℕ → ℕ → Type 0) (n : ℕ) (ns : List ℕ) → IsChain 
 chain_push R n [] h to = (tt, tt)
 chain_push R n (k ∷ ks) h to = (all_push R k n ks h.0 to.0, chain_push R n ks h.1 to.1)
 
-turned_step : (n : ℕ) (ns : List ℕ) → reverse (n ∷ ns) ≡ reverse ns ++ n ∷ []
-turned_step n ns = reverse_onto ns n []
+falls_after_step : (n : ℕ) (ns : List ℕ) → reverse (n ∷ ns) ≡ reverse ns ++ n ∷ []
+falls_after_step n ns = reverse_onto ns n []
 
 all_reverse : (R : ℕ → ℕ → Type 0) (m : ℕ) (ns : List ℕ) → AllFrom R m ns → AllFrom R m (reverse ns)
 all_reverse R m [] h = tt
-all_reverse R m (n ∷ ns) h = rw (turned_step n ns) (all_push R m n (reverse ns) (all_reverse R m ns h.1) h.0)
+all_reverse R m (n ∷ ns) h = rw (falls_after_step n ns) (all_push R m n (reverse ns) (all_reverse R m ns h.1) h.0)
 
--- turned round, each number is related to all before it
+-- reversed, each number is related to all before it
 pub chain_reverse : (R : ℕ → ℕ → Type 0) (ns : List ℕ) → IsChain R ns → IsChain (λ x y. R y x) (reverse ns)
 chain_reverse R [] h = tt
-chain_reverse R (n ∷ ns) h = rw (turned_step n ns) (chain_push (λ x y. R y x) n (reverse ns) (chain_reverse R ns h.1) (all_reverse R n ns h.0))
+chain_reverse R (n ∷ ns) h = rw (falls_after_step n ns) (chain_push (λ x y. R y x) n (reverse ns) (chain_reverse R ns h.1) (all_reverse R n ns h.0))

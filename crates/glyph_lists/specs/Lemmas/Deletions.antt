@@ -7,7 +7,7 @@ use Rattle.std.proofs.lemmas.List.{drop-drop, take-map, drop-map, map-append, ma
 use Rattle.std.proofs.lemmas.Option.{slice_get-get_or}
 use Rattle.glyph_types.specs.declared.level.BufferClusterLevel.{BufferClusterLevel}
 use Rattle.glyph_types.specs.declared.level.BufferClusterLevel.TheVariants.{MonotoneGraphemes, MonotoneCharacters, Characters}
-use Rattle.glyph_lists.specs.Events.{stretch, united, united_all, last_from, first_of, last_of, is_number, with_neighbour, united_if_last, united_without, left_by, without}
+use Rattle.glyph_lists.specs.Parts.{stretch, united, united_all, last_from, first_of, last_of, is_number, with_neighbour, united_if_last, united_without, before_deletion, without}
 use Rattle.glyph_lists.specs.Order.{IsChain, IsInOrder, BringsNone}
 use Rattle.glyph_lists.specs.Deletions.{end_renumbered, deleted_alone, deleted}
 use Rattle.glyph_lists.specs.Merges.{merged_numbers, merged_at}
@@ -15,7 +15,7 @@ use Rattle.glyph_lists.specs.Readings.{IsMonotone}
 use Rattle.glyph_lists.specs.Laws.{DeletionIsEvent}
 use Rattle.glyph_lists.specs.Lemmas.Drawn.{last_more}
 use Rattle.glyph_lists.specs.Lemmas.Ends.{from_first, to_last}
-use Rattle.glyph_lists.specs.Lemmas.Events.{Stands, stands_self}
+use Rattle.glyph_lists.specs.Lemmas.Parts.{Stands, stands_self}
 use Rattle.glyph_lists.specs.Lemmas.Merges.{outside, chain_across, chain_left, chain_right, stands_chain, map_alike, merge_is_join, merged_at_brings}
 use Rattle.glyph_lists.specs.Lemmas.Numbers.{Has, has_here, has_more, has_cases, has_left, has_right, has_either, has_drop, has_map, has_last_from}
 
@@ -51,7 +51,7 @@ behind_front front n back = sym (drop-drop 1 (length front) (front ++ n ∷ back
 rest_of : (front : List ℕ) (n : ℕ) (back : List ℕ) → without (length front) (front ++ n ∷ back) ≡ front ++ back
 rest_of front n back = rw (take_front front (n ∷ back), behind_front front n back) refl
 
-left_is : (front : List ℕ) (n : ℕ) (back : List ℕ) → left_by (length front) (front ++ n ∷ back) ≡ united_if_last (last_of front) (first_of back) n (front ++ n ∷ back)
+left_is : (front : List ℕ) (n : ℕ) (back : List ℕ) → before_deletion (length front) (front ++ n ∷ back) ≡ united_if_last (last_of front) (first_of back) n (front ++ n ∷ back)
 left_is front n back =
     let ns = front ++ n ∷ back in
     ap (λ ms. united_without (last_of ms) (first_of (drop (length front) ns)) (first_of (drop (length front + 1) ns)) ns) (take_front front (n ∷ back))

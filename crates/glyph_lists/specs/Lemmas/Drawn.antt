@@ -2,7 +2,7 @@
 use Rattle.std.proofs.Common.{ℕ, zero, suc, ◌≡◌, ◌+◌, ◌-◌, List, [], ◌∷◌, ◌++◌, take, drop, replicate, length, refl, arith, ap, sym, ◌∙◌, append_assoc}
 use Rattle.std.proofs.lemmas.List.{append-nil, drop-drop, take-append-drop}
 use Rattle.std.proofs.Math.Seq.{drop-nil}
-use Rattle.glyph_lists.specs.Events.{first_of, last_of, or, copies, replaced, without}
+use Rattle.glyph_lists.specs.Parts.{first_of, last_of, or, copies, replaced, without}
 use Rattle.glyph_lists.specs.Order.{AllFrom, IsChain}
 
 pub data IsDrawn : (xs ys : List ℕ) → Type 0 where

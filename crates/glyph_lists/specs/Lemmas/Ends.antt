@@ -2,9 +2,9 @@
 use Rattle.std.proofs.Common.{ℕ, ◌≡◌, ◌≤◌, inl, inr, Bool, true, false, min, max, List, [], ◌∷◌, arith, subst, sym}
 use Rattle.std.proofs.lemmas.Bool.Decides.{nat_tests}
 use Rattle.std.proofs.lemmas.Grind.{common_steps}
-use Rattle.glyph_lists.specs.Events.{united, last_from}
+use Rattle.glyph_lists.specs.Parts.{united, last_from}
 use Rattle.glyph_lists.specs.Order.{AllFrom, IsChain, IsInOrder}
-use Rattle.glyph_lists.specs.Lemmas.Events.{Stands, stands_self}
+use Rattle.glyph_lists.specs.Lemmas.Parts.{Stands, stands_self}
 use Rattle.glyph_lists.specs.Lemmas.Numbers.{Has, has_cases, has_last_from}
 
 -- a number behind another

@@ -6,12 +6,12 @@ use Rattle.std.proofs.lemmas.Grind.{common_steps}
 use Rattle.std.proofs.lemmas.List.{map-id, drop-drop, take-append-drop}
 use Rattle.glyph_types.specs.declared.level.BufferClusterLevel.{BufferClusterLevel}
 use Rattle.glyph_types.specs.declared.level.BufferClusterLevel.TheVariants.{MonotoneGraphemes, MonotoneCharacters, Characters}
-use Rattle.glyph_lists.specs.Events.{Join, united, last_from, joined, stretch, after_event}
+use Rattle.glyph_lists.specs.Parts.{JoinParts, united, last_from, joined, stretch, after_part_event}
 use Rattle.glyph_lists.specs.Order.{AllFrom, IsChain, IsInOrder, IsOrdered, IsLeast, BringsNone, has_number}
 use Rattle.glyph_lists.specs.Merges.{least_number, merged, merged_numbers, merged_at, IsOneOn}
 use Rattle.glyph_lists.specs.Readings.{IsMonotone}
 use Rattle.glyph_lists.specs.Laws.{MergeUnites, MergeIsJoin}
-use Rattle.glyph_lists.specs.Lemmas.Events.{Stands, stands_self}
+use Rattle.glyph_lists.specs.Lemmas.Parts.{Stands, stands_self}
 use Rattle.glyph_lists.specs.Lemmas.Numbers.{Has, has_here, has_more, has_cases, has_right, has_either, has_take, has_drop, has_map, has_last_from}
 use Rattle.glyph_lists.specs.Lemmas.Ends.{from_first, to_last, from_has, joined_alike}
 
@@ -48,7 +48,7 @@ has_least : (n : ℕ) (range : List ℕ) → Has range n → Has range (least_nu
 has_least n [] h = cc
 has_least n (x ∷ xs) h = (least_number_is x xs).among
 
-merged_in : (range : List ℕ) (n : ℕ) → Has range n → merged range n ≡ least_number range
+pub merged_in : (range : List ℕ) (n : ℕ) → Has range n → merged range n ≡ least_number range
 merged_in range n h = rw h refl
 
 merged_same : (range : List ℕ) (f : ℕ → ℕ) → IsOneOn range f → (n : ℕ) (t : Bool) → has_number range n ≡ t → f (if t then least_number range else n) ≡ f n
@@ -164,16 +164,16 @@ cut_out from to ns le =
     let behind : drop (to - from) (drop from ns) ≡ drop to ns = drop-drop (to - from) from ns ∙ ap (λ n. drop n ns) there in
     append_assoc (take from ns) (stretch from to ns) (drop to ns) ∙ ap (λ ms. take from ns ++ (stretch from to ns ++ ms)) (sym behind) ∙ ap (λ ms. take from ns ++ ms) (take-append-drop (to - from) (drop from ns)) ∙ take-append-drop from ns
 
-merge_joins_order : (falls : Bool) (from to : ℕ) (ns : List ℕ) → from ≤ to → IsInOrder falls ns → merged_numbers (stretch from to ns) ns ≡ after_event ns (Join from to)
+merge_joins_order : (falls : Bool) (from to : ℕ) (ns : List ℕ) → from ≤ to → IsInOrder falls ns → merged_numbers (stretch from to ns) ns ≡ after_part_event ns (JoinParts from to)
 merge_joins_order falls from to ns le o =
     let P : List ℕ → Type 0 = λ ms. IsInOrder falls ms → merged_numbers (stretch from to ns) ms ≡ joined (stretch from to ns) ms in
     subst P (cut_out from to ns le) (merge_is_join falls (take from ns) (stretch from to ns) (drop to ns)) o
 
-merge_joins_ordered : (from to : ℕ) (ns : List ℕ) → from ≤ to → IsOrdered ns → merged_numbers (stretch from to ns) ns ≡ after_event ns (Join from to)
+merge_joins_ordered : (from to : ℕ) (ns : List ℕ) → from ≤ to → IsOrdered ns → merged_numbers (stretch from to ns) ns ≡ after_part_event ns (JoinParts from to)
 merge_joins_ordered from to ns le o = elim o [ inl rises ↦ merge_joins_order false from to ns le rises | inr falls ↦ merge_joins_order true from to ns le falls ]
 
 -- in order, at a monotone level, a merge of the indices from `from` up to before `to` is a join
-pub merge_joins : (level : BufferClusterLevel) (from to : ℕ) (ns : List ℕ) → from ≤ to → IsMonotone level → IsOrdered ns → merged_at level from to ns ≡ after_event ns (Join from to)
+pub merge_joins : (level : BufferClusterLevel) (from to : ℕ) (ns : List ℕ) → from ≤ to → IsMonotone level → IsOrdered ns → merged_at level from to ns ≡ after_part_event ns (JoinParts from to)
 merge_joins MonotoneGraphemes from to ns le mono o = merge_joins_ordered from to ns le o
 merge_joins MonotoneCharacters from to ns le mono o = merge_joins_ordered from to ns le o
 merge_joins Characters from to ns le mono o = absurd mono

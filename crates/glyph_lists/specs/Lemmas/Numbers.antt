@@ -5,7 +5,7 @@ use Rattle.std.proofs.lemmas.Grind.{common_steps}
 use Rattle.std.proofs.lemmas.List.{take-append-drop}
 use Rattle.std.proofs.lemmas.List.Folds.{list_any-append}
 use Rattle.std.proofs.lemmas.List.Sorted.{list_any-IsPermutation, IsPermutation-reverse}
-use Rattle.glyph_lists.specs.Events.{first_of, last_of, last_from}
+use Rattle.glyph_lists.specs.Parts.{first_of, last_of, last_from}
 use Rattle.glyph_lists.specs.Order.{has_number, BringsNone}
 use Rattle.glyph_lists.specs.Lemmas.Drawn.{IsDrawn, nothing, past, kept}
 

@@ -1,9 +1,9 @@
 -- What a replacement of glyphs does to items, clusters and flags.
 use Rattle.std.proofs.Common.{ℕ, zero, suc, ◌≡◌, ◌+◌, ◌-◌, slice_get, List, [], ◌∷◌, ◌++◌, Option, Some, None, length, map, take, drop, replicate, refl, ap, sym, ◌∙◌}
-use Rattle.std.proofs.lemmas.List.{map-append, take-map, drop-map, length-map}
+use Rattle.std.proofs.lemmas.List.{map-append, take-map, drop-map, length-map, length-replicate}
 use Rattle.glyph_types.specs.declared.info.hb_glyph_info_t.{hb_glyph_info_t}
 use Rattle.glyph_lists.specs.Items.{item_of, strip, clusters, glyph_flags, flags_of}
-use Rattle.glyph_lists.specs.Events.{first_of, last_of, or, copies, replaced}
+use Rattle.glyph_lists.specs.Parts.{first_of, last_of, or, copies, replaced, replaced_among}
 use Rattle.glyph_lists.specs.Replacements.{copied, replaced_by, glyph_numbered, item_numbered, glyphs_replaced, items_replaced}
 
 abbrev mapped : {X Y : Type 0} → (X → Y) → Option X → Option Y
@@ -48,17 +48,25 @@ replaced_seen v f g at taken ns xs same =
     ∙ ap (λ ys. ys ++ copied g (or (first_of (drop at (map v xs))) (last_of (take at (map v xs)))) ns ++ map v (drop (at + taken) xs)) (sym (take-map v at xs))
     ∙ ap (λ ys. take at (map v xs) ++ copied g (or (first_of (drop at (map v xs))) (last_of (take at (map v xs)))) ns ++ ys) (sym (drop-map v (at + taken) xs))
 
-all_alike : (x : ℕ) (ns : List ℕ) → map (λ (n : ℕ). x) ns ≡ replicate (length ns) x
+all_alike : {X : Type 0} (x : X) (ns : List ℕ) → map (λ (n : ℕ). x) ns ≡ replicate (length ns) x
 all_alike x [] = refl
 all_alike x (n ∷ ns) = ap (λ ys. x ∷ ys) (all_alike x ns)
 
-copied_alike : (o : Option ℕ) (ns : List ℕ) → copied (λ x n. x) o ns ≡ copies (length ns) o
+copied_alike : {X : Type 0} (o : Option X) (ns : List ℕ) → copied (λ x n. x) o ns ≡ copies (length ns) o
 copied_alike None ns = refl
 copied_alike (Some x) ns = all_alike x ns
 
 -- what copies have alike
-replaced_alike : (at taken : ℕ) (ns xs : List ℕ) → replaced_by (λ x n. x) at taken ns xs ≡ replaced at taken (length ns) xs
+pub replaced_alike : {X : Type 0} (at taken : ℕ) (ns : List ℕ) (xs : List X) → replaced_by (λ x n. x) at taken ns xs ≡ replaced_among at taken (length ns) xs
 replaced_alike at taken ns xs = ap (λ ys. take at xs ++ ys ++ drop (at + taken) xs) (copied_alike (or (first_of (drop at xs)) (last_of (take at xs))) ns)
+
+-- copies seen through v are copies of what is seen
+pub among_seen : {X Y : Type 0} (v : X → Y) (at taken given : ℕ) (xs : List X) → map v (replaced_among at taken given xs) ≡ replaced_among at taken given (map v xs)
+among_seen v at taken given xs =
+    let ns = replicate given zero in
+    let n : length ns ≡ given = length-replicate given zero in
+    ap (λ k. map v (replaced_among at taken k xs)) (sym n) ∙ ap (map v) (sym (replaced_alike at taken ns xs)) ∙ replaced_seen v (λ x n. x) (λ y n. y) at taken ns xs (λ x n. refl) ∙ replaced_alike at taken ns (map v xs)
+    ∙ ap (λ k. replaced_among at taken k (map v xs)) n
 
 pub strip_replaced : (at taken : ℕ) (ns : List ℕ) (gs : List hb_glyph_info_t) → strip (glyphs_replaced at taken ns gs) ≡ items_replaced at taken ns (strip gs)
 strip_replaced at taken ns gs = replaced_seen item_of glyph_numbered item_numbered at taken ns gs (λ g n. refl)

@@ -1,6 +1,6 @@
 -- A join, and a deletion before its item goes, unite the parts of two items or leave all as they are.
 use Rattle.std.proofs.Common.{ℕ, ◌+◌, ◌-◌, ◌||◌, true, false, if◌then◌else◌, List, [], ◌∷◌, Option, Some, None, take, drop}
-use Rattle.glyph_lists.specs.Events.{united_all, last_from, joined, stretch, first_of, last_of, is_number, with_neighbour, united_if_last, united_without, left_by}
+use Rattle.glyph_lists.specs.Parts.{united_all, last_from, joined, stretch, first_of, last_of, is_number, with_neighbour, united_if_last, united_without, before_deletion}
 use Rattle.glyph_lists.specs.Lemmas.Numbers.{Has, MayHave, has_here, has_last_from, has_take, has_drop, has_last_before, has_first_from}
 
 -- what holds of a list, and after each union of two of its numbers
@@ -30,5 +30,5 @@ without_unites P before None after ns u b h a = u.same
 without_unites P before (Some n) after ns u b h a = if_last_unites P before after n ns u b a h
 
 -- it holds as an item is about to go
-pub left_unites : (P : List ℕ → Type 0) (at : ℕ) (ns : List ℕ) → Unites P ns → P (left_by at ns)
+pub left_unites : (P : List ℕ → Type 0) (at : ℕ) (ns : List ℕ) → Unites P ns → P (before_deletion at ns)
 left_unites P at ns u = without_unites P (last_of (take at ns)) (first_of (drop at ns)) (first_of (drop (at + 1) ns)) ns u (has_last_before at ns) (has_first_from at ns) (has_first_from (at + 1) ns)

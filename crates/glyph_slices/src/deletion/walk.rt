@@ -2,7 +2,7 @@ ghost use Rattle.std.specs.Prelude.{◌≡◌, ◌+◌, ◌<◌, ◌≤◌, ◌+
 ghost use Rattle.glyph_types.specs.declared.info.hb_glyph_info_t.{hb_glyph_info_t as Glyph};
 ghost use Rattle.glyph_types.specs.declared.level.BufferClusterLevel.{BufferClusterLevel as Level};
 ghost use Rattle.glyph_lists.specs.Items.{Position, clusters};
-ghost use Rattle.glyph_lists.specs.Events.{first_of, last_of, is_number};
+ghost use Rattle.glyph_lists.specs.Parts.{first_of, last_of, is_number};
 ghost use Rattle.glyph_lists.specs.Order.{IsOrdered};
 ghost use Rattle.glyph_slices.specs.Deleting.{Left, deletion_marks, end_recast, glyphs_deleted};
 ghost use Rattle.glyph_slices.specs.DeletionWalk.{Deletes, IsDue, IsWalk, Tells, first_passed, passed_at, settled, without_glyph};

@@ -1,6 +1,6 @@
 ghost use Rattle.std.specs.Prelude.{◌≡◌, ◌≤◌, ◌<◌, true, length, map};
 ghost use Rattle.glyph_lists.specs.Items.{clusters};
-ghost use Rattle.glyph_lists.specs.Events.{stretch};
+ghost use Rattle.glyph_lists.specs.Parts.{stretch};
 ghost use Rattle.glyph_lists.specs.Order.{IsFalling, IsOrdered};
 ghost use Rattle.glyph_lists.specs.Glyphs.{glyphs_merged, in_cluster};
 ghost use Rattle.glyph_slices.specs.Falling.{IsDueBefore, IsRound, carried};

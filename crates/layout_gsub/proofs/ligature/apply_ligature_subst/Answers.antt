@@ -1,8 +1,9 @@
-use Rattle.std.proofs.Common.{◌≡◌, List, Some, None, false, refl, sym, subst, ap, ◌∙◌}
+use Rattle.std.proofs.Common.{◌≡◌, List, Some, None, sym, subst, ap, ◌∙◌}
 use Rattle.layout_font.specs.Layout.{LigatureTable, ligature_set_of}
-use Rattle.layout_gsub.specs.Actions.{Outcome, first_rule}
-use Rattle.layout_gsub.specs.Buffers.{Does, cut_of}
-use Rattle.layout_gsub.specs.Ligatures.{ligature_rule}
+use Rattle.layout_rules.specs.Actions.{Outcome, first_rule}
+use Rattle.layout_rules.specs.Buffers.{Does, cut_of}
+use Rattle.layout_gsub.specs.Ligatures.{ligature_rule, ligature_subtable}
+use Rattle.layout_rules.specs.Lemmas.Does.{does_nothing}
 use Rattle.layout_gsub.proofs.First.{subtable_passes, subtable_tries}
 use Rattle.layout_gsub.proofs.ligature.apply_ligature_subst.Goals as goal
 
@@ -11,8 +12,7 @@ returns-in_default-clause-ok c =
     let s = c.args.buffer.now in
     let none : ligature_set_of c.as_glyph.result.0 c.args.subtable.now ≡ None = sym (rw c.in_default.is at c.set_of.ensures) in
     let passes = subtable_passes c.args.mask c.as_glyph.result.0 c.args.subtable.now s c.cur.result.now c.cur.ensures c.as_glyph.ensures none in
-    let P : Outcome → Type 0 = λ o. Does o false s s in
-    subst P (sym passes) (refl, refl)
+    does_nothing s (ligature_subtable c.args.mask c.args.subtable.now (cut_of s)) passes
 
 pub returns-clause-ok : goal.returns-clause-ok
 returns-clause-ok c =

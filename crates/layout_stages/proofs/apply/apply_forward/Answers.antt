@@ -1,6 +1,6 @@
 use Rattle.std.proofs.Common.{◌≡◌, ◌≤◌, ◌+◌, ◌-◌, length, true, false, sym, ap, ◌∙◌, arith, Ok, subst}
 use Rattle.glyph_buffer.specs.Sides.{Sides, with_output, fits_joined}
-use Rattle.layout_gsub.specs.Ligatures.{lookup_action}
+use Rattle.layout_stages.specs.Lookups.{lookup_action}
 use Rattle.layout_stages.proofs.Passage.{IsUnderway, gone_on, fits, looked_up_done}
 use Rattle.layout_stages.proofs.apply.apply_forward.Goals as goal
 

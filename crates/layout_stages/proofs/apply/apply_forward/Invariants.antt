@@ -1,5 +1,5 @@
 use Rattle.std.proofs.Common.{◌-◌}
-use Rattle.layout_gsub.specs.Ligatures.{lookup_action}
+use Rattle.layout_stages.specs.Lookups.{lookup_action}
 use Rattle.layout_stages.proofs.Passage.{IsUnderway}
 use Rattle.layout_stages.proofs.apply.apply_forward.Given as goal
 

@@ -2,7 +2,7 @@ use Rattle.std.proofs.Common.{List, length, ◌<◌, get_or, subst}
 use Rattle.std.specs.Prelude.{slice_get}
 use Rattle.layout_map.specs.declared.stage.lookup_map_t.{lookup_map_t}
 use Rattle.layout_stages.specs.Lookups.{lookup_stage}
-use Rattle.layout_stages.specs.Steps.{IsDone}
+use Rattle.layout_rules.specs.Ready.{IsDone}
 use Rattle.layout_stages.proofs.Stages.{one_done}
 use Rattle.layout_stages.proofs.apply.apply_lookups.Goals as goal
 

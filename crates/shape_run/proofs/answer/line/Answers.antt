@@ -1,6 +1,6 @@
 use Rattle.std.proofs.Common.{◌≡◌, false, List, sym, subst, ◌∙◌}
 use Rattle.feature_text.specs.declared.feature.Feature.{Feature}
-use Rattle.glyph_lists.specs.Readings.{Follows, IsMonotone, read_of}
+use Rattle.glyph_lists.specs.Readings.{Follows, read_of}
 use Rattle.glyph_buffer.specs.Sides.{Sides, items_of, run_of}
 use Rattle.shape_run.specs.Path.{shaping}
 use Rattle.shape_run.specs.Stages.{text_buffer}
@@ -17,9 +17,7 @@ returns-clause-ok c =
     let b = c.in_ok-buffer.buffer in
     let is : b ≡ text_buffer options text = c.in_ok-buffer.ensures.text in
     let waits_not : waits features b.script b.direction (items_of b) ≡ false = rw (c.deref.ensures.value, c.script.ensures, c.direction.ensures, c.info_slice.ensures) at (sym c.waits.ensures ∙ c.if-waits.false) in
-    let P : List Feature → Type 0 = λ fs. Follows (read_of (shaping face fs b.script b.direction) (run_of b)) (run_of b) (run_of c.shape.new.buffer) in
-    let Q : Sides → Type 0 = λ s. Follows (read_of (shaping face features s.script s.direction) (run_of s)) (run_of s) (run_of c.shape.new.buffer) in
-    let R : Sides → Type 0 = λ s. IsMonotone s.level in
+    let P : List Feature → Type 0 = λ fs. Follows (read_of (shaping face fs b.script) (run_of b)) (run_of b) (run_of c.shape.new.buffer) in
+    let Q : Sides → Type 0 = λ s. Follows (read_of (shaping face features s.script) (run_of s)) (run_of s) (run_of c.shape.new.buffer) in
     let follows = subst Q is (subst P c.deref-2.ensures.value c.in_ok-shape.ensures.ok) in
-    let none = c.in_ok-shape.ensures.flags (subst R (sym is) tt) in
-    line_shaped options face text c.shape.new.buffer _ c.in_ok-buffer.ensures.fits (subst (λ (s : Sides). waits features s.script s.direction (items_of s) ≡ false) is waits_not) follows none c.in_ok-line.ensures
+    line_shaped options face text c.shape.new.buffer _ c.in_ok-buffer.ensures.fits (subst (λ (s : Sides). waits features s.script s.direction (items_of s) ≡ false) is waits_not) follows c.in_ok-line.ensures

@@ -6,11 +6,10 @@ use Rattle.glyph_lists.specs.Readings.{Follows, read_of}
 use Rattle.glyph_buffer.specs.Sides.{Sides, all_glyphs, run_of}
 use Rattle.layout_font.specs.Layout.{LayoutLists}
 use Rattle.layout_map.specs.Map.{OtMap}
-use Rattle.layout_stages.specs.Steps.{IsReady, IsDone}
+use Rattle.layout_rules.specs.Ready.{IsReady, IsDone}
 use Rattle.shape_run.specs.Path.{substituted, substitution_map, shaped_with}
-use Rattle.shape_run.specs.Output.{has_no_flags}
 use Rattle.shape_run.specs.Stages.{is_glyph_number}
-use Rattle.shape_run.proofs.Whole.{glyphs_made, made_ready, numbers_seen, numbers_stay, shaped_follows, shaped_flags, placed_all}
+use Rattle.shape_run.proofs.Whole.{glyphs_made, made_ready, numbers_seen, numbers_stay, shaped_follows, placed_all}
 use Rattle.shape_run.proofs.path.shape.Goals as goal
 
 pub substitute-requires-clause-ready : goal.substitute-requires-clause-ready
@@ -44,15 +43,10 @@ pub returns-clause-ok : goal.returns-clause-ok
 returns-clause-ok c =
     let s = c.args.buffer.now in
     let face = c.args.face.now in
-    let P : OtMap → Type 0 = λ m. Follows (read_of (shaped_with face m s.script s.direction) (run_of s)) (run_of s) (run_of c.place_glyphs.new.buffer) in
-    let Q : Sides → Type 0 = λ t. Follows (read_of (shaped_with face c.in_ok-map.map s.script s.direction) (run_of s)) (run_of s) (run_of t) in
-    subst P (map_is c) (subst Q (sym c.place_glyphs.ensures) (shaped_follows face c.in_ok-map.map s c.substitute.new.buffer (done c)))
-
-pub returns-clause-flags : goal.returns-clause-flags
-returns-clause-flags c = λ monotone.
-    let P : Sides → Type 0 = λ t. has_no_flags (all_glyphs t) ≡ true in
     let flagless : bit_and c.in_ok-map.map.global_mask 7 ≡ 0 = ap (λ k. bit_and k 7) (sym c.get_global_mask.ensures.value) ∙ c.get_global_mask.ensures.flagless in
-    subst P (sym c.place_glyphs.ensures) (shaped_flags c.args.face.now c.in_ok-map.map c.args.buffer.now c.substitute.new.buffer flagless (done c) monotone)
+    let P : OtMap → Type 0 = λ m. Follows (read_of (shaped_with face m s.script) (run_of s)) (run_of s) (run_of c.place_glyphs.new.buffer) in
+    let Q : Sides → Type 0 = λ t. Follows (read_of (shaped_with face c.in_ok-map.map s.script) (run_of s)) (run_of s) (run_of t) in
+    subst P (map_is c) (subst Q (sym c.place_glyphs.ensures) (shaped_follows face c.in_ok-map.map s c.substitute.new.buffer flagless (done c)))
 
 pub returns-clause-numbers : goal.returns-clause-numbers
 returns-clause-numbers c =

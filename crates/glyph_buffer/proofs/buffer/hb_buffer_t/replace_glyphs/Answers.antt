@@ -4,13 +4,13 @@ use Rattle.std.proofs.lemmas.List.{drop-drop}
 use Rattle.glyph_lists.specs.Lemmas.Glyphs.{length_beside, length_merged_at}
 use Rattle.glyph_buffer.proofs.Ordered.{known_ordered, known_ahead, known_back, order_merged, order_copied}
 use Rattle.glyph_lists.specs.Items.{clusters, flags_of}
-use Rattle.glyph_lists.specs.Events.{replaced, stretch}
+use Rattle.glyph_lists.specs.Parts.{replaced, stretch}
 use Rattle.glyph_lists.specs.Glyphs.{beside_merged, flags_merged_at}
 use Rattle.glyph_lists.specs.Merges.{replaced_at}
 use Rattle.glyph_buffer.specs.Sides.{Sides, all_glyphs, items_of}
 use Rattle.glyph_buffer.specs.Merging.{telling_flags, with_replaced}
 use Rattle.glyph_buffer.proofs.Replaced.{replaced_within, room_is, replaced_view, replaced_items, replaced_clusters, replaced_flags}
-use Rattle.glyph_lists.specs.Steps.{replacement_brings}
+use Rattle.glyph_lists.specs.PartSteps.{replacement_brings}
 use Rattle.glyph_buffer.proofs.Brings.{brings_same}
 use Rattle.glyph_buffer.proofs.buffer.hb_buffer_t.replace_glyphs.Goals as goal
 

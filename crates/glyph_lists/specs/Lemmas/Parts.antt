@@ -2,8 +2,8 @@
 use Rattle.std.proofs.Common.{ℕ, ◌≡◌, ◌≤◌, ◌+◌, ◌⊎◌, inl, inr, Bool, true, false, not, min, max, List, [], ◌∷◌, reverse, arith, refl, subst, sym, ◌∙◌}
 use Rattle.std.proofs.lemmas.Bool.Decides.{nat_tests}
 use Rattle.std.proofs.lemmas.Grind.{common_steps}
-use Rattle.glyph_lists.specs.Events.{Event, Join, Replace, Delete, Circle, Reverse, united, united_all, joined, stretch, left_by, replaced, after_event, after_events}
-use Rattle.glyph_lists.specs.Order.{IsInOrder, IsOrdered, BringsNone, turned}
+use Rattle.glyph_lists.specs.Parts.{PartEvent, JoinParts, ReplaceParts, DeletePart, CirclePart, ReverseParts, united, united_all, joined, stretch, before_deletion, replaced, after_part_event, after_part_events}
+use Rattle.glyph_lists.specs.Order.{IsInOrder, IsOrdered, BringsNone, falls_after}
 use Rattle.glyph_lists.specs.Laws.{KeepsOrder, KeepsNumbers}
 use Rattle.glyph_lists.specs.Lemmas.Chains.{chain_map, chain_reverse}
 use Rattle.glyph_lists.specs.Lemmas.Drawn.{IsDrawn, chain_drawn, drawn_replaced, drawn_without, drawn_doubled}
@@ -42,28 +42,28 @@ order_unites : (falls : Bool) (ns : List ℕ) → IsInOrder falls ns → Unites 
 order_unites falls ns h = record { same = h; union = λ m n _ _. order_united falls m n ns h }
 
 -- one event keeps the order
-pub event_keeps_order : (e : Event) (falls : Bool) (ns : List ℕ) → IsInOrder falls ns → IsInOrder (turned falls (e ∷ [])) (after_event ns e)
-event_keeps_order (Join from to) falls ns h = joined_unites (IsInOrder falls) from to ns (order_unites falls ns h)
-event_keeps_order (Replace at taken given) falls ns h =
+pub event_keeps_order : (e : PartEvent) (falls : Bool) (ns : List ℕ) → IsInOrder falls ns → IsInOrder (falls_after falls (e ∷ [])) (after_part_event ns e)
+event_keeps_order (JoinParts from to) falls ns h = joined_unites (IsInOrder falls) from to ns (order_unites falls ns h)
+event_keeps_order (ReplaceParts at taken given) falls ns h =
     order_drawn falls (drawn_replaced at taken given (joined (stretch at (at + taken) ns) ns)) (joined_unites (IsInOrder falls) at (at + taken) ns (order_unites falls ns h))
-event_keeps_order (Delete at) falls ns h = order_drawn falls (drawn_without at (left_by at ns)) (left_unites (IsInOrder falls) at ns (order_unites falls ns h))
-event_keeps_order (Circle beside) falls ns h = order_drawn falls (drawn_doubled beside ns) h
-event_keeps_order Reverse falls ns h = order_reverse falls ns h
+event_keeps_order (DeletePart at) falls ns h = order_drawn falls (drawn_without at (before_deletion at ns)) (left_unites (IsInOrder falls) at ns (order_unites falls ns h))
+event_keeps_order (CirclePart beside) falls ns h = order_drawn falls (drawn_doubled beside ns) h
+event_keeps_order ReverseParts falls ns h = order_reverse falls ns h
 
-turned_step : (falls : Bool) (e : Event) (es : List Event) → turned falls (e ∷ es) ≡ turned (turned falls (e ∷ [])) es
-turned_step falls (Join from to) es = refl
-turned_step falls (Replace at taken given) es = refl
-turned_step falls (Delete at) es = refl
-turned_step falls (Circle beside) es = refl
-turned_step falls Reverse es = refl
+falls_after_step : (falls : Bool) (e : PartEvent) (es : List PartEvent) → falls_after falls (e ∷ es) ≡ falls_after (falls_after falls (e ∷ [])) es
+falls_after_step falls (JoinParts from to) es = refl
+falls_after_step falls (ReplaceParts at taken given) es = refl
+falls_after_step falls (DeletePart at) es = refl
+falls_after_step falls (CirclePart beside) es = refl
+falls_after_step falls ReverseParts es = refl
 
 pub keeps_order : KeepsOrder
 keeps_order [] falls ns h = h
-keeps_order (e ∷ es) falls ns h = rw turned_step (keeps_order es (turned falls (e ∷ [])) (after_event ns e) (event_keeps_order e falls ns h))
+keeps_order (e ∷ es) falls ns h = rw falls_after_step (keeps_order es (falls_after falls (e ∷ [])) (after_part_event ns e) (event_keeps_order e falls ns h))
 
 -- a list in one order or the other stays so
-pub stays_ordered : (es : List Event) (ns : List ℕ) → IsOrdered ns → IsOrdered (after_events es ns)
-stays_ordered es ns h = elim h [ inl rises ↦ ordered_from (turned false es) (after_events es ns) (keeps_order es false ns rises) | inr falls ↦ ordered_from (turned true es) (after_events es ns) (keeps_order es true ns falls) ]
+pub stays_ordered : (es : List PartEvent) (ns : List ℕ) → IsOrdered ns → IsOrdered (after_part_events es ns)
+stays_ordered es ns h = elim h [ inl rises ↦ ordered_from (falls_after false es) (after_part_events es ns) (keeps_order es false ns rises) | inr falls ↦ ordered_from (falls_after true es) (after_part_events es ns) (keeps_order es true ns falls) ]
   where
     ordered_from : (falls : Bool) (ms : List ℕ) → IsInOrder falls ms → IsOrdered ms
     ordered_from false ms o = inl o
@@ -85,15 +85,15 @@ numbers_through : (old mid new : List ℕ) → BringsNone old mid → BringsNone
 numbers_through old mid new h k n has = h n (k n has)
 
 -- one event brings no number
-pub event_keeps_numbers : (e : Event) (ns : List ℕ) → BringsNone ns (after_event ns e)
-event_keeps_numbers (Join from to) ns = joined_unites (BringsNone ns) from to ns (numbers_unite ns)
-event_keeps_numbers (Replace at taken given) ns =
+pub event_keeps_numbers : (e : PartEvent) (ns : List ℕ) → BringsNone ns (after_part_event ns e)
+event_keeps_numbers (JoinParts from to) ns = joined_unites (BringsNone ns) from to ns (numbers_unite ns)
+event_keeps_numbers (ReplaceParts at taken given) ns =
     let mid = joined (stretch at (at + taken) ns) ns in
     numbers_through ns mid (replaced at taken given mid) (joined_unites (BringsNone ns) at (at + taken) ns (numbers_unite ns)) (drawn_brings (drawn_replaced at taken given mid))
-event_keeps_numbers (Delete at) ns = numbers_through ns (left_by at ns) (after_event ns (Delete at)) (left_unites (BringsNone ns) at ns (numbers_unite ns)) (drawn_brings (drawn_without at (left_by at ns)))
-event_keeps_numbers (Circle beside) ns = drawn_brings (drawn_doubled beside ns)
-event_keeps_numbers Reverse ns = λ n h. sym (has_reverse n ns) ∙ h
+event_keeps_numbers (DeletePart at) ns = numbers_through ns (before_deletion at ns) (after_part_event ns (DeletePart at)) (left_unites (BringsNone ns) at ns (numbers_unite ns)) (drawn_brings (drawn_without at (before_deletion at ns)))
+event_keeps_numbers (CirclePart beside) ns = drawn_brings (drawn_doubled beside ns)
+event_keeps_numbers ReverseParts ns = λ n h. sym (has_reverse n ns) ∙ h
 
 pub keeps_numbers : KeepsNumbers
 keeps_numbers [] ns = λ n h. h
-keeps_numbers (e ∷ es) ns = numbers_through ns (after_event ns e) (after_events es (after_event ns e)) (event_keeps_numbers e ns) (keeps_numbers es (after_event ns e))
+keeps_numbers (e ∷ es) ns = numbers_through ns (after_part_event ns e) (after_part_events es (after_part_event ns e)) (event_keeps_numbers e ns) (keeps_numbers es (after_part_event ns e))

@@ -1,16 +1,18 @@
 ghost use Rattle.std.specs.Prelude.{◌≡◌, ◌<◌, true, [], length, IfOk, IfErr};
 ghost use Rattle.glyph_buffer.specs.Sides.{items_of};
-ghost use Rattle.layout_gsub.specs.Actions.{first_rule};
-ghost use Rattle.layout_gsub.specs.Buffers.{Does, are_glyphs, cut_of};
-ghost use Rattle.layout_gsub.specs.Ligatures.{ligature_subtable, lookup_action};
+ghost use Rattle.layout_rules.specs.Actions.{first_rule};
+ghost use Rattle.layout_rules.specs.Buffers.{Does, are_glyphs, cut_of};
+ghost use Rattle.layout_gsub.specs.Ligatures.{ligature_subtable};
+ghost use Rattle.layout_stages.specs.Lookups.{lookup_action};
 
-use crate::ligature::{apply_ligature_subst, shares_mask};
 use glyph_buffer::buffer::hb_buffer_t;
 use glyph_types::cause::ShapeCause;
 use layout_font::ligature::LigatureSubst;
 use layout_font::lookup::{Lookup, Subtables};
+use layout_gsub::ligature::apply_ligature_subst;
+use layout_rules::mask::shares_mask;
 
-#[tactic(auto, using(crate::proofs::Does::does_first, crate::proofs::Does::passed_on, crate::proofs::Does::not_done, crate::proofs::Does::rule_step, crate::proofs::Does::no_rules))]
+#[tactic(auto, using(layout_rules::specs::Lemmas::Tried::tried_first, layout_rules::specs::Lemmas::Tried::tried_open, layout_rules::specs::Lemmas::Tried::tried_positions, layout_rules::specs::Lemmas::Tried::tried_limit, layout_rules::specs::Lemmas::Tried::tried_numbers, layout_rules::specs::Lemmas::Tried::tried_next, layout_rules::specs::Lemmas::Tried::tried_acted, layout_rules::specs::Lemmas::Tried::tried_all))]
 fn apply_subtables(
     subtables: &[LigatureSubst],
     mask: u32,
@@ -32,9 +34,10 @@ fn apply_subtables(
     Ok(false)
 }
 
-#[tactic(auto, using(crate::proofs::First::lookup_passes, crate::proofs::First::lookup_tries))]
+#[tactic(auto, using(crate::proofs::First::lookup_passes, crate::proofs::First::lookup_tries, layout_rules::specs::Lemmas::Does::does_nothing))]
 /// Does what a lookup does at the glyph at the cursor, where the glyph has a bit of the mask: what the first of its
-/// subtables does that acts. It tells whether one acted, and leaves the buffer as it was where none did.
+/// subtables does that acts. It tells whether one acted; where none did it changes glyph flags alone. Its one error is
+/// want of memory.
 pub fn apply_lookup(
     lookup: &Lookup,
     mask: u32,

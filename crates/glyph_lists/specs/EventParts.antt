@@ -1,0 +1,46 @@
+-- What events do to the parts of a text, and what holds of flags once they were spread.
+use Rattle.std.specs.Prelude.{ℕ, ◌≡◌, ◌+◌, List, [], ◌∷◌, ◌++◌, length}
+use Rattle.std.specs.Int.RustNames.{bit_and}
+use Rattle.glyph_types.specs.declared.level.BufferClusterLevel.{BufferClusterLevel}
+use Rattle.glyph_lists.specs.Parts.{PartEvent, JoinParts, ReplaceParts, DeletePart, CirclePart, ReverseParts}
+use Rattle.glyph_lists.specs.Origins.{Origin, Manner, Unites, Marks, Keeps, manner}
+use Rattle.glyph_lists.specs.Events.{Event, Merge, Replace, Circle, Delete, Move, Arrange, Reverse, Break, Concat, Tatweel, Spread, Reset}
+
+abbrev pub joins_of : Manner → ℕ → ℕ → List PartEvent
+joins_of Unites from to = JoinParts from to ∷ []
+joins_of Marks from to = []
+joins_of Keeps from to = []
+
+-- what one event does to the parts of the text
+abbrev pub parts_of_event : BufferClusterLevel → Event → List PartEvent
+parts_of_event level (Merge how from to) = joins_of (manner how level) from to
+parts_of_event level (Replace at taken given) = ReplaceParts at taken given ∷ []
+parts_of_event level (Circle after beside like) = CirclePart beside ∷ []
+parts_of_event level (Delete at) = DeletePart at ∷ []
+parts_of_event level (Move how from order) = joins_of (manner how level) from (from + length order)
+parts_of_event level (Arrange from order) = []
+parts_of_event level Reverse = ReverseParts ∷ []
+parts_of_event level (Break from to) = []
+parts_of_event level (Concat from to) = []
+parts_of_event level (Tatweel from to) = []
+parts_of_event level Spread = []
+parts_of_event level Reset = []
+
+abbrev pub parts_of : BufferClusterLevel → List Event → List PartEvent
+parts_of level [] = []
+parts_of level (e ∷ es) = parts_of_event level e ++ parts_of level es
+
+-- where the one before is of the same cluster, it has the same flags
+abbrev pub IsEven : Origin → List Origin → Type 0
+IsEven p [] = Unit {0}
+IsEven p (o ∷ os) = (p.cluster ≡ o.cluster → p.flags ≡ o.flags) × IsEven o os
+
+-- neighbours of one cluster have the same flags
+abbrev pub AreEvenRuns : List Origin → Type 0
+AreEvenRuns [] = Unit {0}
+AreEvenRuns (o ∷ os) = IsEven o os
+
+-- no text may not be put together there
+abbrev pub HaveNoConcat : List Origin → Type 0
+HaveNoConcat [] = Unit {0}
+HaveNoConcat (o ∷ os) = (bit_and o.flags 2 ≡ 0) × HaveNoConcat os

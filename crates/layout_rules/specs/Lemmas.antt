@@ -1,0 +1,7 @@
+-- Lemmas for what stands above: rules on buffers.
+pub mod Orders
+pub mod Frames
+pub mod Glyphs
+pub mod Does
+pub mod Tried
+pub mod Attempts
