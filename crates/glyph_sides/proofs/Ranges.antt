@@ -7,9 +7,6 @@ use Rattle.glyph_lists.specs.Items.{clusters}
 use Rattle.glyph_lists.specs.Parts.{stretch}
 use Rattle.glyph_lists.specs.Order.{IsOrdered}
 use Rattle.glyph_lists.specs.Lists.{range_beyond}
-use Rattle.glyph_lists.specs.Merges.{merged}
-use Rattle.glyph_lists.specs.Glyphs.{in_cluster, glyphs_merged}
-use Rattle.united_clusters.specs.United.{Row, goes_by, renamed_by}
 use Rattle.glyph_lists.specs.Lemmas.Drawn.{IsDrawn, drawn_second, drawn_drop, drawn_take}
 use Rattle.glyph_lists.specs.Lemmas.Parts.{order_drawn}
 use Rattle.glyph_lists.specs.Lemmas.Glyphs.{cut_out}
@@ -59,11 +56,6 @@ range_ordered out ns start end le o =
 
 pub front_ordered : (xs ys : List ℕ) → IsOrdered (xs ++ ys) → IsOrdered xs
 front_ordered xs ys o = elim o [ inl rises ↦ inl (chain_left (λ m n. m ≤ n) xs ys rises) | inr falls ↦ inr (chain_left (λ m n. n ≤ m) xs ys falls) ]
-
--- clusters that go by the least of a range
-pub renamed_merged : (us : List Row) (range : List ℕ) (gs : List hb_glyph_info_t) → ((n : ℕ) → goes_by us n ≡ merged range n) → renamed_by us gs ≡ glyphs_merged range gs
-renamed_merged us range [] united = refl
-renamed_merged us range (g ∷ gs) united = ap (λ n. in_cluster n g ∷ renamed_by us gs) (united g.cluster) ∙ ap (λ hs. in_cluster (merged range g.cluster) g ∷ hs) (renamed_merged us range gs united)
 
 -- where a range that begins at a place ends
 pub no_way : (n : ℕ) → n - n ≡ 0

@@ -5,13 +5,13 @@ ghost use Rattle.glyph_lists.specs.Merges.{least_number};
 ghost use Rattle.glyph_lists.specs.Order.{IsOrdered};
 ghost use Rattle.glyph_lists.specs.Glyphs.{flagged, glyphs_merged, marked_outside, tells_apart};
 
-use crate::merges::{merge_in, rename_lists, unions_of};
+use crate::merges::merge_in;
 use glyph_clusters::marks::{flag_all, mark_across};
 use glyph_clusters::runs::merge_after;
 use glyph_types::info::{hb_glyph_info_t, hb_mask_t};
 
-/// Merges a range of the output on both lists, of which the input begins at `from`. Where clusters are in no order and the
-/// range is long it takes memory for a table, and without it each glyph is compared with the range.
+/// Merges a range of the output on both lists, of which the input begins at `from`. Where clusters are in no order each
+/// glyph is compared with the range.
 #[tactic(auto, using(glyph_lists::specs::Lemmas::Glyphs::stretch_is, crate::proofs::Ranges::range_ordered, crate::proofs::Ranges::front_ordered))]
 pub fn merge_range(
     out: &mut Vec<hb_glyph_info_t>,
@@ -30,13 +30,8 @@ pub fn merge_range(
     ensures input_len { vec_len info.new ≡ vec_len info.old }
     ensures output_len { vec_len out.new ≡ vec_len out.old }
 {
-    match unions_of(*out.allocator(), &out[start..end], in_order) {
-        Some(unions) => rename_lists(unions, info, out, from),
-        None => {
-            merge_input(info, from, &out[start..end], in_order);
-            merge_in(out, 0, start, end, in_order);
-        }
-    }
+    merge_input(info, from, &out[start..end], in_order);
+    merge_in(out, 0, start, end, in_order);
 }
 
 fn merge_input(

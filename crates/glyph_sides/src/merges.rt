@@ -4,21 +4,14 @@ ghost use Rattle.glyph_lists.specs.Items.{clusters};
 ghost use Rattle.glyph_lists.specs.Parts.{stretch};
 ghost use Rattle.glyph_lists.specs.Order.{IsOrdered};
 ghost use Rattle.glyph_lists.specs.Glyphs.{beside_merged, glyphs_merged, glyphs_merged_at, is_marked_at};
-ghost use Rattle.united_clusters.specs.United.{renamed_by};
 
 use crate::marks::mark_in;
 use glyph_clusters::runs::{merge_beside, merge_within};
 use glyph_types::info::{UNSAFE_TO_BREAK, UNSAFE_TO_CONCAT, hb_glyph_info_t};
 use glyph_types::level::BufferClusterLevel;
-use std::alloc::Global;
-use united_clusters::united::UnitedClusters;
-
-/// A range of up to so many glyphs is compared with each glyph, which costs less than a table of its clusters.
-const SHORT: usize = 8;
 
 /// Merges a range of the input, whose glyphs begin at `from`, on both lists; answers whether a glyph was marked. Where
-/// clusters are in no order and the range is long it takes memory for a table, and without it each glyph is compared with
-/// the range.
+/// clusters are in no order each glyph is compared with the range.
 pub fn merge_lists(
     info: &mut Vec<hb_glyph_info_t>,
     out: &mut Vec<hb_glyph_info_t>,
@@ -69,58 +62,8 @@ fn merge_both(
     ensures output_len { vec_len out.new ≡ vec_len out.old }
     ensures capacity { vec_capacity out.new ≡ vec_capacity out.old }
 {
-    match unions_of(*out.allocator(), &info[start..end], in_order) {
-        Some(unions) => rename_lists(unions, info, out, from),
-        None => {
-            merge_out(out, &info[start..end], in_order);
-            merge_in(info, from, start, end, in_order);
-        }
-    }
-}
-
-/// The clusters of a long range as one, where they are in no order and there is memory for a table of them.
-#[tactic(auto, using(crate::proofs::Ranges::renamed_merged))]
-pub(crate) fn unions_of(
-    alloc: Global,
-    range: &[hb_glyph_info_t],
-    in_order: bool,
-) -> Option<UnitedClusters>
-    ensures { (gs : List Glyph) → IfSome result (λ u. renamed_by u gs ≡ glyphs_merged (clusters range.now) gs) }
-{
-    if in_order || range.len() <= SHORT {
-        return None;
-    }
-    match UnitedClusters::one(alloc, range) {
-        Ok(unions) => Some(unions),
-        Err(_) => None,
-    }
-}
-
-/// Puts the glyphs of both lists into the clusters that theirs go by, those of the input from a place on.
-pub(crate) fn rename_lists(
-    mut unions: UnitedClusters,
-    info: &mut Vec<hb_glyph_info_t>,
-    out: &mut Vec<hb_glyph_info_t>,
-    from: usize,
-)
-    requires begins { from ≤ vec_len info.old }
-    ensures input { drop from info.new.items ≡ renamed_by unions (drop from info.old.items) }
-    ensures output { out.new.items ≡ renamed_by unions out.old.items }
-    ensures input_len { vec_len info.new ≡ vec_len info.old }
-    ensures output_len { vec_len out.new ≡ vec_len out.old }
-    ensures capacity { vec_capacity out.new ≡ vec_capacity out.old }
-{
-    unions.rename(out);
-    rename_behind(&mut unions, info, from);
-}
-
-#[tactic(auto, using(crate::proofs::Ranges::put_behind))]
-fn rename_behind(unions: &mut UnitedClusters, glyphs: &mut [hb_glyph_info_t], from: usize)
-    requires { from ≤ length glyphs.old }
-    ensures { drop from glyphs.new ≡ renamed_by unions.old (drop from glyphs.old) }
-{
-    let (_, ahead) = glyphs.split_at_mut(from);
-    unions.rename(ahead);
+    merge_out(out, &info[start..end], in_order);
+    merge_in(info, from, start, end, in_order);
 }
 
 fn merge_out(out: &mut Vec<hb_glyph_info_t>, range: &[hb_glyph_info_t], in_order: bool)

@@ -2,9 +2,6 @@ pub mod Neighbours
 pub mod Ends
 pub mod Carried
 pub mod CarriedTurned
-pub mod United
-pub mod Renamed
-pub mod UnitedTurned
 pub mod Meant
 pub mod Turned
 pub mod GroupsTurned

@@ -2,7 +2,7 @@ ghost use Rattle.std.specs.Prelude.{◌≡◌, ◌<◌, ◌≤◌, ◌-◌, ◌|
 ghost use Rattle.glyph_types.specs.declared.info.hb_glyph_info_t.{hb_glyph_info_t as Glyph};
 ghost use Rattle.glyph_lists.specs.Items.{Item, clusters, flags_of, item_of, strip};
 ghost use Rattle.glyph_lists.specs.Order.{BringsNone, IsOrdered};
-ghost use Rattle.glyph_lists.specs.PartReadings.{IsMonotone};
+ghost use Rattle.glyph_lists.specs.Levels.{IsMonotone};
 ghost use Rattle.glyph_slices.specs.Facts.{clusters_turned, positions_turned};
 ghost use Rattle.glyph_slices.specs.declared.due.Due.TheVariants.{Nothing};
 ghost use Rattle.glyph_slices.specs.Due.{MayBeDue, MayBeRound, meant};
@@ -10,21 +10,17 @@ ghost use Rattle.glyph_slices.specs.Flags.{flags_turned};
 ghost use Rattle.glyph_slices.specs.Groups.{Decides};
 ghost use Rattle.glyph_slices.specs.Turning.{first_turned, groups_turned, is_marked_if, merged_if, part_turned, turned, turning_at};
 
-mod ahead;
-
-use self::ahead::end_of_meant_group;
 use crate::due::{Merges, merge_next, no_merges, settle};
+use crate::groups::end_of_group;
 use glyph_types::info::hb_glyph_info_t;
 use glyph_types::level::BufferClusterLevel;
 use glyph_types::position::GlyphPosition;
-use std::alloc::Global;
 
 /// Turns round the order of the groups, and keeps the order within each; positions go with their glyphs. The groups are found
 /// from the left; where `merge` is told, each is merged before the next is looked for. Answers whether a merge marked a
-/// glyph. Where all clusters are known to stand in order the merges take linear time in all. Else they are kept in a table
-/// and take n log n for n glyphs; where there is no memory for the table each takes the glyphs times its group.
+/// glyph. Where all clusters are known to stand in order the merges take linear time in all; else each compares all glyphs
+/// with its group.
 pub fn reverse_groups<F: Fn(&hb_glyph_info_t, &hb_glyph_info_t) -> bool>(
-    alloc: Global,
     glyphs: &mut [hb_glyph_info_t],
     positions: &mut [GlyphPosition],
     level: BufferClusterLevel,
@@ -45,10 +41,10 @@ pub fn reverse_groups<F: Fn(&hb_glyph_info_t, &hb_glyph_info_t) -> bool>(
     ensures numbers { (joins : Glyph → Glyph → Bool) → Decides F.Fn group joins → BringsNone (clusters glyphs.old) (clusters glyphs.new) }
     ensures flags { (q : Item → Item → Bool) → Decides F.Fn group (λ g h. q (item_of g) (item_of h)) → flags_of glyphs.new ≡ flags_turned merge level q (strip glyphs.old) (clusters glyphs.old) (flags_of glyphs.old) }
 {
-    let mut merges = no_merges(alloc, glyphs, level, merge && in_order, merge);
+    let mut merges = no_merges(glyphs, level, merge && in_order);
     let mut start = 0;
     while start < glyphs.len() {
-        let end = end_of_meant_group(glyphs, start, &mut merges.due, &group);
+        let end = end_of_group(glyphs, start, &group);
         merges = turn_group(glyphs, positions, level, in_order, merge, start, end, merges);
         start = end;
     }

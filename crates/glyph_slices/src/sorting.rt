@@ -16,9 +16,7 @@ use std::alloc::{AllocError, Global};
 /// Puts the glyphs from `start` up to before `end` in stable order by the keys that they have, and merges each smallest
 /// span that the order permutes: one of more than one glyph, between places before which all came from before them. The
 /// merges come first, on the glyphs as they stood, so that where all clusters are known to stand in order they take linear
-/// time in all. Else a sort that moves many glyphs keeps what it merges in a table, and takes n log n for n glyphs in the
-/// slice; where there is no memory for the table each merge takes the glyphs times its span. Where memory is short for
-/// the sort the slice stays as it was.
+/// time in all; else each compares all glyphs with its span. Where memory is short for the sort the slice stays as it was.
 pub fn sort<F: Fn(&hb_glyph_info_t) -> u32>(
     alloc: Global,
     glyphs: &mut [hb_glyph_info_t],
@@ -45,7 +43,7 @@ pub fn sort<F: Fn(&hb_glyph_info_t) -> u32>(
     let mut order = keyed_places(alloc, &glyphs[start..end], &key)?;
     sort_places(&mut order)?;
     let mut copy = glyphs[start..end].to_vec(alloc)?;
-    let marked = merge_spans(alloc, glyphs, level, in_order, start, &order);
+    let marked = merge_spans(glyphs, level, in_order, start, &order);
     let range = &mut glyphs[start..end];
     copy.copy_from_slice(range);
     let in_order = put_in_order(range, &copy, &order);
@@ -122,23 +120,8 @@ fn merge_span(
     merge_next(glyphs, level, in_order, start, end, merges)
 }
 
-/// Whether so many glyphs are in spans to merge that it takes less to keep what is united in a table than to merge each
-/// span at once.
-fn moves_many(order: &[Keyed]) -> bool {
-    let mut reach = 0;
-    let mut moved: usize = 0;
-    for (place, keyed) in order.iter().enumerate() {
-        reach = reach.max(keyed.place);
-        if reach > place {
-            moved += 1;
-        }
-    }
-    moved > 8
-}
-
 /// Merges the spans of a range that begins at `start`; answers whether a glyph was marked.
 fn merge_spans(
-    alloc: Global,
     glyphs: &mut [hb_glyph_info_t],
     level: BufferClusterLevel,
     in_order: bool,
@@ -150,7 +133,7 @@ fn merge_spans(
     ensures merged { record { glyphs = glyphs.new; is_marked = result } ≡ range_spanned level start order.now glyphs.old }
     ensures direction { (falls : Bool) → IsInOrder falls (clusters glyphs.old) → IsInOrder falls (clusters glyphs.new) }
 {
-    let mut merges = no_merges(alloc, glyphs, level, in_order, moves_many(order));
+    let mut merges = no_merges(glyphs, level, in_order);
     let mut begin = 0;
     let mut reach = 0;
     for place in 0..order.len() {

@@ -17,7 +17,7 @@ use glyph_types::level::BufferClusterLevel;
 // Ranges that begin in the output.
 impl hb_buffer_t {
     /// Merges the clusters of the glyphs of the output from `start` up to before `end`, as `merge_clusters` does those of the
-    /// input; at the level that keeps characters apart it does nothing at all. It takes memory as that does.
+    /// input; at the level that keeps characters apart it does nothing at all. It takes no memory.
     pub fn merge_out_clusters(&mut self, start: usize, end: usize)
         requires open { self.old.is_open ≡ true }
         requires ordered { start ≤ end }

@@ -62,8 +62,7 @@ impl hb_buffer_t {
     }
 
     /// Turns round the order of the groups, and keeps the order within each; positions go with their glyphs. Where `merge` is
-    /// told, the glyphs of each group are merged before, as by `merge_clusters`. Where clusters are in no order that takes
-    /// memory for a table; without it, it only takes longer.
+    /// told, the glyphs of each group are merged before, as by `merge_clusters`. It takes no memory.
     pub fn reverse_groups<F: Fn(&hb_glyph_info_t, &hb_glyph_info_t) -> bool>(
         &mut self,
         group: F,
@@ -142,8 +141,7 @@ fn turn_groups<F: Fn(&hb_glyph_info_t, &hb_glyph_info_t) -> bool>(
     ensures info_len { vec_len info.new ≡ vec_len info.old }
     ensures places_len { vec_len positions.new ≡ vec_len positions.old }
 {
-    let alloc = *info.allocator();
-    reversal::reverse_groups(alloc, info, positions, level, in_order, merge, group)
+    reversal::reverse_groups(info, positions, level, in_order, merge, group)
 }
 
 fn delete_picked<F: Fn(&hb_glyph_info_t) -> bool>(

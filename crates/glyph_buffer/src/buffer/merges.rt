@@ -17,8 +17,8 @@ impl hb_buffer_t {
     /// Merges the clusters of the glyphs from `start` up to before `end`, indices of the input. At the monotone levels each
     /// cluster that occurs among them becomes the least of them, wherever it is, and a glyph whose cluster changes loses
     /// its three flags. At the level that keeps characters apart those outside the least cluster are marked as unsafe to
-    /// break and to concat. Where clusters are in no order, a long range takes memory for a table; without it, it only takes
-    /// longer.
+    /// break and to concat. It takes no memory. Where clusters rise or fall it costs the range and the runs at its ends; in
+    /// no order each glyph is compared with the range.
     pub fn merge_clusters(&mut self, start: usize, end: usize)
         requires ordered { start ≤ end }
         requires within { end ≤ self.old.read + length self.old.ahead }
