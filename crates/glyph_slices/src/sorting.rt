@@ -1,11 +1,10 @@
 ghost use Rattle.std.specs.Prelude.{◌≡◌, ◌+◌, ◌-◌, ◌<◌, ◌≤◌, ◌↔◌, ◌++◌, ℕ, Bool, IsTrue, true, take, drop, length, map, vec_len, IfOk, OnOk, OnErr, slice_range};
 ghost use Rattle.std.specs.List.{All};
 ghost use Rattle.glyph_types.specs.declared.info.hb_glyph_info_t.{hb_glyph_info_t as Glyph};
-ghost use Rattle.glyph_lists.specs.Items.{Item, clusters, flags_of, item_of, strip};
-ghost use Rattle.glyph_lists.specs.Order.{BringsNone, IsInOrder, IsOrdered};
+ghost use Rattle.glyph_lists.specs.Items.{clusters};
+ghost use Rattle.glyph_lists.specs.Order.{IsInOrder, IsOrdered};
 ghost use Rattle.stable_order.specs.Keys.{key_order};
 ghost use Rattle.glyph_slices.specs.Due.{MayBeDue, meant};
-ghost use Rattle.glyph_slices.specs.SortedFacts.{clusters_sorted, flags_sorted};
 ghost use Rattle.glyph_slices.specs.Sorting.{Gives, Spanned, glyph_at, keyed_from, put_in_order, range_merged, range_sorted, range_spanned, span_merged};
 
 use crate::due::{Merges, merge_next, no_merges, settle};
@@ -31,12 +30,7 @@ pub fn sort<F: Fn(&hb_glyph_info_t) -> u32>(
     requires within { end ≤ length glyphs.old }
     requires known { in_order ≡ true → IsOrdered (clusters glyphs.old) }
     ensures sorted { (k : Glyph → ℕ) → Gives F.Fn key k → OnOk result (glyphs.new ≡ (range_sorted level start end k glyphs.old).glyphs) }
-    ensures items { (k : Item → ℕ) → Gives F.Fn key (λ g. k (item_of g)) → OnOk result (strip glyphs.new ≡ take start (strip glyphs.old) ++ key_order k (slice_range (strip glyphs.old) start end) ++ drop end (strip glyphs.old)) }
-    ensures clusters { (k : Item → ℕ) → Gives F.Fn key (λ g. k (item_of g)) → OnOk result (clusters glyphs.new ≡ clusters_sorted level start end k (strip glyphs.old) (clusters glyphs.old)) }
-    ensures numbers { (k : Glyph → ℕ) → Gives F.Fn key k → OnOk result (BringsNone (clusters glyphs.old) (clusters glyphs.new)) }
-    ensures flags { (k : Glyph → ℕ) → Gives F.Fn key k → OnOk result (flags_of glyphs.new ≡ flags_sorted level start end k glyphs.old) }
     ensures marked { (k : Glyph → ℕ) → Gives F.Fn key k → IfOk result (λ s. s.marked ≡ (range_sorted level start end k glyphs.old).is_marked) }
-    ensures same { (k : Glyph → ℕ) → Gives F.Fn key k → IfOk result (λ s. IsTrue s.in_order ↔ (clusters glyphs.new ≡ clusters (range_merged level start end k glyphs.old))) }
     ensures order { (falls : Bool) → IfOk result (λ s. s.in_order ≡ true → IsInOrder falls (clusters glyphs.old) → IsInOrder falls (clusters glyphs.new)) }
     ensures err { OnErr result (glyphs.new ≡ glyphs.old) }
 {

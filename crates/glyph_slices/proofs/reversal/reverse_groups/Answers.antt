@@ -5,13 +5,13 @@ use Rattle.glyph_lists.specs.Order.{BringsNone, IsOrdered}
 use Rattle.glyph_slices.specs.NoNewNumbers.{turning_brings_none}
 use Rattle.glyph_slices.specs.Groups.{group_length}
 use Rattle.glyph_slices.specs.Turning.{Turning, turned}
-use Rattle.glyph_slices.proofs.Turned.{Rest, rest_begins, rest_goes_on, rest_ends}
+use Rattle.glyph_slices.specs.Lemmas.Turned.{Rest, rest_begins, rest_goes_on, rest_ends}
 use Rattle.glyph_slices.specs.Due.{meant}
 use Rattle.glyph_slices.proofs.Meant.{ahead_as_meant, due_within}
 use Rattle.glyph_slices.proofs.Meant.{meant_long}
-use Rattle.glyph_slices.proofs.GroupsTurned.{turned_plain}
-use Rattle.glyph_slices.proofs.Regrouped.{items_turned, places_beside, clusters_beside}
-use Rattle.glyph_slices.proofs.RegroupedFlags.{flags_beside}
+use Rattle.glyph_slices.specs.Lemmas.GroupsTurned.{turned_plain}
+use Rattle.glyph_slices.specs.Lemmas.Regrouped.{items_turned, places_beside, clusters_beside}
+use Rattle.glyph_slices.specs.Lemmas.RegroupedFlags.{flags_beside}
 use Rattle.glyph_slices.proofs.reversal.reverse_groups.Goals as goal
 use Rattle.glyph_slices.proofs.reversal.reverse_groups.Goals.{then-merge, else-merge}
 
@@ -73,22 +73,3 @@ returns-clause-marked g c = λ joins same.
     let inv = c.loop-start.invariant in
     let long : length (meant c.loop-start.merges.due c.loop-start.glyphs) ≡ length c.loop-start.glyphs = meant_long c.args.level c.loop-start.start c.loop-start.merges.due c.loop-start.glyphs inv.within inv.due in
     ap (λ (t : Turning). t.is_marked) (rest_ends c.args.merge c.args.level joins c.loop-start.start (meant c.loop-start.merges.due c.loop-start.glyphs) c.loop-start.positions c.loop-start.merges.marked _ (omega (arith, long, c.loop-start-test.false)) (omega (arith, long, inv.placed)) (inv.rest joins same))
-
-pub returns-clause-plain : goal.returns-clause-plain
-returns-clause-plain g c = λ joins same off. returns-clause-glyphs g c joins same ∙ ap (λ t. (turned t c.args.level joins c.args.glyphs.now c.args.positions.now).glyphs) off ∙ turned_plain c.args.level joins c.args.glyphs.now c.args.positions.now
-
-pub returns-clause-items : goal.returns-clause-items
-returns-clause-items g c = λ q same. ap strip (returns-clause-glyphs g c (λ h k. q (item_of h) (item_of k)) same) ∙ items_turned c.args.merge c.args.level q c.args.glyphs.now c.args.positions.now
-
-pub returns-clause-turned_positions : goal.returns-clause-turned_positions
-returns-clause-turned_positions g c = λ q same. returns-clause-positions g c (λ h k. q (item_of h) (item_of k)) same ∙ places_beside c.args.merge c.args.level q c.args.glyphs.now c.args.positions.now
-
-pub returns-clause-clusters : goal.returns-clause-clusters
-returns-clause-clusters g c = λ q same. ap clusters (returns-clause-glyphs g c (λ h k. q (item_of h) (item_of k)) same) ∙ clusters_beside c.args.merge c.args.level q c.args.glyphs.now c.args.positions.now
-
-pub returns-clause-flags : goal.returns-clause-flags
-returns-clause-flags g c = λ q same. ap flags_of (returns-clause-glyphs g c (λ h k. q (item_of h) (item_of k)) same) ∙ flags_beside c.args.merge c.args.level q c.args.glyphs.now c.args.positions.now
-
-pub returns-clause-numbers : goal.returns-clause-numbers
-returns-clause-numbers g c = λ joins same.
-    subst (λ (gs : List Glyph). BringsNone (clusters c.args.glyphs.now) (clusters gs)) (sym (returns-clause-glyphs g c joins same)) (turning_brings_none c.args.merge c.args.level joins c.args.glyphs.now c.args.positions.now)

@@ -7,7 +7,7 @@ use Rattle.glyph_slices.specs.Groups.{Decides}
 use Rattle.glyph_slices.specs.declared.due.Due.TheVariants.{Nothing}
 use Rattle.glyph_slices.specs.Due.{MayBeDue, meant}
 use Rattle.glyph_slices.specs.Turning.{turned}
-use Rattle.glyph_slices.proofs.Turned.{Rest}
+use Rattle.glyph_slices.specs.Lemmas.Turned.{Rest}
 use Rattle.glyph_slices.proofs.reversal.reverse_groups.Given as goal
 
 -- the groups before `start` were turned round, each in its place
