@@ -3,13 +3,18 @@ use Rattle.std.specs.Prelude.{ℕ, ◌≡◌, ◌+◌, List, [], ◌∷◌, ◌+
 use Rattle.std.specs.Int.RustNames.{bit_and}
 use Rattle.glyph_types.specs.declared.level.BufferClusterLevel.{BufferClusterLevel}
 use Rattle.glyph_lists.specs.Parts.{PartEvent, JoinParts, ReplaceParts, DeletePart, CirclePart, ReverseParts}
-use Rattle.glyph_lists.specs.Origins.{Origin, Manner, Unites, Marks, Keeps, manner}
-use Rattle.glyph_lists.specs.Events.{Event, Merge, Replace, Circle, Delete, Move, Arrange, Reverse, Break, Concat, Tatweel, Spread, Reset}
+use Rattle.glyph_lists.specs.Origins.{Origin, Span, spans, InList, Manner, Unites, Marks, Keeps, manner}
+use Rattle.glyph_lists.specs.Events.{Event, Merge, Replace, Circle, Delete, Move, Arrange, Sort, Reverse, Break, Concat, Tatweel, Spread, Reset}
 
 abbrev pub joins_of : Manner → ℕ → ℕ → List PartEvent
 joins_of Unites from to = JoinParts from to ∷ []
 joins_of Marks from to = []
 joins_of Keeps from to = []
+
+-- the joins of spans that are counted from an index of the list
+abbrev pub span_joins : Manner → ℕ → List Span → List PartEvent
+span_joins m at [] = []
+span_joins m at (s ∷ ss) = joins_of m (at + s.from) (at + s.to) ++ span_joins m at ss
 
 -- what one event does to the parts of the text
 abbrev pub parts_of_event : BufferClusterLevel → Event → List PartEvent
@@ -19,6 +24,7 @@ parts_of_event level (Circle after beside like) = CirclePart beside ∷ []
 parts_of_event level (Delete at) = DeletePart at ∷ []
 parts_of_event level (Move how from order) = joins_of (manner how level) from (from + length order)
 parts_of_event level (Arrange from order) = []
+parts_of_event level (Sort from order) = span_joins (manner InList level) from (spans order)
 parts_of_event level Reverse = ReverseParts ∷ []
 parts_of_event level (Break from to) = []
 parts_of_event level (Concat from to) = []

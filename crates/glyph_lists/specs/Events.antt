@@ -1,8 +1,8 @@
 -- What one call of a buffer does to where its glyphs come from.
-use Rattle.std.specs.Prelude.{ℕ, ◌+◌, Bool, true, false, List, [], ◌∷◌, fold, length, reverse}
+use Rattle.std.specs.Prelude.{ℕ, ◌≡◌, ◌≤◌, ◌+◌, Bool, true, false, List, [], ◌∷◌, Some, fold, length, reverse, slice_get}
 use Rattle.glyph_types.specs.declared.level.BufferClusterLevel.{BufferClusterLevel}
 use Rattle.glyph_lists.specs.Parts.{replaced_among}
-use Rattle.glyph_lists.specs.Origins.{Origin, Merging, InList, manner, merged_as, origins_deleted, arranged, origins_circled, origins_marked, origins_flagged, Asks, origins_spread, without_marks}
+use Rattle.glyph_lists.specs.Origins.{Origin, Merging, InList, manner, merged_as, origins_deleted, arranged, is_seam, spans, spans_merged, origins_circled, origins_marked, origins_flagged, Asks, origins_spread, without_marks}
 
 -- one call, by indices of the whole list before it
 pub data Event : Type 0 where
@@ -18,6 +18,8 @@ pub data Event : Type 0 where
   Move : (how : Merging) → (from : ℕ) → (order : List ℕ) → Event
   -- they come to stand in that order, and no more
   Arrange : (from : ℕ) → (order : List ℕ) → Event
+  -- the glyphs from an index on are sorted into that order: each smallest span that it permutes merges first
+  Sort : (from : ℕ) → (order : List ℕ) → Event
   -- the list is reversed
   Reverse : Event
   -- such indices are unsafe to break, where texts may not be put together, or safe for a tatweel
@@ -45,6 +47,7 @@ origins_after_event asks level os (Circle after beside like) = origins_circled a
 origins_after_event asks level os (Delete at) = origins_deleted level at os
 origins_after_event asks level os (Move how from order) = arranged from order (merged_as (manner how level) from (from + length order) os)
 origins_after_event asks level os (Arrange from order) = arranged from order os
+origins_after_event asks level os (Sort from order) = arranged from order (spans_merged (manner InList level) from (spans order) os)
 origins_after_event asks level os Reverse = reverse os
 origins_after_event asks level os (Break from to) = origins_marked 3 from to os
 origins_after_event asks level os (Concat from to) = concat_marked asks.concat from to os
@@ -56,6 +59,11 @@ origins_after_event asks level os Reset = without_marks os
 abbrev pub origins_after : Asks → BufferClusterLevel → List Event → List Origin → List Origin
 origins_after asks level es os = fold (origins_after_event asks level) os es
 
+-- no element of an order crosses a seam: none that stands from a seam on stood before it
+pub record StaysInSpans (order : List ℕ) : Type 0 where
+  pub whole : is_seam order (length order) ≡ true
+  pub stays : (i j k : ℕ) → slice_get order i ≡ Some j → is_seam order k ≡ true → k ≤ i → k ≤ j
+
 -- a reversal of the list is the only order that a list without this gets
 abbrev pub IsPlain : List Event → Type 0
 IsPlain [] = Unit {0}
@@ -65,6 +73,7 @@ IsPlain (Replace at taken given ∷ es) = IsPlain es
 IsPlain (Circle after beside like ∷ es) = IsPlain es
 IsPlain (Delete at ∷ es) = IsPlain es
 IsPlain (Move how from order ∷ es) = IsPlain es
+IsPlain (Sort from order ∷ es) = StaysInSpans order × IsPlain es
 IsPlain (Reverse ∷ es) = IsPlain es
 IsPlain (Break from to ∷ es) = IsPlain es
 IsPlain (Concat from to ∷ es) = IsPlain es

@@ -10,4 +10,5 @@ pub mod Deletions
 pub mod Glyphs
 pub mod Replacements
 pub mod Origins
+pub mod Sorts
 pub mod EventParts

@@ -1,5 +1,5 @@
 -- Where a glyph comes from: its cluster and its three flags, and what merges, marks, copies and deletions make of them.
-use Rattle.std.specs.Prelude.{ℕ, ◌==◌, ◌||◌, max, Bool, true, false, nat_lt, if◌then◌else◌, List, [], ◌∷◌, ◌++◌, length, map, take, drop, Option, Some, None, slice_get, slice_range, unwrap_or}
+use Rattle.std.specs.Prelude.{ℕ, zero, suc, ◌+◌, ◌==◌, ◌||◌, max, Bool, true, false, nat_lt, if◌then◌else◌, List, [], ◌∷◌, ◌++◌, length, map, take, drop, Option, Some, None, slice_get, slice_range, unwrap_or}
 use Rattle.std.specs.List.{list_all}
 use Rattle.std.specs.Int.RustNames.{bit_and, bit_or}
 use Rattle.glyph_types.specs.declared.info.hb_glyph_info_t.{hb_glyph_info_t}
@@ -95,6 +95,32 @@ picked all (i ∷ order) (x ∷ xs) = unwrap_or (slice_get all i) x ∷ picked a
 -- from a place on as many elements as an order has stand in that order, whose places are counted from there
 abbrev pub arranged : {X : Type 0} → ℕ → List ℕ → List X → List X
 arranged from order xs = take from xs ++ picked (take (length order) (drop from xs)) order (drop from xs)
+
+-- an index of an order is a seam where all that come to stand before it stood before it
+abbrev pub is_seam : List ℕ → ℕ → Bool
+is_seam order i = list_all (λ j. nat_lt j i) (take i order)
+
+-- the indices from `from` up to before `to`
+pub record Span : Type 0 where
+  pub from : ℕ
+  pub to : ℕ
+
+-- of so many indices that are left from `index` on, each seam ends the span that began at `begin`
+abbrev pub spans_from : List ℕ → ℕ → ℕ → ℕ → List Span
+spans_from order begin index zero = []
+spans_from order begin index (suc left) =
+    if is_seam order (index + 1)
+    then record { from = begin; to = index + 1 } ∷ spans_from order (index + 1) (index + 1) left
+    else spans_from order begin (index + 1) left
+
+-- the smallest spans that an order permutes, each by itself
+abbrev pub spans : List ℕ → List Span
+spans order = spans_from order 0 0 (length order)
+
+-- spans merge, one after another; they are counted from an index of the list
+abbrev pub spans_merged : Manner → ℕ → List Span → List Origin → List Origin
+spans_merged m at [] os = os
+spans_merged m at (s ∷ ss) os = spans_merged m at ss (merged_as m (at + s.from) (at + s.to) os)
 
 -- ---- new glyphs
 

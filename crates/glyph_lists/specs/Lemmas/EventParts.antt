@@ -15,13 +15,14 @@ use Rattle.glyph_lists.specs.Order.{BringsNone, IsOrdered}
 use Rattle.glyph_lists.specs.Merges.{least_number, merged, merged_numbers}
 use Rattle.glyph_lists.specs.Deletions.{deleted}
 use Rattle.glyph_lists.specs.Readings.{IsMonotone}
-use Rattle.glyph_lists.specs.Origins.{Origin, numbers, Asks, Manner, Unites, Marks, Keeps, Merging, InList, InOutput, manner, merged_as, origins_marked, first_deleted, origins_deleted, picked, arranged, flags_at, first_circled, origins_circled, spread_after, spread_flags, settled, run_flags, tatweel_settled, without_marks}
-use Rattle.glyph_lists.specs.Events.{Event, Merge, Replace, Circle, Delete, Move, Arrange, Reverse, Break, Concat, Tatweel, Spread, Reset, concat_marked, tatweel_marked, origins_after_event, IsPlain}
-use Rattle.glyph_lists.specs.EventParts.{joins_of, parts_of_event, parts_of, IsEven, HaveNoConcat}
-use Rattle.glyph_lists.specs.Laws.{OriginsKeepNumbers, OriginsAreParts, SpreadIsEven, SpreadHasNoConcat}
+use Rattle.glyph_lists.specs.Origins.{Origin, numbers, Asks, Manner, Unites, Marks, Keeps, Merging, InList, InOutput, manner, merged_as, origins_marked, first_deleted, origins_deleted, picked, arranged, Span, spans, spans_merged, flags_at, first_circled, origins_circled, spread_after, spread_flags, settled, run_flags, tatweel_settled, origins_spread, without_marks}
+use Rattle.glyph_lists.specs.Events.{Event, StaysInSpans, Merge, Replace, Circle, Delete, Move, Arrange, Sort, Reverse, Break, Concat, Tatweel, Spread, Reset, concat_marked, tatweel_marked, origins_after_event, origins_after, IsPlain}
+use Rattle.glyph_lists.specs.EventParts.{joins_of, span_joins, parts_of_event, parts_of, IsEven, AreEvenRuns, HaveNoConcat}
 use Rattle.glyph_lists.specs.Lemmas.Drawn.{drawn_replaced, drawn_doubled}
 use Rattle.glyph_lists.specs.Lemmas.Numbers.{Has, has_here, has_more, has_cases, has_either, has_take, has_drop, has_map, has_reverse, drawn_brings}
 use Rattle.glyph_lists.specs.Lemmas.Parts.{stays_ordered}
+use Rattle.glyph_lists.specs.Levels.{IsUniting}
+use Rattle.glyph_lists.specs.Lemmas.Sorts.{spans_united, sorted_alike}
 use Rattle.glyph_lists.specs.Lemmas.Merges.{merge_joins, merged_at_brings, merged_in}
 use Rattle.glyph_lists.specs.Lemmas.Deletions.{deletion_is_event, deletion_brings_none}
 use Rattle.glyph_lists.specs.Lemmas.Replacements.{among_seen}
@@ -126,6 +127,12 @@ first_brings level front (o ∷ back) = λ n h.
 deleted_brings : (level : BufferClusterLevel) (at : ℕ) (os : List Origin) → BringsNone (numbers os) (numbers (origins_deleted level at os))
 deleted_brings level at os = λ n h. subst (λ (qs : List Origin). Has (numbers qs) n) (take-append-drop at os) (first_brings level (take at os) (drop at os) n h)
 
+spans_bring : (m : Manner) (at : ℕ) (ss : List Span) (os : List Origin) → BringsNone (numbers os) (numbers (spans_merged m at ss os))
+spans_bring m at [] os = λ n h. h
+spans_bring m at (s ∷ ss) os =
+    let mid = merged_as m (at + s.from) (at + s.to) os in
+    through (numbers os) (numbers mid) _ (merged_brings m (at + s.from) (at + s.to) os) (spans_bring m at ss mid)
+
 pub event_brings : (asks : Asks) (level : BufferClusterLevel) (os : List Origin) (e : Event) → BringsNone (numbers os) (numbers (origins_after_event asks level os e))
 event_brings asks level os (Merge how from to) = merged_brings (manner how level) from to os
 event_brings asks level os (Replace at taken given) =
@@ -139,6 +146,10 @@ event_brings asks level os (Move how from order) =
     through (numbers os) (numbers mid) _ (merged_brings (manner how level) from (from + length order) os)
     (λ n h. arranged_brings from order (numbers mid) n (subst (λ (ns : List ℕ). Has ns n) (numbers_arranged from order mid) h))
 event_brings asks level os (Arrange from order) = λ n h. arranged_brings from order (numbers os) n (subst (λ (ns : List ℕ). Has ns n) (numbers_arranged from order os) h)
+event_brings asks level os (Sort from order) =
+    let mid = spans_merged (manner InList level) from (spans order) os in
+    through (numbers os) (numbers mid) _ (spans_bring (manner InList level) from (spans order) os)
+    (λ n h. arranged_brings from order (numbers mid) n (subst (λ (ns : List ℕ). Has ns n) (numbers_arranged from order mid) h))
 event_brings asks level os Reverse = λ n h. sym (has_reverse n (numbers os)) ∙ subst (λ (ns : List ℕ). Has ns n) (map-reverse (λ (o : Origin). o.cluster) os) h
 event_brings asks level os (Break from to) = same_brings (numbers os) _ (numbers_marked 3 from to os)
 event_brings asks level os (Concat from to) = same_brings (numbers os) _ (numbers_concat asks.concat from to os)
@@ -146,7 +157,7 @@ event_brings asks level os (Tatweel from to) = same_brings (numbers os) _ (numbe
 event_brings asks level os Spread = same_brings (numbers os) _ (numbers_spread asks None os)
 event_brings asks level os Reset = same_brings (numbers os) _ (numbers_reset os)
 
-pub origins_keep_numbers : OriginsKeepNumbers
+pub origins_keep_numbers : (asks : Asks) (level : BufferClusterLevel) (es : List Event) (os : List Origin) → BringsNone (numbers os) (numbers (origins_after asks level es os))
 origins_keep_numbers asks level [] os = λ n h. h
 origins_keep_numbers asks level (e ∷ es) os = through (numbers os) (numbers (origins_after_event asks level os e)) _ (event_brings asks level os e) (origins_keep_numbers asks level es (origins_after_event asks level os e))
 
@@ -247,6 +258,27 @@ moved_parts how level from order os mono o =
     by_level InOutput MonotoneCharacters m = united
     by_level InOutput Characters m = absurd m
 
+numbers_spans : (at : ℕ) (ss : List Span) (os : List Origin) → numbers (spans_merged Unites at ss os) ≡ spans_united at ss (numbers os)
+numbers_spans at [] os = refl
+numbers_spans at (s ∷ ss) os = numbers_spans at ss (merged_as Unites (at + s.from) (at + s.to) os) ∙ ap (spans_united at ss) (numbers_merged (stretch (at + s.from) (at + s.to) (numbers os)) os)
+
+spans_parts : (at : ℕ) (ss : List Span) (ns : List ℕ) → IsOrdered ns → spans_united at ss ns ≡ after_part_events (span_joins Unites at ss) ns
+spans_parts at [] ns o = refl
+spans_parts at (s ∷ ss) ns o =
+    let first : merged_numbers (stretch (at + s.from) (at + s.to) ns) ns ≡ after_part_event ns (JoinParts (at + s.from) (at + s.to)) = unites_joins (at + s.from) (at + s.to) ns o in
+    let ordered = stays_ordered (JoinParts (at + s.from) (at + s.to) ∷ []) ns o in
+    ap (spans_united at ss) first ∙ spans_parts at ss (after_part_event ns (JoinParts (at + s.from) (at + s.to))) ordered
+
+sorted_parts : (level : BufferClusterLevel) (from : ℕ) (order : List ℕ) (os : List Origin) → IsMonotone level → StaysInSpans order → IsOrdered (numbers os)
+    → numbers (arranged from order (spans_merged (manner InList level) from (spans order) os)) ≡ after_part_events (span_joins (manner InList level) from (spans order)) (numbers os)
+sorted_parts level from order os mono s o = by_manner (manner InList level) mono
+  where
+    by_manner : (m : Manner) → IsUniting m → numbers (arranged from order (spans_merged m from (spans order) os)) ≡ after_part_events (span_joins m from (spans order)) (numbers os)
+    by_manner Unites u =
+        numbers_arranged from order (spans_merged Unites from (spans order) os) ∙ ap (arranged from order) (numbers_spans from (spans order) os) ∙ sorted_alike from order (numbers os) s ∙ spans_parts from (spans order) (numbers os) o
+    by_manner Marks u = absurd u
+    by_manner Keeps u = absurd u
+
 event_parts : (asks : Asks) (level : BufferClusterLevel) (os : List Origin) (e : Event) (es : List Event) → IsMonotone level → IsPlain (e ∷ es) → IsOrdered (numbers os) → numbers (origins_after_event asks level os e) ≡ after_part_events (parts_of_event level e) (numbers os)
 event_parts asks level os (Merge how from to) es mono plain o = merged_parts how level from to os mono o
 event_parts asks level os (Replace at taken given) es mono plain o = replaced_parts level at taken given os mono o
@@ -254,6 +286,7 @@ event_parts asks level os (Circle after beside like) es mono plain o = numbers_w
 event_parts asks level os (Delete at) es mono plain o = first_parts level at os (drop at os) mono o refl
 event_parts asks level os (Move how from order) es mono plain o = moved_parts how level from order os mono o
 event_parts asks level os (Arrange from order) es mono plain o = absurd plain
+event_parts asks level os (Sort from order) es mono plain o = sorted_parts level from order os mono plain.0 o
 event_parts asks level os Reverse es mono plain o = map-reverse (λ (q : Origin). q.cluster) os
 event_parts asks level os (Break from to) es mono plain o = numbers_marked 3 from to os
 event_parts asks level os (Concat from to) es mono plain o = numbers_concat asks.concat from to os
@@ -268,6 +301,7 @@ plain_rest (Circle after beside like) es p = p
 plain_rest (Delete at) es p = p
 plain_rest (Move how from order) es p = p
 plain_rest (Arrange from order) es p = absurd p
+plain_rest (Sort from order) es p = p.1
 plain_rest Reverse es p = p
 plain_rest (Break from to) es p = p
 plain_rest (Concat from to) es p = p
@@ -275,7 +309,8 @@ plain_rest (Tatweel from to) es p = p
 plain_rest Spread es p = p
 plain_rest Reset es p = p
 
-pub origins_are_parts : OriginsAreParts
+pub origins_are_parts : (asks : Asks) (level : BufferClusterLevel) (es : List Event) (os : List Origin) → IsMonotone level → IsPlain es → IsOrdered (numbers os)
+    → numbers (origins_after asks level es os) ≡ after_part_events (parts_of level es) (numbers os)
 origins_are_parts asks level [] os mono plain o = refl
 origins_are_parts asks level (e ∷ es) os mono plain o =
     let mid = origins_after_event asks level os e in
@@ -285,19 +320,19 @@ origins_are_parts asks level (e ∷ es) os mono plain o =
 
 -- ---- flags that were spread
 
-even_behind : (asks : Asks) (p : Origin) (os : List Origin) → IsEven p (spread_after asks (Some p) os)
-even_behind asks p [] = tt
-even_behind asks p (o ∷ os) = (
+even_after : (asks : Asks) (p : Origin) (os : List Origin) → IsEven p (spread_after asks (Some p) os)
+even_after asks p [] = tt
+even_after asks p (o ∷ os) = (
     λ e. same e,
-    even_behind asks (record { cluster = o.cluster; flags = spread_flags (Some p) o.cluster (settled asks (run_flags o.cluster (o ∷ os))) }) os
+    even_after asks (record { cluster = o.cluster; flags = spread_flags (Some p) o.cluster (settled asks (run_flags o.cluster (o ∷ os))) }) os
 )
   where
     same : p.cluster ≡ o.cluster → p.flags ≡ spread_flags (Some p) o.cluster (settled asks (run_flags o.cluster (o ∷ os)))
     same e = let yes : (p.cluster == o.cluster) ≡ true = grind (arith, common_steps, e) in rw yes refl
 
-pub spread_is_even : SpreadIsEven
+pub spread_is_even : (asks : Asks) (os : List Origin) → AreEvenRuns (origins_spread asks os)
 spread_is_even asks [] = tt
-spread_is_even asks (o ∷ os) = even_behind asks (record { cluster = o.cluster; flags = settled asks (run_flags o.cluster (o ∷ os)) }) os
+spread_is_even asks (o ∷ os) = even_after asks (record { cluster = o.cluster; flags = settled asks (run_flags o.cluster (o ∷ os)) }) os
 
 no_concat : (m : ℕ) → bit_and (bit_and m 5) 2 ≡ 0
 no_concat m = and_assoc 2 m 5 ∙ and_zero_r m
@@ -306,17 +341,17 @@ abbrev MayConcat : Option Origin → Type 0
 MayConcat None = Unit {0}
 MayConcat (Some p) = bit_and p.flags 2 ≡ 0
 
-none_behind : (tatweel : Bool) (before : Option Origin) (os : List Origin) → MayConcat before → HaveNoConcat (spread_after (record { concat = false; tatweel = tatweel }) before os)
-none_behind tatweel before [] h = tt
-none_behind tatweel before (o ∷ os) h =
+none_after : (tatweel : Bool) (before : Option Origin) (os : List Origin) → MayConcat before → HaveNoConcat (spread_after (record { concat = false; tatweel = tatweel }) before os)
+none_after tatweel before [] h = tt
+none_after tatweel before (o ∷ os) h =
     let flags = settled (record { concat = false; tatweel = tatweel }) (run_flags o.cluster (o ∷ os)) in
     let here : bit_and (spread_flags before o.cluster flags) 2 ≡ 0 = by_before before h in
-    (here, none_behind tatweel (Some (record { cluster = o.cluster; flags = spread_flags before o.cluster flags })) os here)
+    (here, none_after tatweel (Some (record { cluster = o.cluster; flags = spread_flags before o.cluster flags })) os here)
   where
     by_before : (b : Option Origin) → MayConcat b → bit_and (spread_flags b o.cluster (settled (record { concat = false; tatweel = tatweel }) (run_flags o.cluster (o ∷ os)))) 2 ≡ 0
     by_before None k = no_concat (tatweel_settled tatweel (run_flags o.cluster (o ∷ os)))
     by_before (Some p) k = elim (p.cluster == o.cluster) as (λ t. bit_and (if t then p.flags else settled (record { concat = false; tatweel = tatweel }) (run_flags o.cluster (o ∷ os))) 2 ≡ 0)
         [ true ↦ k | false ↦ no_concat (tatweel_settled tatweel (run_flags o.cluster (o ∷ os))) ]
 
-pub spread_has_no_concat : SpreadHasNoConcat
-spread_has_no_concat tatweel os = none_behind tatweel None os tt
+pub spread_has_no_concat : (tatweel : Bool) (os : List Origin) → HaveNoConcat (origins_spread (record { concat = false; tatweel = tatweel }) os)
+spread_has_no_concat tatweel os = none_after tatweel None os tt
