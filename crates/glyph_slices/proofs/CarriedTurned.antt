@@ -10,7 +10,7 @@ use Rattle.glyph_lists.specs.Order.{IsFalling}
 use Rattle.glyph_lists.specs.Glyphs.{in_cluster, glyphs_merged_at}
 use Rattle.glyph_lists.specs.Lemmas.Numbers.{Has, has_either, has_left, has_right, has_reverse}
 use Rattle.glyph_slices.specs.declared.due.falling.Stretch.{Stretch}
-use Rattle.glyph_lists.specs.PartReadings.{IsMonotone}
+use Rattle.glyph_lists.specs.Readings.{IsMonotone}
 use Rattle.glyph_slices.specs.Turning.{part_turned}
 use Rattle.glyph_slices.specs.Falling.{carried, IsDueBefore, IsRound}
 use Rattle.glyph_slices.proofs.Turned.{map-reverse, part_front, part_behind, clusters_part}

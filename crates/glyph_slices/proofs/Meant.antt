@@ -4,7 +4,7 @@ use Rattle.std.proofs.lemmas.List.{length-map}
 use Rattle.glyph_types.specs.declared.info.hb_glyph_info_t.{hb_glyph_info_t as Glyph}
 use Rattle.glyph_types.specs.declared.level.BufferClusterLevel.{BufferClusterLevel as Level}
 use Rattle.glyph_lists.specs.Glyphs.{in_cluster}
-use Rattle.glyph_lists.specs.PartReadings.{IsMonotone}
+use Rattle.glyph_lists.specs.Readings.{IsMonotone}
 use Rattle.united_clusters.specs.United.{Row, goes_by}
 use Rattle.glyph_slices.specs.declared.due.falling.Stretch.{Stretch}
 use Rattle.glyph_slices.specs.declared.due.Due.{Due}

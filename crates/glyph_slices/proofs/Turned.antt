@@ -12,7 +12,7 @@ use Rattle.glyph_lists.specs.Items.{Position, clusters}
 use Rattle.glyph_lists.specs.Parts.{stretch}
 use Rattle.glyph_lists.specs.Merges.{least_number, merged}
 use Rattle.glyph_lists.specs.Order.{IsOrdered}
-use Rattle.glyph_lists.specs.PartReadings.{IsMonotone}
+use Rattle.glyph_lists.specs.Readings.{IsMonotone}
 use Rattle.glyph_lists.specs.Lemmas.Merges.{map_alike}
 use Rattle.glyph_slices.specs.Merging.{order_merged}
 use Rattle.glyph_lists.specs.Glyphs.{in_cluster, glyphs_merged_at, beside_merged, glyphs_merged, tells_apart}

@@ -5,7 +5,7 @@ use Rattle.glyph_types.specs.declared.level.BufferClusterLevel.{BufferClusterLev
 use Rattle.glyph_lists.specs.Items.{clusters}
 use Rattle.glyph_lists.specs.Glyphs.{in_cluster}
 use Rattle.glyph_lists.specs.Lemmas.Numbers.{Has}
-use Rattle.glyph_lists.specs.PartReadings.{IsMonotone}
+use Rattle.glyph_lists.specs.Readings.{IsMonotone}
 use Rattle.united_clusters.specs.United.{Row, is_known, goes_by, renamed_by}
 use Rattle.glyph_slices.specs.declared.due.Due.{Due}
 use Rattle.glyph_slices.specs.declared.due.Due.TheVariants.{Nothing, Falling, United}

@@ -2,7 +2,7 @@ ghost use Rattle.std.specs.Prelude.{◌≡◌, ◌≤◌, ◌<◌, ◌||◌, tru
 ghost use Rattle.glyph_types.specs.declared.level.BufferClusterLevel.{BufferClusterLevel as Level};
 ghost use Rattle.glyph_lists.specs.Items.{clusters};
 ghost use Rattle.glyph_lists.specs.Order.{IsOrdered};
-ghost use Rattle.glyph_lists.specs.PartReadings.{IsMonotone};
+ghost use Rattle.glyph_lists.specs.Readings.{IsMonotone};
 ghost use Rattle.glyph_lists.specs.Glyphs.{glyphs_merged_at, is_marked_at};
 ghost use Rattle.glyph_slices.specs.declared.due.Due.TheVariants.{Nothing};
 ghost use Rattle.glyph_slices.specs.Due.{IsWithin, MayBeDue, MayBeRound, meant};

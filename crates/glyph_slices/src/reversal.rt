@@ -2,7 +2,7 @@ ghost use Rattle.std.specs.Prelude.{◌≡◌, ◌<◌, ◌≤◌, ◌-◌, ◌|
 ghost use Rattle.glyph_types.specs.declared.info.hb_glyph_info_t.{hb_glyph_info_t as Glyph};
 ghost use Rattle.glyph_lists.specs.Items.{Item, clusters, flags_of, item_of, strip};
 ghost use Rattle.glyph_lists.specs.Order.{BringsNone, IsOrdered};
-ghost use Rattle.glyph_lists.specs.PartReadings.{IsMonotone};
+ghost use Rattle.glyph_lists.specs.Readings.{IsMonotone};
 ghost use Rattle.glyph_slices.specs.Facts.{clusters_turned, positions_turned};
 ghost use Rattle.glyph_slices.specs.declared.due.Due.TheVariants.{Nothing};
 ghost use Rattle.glyph_slices.specs.Due.{MayBeDue, MayBeRound, meant};

@@ -2,7 +2,7 @@ use Rattle.std.proofs.Common.{◌≡◌, ◌-◌, ◌≤◌, true, false, Bool, 
 use Rattle.glyph_types.specs.declared.info.hb_glyph_info_t.{hb_glyph_info_t as Glyph}
 use Rattle.glyph_lists.specs.Items.{clusters}
 use Rattle.glyph_lists.specs.Order.{IsOrdered}
-use Rattle.glyph_lists.specs.PartReadings.{IsMonotone}
+use Rattle.glyph_lists.specs.Readings.{IsMonotone}
 use Rattle.glyph_slices.specs.Groups.{Decides}
 use Rattle.glyph_slices.specs.declared.due.Due.TheVariants.{Nothing}
 use Rattle.glyph_slices.specs.Due.{MayBeDue, meant}

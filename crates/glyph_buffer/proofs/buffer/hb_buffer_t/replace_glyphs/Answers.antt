@@ -10,7 +10,7 @@ use Rattle.glyph_lists.specs.Merges.{replaced_at}
 use Rattle.glyph_buffer.specs.Sides.{Sides, all_glyphs, items_of}
 use Rattle.glyph_buffer.specs.Merging.{telling_flags, with_replaced}
 use Rattle.glyph_buffer.proofs.Replaced.{replaced_within, room_is, replaced_view, replaced_items, replaced_clusters, replaced_flags}
-use Rattle.glyph_lists.specs.PartSteps.{replacement_brings}
+use Rattle.glyph_lists.specs.Steps.{replacement_brings}
 use Rattle.glyph_buffer.proofs.Brings.{brings_same}
 use Rattle.glyph_buffer.proofs.buffer.hb_buffer_t.replace_glyphs.Goals as goal
 
