@@ -1,14 +1,13 @@
 -- What calls on a buffer do to where its glyphs come from.
-use Rattle.std.proofs.Common.{ℕ, ◌≡◌, ◌≤◌, ◌<◌, ◌+◌, Bool, true, false, if◌then◌else◌, List, [], ◌∷◌, ◌++◌, length, take, drop, refl, sym, ap, ◌∙◌, arith}
-use Rattle.std.specs.Prelude.{bit_and}
+use Rattle.std.proofs.Common.{ℕ, ◌≡◌, ◌≤◌, ◌<◌, ◌+◌, Bool, true, false, List, ◌++◌, length, take, drop, refl, ap, ◌∙◌, arith}
 use Rattle.std.proofs.lemmas.Nat.{and_or_apart}
 use Rattle.std.proofs.lemmas.List.{take-append-drop, drop-drop}
 use Rattle.glyph_types.specs.declared.info.hb_glyph_info_t.{hb_glyph_info_t}
 use Rattle.glyph_lists.specs.Parts.{first_of, last_of, or, replaced_among}
 use Rattle.glyph_lists.specs.Glyphs.{glyphs_merged_at, glyphs_marked, glyphs_flagged}
 use Rattle.glyph_lists.specs.Replacements.{copied, glyph_numbered, glyphs_replaced}
-use Rattle.glyph_lists.specs.Origins.{origins, InList, manner, merged_as, origins_marked, origins_flagged, Asks}
-use Rattle.glyph_lists.specs.Events.{Merge, Replace, Break, Concat, Tatweel, origins_after_event}
+use Rattle.glyph_lists.specs.Origins.{origins, InList, origins_marked, origins_flagged}
+use Rattle.glyph_lists.specs.Events.{Merge, Replace, origins_after_event}
 use Rattle.glyph_lists.specs.Lemmas.Origins.{origins_of_merged_at, origins_of_marked, origins_of_flagged, origins_of_replaced}
 use Rattle.glyph_buffer.specs.Sides.{Sides, all_glyphs, told_of, asks_of}
 use Rattle.glyph_buffer.specs.Merging.{with_glyphs, with_merged, with_replaced, telling_flags}

@@ -1,17 +1,16 @@
 -- What calls that take, skip, copy or turn glyphs do to where they come from.
-use Rattle.std.proofs.Common.{ℕ, zero, suc, ◌≡◌, ◌≤◌, ◌<◌, ◌+◌, ◌-◌, ◌==◌, ◌||◌, max, Bool, true, false, if◌then◌else◌, List, [], ◌∷◌, ◌++◌, length, map, take, drop, reverse, refl, sym, ap, ◌∙◌, arith}
+use Rattle.std.proofs.Common.{ℕ, ◌≡◌, ◌≤◌, ◌+◌, ◌-◌, ◌==◌, ◌||◌, max, Bool, true, false, if◌then◌else◌, List, [], ◌∷◌, ◌++◌, length, map, take, drop, reverse, refl, sym, ap, ◌∙◌, arith}
 use Rattle.std.specs.Prelude.{Option, Some, None}
 use Rattle.std.proofs.lemmas.Grind.{common_steps, reverse_onto}
-use Rattle.std.proofs.lemmas.List.{append-nil, map-append, take-append-drop, drop-drop, take-map, drop-map}
+use Rattle.std.proofs.lemmas.List.{append-nil, map-append, take-append-drop, take-map, drop-map}
 use Rattle.std.proofs.Math.Seq.{take-append_seam, drop-append_seam, drop-append-add}
 use Rattle.glyph_types.specs.declared.info.hb_glyph_info_t.{hb_glyph_info_t}
 use Rattle.glyph_types.specs.declared.level.BufferClusterLevel.{BufferClusterLevel}
 use Rattle.glyph_types.specs.declared.level.BufferClusterLevel.TheVariants.{MonotoneGraphemes, MonotoneCharacters, Characters}
 use Rattle.glyph_lists.specs.Parts.{first_of, last_of, or, copies, replaced_among, stretch}
 use Rattle.glyph_lists.specs.Merges.{least_number, merged}
-use Rattle.glyph_lists.specs.Order.{has_number}
-use Rattle.glyph_lists.specs.Replacements.{copied, glyph_numbered, glyphs_replaced}
-use Rattle.glyph_lists.specs.Origins.{Origin, origin_of, origins, numbers, cast, added_outside, changed_within, InList, InOutput, Manner, Unites, Marks, Keeps, manner, merged_as}
+use Rattle.glyph_lists.specs.Replacements.{glyphs_replaced}
+use Rattle.glyph_lists.specs.Origins.{Origin, origin_of, origins, numbers, cast, added_outside, InList, InOutput, Manner, Unites, Marks, Keeps, manner, merged_as}
 use Rattle.glyph_lists.specs.Events.{Merge, Replace, Reverse, origins_after_event}
 use Rattle.glyph_lists.specs.Lemmas.Origins.{cut_in_three, origins_of_merged_at, origins_of_replaced}
 use Rattle.glyph_buffer.specs.Sides.{Sides, all_glyphs, asks_of, reversed}

@@ -1,5 +1,5 @@
 -- What the deletion of a glyph does to where the others come from.
-use Rattle.std.proofs.Common.{ℕ, ◌≡◌, ◌≤◌, ◌+◌, ◌-◌, ◌==◌, ◌&&◌, ◌||◌, nat_lt, Bool, true, false, if◌then◌else◌, List, [], ◌∷◌, ◌++◌, Option, Some, None, length, map, take, drop, arith, refl, ap, sym, ◌∙◌}
+use Rattle.std.proofs.Common.{ℕ, ◌≡◌, ◌+◌, ◌-◌, ◌==◌, ◌&&◌, ◌||◌, nat_lt, Bool, true, false, if◌then◌else◌, List, [], ◌∷◌, ◌++◌, Option, Some, None, length, map, take, drop, arith, refl, ap, sym, ◌∙◌}
 use Rattle.std.specs.Prelude.{bit_and}
 use Rattle.std.specs.List.{list_all}
 use Rattle.std.proofs.lemmas.Nat.{and_mask}
@@ -10,7 +10,7 @@ use Rattle.glyph_types.specs.declared.level.BufferClusterLevel.{BufferClusterLev
 use Rattle.glyph_lists.specs.Items.{clusters, without_flags, glyph_flags}
 use Rattle.glyph_lists.specs.Parts.{first_of, last_of, is_number}
 use Rattle.glyph_lists.specs.Glyphs.{glyphs_merged_at}
-use Rattle.glyph_lists.specs.Origins.{Origin, origin_of, origins, numbers, cast, InList, manner, merged_as, end_cast, alone_deleted, one_deleted, first_deleted, origins_deleted}
+use Rattle.glyph_lists.specs.Origins.{Origin, origin_of, origins, cast, end_cast, alone_deleted, one_deleted, first_deleted}
 use Rattle.glyph_lists.specs.Events.{Delete, origins_after_event}
 use Rattle.glyph_lists.specs.Lemmas.Origins.{numbers_origins, origins_of_merged_at}
 use Rattle.glyph_slices.specs.Deleting.{Left, recast, end_recast_from, end_recast, glyphs_deleted_alone, glyphs_deleted}

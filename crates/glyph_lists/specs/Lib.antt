@@ -14,5 +14,3 @@ pub mod Laws
 pub mod Lists
 pub mod Lemmas
 pub mod Steps
-pub mod PartReadings
-pub mod PartSteps

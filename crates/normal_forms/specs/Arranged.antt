@@ -1,11 +1,11 @@
--- Items, and what happens to the parts of the text on the way to them.
+-- Items, and what happens on the way to them to where they come from.
 use Rattle.std.specs.Prelude.{ℕ, ◌+◌, ◌==◌, ◌&&◌, if◌then◌else◌, List, [], ◌∷◌, ◌++◌, length, map}
 use Rattle.glyph_lists.specs.Items.{Item}
-use Rattle.glyph_lists.specs.Parts.{PartEvent, JoinParts, ReplaceParts, DeletePart, CirclePart, ReverseParts}
+use Rattle.glyph_lists.specs.Events.{Event, Merge, Replace, Circle, Delete, Move, Arrange, Sort, Reverse, Break, Concat, Tatweel, Spread, Reset}
 
 pub record Arranged : Type 0 where
   pub items : List Item
-  pub events : List PartEvent
+  pub events : List Event
 
 abbrev pub items : Arranged → List Item
 items a = a.items
@@ -16,17 +16,25 @@ kept xs = record { items = xs; events = [] }
 
 -- so many items make room for others
 abbrev pub replaced_by : ℕ → List Item → Arranged
-replaced_by taken given = record { items = given; events = if taken == 1 && length given == 1 then [] else ReplaceParts 0 taken (length given) ∷ [] }
+replaced_by taken given = record { items = given; events = if taken == 1 && length given == 1 then [] else Replace 0 taken (length given) ∷ [] }
 
--- an event so many places further
-abbrev pub shifted : ℕ → PartEvent → PartEvent
-shifted n (JoinParts from to) = JoinParts (n + from) (n + to)
-shifted n (ReplaceParts at taken given) = ReplaceParts (n + at) taken given
-shifted n (DeletePart at) = DeletePart (n + at)
-shifted n (CirclePart beside) = CirclePart (n + beside)
-shifted n ReverseParts = ReverseParts
+-- an event so many indices further
+abbrev pub shifted : ℕ → Event → Event
+shifted n (Merge how from to) = Merge how (n + from) (n + to)
+shifted n (Replace at taken given) = Replace (n + at) taken given
+shifted n (Circle after beside like) = Circle after (n + beside) (n + like)
+shifted n (Delete at) = Delete (n + at)
+shifted n (Move how from order) = Move how (n + from) order
+shifted n (Arrange from order) = Arrange (n + from) order
+shifted n (Sort from order) = Sort (n + from) order
+shifted n Reverse = Reverse
+shifted n (Break from to) = Break (n + from) (n + to)
+shifted n (Concat from to) = Concat (n + from) (n + to)
+shifted n (Tatweel from to) = Tatweel (n + from) (n + to)
+shifted n Spread = Spread
+shifted n Reset = Reset
 
--- one stretch, and others behind it
+-- one stretch, and others after it
 abbrev pub beside : Arranged → Arranged → Arranged
 beside a b = record { items = a.items ++ b.items; events = a.events ++ map (shifted (length a.items)) b.events }
 

@@ -3,7 +3,8 @@
 use Rattle.std.specs.Prelude.{ℕ, ◌+◌, ◌==◌, ◌&&◌, Bool, true, nat_lt, if◌then◌else◌, List, [], ◌∷◌, ◌++◌, length, Option, None, option_map}
 use Rattle.std.specs.Option.{option_and_then, option_map_or}
 use Rattle.glyph_lists.specs.Items.{Item}
-use Rattle.glyph_lists.specs.Parts.{JoinParts, DeletePart}
+use Rattle.glyph_lists.specs.Levels.{InOutput}
+use Rattle.glyph_lists.specs.Events.{Merge, Replace}
 use Rattle.normal_forms.specs.Arranged.{Arranged, kept}
 use Rattle.normal_forms.specs.Characters.{is_mark, mark_class, standing_for, with_glyph}
 use Rattle.normal_forms.specs.Normalizer.{Normalizer}
@@ -27,9 +28,9 @@ unfoldable pub composite : Normalizer → Item → List Item → Item → Option
 composite c starter between x =
     if is_mark x && is_reaching between x then option_and_then (becoming c starter) (c.composes starter.number x.number) else None
 
--- the stretch from a starter to a mark becomes one, and the mark goes
+-- the output merges from a starter to a mark, and the mark goes
 abbrev pub with_composition : ℕ → ℕ → Arranged → Arranged
-with_composition starter mark a = record a { events = JoinParts starter (mark + 1) ∷ DeletePart mark ∷ a.events }
+with_composition starter mark a = record a { events = Merge InOutput starter (mark + 1) ∷ Replace mark 1 0 ∷ a.events }
 
 -- the items done, the last starter and what stands behind it, and the items ahead
 abbrev pub composed_from : Normalizer → List Item → Item → List Item → List Item → Arranged

@@ -1,35 +1,31 @@
 -- The second round: marks are put in the order of their classes (UAX 15, canonical ordering), and grapheme joiners are
 -- shown where they keep nothing apart.
-use Rattle.std.specs.Prelude.{ℕ, ◌+◌, ◌==◌, ◌&&◌, ◌||◌, Bool, nat_le, if◌then◌else◌, List, [], ◌∷◌, ◌++◌, length, max, map}
-use Rattle.std.specs.List.{list_all}
+use Rattle.std.specs.Prelude.{ℕ, ◌+◌, ◌==◌, ◌&&◌, ◌||◌, Bool, nat_le, if◌then◌else◌, List, [], ◌∷◌, ◌++◌, length, map}
 use Rattle.glyph_lists.specs.Items.{Item}
-use Rattle.glyph_lists.specs.Parts.{PartEvent, JoinParts}
+use Rattle.glyph_lists.specs.Events.{Sort}
 use Rattle.unicode_tables.specs.ClassOrder.{run_order}
 use Rattle.normal_forms.specs.Arranged.{Arranged, kept, in_turn}
 use Rattle.normal_forms.specs.Characters.{mark_class, shown}
 use Rattle.normal_forms.specs.declared.mode.TheConstants.{MAX_COMBINING_MARKS}
 
--- a stretch of more than one place
-abbrev pub join_of : ℕ → ℕ → List PartEvent
-join_of from count = if nat_le count 1 then [] else JoinParts from (from + count) ∷ []
+-- an index of a run, with the class of its item
+pub record Indexed : Type 0 where
+  pub class : ℕ
+  pub index : ℕ
 
--- the smallest spans that a sort by class permutes: a span ends where no class behind it is less than one in it. So many
--- places from `from` on belong to the span met last, whose greatest class is `high`
-abbrev pub joins_from : ℕ → ℕ → ℕ → List ℕ → List PartEvent
-joins_from from count high [] = join_of from count
-joins_from from count high (k ∷ ks) =
-    if list_all (λ l. nat_le high l) (k ∷ ks) then join_of from count ++ joins_from (from + count) 1 k ks
-    else joins_from from (count + 1) (max high k) ks
+abbrev pub indexed_from : ℕ → List ℕ → List Indexed
+indexed_from i [] = []
+indexed_from i (k ∷ ks) = record { class = k; index = i } ∷ indexed_from (i + 1) ks
 
-abbrev pub sort_joins : List ℕ → List PartEvent
-sort_joins [] = []
-sort_joins (k ∷ ks) = joins_from 0 1 k ks
+-- the order of the indices of a run once it is sorted by its classes
+abbrev pub sorted_order : List ℕ → List ℕ
+sorted_order ks = map (λ (e : Indexed). e.index) (run_order (λ (e : Indexed). e.class) (indexed_from 0 ks))
 
 -- a run put in the order of its classes, and what the shaper makes of it
 abbrev pub sorted_run : (List Item → Arranged) → List Item → Arranged
 sorted_run reorders run =
     let sorted = run_order mark_class run in
-    record { items = (reorders sorted).items; events = sort_joins (map mark_class run) ++ (reorders sorted).events }
+    record { items = (reorders sorted).items; events = Sort 0 (sorted_order (map mark_class run)) ∷ (reorders sorted).events }
 
 -- a run of more than 32 items stays
 unfoldable pub arranged_run : (List Item → Arranged) → List Item → Arranged

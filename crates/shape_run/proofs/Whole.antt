@@ -7,7 +7,7 @@ use Rattle.shaping_text.specs.Direction.{opposite, is_backward}
 use Rattle.glyph_types.specs.declared.info.hb_glyph_info_t.{hb_glyph_info_t}
 use Rattle.font_json.specs.Keys.{FontKeys}
 use Rattle.glyph_lists.specs.Items.{Item, item_of, strip}
-use Rattle.glyph_lists.specs.Origins.{Origin, origins, without_marks}
+use Rattle.glyph_lists.specs.Origins.{origins, without_marks}
 use Rattle.glyph_lists.specs.Events.{Reverse, Reset}
 use Rattle.glyph_lists.specs.Readings.{Reading, Run, Stage, Follows, with_events, always, and_then, read_of}
 use Rattle.glyph_lists.specs.Steps.{follows_then, follows_events}
