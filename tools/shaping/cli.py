@@ -18,9 +18,9 @@ NAME = "shape"
 PROGRAM = Path(__file__).parent.parent / "hb_shape"
 USAGE = """usage: shape FONT TEXT [--index N] [options of hb_shape]
 
-Shapes a text in a font file (.ttf, .otf, or a collection with an index), and prints the glyphs as hb_shape does. The program
-is built first where it is not built yet. The font is converted by font_to_json once and kept beside the font, as
-FONT.N.kuspveli.json, or in ~/.cache/kuspveli where that folder can't be written. Needs fontTools: Debian's
+Shapes a text in a font file (.ttf, .otf, or a collection with an index), and prints the glyphs as hb_shape does. The
+program is built first where it is not built yet. The font is converted by font_to_json once and kept beside the font,
+as FONT.N.kuspveli.json, or in ~/.cache/kuspveli where that folder can't be written. Needs fontTools: Debian's
 python3-fonttools, under /usr/bin/python3."""
 
 # What the program reads of a font and of tables so far; the whole formats are Kept() and list(unicodejson.cli.MAKERS).

@@ -1,4 +1,4 @@
-"""Machines of syllables: the compiler against Python's own expressions, words of four scripts, and hb-shape's circles."""
+"""Machines of syllables: the compiler against Python's expressions, words of four scripts, hb-shape's circles."""
 
 import functools
 import random
@@ -160,9 +160,9 @@ def circles_of(path: str, script: str, texts: list[str]) -> list[int]:
     font = TTFont(path)
     glyph = str(font.getGlyphID(font.getBestCmap()[CIRCLE]))
     words = ["--no-glyph-names", "--no-positions", "--no-clusters", f"--script={script}", "--language=und"]
-    result = subprocess.run(
-        ["hb-shape", *words, "--direction=ltr", path], input="\n".join(texts) + "\n", capture_output=True, text=True, check=True
-    )
+    lines = "\n".join(texts) + "\n"
+    command = ["hb-shape", *words, "--direction=ltr", path]
+    result = subprocess.run(command, input=lines, capture_output=True, text=True, check=True)
     return [line.strip("[]").split("|").count(glyph) for line in result.stdout.splitlines()]
 
 

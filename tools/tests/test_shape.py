@@ -3,8 +3,8 @@
 import os
 import shutil
 import subprocess
-import unittest
 import tempfile
+import unittest
 from pathlib import Path
 
 from support import DEJAVU, TOOLS, run
@@ -46,7 +46,8 @@ class Shaping(unittest.TestCase):
 
 def hb_shape(text: str, *options: str) -> str:
     """HarfBuzz's line without its brackets."""
-    result = subprocess.run(["hb-shape", *options, DEJAVU, f"--text={text}"], capture_output=True, text=True, check=True)
+    command = ["hb-shape", *options, DEJAVU, f"--text={text}"]
+    result = subprocess.run(command, capture_output=True, text=True, check=True)
     return result.stdout.strip().strip("[]") + "\n"
 
 

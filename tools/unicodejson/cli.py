@@ -17,8 +17,8 @@ DEBIAN = Path("/usr/share/unicode")
 # The version of the crate `unicode`, from which the program has the general categories.
 CRATE_VERSION = "18.0.0"
 ABOUT = f"""Writes the Unicode Character Database and the shapers' machines as the JSON value that hb_shape reads as
-TABLES, on standard output. The files are those of Debian's unicode-data unless a folder with others is named; of a version
-after {CRATE_VERSION}, which the program's crate `unicode` has, newer characters are left out."""
+TABLES, on standard output. The files are those of Debian's unicode-data unless a folder with others is named; of a
+version after {CRATE_VERSION}, which the program's crate `unicode` has, newer characters are left out."""
 
 MAKERS: dict[str, Callable[[Ucd], Any]] = {
     "splits": normal.split_rows,

@@ -54,7 +54,7 @@ SIDES = {
 }  # fmt: skip
 USUAL_SIDES = {"F": "Pst", "M": "Pst", "CM": "Abv", "V": "Pst", "VM": "Pst", "SM": "Abv", "FM": "Pst"}
 
-# Scripts of the universal shaper whose marks the UCD gives no syllabic category: a mark there is a tone, a letter a base.
+# Scripts of the universal shaper to whose marks the UCD gives no syllabic category: a mark is a tone, a letter a base.
 SCRIPTS = {
     "Adlam", "Chorasmian", "Cypro_Minoan", "Duployan", "Elymaic", "Garay", "Hanifi_Rohingya", "Khitan_Small_Script",
     "Mandaic", "Manichaean", "Medefaidrin", "Miao", "Mongolian", "Nag_Mundari", "Nko", "Nyiakeng_Puachue_Hmong",
@@ -109,7 +109,7 @@ def all_properties(ucd: Ucd) -> list[Properties]:
 
 
 def additions(ucd: Ucd) -> dict[int, tuple[str, str]]:
-    """Syllabic and positional category by the file of additions, or by the general category in scripts that have none."""
+    """Both categories by the file of additions, or by the general category in scripts that have none."""
     found: dict[int, tuple[str, str]] = {}
     known = ucd.property("IndicSyllabicCategory.txt")
     for character, script in ucd.property("Scripts.txt").items():
