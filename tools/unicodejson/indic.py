@@ -7,7 +7,8 @@ Row = list[object]
 BLOCKS = {
     "Basic Latin", "Latin-1 Supplement", "Devanagari", "Bengali", "Gurmukhi", "Gujarati", "Oriya", "Tamil", "Telugu",
     "Kannada", "Malayalam", "Myanmar", "Khmer", "Vedic Extensions", "General Punctuation",
-    "Superscripts and Subscripts", "Devanagari Extended", "Devanagari Extended-A", "Myanmar Extended-A", "Myanmar Extended-B", "Myanmar Extended-C",
+    "Superscripts and Subscripts", "Devanagari Extended", "Devanagari Extended-A", "Myanmar Extended-A",
+    "Myanmar Extended-B", "Myanmar Extended-C",
 }  # fmt: skip
 
 # IndicSyllabicCategory.txt's values; those that are not here are X.
@@ -67,8 +68,9 @@ BASES = {"C", "CS", "Ra", "CM", "V", "PLACEHOLDER", "DOTTEDCIRCLE"}
 MATRAS = {"M", "MPst"}
 MODIFIERS = {"SM", "VD", "A", "Symbol"}
 
-# Where a matra of a side goes in a script's syllable: the OpenType Indic specification's table of matra positions, but for
-# signs above in Gurmukhi, which go behind post-base forms as fonts in use ask. A script or side without a row: AFTER_SUB.
+# Where a matra of a side goes in a script's syllable: the OpenType Indic specification's table of matra positions, but
+# for signs above in Gurmukhi, which go behind post-base forms as fonts in use ask. A script or side without a row has
+# AFTER_SUB.
 MATRA_POSITIONS = {
     ("Bengali", "Right"): "AFTER_POST",
     ("Gurmukhi", "Right"): "AFTER_POST", ("Gurmukhi", "Top"): "AFTER_POST", ("Gurmukhi", "Bottom"): "AFTER_POST",
