@@ -36,7 +36,10 @@ feature liga { lookup ligature; } liga;
 feature calt { lookup chain; lookup reverse; } calt;
 feature salt { lookup single; lookup alternate; } salt;
 
-lookup moved { pos a <1 2 3 4>; pos b 5; } moved;
+lookup moved {
+    pos a <1 2 3 4>; pos b 5;
+    pos c <0 0 6 0 <device NULL> <device NULL> <device 11 -1> <device NULL>>;
+} moved;
 lookup pairs { pos a b -50; pos a <1 0 -20 0> c <0 0 7 0>; enum pos [b c] x 9; } pairs;
 lookup classes { pos [a b] [c x] -30; pos [f i] [c x] 12; } classes;
 lookup joined { pos cursive a <anchor 0 10> <anchor 500 20>; pos cursive b <anchor NULL> <anchor 400 0>; } joined;
@@ -139,7 +142,7 @@ class WrittenFont(unittest.TestCase):
     def test_positions(self) -> None:
         lookups = self.by_type("gpos")
         moved = sorted(row for subtable in lookups["single"][0]["subtables"] for row in subtable)
-        self.assertEqual(moved, [[A, [1, 2, 3, 4]], [B, [0, 0, 5, 0]]])
+        self.assertEqual(moved, [[A, [1, 2, 3, 4]], [B, [0, 0, 5, 0]], [C, [0, 0, 6, 0]]])
         self.assertEqual(lookups["cursive"][0]["subtables"], [[[A, [0, 10], [500, 20]], [B, None, [400, 0]]]])
         bases = lookups["markbase"][0]["subtables"][0]
         self.assertEqual(bases["marks"], [[ACUTE, 0, [50, 100]], [GRAVE, 1, [60, -10]]])
@@ -184,7 +187,8 @@ class WrittenFont(unittest.TestCase):
         """What has no word in the format is named."""
         errors = run("font_to_json", "/usr/share/fonts/truetype/dejavu/DejaVuSans.ttf").stderr.decode()
         self.assertIn("left out: table kern (1)", errors)
-        self.assertEqual(run("font_to_json", self.path).stderr, b"")
+        devices = f"font_to_json: {self.path}: left out: GPOS: device tables (1)\n"
+        self.assertEqual(run("font_to_json", self.path).stderr.decode(), devices)
 
 
 if __name__ == "__main__":
