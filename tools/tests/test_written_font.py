@@ -10,6 +10,8 @@ from support import json_of, run
 from fontTools.feaLib.builder import addOpenTypeFeaturesFromString
 from fontTools.fontBuilder import FontBuilder
 from fontTools.pens.ttGlyphPen import TTGlyphPen
+from fontTools.ttLib import TTFont
+from fontTools.ttLib.tables._c_m_a_p import CmapSubtable
 from format_rules import font_faults
 
 # Glyphs from 0 on.
@@ -82,6 +84,12 @@ def outline(name: str) -> Any:
             pen.lineTo(point)
         pen.closePath()
     return pen.glyph()
+
+
+def subtable(platform: int, encoding: int, cmap: dict[int, str]) -> CmapSubtable:
+    table = CmapSubtable.newSubtable(4 if platform == 3 else 0)
+    table.platformID, table.platEncID, table.language, table.cmap = platform, encoding, 0, cmap
+    return table
 
 
 class WrittenFont(unittest.TestCase):
@@ -182,6 +190,19 @@ class WrittenFont(unittest.TestCase):
         self.assertEqual(sorted(kept), ["alternate", "chain", "ligature", "reverse", "single"])
         plain = json_of("font_to_json", "--only", "gsub", "--plain-lookups", "multiple", self.path)
         self.assertEqual([lookup["type"] for lookup in plain["gsub"]["lookups"]], ["multiple"])
+
+    def test_other_characters(self) -> None:
+        """A symbol font's private characters stand for those below U+0100; a font of Mac Roman alone is read by it."""
+        for platform, encoding, cmap, expected in (
+            (3, 0, {0xF061: "a", 0x62: "b", 0xF062: "c"}, [[0x61, A], [0x62, B], [0xF061, A], [0xF062, C]]),
+            (1, 0, {0x61: "a", 0x80: "b"}, [[0x61, A], [0xC4, B]]),
+        ):
+            with tempfile.TemporaryDirectory() as folder:
+                path = str(Path(folder) / "other.ttf")
+                font = TTFont(self.path)
+                font["cmap"].tables = [subtable(platform, encoding, cmap)]
+                font.save(path)
+                self.assertEqual(json_of("font_to_json", "--only", "cmap", path)["cmap"], expected)
 
     def test_left_out(self) -> None:
         """What has no word in the format is named."""

@@ -11,6 +11,7 @@ from common.writing import write_object
 from unicodejson import forms, indic, lists, normal, universal
 from unicodejson.lawful import law_fault
 from unicodejson.ucd import Ucd, version_of
+from unicodejson.universal import unknown_values
 
 NAME = "unicode_to_json"
 DEBIAN = Path("/usr/share/unicode")
@@ -100,4 +101,6 @@ def about(ucd: Ucd) -> dict[str, Any]:
     if version_of(version) > version_of(CRATE_VERSION):
         newer = sum(1 for age in ucd.ages.values() if age > ucd.newest)
         lost.append(f"lost: {newer} characters after {CRATE_VERSION}, which the crate leaves unassigned")
+    if "IndicSyllabicCategory.txt" in ucd.versions:
+        lost += [f"lost: the syllabic category {value}, for which there is no rule" for value in unknown_values(ucd)]
     return {"version": version, "crate": CRATE_VERSION, "lost": lost}

@@ -26,7 +26,7 @@ PLAIN = {
     "Hieroglyph_Segment_Begin": "SB", "Hieroglyph_Segment_End": "SE", "Non_Joiner": "ZWNJ", "Joiner": "CGJ",
     "Consonant_Preceding_Repha": "R", "Consonant_Prefixed": "R", "Symbol_Modifier": "SM", "Pure_Killer": "V",
     "Tone_Mark": "VM", "Cantillation_Mark": "VM", "Register_Shifter": "VM", "Visarga": "VM",
-    "Consonant_Succeeding_Repha": "F",
+    "Consonant_Succeeding_Repha": "F", "Reordering_Killer": "V",
     "Number": "B", "Consonant": "B", "Consonant_Head_Letter": "B", "Tone_Letter": "B", "Vowel_Independent": "B",
 }  # fmt: skip
 # Values that are this where the character is no letter (Lo), and a base where it is one.
@@ -35,7 +35,10 @@ SIGNS = {
     "Bindu": "VM", "Avagraha": "O",
 }  # fmt: skip
 
-# The side of a category's name by the positional category, which is Right where neither says more.
+# Values that are no category of their own.
+OTHERS = {"Other", "Consonant_Dead", "Modifying_Letter"}
+
+# The side of a category's name by the positional category, and the usual one where that has none.
 SIDES = {
     "F": {"Top": "Abv", "Bottom": "Blw", "Right": "Pst"},
     "M": {
@@ -84,6 +87,12 @@ def universal_rows(ucd: Ucd) -> list[Row]:
         if category != "O":
             rows.append([properties.character, category])
     return rows
+
+
+def unknown_values(ucd: Ucd) -> list[str]:
+    """Syllabic categories of a newer version that no rule here knows."""
+    known = PLAIN.keys() | SIGNS.keys() | OTHERS
+    return sorted(set(ucd.property("IndicSyllabicCategory.txt").values()) - known)
 
 
 def all_properties(ucd: Ucd) -> list[Properties]:
