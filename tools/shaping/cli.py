@@ -84,8 +84,15 @@ def convert(path: Path, index: int) -> dict[str, Any]:
 
 def tables_file() -> Path:
     """The tables as a file."""
-    stamp = fingerprint(TABLES_READ)
-    return cached(user_folder() / "tables.json", stamp, lambda: make_tables(DEBIAN, TABLES_READ, Progress(NAME)))
+    return cached(user_folder() / "tables.json", fingerprint(TABLES_READ), make_read_tables)
+
+
+def make_read_tables() -> dict[str, Any]:
+    progress = Progress(NAME)
+    try:
+        return make_tables(DEBIAN, TABLES_READ, progress)
+    finally:
+        progress.end()
 
 
 def run_program(tables: Path, font: Path, text: bytes, options: list[str]) -> int:

@@ -56,8 +56,10 @@ def main(words: list[str]) -> int:
     """Makes the tables; its status is 0."""
     options = parser().parse_args(words)
     progress = Progress(NAME)
-    value = make_tables(options.ucd, kept_keys(options.only), progress)
-    progress.end()
+    try:
+        value = make_tables(options.ucd, kept_keys(options.only), progress)
+    finally:
+        progress.end()
     write_object(value, sys.stdout)
     if not options.quiet:
         for line in value["unicode"]["lost"]:
