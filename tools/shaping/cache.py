@@ -13,6 +13,8 @@ TOOLS = Path(__file__).parent.parent
 SOURCES = ("common", "fontjson", "unicodejson", "syllables", "machines")
 ENDING = ".kuspveli.json"
 STAMP = "cache"
+# Others may read a kept value, as they may read the font.
+READABLE = 0o644
 
 
 def user_folder() -> Path:
@@ -64,6 +66,7 @@ def write_whole(path: Path, value: dict[str, Any]) -> None:
         try:
             write_object(value, file)
             file.close()
+            os.chmod(file.name, READABLE)
             os.replace(file.name, path)
         except BaseException:
             os.unlink(file.name)
