@@ -98,7 +98,7 @@ pub(crate) fn read_rows_in_turn<P: Part>(
 }
 
 /// The rows of a list in turn, whose keys rise strictly.
-pub(crate) fn read_rows_by_key<P: Part + Keyed>(
+pub(crate) fn read_rows_by_key<P: Part + Keyed<Key = u32>>(
     alloc: Global,
     values: &[Value],
     limit: usize,

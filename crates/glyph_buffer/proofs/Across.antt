@@ -1,7 +1,7 @@
 -- What happens to a range that begins in the output, over both sides.
 use Rattle.std.specs.Global.{Vec}
 use Rattle.std.specs.Prelude.{slice_range}
-use Rattle.std.proofs.Common.{ℕ, ◌≡◌, ◌≤◌, ◌+◌, ◌-◌, true, nat_lt, ◌⊎◌, inl, inr, Option, List, [], ◌∷◌, ◌++◌, length, map, take, drop, refl, arith, ap, sym, subst, append_assoc, ◌∙◌}
+use Rattle.std.proofs.Common.{ℕ, ◌≡◌, ◌≤◌, ◌+◌, ◌-◌, true, nat_lt, ◌⊎◌, inl, inr, List, ◌++◌, length, map, take, drop, refl, arith, ap, sym, subst, append_assoc, ◌∙◌}
 use Rattle.std.proofs.lemmas.List.{map-append, take-append-drop, take-append-le, drop-append-le, take_at, drop_at, drop-drop, length-map, length-append, length-drop}
 use Rattle.std.proofs.Math.Seq.{take-append-add, take-append_seam, drop-append-add, drop-append_seam}
 use Rattle.glyph_types.specs.declared.info.hb_glyph_info_t.{hb_glyph_info_t}
@@ -11,16 +11,16 @@ use Rattle.glyph_lists.specs.Items.{strip, clusters, flags_of}
 use Rattle.glyph_lists.specs.Parts.{stretch}
 use Rattle.glyph_lists.specs.Merges.{least_number, merged, merged_at}
 use Rattle.glyph_lists.specs.Glyphs.{flagged, glyphs_flagged, glyphs_marked, glyphs_merged, in_cluster, marked_outside, tells_apart}
-use Rattle.glyph_lists.specs.Lemmas.Glyphs.{cluster_marked, clusters_merged, flags_of_merged, stretch_is, strip_merged}
+use Rattle.glyph_lists.specs.Lemmas.Glyphs.{clusters_merged, flags_of_merged, stretch_is, strip_merged}
 use Rattle.glyph_buffer.specs.declared.buffer.hb_buffer_t.TheInside.{Inside}
-use Rattle.glyph_sides.specs.declared.order.KnownOrder.{KnownOrder}
-use Rattle.glyph_sides.specs.declared.order.Lent.{Lent}
+use Rattle.buffer_lists.specs.declared.order.ClusterOrder.{ClusterOrder}
+use Rattle.buffer_lists.specs.declared.order.KnownOrder.{KnownOrder}
 use Rattle.glyph_buffer.specs.Inside.{sides_of}
-use Rattle.glyph_sides.specs.Known.{HasOrder}
+use Rattle.buffer_lists.specs.Known.{HasOrder}
 use Rattle.glyph_buffer.specs.Sides.{Sides, all_glyphs, items_of}
 use Rattle.glyph_buffer.specs.Merging.{flags_output_merged_at, output_merged_at, index_in_all, telling_flags, with_glyphs, with_output_merged}
 use Rattle.glyph_buffer.specs.Marking.{with_marked, with_flagged}
-use Rattle.glyph_buffer.proofs.Ordered.{known_ahead, known_back, order_merged_at}
+use Rattle.glyph_buffer.proofs.Ordered.{known_ahead, order_merged_at}
 
 -- a range that goes over the end of the first of two lists
 slice_across : {X : Type 0} (xs ys : List X) (start n : ℕ) → start ≤ length xs → slice_range (xs ++ ys) start (length xs + n) ≡ drop start xs ++ take n ys
@@ -42,10 +42,10 @@ changed_across f xs ys start n le =
     (ap (λ zs. zs ++ drop n ys) (sym (append_assoc (take start xs) (map f (drop start xs)) (map f (take n ys)))) ∙ append_assoc (take start xs ++ map f (drop start xs)) (map f (take n ys)) (drop n ys))
 
 -- other glyphs on both sides of an open buffer
-both_view : (b : Inside) (info out : Vec hb_glyph_info_t) (order : KnownOrder) (lent : Option Lent) (flags : ℕ) (gs : List hb_glyph_info_t) → b.have_output ≡ true → length out.items ≡ length b.out_info.items
+both_view : (b : Inside) (info out : Vec hb_glyph_info_t) (order : ClusterOrder) (flags : ℕ) (gs : List hb_glyph_info_t) → b.have_output ≡ true → length out.items ≡ length b.out_info.items
     → gs ≡ out.items ++ drop b.idx info.items
-    → sides_of (record b { info = info; out_info = out; scratch_flags = flags; order = order; lent = lent }) ≡ record (with_glyphs gs (sides_of b)) { scratch_flags = flags }
-both_view b info out order lent flags gs h long e =
+    → sides_of (record b { info = info; out_info = out; scratch_flags = flags; order = order }) ≡ record (with_glyphs gs (sides_of b)) { scratch_flags = flags }
+both_view b info out order flags gs h long e =
     rw (h, e, take_at out.items (drop b.idx info.items) (length b.out_info.items) long, drop_at out.items (drop b.idx info.items) (length b.out_info.items) long) refl
 
 changed_length : (f : hb_glyph_info_t → hb_glyph_info_t) (xs : List hb_glyph_info_t) (start : ℕ) → length (take start xs ++ map f (drop start xs)) ≡ length xs
@@ -53,15 +53,18 @@ changed_length f xs start =
     let whole = ap length (take-append-drop start xs) in
     omega (arith, whole, length-append (take start xs) (drop start xs), length-append (take start xs) (map f (drop start xs)), length-map (drop start xs) f)
 
+pub drop_on : {X : Type 0} (gs : List X) (from end : ℕ) → from ≤ end → drop (end - from) (drop from gs) ≡ drop end gs
+drop_on gs from end le = let there : from + (end - from) ≡ end = omega arith in drop-drop (end - from) from gs ∙ ap (λ n. drop n gs) there
+
 ahead_is : (gs : List hb_glyph_info_t) (from end : ℕ) → from ≤ end → drop end gs ≡ drop (end - from) (drop from gs)
 ahead_is gs from end le = let there : from + (end - from) ≡ end = omega arith in sym (drop-drop (end - from) from gs ∙ ap (λ n. drop n gs) there)
 
-pub marked_across_view : (b : Inside) (info out : Vec hb_glyph_info_t) (order : KnownOrder) (lent : Option Lent) (bits start end flags : ℕ) → b.have_output ≡ true → start ≤ length b.out_info.items → b.idx ≤ end
+pub marked_across_view : (b : Inside) (info out : Vec hb_glyph_info_t) (order : ClusterOrder) (bits start end flags : ℕ) → b.have_output ≡ true → start ≤ length b.out_info.items → b.idx ≤ end
     → out.items ≡ take start b.out_info.items ++ map (marked_outside bits (least_number (clusters (drop start b.out_info.items) ++ clusters (slice_range b.info.items b.idx end)))) (drop start b.out_info.items)
     → drop b.idx info.items ≡ map (marked_outside bits (least_number (clusters (drop start b.out_info.items) ++ clusters (slice_range b.info.items b.idx end)))) (slice_range b.info.items b.idx end) ++ drop end b.info.items
     → flags ≡ telling_flags (tells_apart (clusters (drop start b.out_info.items) ++ clusters (slice_range b.info.items b.idx end))) b.scratch_flags
-    → sides_of (record b { info = info; out_info = out; scratch_flags = flags; order = order; lent = lent }) ≡ with_marked bits start (index_in_all end (sides_of b)) (sides_of b)
-marked_across_view b info out order lent bits start end flags h le begins o i f =
+    → sides_of (record b { info = info; out_info = out; scratch_flags = flags; order = order }) ≡ with_marked bits start (index_in_all end (sides_of b)) (sides_of b)
+marked_across_view b info out order bits start end flags h le begins o i f =
     let behind = b.out_info.items in
     let ahead = drop b.idx b.info.items in
     let n = end - b.idx in
@@ -72,15 +75,15 @@ marked_across_view b info out order lent bits start end flags h le begins o i f 
     let long = ap length o ∙ changed_length mark behind start in
     let glyphs : glyphs_marked bits start (length behind + n) (behind ++ ahead) ≡ out.items ++ drop b.idx info.items =
     rw (range, o, i, ahead_is b.info.items b.idx end begins) (changed_across mark behind ahead start n le) in
-    both_view b info out order lent flags (glyphs_marked bits start (length behind + n) (behind ++ ahead)) h long glyphs
+    both_view b info out order flags (glyphs_marked bits start (length behind + n) (behind ++ ahead)) h long glyphs
     ∙ rw (place, all, range, f) refl
 
-pub flagged_across_view : (b : Inside) (info out : Vec hb_glyph_info_t) (order : KnownOrder) (lent : Option Lent) (bits start end flags : ℕ) → b.have_output ≡ true → start ≤ length b.out_info.items → b.idx ≤ end
+pub flagged_across_view : (b : Inside) (info out : Vec hb_glyph_info_t) (order : ClusterOrder) (bits start end flags : ℕ) → b.have_output ≡ true → start ≤ length b.out_info.items → b.idx ≤ end
     → out.items ≡ take start b.out_info.items ++ map (flagged bits) (drop start b.out_info.items)
     → drop b.idx info.items ≡ map (flagged bits) (slice_range b.info.items b.idx end) ++ drop end b.info.items
     → flags ≡ telling_flags (nat_lt start (length b.out_info.items + (end - b.idx))) b.scratch_flags
-    → sides_of (record b { info = info; out_info = out; scratch_flags = flags; order = order; lent = lent }) ≡ with_flagged bits start (index_in_all end (sides_of b)) (sides_of b)
-flagged_across_view b info out order lent bits start end flags h le begins o i f =
+    → sides_of (record b { info = info; out_info = out; scratch_flags = flags; order = order }) ≡ with_flagged bits start (index_in_all end (sides_of b)) (sides_of b)
+flagged_across_view b info out order bits start end flags h le begins o i f =
     let behind = b.out_info.items in
     let ahead = drop b.idx b.info.items in
     let n = end - b.idx in
@@ -89,36 +92,11 @@ flagged_across_view b info out order lent bits start end flags h le begins o i f
     let long = ap length o ∙ changed_length (flagged bits) behind start in
     let glyphs : glyphs_flagged bits start (length behind + n) (behind ++ ahead) ≡ out.items ++ drop b.idx info.items =
     rw (o, i, ahead_is b.info.items b.idx end begins) (changed_across (flagged bits) behind ahead start n le) in
-    both_view b info out order lent flags (glyphs_flagged bits start (length behind + n) (behind ++ ahead)) h long glyphs
+    both_view b info out order flags (glyphs_flagged bits start (length behind + n) (behind ++ ahead)) h long glyphs
     ∙ rw (place, all, f) refl
 
 pub place_within : (start end : ℕ) (s : Sides) → start ≤ length s.behind → s.read ≤ end → start ≤ index_in_all end s
 place_within start end s le begins = omega arith
-
--- what is seen of each glyph stays where a change of glyphs keeps it
-seen_across : (f : hb_glyph_info_t → hb_glyph_info_t) → ((g : hb_glyph_info_t) → (f g).cluster ≡ g.cluster) → (gs : List hb_glyph_info_t) → clusters (map f gs) ≡ clusters gs
-seen_across f same [] = refl
-seen_across f same (g ∷ gs) = rw (same g, seen_across f same gs) refl
-
-order_changed : (o : KnownOrder) (f : hb_glyph_info_t → hb_glyph_info_t) → ((g : hb_glyph_info_t) → (f g).cluster ≡ g.cluster) → (out info new_out new_info : List hb_glyph_info_t) (start from end : ℕ) → from ≤ end
-    → new_out ≡ take start out ++ map f (drop start out) → drop from new_info ≡ map f (slice_range info from end) ++ drop end info
-    → HasOrder o (clusters out ++ drop from (clusters info)) → HasOrder o (clusters new_out ++ drop from (clusters new_info))
-order_changed o f same out info new_out new_info start from end le output input h =
-    let cluster_of : hb_glyph_info_t → ℕ = λ g. g.cluster in
-    let behind : clusters new_out ≡ clusters out = ap clusters output ∙ map-append cluster_of (take start out) (map f (drop start out)) ∙ ap (λ ns. clusters (take start out) ++ ns) (seen_across f same (drop start out)) ∙ sym (map-append cluster_of (take start out) (drop start out)) ∙ ap clusters (take-append-drop start out) in
-    let rest : slice_range info from end ++ drop end info ≡ drop from info = ap (λ gs. slice_range info from end ++ gs) (ahead_is info from end le) ∙ take-append-drop (end - from) (drop from info) in
-    let ahead : clusters (drop from new_info) ≡ clusters (drop from info) = ap clusters input ∙ map-append cluster_of (map f (slice_range info from end)) (drop end info) ∙ ap (λ ns. ns ++ clusters (drop end info)) (seen_across f same (slice_range info from end)) ∙ sym (map-append cluster_of (slice_range info from end) (drop end info)) ∙ ap clusters rest in
-    known_back o new_out new_info from from refl (rw (behind, ahead) (known_ahead o out info from from refl h))
-
-pub order_marked_across : (o : KnownOrder) (bits low : ℕ) (out info new_out new_info : List hb_glyph_info_t) (start from end : ℕ) → from ≤ end
-    → new_out ≡ take start out ++ map (marked_outside bits low) (drop start out) → drop from new_info ≡ map (marked_outside bits low) (slice_range info from end) ++ drop end info
-    → HasOrder o (clusters out ++ drop from (clusters info)) → HasOrder o (clusters new_out ++ drop from (clusters new_info))
-order_marked_across o bits low out info new_out new_info start from end le output input h = order_changed o (marked_outside bits low) (cluster_marked bits low) out info new_out new_info start from end le output input h
-
-pub order_flagged_across : (o : KnownOrder) (bits : ℕ) (out info new_out new_info : List hb_glyph_info_t) (start from end : ℕ) → from ≤ end
-    → new_out ≡ take start out ++ map (flagged bits) (drop start out) → drop from new_info ≡ map (flagged bits) (slice_range info from end) ++ drop end info
-    → HasOrder o (clusters out ++ drop from (clusters info)) → HasOrder o (clusters new_out ++ drop from (clusters new_info))
-order_flagged_across o bits out info new_out new_info start from end le output input h = order_changed o (flagged bits) (λ g. refl) out info new_out new_info start from end le output input h
 
 -- a range within the first of two lists
 stretch_first : (xs ys : List hb_glyph_info_t) (start end : ℕ) → start ≤ end → end ≤ length xs → stretch start end (clusters (xs ++ ys)) ≡ stretch start end (clusters xs)
@@ -134,10 +112,10 @@ both_merged xs ys start end le within =
     let range = stretch start end (clusters xs) in
     rw (stretch_first xs ys start end le within) (map-append (λ (g : hb_glyph_info_t). in_cluster (merged range g.cluster) g) xs ys)
 
-pub output_merged_view : (b : Inside) (info out : Vec hb_glyph_info_t) (order : KnownOrder) (lent : Option Lent) (start end : ℕ) → b.have_output ≡ true → start ≤ end → end ≤ length b.out_info.items
+pub output_merged_view : (b : Inside) (info out : Vec hb_glyph_info_t) (order : ClusterOrder) (start end : ℕ) → b.have_output ≡ true → start ≤ end → end ≤ length b.out_info.items
     → out.items ≡ glyphs_merged (stretch start end (clusters b.out_info.items)) b.out_info.items → drop b.idx info.items ≡ glyphs_merged (stretch start end (clusters b.out_info.items)) (drop b.idx b.info.items)
-    → sides_of (record b { info = info; out_info = out; order = order; lent = lent }) ≡ with_glyphs (glyphs_merged (stretch start end (clusters (all_glyphs (sides_of b)))) (all_glyphs (sides_of b))) (sides_of b)
-output_merged_view b info out order lent start end h le within o i =
+    → sides_of (record b { info = info; out_info = out; order = order }) ≡ with_glyphs (glyphs_merged (stretch start end (clusters (all_glyphs (sides_of b)))) (all_glyphs (sides_of b))) (sides_of b)
+output_merged_view b info out order start end h le within o i =
     let behind = b.out_info.items in
     let ahead = drop b.idx b.info.items in
     let range = stretch start end (clusters behind) in
@@ -145,7 +123,7 @@ output_merged_view b info out order lent start end h le within o i =
     let long = ap length o ∙ length-map behind (λ (g : hb_glyph_info_t). in_cluster (merged range g.cluster) g) in
     let gs = glyphs_merged (stretch start end (clusters (behind ++ ahead))) (behind ++ ahead) in
     let glyphs : gs ≡ out.items ++ drop b.idx info.items = rw (o, i) (both_merged behind ahead start end le within) in
-    both_view b info out order lent b.scratch_flags gs h long glyphs ∙ rw all refl
+    both_view b info out order b.scratch_flags gs h long glyphs ∙ rw all refl
 
 pub order_output_merged : (o : KnownOrder) (start end : ℕ) (out info new_out new_info : List hb_glyph_info_t) (from : ℕ) → start ≤ end → end ≤ length out
     → new_out ≡ glyphs_merged (stretch start end (clusters out)) out → drop from new_info ≡ glyphs_merged (stretch start end (clusters out)) (drop from info)

@@ -1,5 +1,5 @@
 -- What calls on one glyph, and those that add some, do to items, clusters and flags.
-use Rattle.std.proofs.Common.{ℕ, ◌≡◌, ◌<◌, ◌+◌, ◌++◌, true, None, List, [], ◌∷◌, length, get_or, map, take, drop, replicate, refl, ap, sym, arith, ◌∙◌, append_assoc}
+use Rattle.std.proofs.Common.{ℕ, ◌≡◌, ◌<◌, ◌+◌, ◌++◌, true, List, [], ◌∷◌, length, get_or, map, take, drop, replicate, refl, ap, sym, arith, ◌∙◌, append_assoc}
 use Rattle.std.proofs.lemmas.List.{map-append, drop-drop, drop-map}
 use Rattle.std.proofs.Math.Seq.{take-append_seam, drop-append_seam, drop-append-add}
 use Rattle.std.specs.Global.{Vec}
@@ -7,12 +7,12 @@ use Rattle.std.specs.Char.{len_utf8}
 use Rattle.std.specs.Str.{chars}
 use Rattle.glyph_types.specs.declared.info.hb_glyph_info_t.{hb_glyph_info_t}
 use Rattle.glyph_lists.specs.Items.{item_of, strip, clusters, glyph_flags, flags_of}
-use Rattle.glyph_lists.specs.Parts.{replaced}
+use Rattle.glyph_lists.specs.Parts.{first_of, last_of, or, replaced}
 use Rattle.glyph_lists.specs.Lists.{take_one}
-use Rattle.glyph_lists.specs.Replacements.{glyph_numbered, glyphs_replaced, items_replaced}
+use Rattle.glyph_lists.specs.Replacements.{copied, glyph_numbered, glyphs_replaced, items_replaced}
 use Rattle.glyph_lists.specs.Lemmas.Replacements.{strip_replaced, clusters_replaced, flags_of_replaced}
 use Rattle.glyph_buffer.specs.declared.buffer.hb_buffer_t.TheInside.{Inside}
-use Rattle.glyph_sides.specs.declared.order.KnownOrder.{KnownOrder}
+use Rattle.buffer_lists.specs.declared.order.ClusterOrder.{ClusterOrder}
 use Rattle.glyph_buffer.specs.Inside.{sides_of}
 use Rattle.glyph_buffer.specs.Sides.{Sides, all_glyphs, items_of, with_added}
 use Rattle.glyph_buffer.specs.Merging.{with_copy, with_put, with_renumbered, with_skipped}
@@ -23,6 +23,10 @@ abbrev cluster_of : hb_glyph_info_t → ℕ
 cluster_of g = g.cluster
 
 -- a copy behind the cursor
+pub copied_view : (b : Inside) (out : Vec hb_glyph_info_t) (order : ClusterOrder) (n : ℕ) → b.have_output ≡ true → out.items ≡ b.out_info.items ++ copied glyph_numbered (or (first_of (drop b.idx b.info.items)) (last_of b.out_info.items)) (n ∷ [])
+    → sides_of (record b { out_info = out; order = order }) ≡ with_copy n (sides_of b)
+copied_view b out order n h e = rw (h, e) refl
+
 pub copy_items : (n : ℕ) (s : Sides) → items_of (with_copy n s) ≡ items_replaced (length s.behind) 0 (n ∷ []) (items_of s)
 copy_items n s = ap strip (all_copied 0 (n ∷ []) s) ∙ strip_replaced (length s.behind) 0 (n ∷ []) (all_glyphs s)
 
@@ -37,8 +41,8 @@ renumbered_all : (n : ℕ) (behind ahead : List hb_glyph_info_t) → 0 < length 
 renumbered_all n behind [] lt = absurd (omega (arith, lt))
 renumbered_all n behind (g ∷ gs) lt = rw (take-append_seam behind (g ∷ gs), drop-append_seam behind (g ∷ gs), drop-append-add behind (g ∷ gs) 1) refl
 
-pub renumbered_view : (b : Inside) (out : Vec hb_glyph_info_t) (order : KnownOrder) (n : ℕ) (g d : hb_glyph_info_t) → b.have_output ≡ true → b.idx < length b.info.items → g ≡ get_or b.info.items b.idx d → out.items ≡ b.out_info.items ++ glyph_numbered g n ∷ []
-    → sides_of (record b { out_info = out; idx = b.idx + 1; order = order; lent = None }) ≡ with_renumbered n (sides_of b)
+pub renumbered_view : (b : Inside) (out : Vec hb_glyph_info_t) (order : ClusterOrder) (n : ℕ) (g d : hb_glyph_info_t) → b.have_output ≡ true → b.idx < length b.info.items → g ≡ get_or b.info.items b.idx d → out.items ≡ b.out_info.items ++ glyph_numbered g n ∷ []
+    → sides_of (record b { out_info = out; idx = b.idx + 1; order = order }) ≡ with_renumbered n (sides_of b)
 renumbered_view b out order n g d h lt is e = rw (h, e, ← drop-drop 1 b.idx b.info.items, take_one b.info.items b.idx d lt, is) refl
 
 pub renumbered_items : (n : ℕ) (s : Sides) → 0 < length s.ahead → items_of (with_renumbered n s) ≡ items_replaced (length s.behind) 1 (n ∷ []) (items_of s)
@@ -61,8 +65,8 @@ put_flags g s = put_seen glyph_flags g s.behind s.ahead
 skipped_seen : {Y : Type 0} (v : hb_glyph_info_t → Y) (behind ahead : List hb_glyph_info_t) → map v (behind ++ drop 1 ahead) ≡ map v behind ++ drop 1 (map v ahead)
 skipped_seen v behind ahead = map-append v behind (drop 1 ahead) ∙ ap (λ ys. map v behind ++ ys) (sym (drop-map v 1 ahead))
 
-pub skipped_view : (b : Inside) (order : KnownOrder) → b.have_output ≡ true → sides_of (record b { idx = b.idx + 1; order = order; lent = None }) ≡ with_skipped (sides_of b)
-skipped_view b order h = rw (h, ← drop-drop 1 b.idx b.info.items) refl
+pub skipped_view : (b : Inside) → b.have_output ≡ true → sides_of (record b { idx = b.idx + 1 }) ≡ with_skipped (sides_of b)
+skipped_view b h = rw (h, ← drop-drop 1 b.idx b.info.items) refl
 
 pub skipped_items : (s : Sides) → items_of (with_skipped s) ≡ strip s.behind ++ drop 1 (strip s.ahead)
 skipped_items s = skipped_seen item_of s.behind s.ahead

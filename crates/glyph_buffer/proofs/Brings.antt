@@ -1,7 +1,7 @@
 -- No call that is given no cluster number brings one.
 use Rattle.std.specs.Prelude.{slice_range}
-use Rattle.std.proofs.Common.{ℕ, ◌≡◌, ◌<◌, inl, inr, Bool, List, [], ◌∷◌, ◌++◌, ◌-◌, length, min, take, drop, reverse, refl, arith, ap, subst, sym, ◌∙◌}
-use Rattle.std.proofs.lemmas.List.{map-append, take-append-drop}
+use Rattle.std.proofs.Common.{ℕ, ◌≡◌, ◌<◌, inl, inr, List, [], ◌∷◌, ◌++◌, ◌-◌, length, take, drop, reverse, refl, arith, subst, sym, ◌∙◌}
+use Rattle.std.proofs.lemmas.List.{map-append}
 use Rattle.glyph_types.specs.declared.info.hb_glyph_info_t.{hb_glyph_info_t}
 use Rattle.glyph_types.specs.declared.level.BufferClusterLevel.{BufferClusterLevel}
 use Rattle.glyph_lists.specs.Items.{clusters}
@@ -10,9 +10,6 @@ use Rattle.glyph_lists.specs.Order.{BringsNone}
 use Rattle.glyph_lists.specs.Lemmas.Deletions.{deletion_brings_none}
 use Rattle.glyph_lists.specs.Lemmas.Drawn.{drawn_drop, drawn_replaced, drawn_second}
 use Rattle.glyph_lists.specs.Lemmas.Numbers.{drawn_brings, has_either, has_take, has_drop, has_reverse}
-use Rattle.glyph_slices.specs.DeletionWalk.{all_passed}
-use Rattle.glyph_slices.specs.NoNewNumbers.{deleting_brings_none}
-use Rattle.glyph_buffer.specs.Grouping.{with_picked_deleted}
 use Rattle.glyph_buffer.specs.Sides.{Sides, all_glyphs}
 use Rattle.glyph_buffer.specs.Merging.{with_copy}
 use Rattle.glyph_buffer.specs.Moving.{range_reversed}
@@ -49,9 +46,3 @@ range_brings start end ns n h = elim (has_either n (take start ns ++ reverse (sl
   ]
   | inr behind ↦ has_drop n end ns behind
 ]
-
--- nor does a walk of deletions
-pub picked_brings : (goes : hb_glyph_info_t → Bool) (s : Sides) → BringsNone (clusters (all_glyphs s)) (clusters (all_glyphs (with_picked_deleted goes s)))
-picked_brings goes s =
-    let gs = (all_passed s.level goes (all_glyphs s) s.positions).kept in
-    brings_same _ _ _ (ap clusters (take-append-drop (min s.read (length gs)) gs)) (deleting_brings_none s.level goes (all_glyphs s) s.positions)

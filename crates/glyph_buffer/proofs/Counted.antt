@@ -1,5 +1,5 @@
 -- Glyphs in clusters from a number on.
-use Rattle.std.proofs.Common.{ℕ, zero, suc, ◌≡◌, ◌≤◌, ◌<◌, ◌+◌, min, false, Option, List, [], ◌∷◌, ◌++◌, length, map, take, drop, get_or, set, arith, refl, ap, sym, ◌∙◌}
+use Rattle.std.proofs.Common.{ℕ, zero, suc, ◌≡◌, ◌≤◌, ◌<◌, ◌+◌, min, false, List, [], ◌∷◌, ◌++◌, length, map, take, drop, get_or, set, arith, refl, ap, sym, ◌∙◌}
 use Rattle.std.specs.Prelude.{bit_and}
 use Rattle.std.specs.Global.{Vec}
 use Rattle.std.proofs.lemmas.List.{take-append-drop, length-take-le}
@@ -7,8 +7,7 @@ use Rattle.glyph_types.specs.declared.info.hb_glyph_info_t.{hb_glyph_info_t}
 use Rattle.glyph_lists.specs.Items.{strip, clusters, flags_of}
 use Rattle.glyph_lists.specs.Order.{AllFrom, IsRising}
 use Rattle.glyph_buffer.specs.declared.buffer.hb_buffer_t.TheInside.{Inside}
-use Rattle.glyph_sides.specs.declared.order.KnownOrder.{KnownOrder}
-use Rattle.glyph_sides.specs.declared.order.Lent.{Lent}
+use Rattle.buffer_lists.specs.declared.order.ClusterOrder.{ClusterOrder}
 use Rattle.glyph_buffer.specs.Inside.{sides_of}
 use Rattle.glyph_buffer.specs.Sides.{Sides, all_glyphs, items_of}
 use Rattle.glyph_buffer.specs.Settings.{counted_from, glyphs_counted, most_cluster, with_counted}
@@ -36,9 +35,9 @@ pub next_cluster : (i c : ℕ) → c ≡ min i most_cluster → min (c + 1) most
 next_cluster i c e = omega arith
 
 -- all glyphs of the closed list were numbered
-pub counted_view : (b : Inside) (info : Vec hb_glyph_info_t) (order : KnownOrder) (lent : Option Lent) → b.have_output ≡ false → b.idx ≤ length b.info.items → info.items ≡ glyphs_counted 0 b.info.items
-    → sides_of (record b { info = info; order = order; lent = lent }) ≡ with_counted (sides_of b)
-counted_view b info order lent h le i =
+pub counted_view : (b : Inside) (info : Vec hb_glyph_info_t) (order : ClusterOrder) → b.have_output ≡ false → b.idx ≤ length b.info.items → info.items ≡ glyphs_counted 0 b.info.items
+    → sides_of (record b { info = info; order = order }) ≡ with_counted (sides_of b)
+counted_view b info order h le i =
     let long = length-take-le b.idx b.info.items le in
     rw (h, i, long, take-append-drop b.idx b.info.items) refl
 

@@ -1,6 +1,6 @@
 -- The glyph at the cursor was deleted.
 use Rattle.std.specs.Global.{Vec}
-use Rattle.std.proofs.Common.{ℕ, ◌≡◌, ◌+◌, Bool, true, false, List, ◌∷◌, ◌++◌, Option, drop, refl, ap, sym, subst, ◌∙◌}
+use Rattle.std.proofs.Common.{ℕ, ◌≡◌, ◌+◌, Bool, true, false, List, ◌∷◌, ◌++◌, drop, refl, ap, sym, subst, ◌∙◌}
 use Rattle.std.proofs.lemmas.List.{map-append}
 use Rattle.glyph_types.specs.declared.info.hb_glyph_info_t.{hb_glyph_info_t as Glyph}
 use Rattle.glyph_types.specs.declared.level.BufferClusterLevel.{BufferClusterLevel as Level}
@@ -14,12 +14,12 @@ use Rattle.glyph_slices.specs.OneDeleted.{left_clusters, order_deleted}
 use Rattle.glyph_slices.specs.Deleting.{glyphs_deleted}
 use Rattle.glyph_slices.specs.DeletionWalk.{Deletes}
 use Rattle.glyph_buffer.specs.declared.buffer.hb_buffer_t.TheInside.{Inside}
-use Rattle.glyph_sides.specs.declared.order.KnownOrder.{KnownOrder}
-use Rattle.glyph_sides.specs.declared.order.KnownOrder.TheVariants.{Unknown, Rising, Falling}
-use Rattle.glyph_sides.specs.declared.order.Lent.{Lent}
+use Rattle.buffer_lists.specs.declared.order.ClusterOrder.{ClusterOrder}
+use Rattle.buffer_lists.specs.declared.order.KnownOrder.{KnownOrder}
+use Rattle.buffer_lists.specs.declared.order.KnownOrder.TheVariants.{Unknown, Rising, Falling}
 use Rattle.glyph_buffer.specs.Grouping.{with_deleted}
 use Rattle.glyph_buffer.specs.Inside.{sides_of}
-use Rattle.glyph_sides.specs.Known.{HasOrder}
+use Rattle.buffer_lists.specs.Known.{HasOrder}
 use Rattle.glyph_buffer.specs.Merging.{telling_flags}
 use Rattle.glyph_buffer.specs.Sides.{Sides, all_glyphs, items_of}
 
@@ -34,10 +34,14 @@ order_gone o level front ahead new_front new_back m g back e gone h =
     let before : HasOrder o (clusters front ++ clusters (g ∷ back)) = subst (λ (hs : List Glyph). HasOrder o (clusters front ++ clusters hs)) e h in
     subst (HasOrder o) (sym (left_clusters level front ahead new_front new_back m g back e gone)) (known_deleted o level (clusters front) g.cluster (clusters back) before)
 
-pub deleted_view : (b : Inside) (info out : Vec Glyph) (order : KnownOrder) (lent : Option Lent) (flags : ℕ) (m : Bool) (g : Glyph) (back : List Glyph) → b.have_output ≡ true → drop b.idx b.info.items ≡ g ∷ back
+-- what a deletion leaves, under other names
+pub deletes_same : (level : Level) (front ahead out new_out back new_back : List Glyph) (m : Bool) → out ≡ new_out → back ≡ new_back → Deletes level front ahead out back m → Deletes level front ahead new_out new_back m
+deletes_same level front ahead out new_out back new_back m e f gone = subst (λ (hs : List Glyph). Deletes level front ahead new_out hs m) f (subst (λ (hs : List Glyph). Deletes level front ahead hs back m) e gone)
+
+pub deleted_view : (b : Inside) (info out : Vec Glyph) (order : ClusterOrder) (flags : ℕ) (m : Bool) (g : Glyph) (back : List Glyph) → b.have_output ≡ true → drop b.idx b.info.items ≡ g ∷ back
     → Deletes b.cluster_level b.out_info.items (drop b.idx b.info.items) out.items (drop (b.idx + 1) info.items) m → flags ≡ telling_flags m b.scratch_flags
-    → sides_of (record b { info = info; out_info = out; idx = b.idx + 1; scratch_flags = flags; order = order; lent = lent }) ≡ with_deleted g back (sides_of b)
-deleted_view b info out order lent flags m g back h e gone f =
+    → sides_of (record b { info = info; out_info = out; idx = b.idx + 1; scratch_flags = flags; order = order }) ≡ with_deleted g back (sides_of b)
+deleted_view b info out order flags m g back h e gone f =
     let one = gone.front_is g back e in
     let two = gone.back_is g back e in
     let three = gone.marked_is g back e in

@@ -1,6 +1,6 @@
 -- Glyphs that only change positions.
 use Rattle.std.specs.Prelude.{bit_and}
-use Rattle.std.proofs.Common.{ℕ, zero, suc, ◌≡◌, ◌+◌, ◌++◌, arith, true, false, Option, List, [], ◌∷◌, map, take, drop, reverse, refl, ap, sym, ◌∙◌, append_assoc}
+use Rattle.std.proofs.Common.{ℕ, zero, suc, ◌≡◌, ◌+◌, ◌++◌, arith, true, false, List, [], ◌∷◌, map, take, drop, reverse, refl, ap, sym, ◌∙◌, append_assoc}
 use Rattle.std.proofs.lemmas.Grind.{reverse_onto}
 use Rattle.std.proofs.lemmas.List.{map-append, take-append-drop, drop-drop}
 use Rattle.glyph_types.specs.declared.info.hb_glyph_info_t.{hb_glyph_info_t}
@@ -10,8 +10,7 @@ use Rattle.glyph_types.specs.declared.position.GlyphPosition.{GlyphPosition}
 use Rattle.glyph_buffer.specs.declared.buffer.hb_buffer_t.TheInside.{Inside}
 use Rattle.glyph_lists.specs.Replacements.{glyph_numbered}
 use Rattle.glyph_buffer.specs.Merging.{with_renumbered}
-use Rattle.glyph_sides.specs.declared.order.KnownOrder.{KnownOrder}
-use Rattle.glyph_sides.specs.declared.order.Lent.{Lent}
+use Rattle.buffer_lists.specs.declared.order.ClusterOrder.{ClusterOrder}
 use Rattle.glyph_buffer.specs.Inside.{sides_of}
 use Rattle.glyph_buffer.specs.Sides.{Sides, all_glyphs, items_of, flags_of, moved_on, reversed}
 
@@ -70,6 +69,6 @@ take_on (x ∷ xs) (suc n) k = let more : suc n + k ≡ suc (n + k) = omega arit
 pub moved_closed : (b : Inside) (k : ℕ) → b.have_output ≡ false → sides_of (record b { idx = b.idx + k }) ≡ moved_on k (sides_of b)
 moved_closed b k h = rw (h, take_on b.info.items b.idx k, ← drop-drop k b.idx b.info.items) refl
 
-pub moved_open : (b : Inside) (out : Vec hb_glyph_info_t) (order : KnownOrder) (lent : Option Lent) (k : ℕ) → b.have_output ≡ true → out.items ≡ b.out_info.items ++ take k (drop b.idx b.info.items)
-    → sides_of (record b { out_info = out; idx = b.idx + k; order = order; lent = lent }) ≡ moved_on k (sides_of b)
-moved_open b out order lent k h e = rw (h, e, ← drop-drop k b.idx b.info.items) refl
+pub moved_open : (b : Inside) (out : Vec hb_glyph_info_t) (order : ClusterOrder) (k : ℕ) → b.have_output ≡ true → out.items ≡ b.out_info.items ++ take k (drop b.idx b.info.items)
+    → sides_of (record b { out_info = out; idx = b.idx + k; order = order }) ≡ moved_on k (sides_of b)
+moved_open b out order k h e = rw (h, e, ← drop-drop k b.idx b.info.items) refl

@@ -18,3 +18,5 @@ pub mod Deleting
 pub mod Resized
 pub mod Apart
 pub mod Brings
+pub mod Grouped
+pub mod Slices

@@ -10,7 +10,7 @@ use Rattle.glyph_lists.specs.Items.{item_of, strip, clusters, flags_of, glyph_fl
 use Rattle.glyph_buffer.specs.declared.buffer.hb_buffer_t.TheInside.{Inside}
 use Rattle.glyph_buffer.specs.Inside.{sides_of}
 use Rattle.glyph_buffer.specs.Sides.{Sides, all_glyphs, items_of}
-use Rattle.glyph_sides.specs.Masks.{bits_set, flags_set, glyph_masked, glyph_set, is_within, item_masked, item_set, items_set}
+use Rattle.buffer_lists.specs.Masks.{bits_set, flags_set, glyph_masked, glyph_set, is_within, item_masked, item_set, items_set}
 use Rattle.glyph_buffer.specs.Masks.{with_masks, with_set_masks}
 use Rattle.glyph_buffer.specs.Merging.{with_glyphs}
 

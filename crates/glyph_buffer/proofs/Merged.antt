@@ -1,6 +1,6 @@
 -- What a merge of a range of the input does to the sides.
 use Rattle.std.specs.Global.{Vec}
-use Rattle.std.proofs.Common.{ℕ, ◌≡◌, ◌≤◌, ◌+◌, ◌-◌, Bool, true, false, Option, List, ◌++◌, length, take, drop, refl, arith, ap, sym, ◌∙◌}
+use Rattle.std.proofs.Common.{ℕ, ◌≡◌, ◌≤◌, ◌+◌, ◌-◌, Bool, true, false, List, ◌++◌, length, take, drop, refl, arith, ap, sym, ◌∙◌}
 use Rattle.std.proofs.lemmas.List.{take-append-drop, length-take-le, take_at, drop_at}
 use Rattle.glyph_types.specs.declared.info.hb_glyph_info_t.{hb_glyph_info_t}
 use Rattle.glyph_types.specs.declared.level.BufferClusterLevel.{BufferClusterLevel}
@@ -11,8 +11,7 @@ use Rattle.glyph_lists.specs.Merges.{merged_at}
 use Rattle.glyph_lists.specs.Glyphs.{glyphs_merged_at, beside_merged, flags_merged_at, is_marked_at, tells_apart}
 use Rattle.glyph_lists.specs.Lemmas.Glyphs.{merged_at_beyond, length_beside, stretch_beyond, strip_merged_at, clusters_merged_at, flags_of_merged_at}
 use Rattle.glyph_buffer.specs.declared.buffer.hb_buffer_t.TheInside.{Inside}
-use Rattle.glyph_sides.specs.declared.order.KnownOrder.{KnownOrder}
-use Rattle.glyph_sides.specs.declared.order.Lent.{Lent}
+use Rattle.buffer_lists.specs.declared.order.ClusterOrder.{ClusterOrder}
 use Rattle.glyph_buffer.specs.Inside.{sides_of, start_of}
 use Rattle.glyph_buffer.specs.Sides.{Sides, all_glyphs, items_of}
 use Rattle.glyph_buffer.specs.Merging.{index_in_all, telling_flags, with_merged}
@@ -41,15 +40,15 @@ same_marks MonotoneGraphemes a b c d ms ns e = refl
 same_marks MonotoneCharacters a b c d ms ns e = refl
 same_marks Characters a b c d ms ns e = ap tells_apart e
 
-pub merged_view : (b : Inside) (info out : Vec hb_glyph_info_t) (order : KnownOrder) (lent : Option Lent) (from start end flags : ℕ) → b.idx ≤ length b.info.items → start ≤ end → (b.have_output ≡ true → b.idx ≤ start)
+pub merged_view : (b : Inside) (info out : Vec hb_glyph_info_t) (order : ClusterOrder) (from start end flags : ℕ) → b.idx ≤ length b.info.items → start ≤ end → (b.have_output ≡ true → b.idx ≤ start)
     → from ≡ start_of b
     → drop from info.items ≡ glyphs_merged_at b.cluster_level (start - from) (end - from) (drop from b.info.items)
     → out.items ≡ beside_merged b.cluster_level (stretch (start - from) (end - from) (clusters (drop from b.info.items))) b.out_info.items
     → flags ≡ telling_flags (is_marked_at b.cluster_level (start - from) (end - from) (clusters (drop from b.info.items))) b.scratch_flags
-    → sides_of (record b { info = info; out_info = out; scratch_flags = flags; order = order; lent = lent }) ≡ with_merged (index_in_all start (sides_of b)) (index_in_all end (sides_of b)) (sides_of b)
-merged_view b info out order lent from start end flags le before unread begins i o f = by_test b.have_output refl
+    → sides_of (record b { info = info; out_info = out; scratch_flags = flags; order = order }) ≡ with_merged (index_in_all start (sides_of b)) (index_in_all end (sides_of b)) (sides_of b)
+merged_view b info out order from start end flags le before unread begins i o f = by_test b.have_output refl
   where
-    by_test : (t : Bool) → b.have_output ≡ t → sides_of (record b { info = info; out_info = out; scratch_flags = flags; order = order; lent = lent }) ≡ with_merged (index_in_all start (sides_of b)) (index_in_all end (sides_of b)) (sides_of b)
+    by_test : (t : Bool) → b.have_output ≡ t → sides_of (record b { info = info; out_info = out; scratch_flags = flags; order = order }) ≡ with_merged (index_in_all start (sides_of b)) (index_in_all end (sides_of b)) (sides_of b)
     by_test true e =
         let here : from ≡ b.idx = rw e at begins in
         let first = unread e in

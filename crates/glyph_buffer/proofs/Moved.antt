@@ -1,17 +1,17 @@
 -- The cursor at another place, and a range turned round.
 use Rattle.std.specs.Global.{Vec}
 use Rattle.std.specs.Prelude.{bit_and, slice_range}
-use Rattle.std.proofs.Common.{ℕ, ◌≡◌, ◌≤◌, ◌+◌, ◌-◌, ◌++◌, true, false, Option, List, length, map, take, drop, reverse, refl, ap, sym, subst, arith, append_assoc, ◌∙◌}
+use Rattle.std.proofs.Common.{ℕ, ◌≡◌, ◌≤◌, ◌+◌, ◌-◌, ◌++◌, true, false, List, length, map, take, drop, reverse, refl, ap, sym, subst, arith, append_assoc, ◌∙◌}
 use Rattle.std.proofs.lemmas.List.{map-append, take-map, drop-map, take-append-drop, take-append-le, drop-append-le}
 use Rattle.std.proofs.Math.Seq.{take-append-add, drop-append-add}
 use Rattle.glyph_types.specs.declared.info.hb_glyph_info_t.{hb_glyph_info_t}
 use Rattle.glyph_types.specs.declared.position.GlyphPosition.{GlyphPosition}
 use Rattle.glyph_lists.specs.Items.{item_of, strip, clusters, flags_of}
 use Rattle.glyph_buffer.specs.declared.buffer.hb_buffer_t.TheInside.{Inside}
-use Rattle.glyph_sides.specs.declared.order.KnownOrder.{KnownOrder}
-use Rattle.glyph_sides.specs.declared.order.Lent.{Lent}
+use Rattle.buffer_lists.specs.declared.order.ClusterOrder.{ClusterOrder}
+use Rattle.buffer_lists.specs.declared.order.KnownOrder.{KnownOrder}
 use Rattle.glyph_buffer.specs.Inside.{sides_of}
-use Rattle.glyph_sides.specs.Known.{HasOrder}
+use Rattle.buffer_lists.specs.Known.{HasOrder}
 use Rattle.glyph_buffer.specs.Moving.{moved_to, range_reversed, with_range_reversed}
 use Rattle.glyph_buffer.specs.Sides.{Sides, all_glyphs, items_of, moved_on}
 use Rattle.glyph_buffer.proofs.Kept.{map-reverse}
@@ -28,10 +28,10 @@ moved_forth i n s e =
     rw (read, e, take-append-add s.behind s.ahead n, drop-append-add s.behind s.ahead n) refl
 
 -- back the end of the output goes in front of the input
-pub moved_back : (b : Inside) (info out : Vec hb_glyph_info_t) (order : KnownOrder) (lent : Option Lent) (i first : ℕ) → b.have_output ≡ true → i ≤ length b.out_info.items → first ≡ b.idx - (length b.out_info.items - i)
+pub moved_back : (b : Inside) (info out : Vec hb_glyph_info_t) (order : ClusterOrder) (i first : ℕ) → b.have_output ≡ true → i ≤ length b.out_info.items → first ≡ b.idx - (length b.out_info.items - i)
     → drop first info.items ≡ drop i b.out_info.items ++ drop b.idx b.info.items → out.items ≡ take i b.out_info.items
-    → sides_of (record b { info = info; out_info = out; idx = first; order = order; lent = lent }) ≡ moved_to i (sides_of b)
-moved_back b info out order lent i first h le f input output =
+    → sides_of (record b { info = info; out_info = out; idx = first; order = order }) ≡ moved_to i (sides_of b)
+moved_back b info out order i first h le f input output =
     let read : first ≡ b.idx + i - length b.out_info.items = omega (arith, f, le) in
     rw (h, input, output, take-append-le i b.out_info.items (drop b.idx b.info.items) le, drop-append-le i b.out_info.items (drop b.idx b.info.items) le, ← read) refl
 
@@ -48,9 +48,9 @@ map_range_reversed v start end xs =
     let range = slice_range xs start end in
     rw (map-append v (take start xs ++ reverse range) (drop end xs), map-append v (take start xs) (reverse range), map-reverse v range, drop-map v end xs, take-map v start xs, drop-map v start xs, take-map v (end - start) (drop start xs)) refl
 
-pub range_view : (b : Inside) (info : Vec hb_glyph_info_t) (positions : Vec GlyphPosition) (order : KnownOrder) (lent : Option Lent) (start end : ℕ) → b.have_output ≡ false → info.items ≡ range_reversed start end b.info.items → positions.items ≡ range_reversed start end b.pos.items
-    → sides_of (record b { info = info; pos = positions; order = order; lent = lent }) ≡ with_range_reversed start end (sides_of b)
-range_view b info positions order lent start end h i p = rw (h, i, p, take-append-drop b.idx b.info.items) refl
+pub range_view : (b : Inside) (info : Vec hb_glyph_info_t) (positions : Vec GlyphPosition) (order : ClusterOrder) (start end : ℕ) → b.have_output ≡ false → info.items ≡ range_reversed start end b.info.items → positions.items ≡ range_reversed start end b.pos.items
+    → sides_of (record b { info = info; pos = positions; order = order }) ≡ with_range_reversed start end (sides_of b)
+range_view b info positions order start end h i p = rw (h, i, p, take-append-drop b.idx b.info.items) refl
 
 all_in_range : (start end : ℕ) (s : Sides) → all_glyphs (with_range_reversed start end s) ≡ range_reversed start end (all_glyphs s)
 all_in_range start end s = take-append-drop s.read (range_reversed start end (all_glyphs s))

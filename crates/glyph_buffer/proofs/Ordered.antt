@@ -1,5 +1,5 @@
 -- What is known of the order of clusters, after each call.
-use Rattle.std.proofs.Common.{take, ℕ, ◌≡◌, ◌≤◌, ◌<◌, ◌+◌, inl, inr, Bool, true, false, List, [], ◌∷◌, ◌++◌, length, map, drop, reverse, get_or, set, arith, refl, ap, sym, subst, ◌∙◌}
+use Rattle.std.proofs.Common.{take, Option, None, ℕ, ◌≡◌, ◌≤◌, ◌<◌, ◌+◌, inl, inr, Bool, true, false, List, [], ◌∷◌, ◌++◌, length, map, drop, reverse, get_or, set, arith, refl, ap, sym, subst, ◌∙◌}
 use Rattle.std.proofs.lemmas.List.{map-append, drop-map, drop-drop, take-append-drop, drop_more, append_assoc, map-set, set-set, set-get_or, get_or-map}
 use Rattle.std.proofs.Math.Seq.{take-append_seam, drop-append_seam, drop-append-add}
 use Rattle.glyph_types.specs.declared.info.hb_glyph_info_t.{hb_glyph_info_t}
@@ -16,10 +16,11 @@ use Rattle.glyph_lists.specs.Lemmas.Parts.{event_keeps_order, order_drawn}
 use Rattle.glyph_lists.specs.Lemmas.Glyphs.{merged_at_beyond, clusters_merged_at}
 use Rattle.glyph_lists.specs.Lemmas.Merges.{merge_joins}
 use Rattle.glyph_lists.specs.Lemmas.Replacements.{clusters_replaced}
-use Rattle.glyph_sides.specs.declared.order.KnownOrder.{KnownOrder}
-use Rattle.glyph_sides.specs.declared.order.KnownOrder.TheVariants.{Unknown, Rising, Falling}
-use Rattle.glyph_sides.specs.Known.{HasOrder, is_known}
-use Rattle.glyph_sides.specs.Masks.{glyph_masked}
+use Rattle.buffer_lists.specs.declared.order.KnownOrder.{KnownOrder}
+use Rattle.buffer_lists.specs.declared.order.KnownOrder.TheVariants.{Unknown, Rising, Falling}
+use Rattle.buffer_lists.specs.declared.order.Lent.{Lent}
+use Rattle.buffer_lists.specs.Known.{HasOrder, is_known, put_back_ahead, put_back_behind}
+use Rattle.buffer_lists.specs.Masks.{glyph_masked}
 use Rattle.glyph_buffer.proofs.Kept.{map-reverse}
 
 ordered_from : (falls : Bool) (ns : List ℕ) → IsInOrder falls ns → IsOrdered ns
@@ -136,3 +137,7 @@ order_put o out info new n g e h =
     let f : hb_glyph_info_t → ℕ = λ k. k.cluster in
     let seen : clusters new ≡ clusters out ++ g.cluster ∷ [] = ap clusters e ∙ map-append f out (g ∷ []) in
     subst (HasOrder o) (ap (λ ns. clusters out ++ g.cluster ∷ ns) (sym (drop-map f n info)) ∙ sym (append_assoc (clusters out) (g.cluster ∷ []) (drop n (clusters info))) ∙ ap (λ ns. ns ++ drop n (clusters info)) (sym seen)) h
+
+-- where no glyph is lent
+pub none_lent : (o : KnownOrder) (l : Option Lent) (out info : List hb_glyph_info_t) (n : ℕ) → l ≡ None → HasOrder o (clusters out ++ drop n (clusters info)) → HasOrder o (put_back_behind l (clusters out) ++ drop n (put_back_ahead l (clusters info)))
+none_lent o l out info n e h = rw e h

@@ -14,19 +14,18 @@ use Rattle.glyph_lists.specs.Replacements.{copied, glyph_numbered, glyphs_replac
 use Rattle.glyph_lists.specs.Lemmas.Glyphs.{strip_merged_at, clusters_merged_at, flags_of_merged_at, length_merged_at}
 use Rattle.glyph_lists.specs.Lemmas.Replacements.{strip_replaced, clusters_replaced, flags_of_replaced}
 use Rattle.glyph_buffer.specs.declared.buffer.hb_buffer_t.TheInside.{Inside}
-use Rattle.glyph_sides.specs.declared.order.KnownOrder.{KnownOrder}
-use Rattle.glyph_sides.specs.declared.order.Lent.{Lent}
+use Rattle.buffer_lists.specs.declared.order.ClusterOrder.{ClusterOrder}
 use Rattle.glyph_buffer.specs.Inside.{sides_of}
 use Rattle.glyph_buffer.specs.Sides.{Sides, all_glyphs, items_of}
 use Rattle.glyph_buffer.specs.Merging.{telling_flags, with_merged, with_copied, with_replaced, fits_copies}
 use Rattle.glyph_buffer.proofs.Merged.{merged_sides, same_marks, all_merged}
 
-pub replaced_view : (b : Inside) (info out : Vec hb_glyph_info_t) (order : KnownOrder) (lent : Option Lent) (taken flags : ℕ) (numbers : List ℕ) → b.have_output ≡ true
+pub replaced_view : (b : Inside) (info out : Vec hb_glyph_info_t) (order : ClusterOrder) (taken flags : ℕ) (numbers : List ℕ) → b.have_output ≡ true
     → drop b.idx info.items ≡ glyphs_merged_at b.cluster_level 0 taken (drop b.idx b.info.items)
     → out.items ≡ beside_merged b.cluster_level (stretch 0 taken (clusters (drop b.idx b.info.items))) b.out_info.items ++ copied glyph_numbered (or (first_of (drop b.idx info.items)) (last_of (beside_merged b.cluster_level (stretch 0 taken (clusters (drop b.idx b.info.items))) b.out_info.items))) numbers
     → flags ≡ telling_flags (is_marked_at b.cluster_level 0 taken (clusters (drop b.idx b.info.items))) b.scratch_flags
-    → sides_of (record b { info = info; out_info = out; idx = b.idx + taken; scratch_flags = flags; order = order; lent = lent }) ≡ with_replaced taken numbers (sides_of b)
-replaced_view b info out order lent taken flags numbers h i o f =
+    → sides_of (record b { info = info; out_info = out; idx = b.idx + taken; scratch_flags = flags; order = order }) ≡ with_replaced taken numbers (sides_of b)
+replaced_view b info out order taken flags numbers h i o f =
     let m = merged_sides b.cluster_level 0 taken (length b.out_info.items) (length b.out_info.items + taken) b.out_info.items (drop b.idx b.info.items) (omega arith) refl in
     let marks = f ∙ ap (λ any. telling_flags any b.scratch_flags) (same_marks b.cluster_level 0 taken (length b.out_info.items) (length b.out_info.items + taken) (clusters (drop b.idx b.info.items)) (clusters (b.out_info.items ++ drop b.idx b.info.items)) m.range_is) in
     rw (h, o, ← drop-drop taken b.idx info.items, i, m.ahead_is, m.behind_is, marks) refl

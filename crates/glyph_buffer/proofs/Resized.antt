@@ -1,12 +1,11 @@
 -- A list that was cut or filled, seen without clusters, or as clusters or flags alone.
 use Rattle.std.specs.Prelude.{bit_and, replicate}
-use Rattle.std.proofs.Common.{ℕ, zero, suc, ◌≡◌, ◌-◌, ◌++◌, List, ◌∷◌, length, map, take, false, Option, refl, ap, sym, ◌∙◌, min}
+use Rattle.std.proofs.Common.{ℕ, zero, suc, ◌≡◌, ◌-◌, ◌++◌, List, ◌∷◌, length, map, take, false, refl, ap, sym, ◌∙◌, min}
 use Rattle.std.proofs.lemmas.List.{map-append, take-map, take-append-drop, length-map}
 use Rattle.std.specs.Global.{Vec}
 use Rattle.glyph_types.specs.declared.position.GlyphPosition.{GlyphPosition}
 use Rattle.glyph_buffer.specs.declared.buffer.hb_buffer_t.TheInside.{Inside}
-use Rattle.glyph_sides.specs.declared.order.KnownOrder.{KnownOrder}
-use Rattle.glyph_sides.specs.declared.order.Lent.{Lent}
+use Rattle.buffer_lists.specs.declared.order.ClusterOrder.{ClusterOrder}
 use Rattle.glyph_buffer.specs.Inside.{sides_of}
 use Rattle.glyph_types.specs.declared.info.hb_glyph_info_t.{hb_glyph_info_t}
 use Rattle.glyph_lists.specs.Items.{item_of, strip, clusters, flags_of}
@@ -34,6 +33,6 @@ len_clusters n s = ap clusters (all_of_len n s) ∙ seen (λ (g : hb_glyph_info_
 pub len_flags : (n : ℕ) (s : Sides) → flags_of (all_glyphs (with_len n s)) ≡ of_length n 0 (flags_of (all_glyphs s))
 len_flags n s = ap flags_of (all_of_len n s) ∙ seen (λ (g : hb_glyph_info_t). bit_and g.mask 7) n zero_glyph (all_glyphs s)
 
-pub resized_view : (b : Inside) (info : Vec hb_glyph_info_t) (positions : Vec GlyphPosition) (order : KnownOrder) (lent : Option Lent) (idx n : ℕ) → b.have_output ≡ false → info.items ≡ of_length n zero_glyph b.info.items → positions.items ≡ of_length n zero_position b.pos.items → idx ≡ min b.idx n
-    → sides_of (record b { info = info; pos = positions; idx = idx; order = order; lent = lent }) ≡ with_len n (sides_of b)
-resized_view b info positions order lent idx n h i p e = rw (h, i, p, e, take-append-drop b.idx b.info.items) refl
+pub resized_view : (b : Inside) (info : Vec hb_glyph_info_t) (positions : Vec GlyphPosition) (order : ClusterOrder) (idx n : ℕ) → b.have_output ≡ false → info.items ≡ of_length n zero_glyph b.info.items → positions.items ≡ of_length n zero_position b.pos.items → idx ≡ min b.idx n
+    → sides_of (record b { info = info; pos = positions; idx = idx; order = order }) ≡ with_len n (sides_of b)
+resized_view b info positions order idx n h i p e = rw (h, i, p, e, take-append-drop b.idx b.info.items) refl

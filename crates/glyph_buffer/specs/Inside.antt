@@ -3,7 +3,7 @@ use Rattle.std.specs.Prelude.{ℕ, ◌≤◌, ◌≡◌, ◌++◌, if◌then◌e
 use Rattle.std.specs.Bool.{OnFalse}
 use Rattle.glyph_buffer.specs.declared.buffer.hb_buffer_t.TheInside.{Inside}
 use Rattle.glyph_lists.specs.Items.{clusters}
-use Rattle.glyph_sides.specs.Known.{HasOrder, put_back_ahead, put_back_behind}
+use Rattle.buffer_lists.specs.Known.{HasOrder, put_back_ahead, put_back_behind}
 use Rattle.glyph_buffer.specs.Sides.{Sides}
 
 abbrev pub sides_of : Inside → Sides
@@ -35,7 +35,7 @@ start_of b = if b.have_output then b.idx else 0
 
 -- the clusters of all glyphs, with that of a lent glyph as it was
 abbrev pub known_clusters : Inside → List ℕ
-known_clusters b = put_back_behind b.lent (clusters b.out_info.items) ++ drop (start_of b) (put_back_ahead b.lent (clusters b.info.items))
+known_clusters b = put_back_behind b.order.lent (clusters b.out_info.items) ++ drop (start_of b) (put_back_ahead b.order.lent (clusters b.info.items))
 
 pub record IsSound (b : Inside) : Type 0 where
   pub cursor : b.idx ≤ length b.info.items
@@ -43,4 +43,4 @@ pub record IsSound (b : Inside) : Type 0 where
   pub output_within : length b.out_info.items ≤ b.max_len
   pub closed : OnFalse b.have_output (b.out_info.items ≡ [])
   pub placed : OnFalse b.have_output (length b.pos.items ≡ length b.info.items)
-  pub ordered : HasOrder b.order (known_clusters b)
+  pub ordered : HasOrder b.order.known (known_clusters b)

@@ -1,6 +1,6 @@
 -- What becomes of a buffer's masks.
 use Rattle.std.specs.Prelude.{ℕ, map}
-pub use Rattle.glyph_sides.specs.Masks.{flags_set, glyph_masked, glyph_set, item_masked, items_set}
+pub use Rattle.buffer_lists.specs.Masks.{flags_set, glyph_masked, glyph_set, item_masked, items_set}
 use Rattle.glyph_buffer.specs.Sides.{Sides, all_glyphs}
 use Rattle.glyph_buffer.specs.Merging.{with_glyphs}
 

@@ -24,7 +24,7 @@ mod storage;
 mod tests;
 
 use arrayvec::ArrayVec;
-use glyph_sides::order::{KnownOrder, Lent};
+use buffer_lists::order::{ClusterOrder, KnownOrder};
 use glyph_types::info::hb_glyph_info_t;
 use glyph_types::level::BufferClusterLevel;
 use glyph_types::position::GlyphPosition;
@@ -61,9 +61,8 @@ pub struct hb_buffer_t {
     not_found_variation_selector: Option<u32>,
     scratch_flags: hb_buffer_scratch_flags_t,
     flags: BufferFlags,
-    // Of all glyphs; of one that was lent, by the cluster that it had. So a merge need not walk the whole list.
-    order: KnownOrder,
-    lent: Option<Lent>,
+    // So a merge need not walk the whole list.
+    order: ClusterOrder,
 }
 
 impl Model for hb_buffer_t {
@@ -121,8 +120,7 @@ impl hb_buffer_t {
             not_found_variation_selector: None,
             scratch_flags: HB_BUFFER_SCRATCH_FLAG_DEFAULT,
             flags: BufferFlags::default(),
-            order: KnownOrder::Rising,
-            lent: None,
+            order: ClusterOrder::of(KnownOrder::Rising),
         }
     }
 
@@ -149,7 +147,6 @@ impl hb_buffer_t {
         self.not_found_variation_selector = None;
         self.scratch_flags = HB_BUFFER_SCRATCH_FLAG_DEFAULT;
         self.flags = BufferFlags::default();
-        self.order = KnownOrder::Rising;
-        self.lent = None;
+        self.order = ClusterOrder::of(KnownOrder::Rising);
     }
 }

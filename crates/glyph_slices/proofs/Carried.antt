@@ -13,7 +13,7 @@ use Rattle.glyph_lists.specs.Merges.{least_number, merged}
 use Rattle.glyph_lists.specs.Glyphs.{in_cluster, glyphs_merged, glyphs_merged_at, is_marked_at}
 use Rattle.glyph_types.specs.declared.level.BufferClusterLevel.{BufferClusterLevel as Level}
 use Rattle.glyph_types.specs.declared.level.BufferClusterLevel.TheVariants.{MonotoneGraphemes, MonotoneCharacters, Characters}
-use Rattle.glyph_lists.specs.Readings.{IsMonotone}
+use Rattle.glyph_lists.specs.Levels.{IsMonotone}
 use Rattle.std.specs.List.{list_all}
 use Rattle.glyph_slices.specs.Merging.{direction_merged}
 use Rattle.glyph_slices.specs.Deleting.{IsEndRun}

@@ -10,10 +10,10 @@ use Rattle.glyph_lists.specs.Order.{IsFalling}
 use Rattle.glyph_lists.specs.Glyphs.{in_cluster, glyphs_merged_at}
 use Rattle.glyph_lists.specs.Lemmas.Numbers.{Has, has_either, has_left, has_right, has_reverse}
 use Rattle.glyph_slices.specs.declared.due.falling.Stretch.{Stretch}
-use Rattle.glyph_lists.specs.Readings.{IsMonotone}
+use Rattle.glyph_lists.specs.Levels.{IsMonotone}
 use Rattle.glyph_slices.specs.Turning.{part_turned}
 use Rattle.glyph_slices.specs.Falling.{carried, IsDueBefore, IsRound}
-use Rattle.glyph_slices.proofs.Turned.{map-reverse, part_front, part_behind, clusters_part}
+use Rattle.glyph_slices.specs.Lemmas.Turned.{map-reverse, part_front, part_behind, clusters_part}
 use Rattle.glyph_slices.proofs.Carried.{two_ranges, take_to, drop_beyond, take_carried, drop_carried, same_range, front_long}
 
 -- as long as before

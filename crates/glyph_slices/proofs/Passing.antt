@@ -9,7 +9,7 @@ use Rattle.glyph_lists.specs.Order.{IsOrdered}
 use Rattle.glyph_slices.specs.declared.deletion.walk.Walk.{Walk}
 use Rattle.glyph_slices.specs.OneDeleted.{left_clusters, ordered_deleted}
 use Rattle.glyph_slices.specs.DeletionWalk.{Deletes, IsDue, IsWalk, Passed, all_passed, many_passed, settled, passed_at, passed_of, first_passed, with_glyph, without_glyph}
-use Rattle.glyph_slices.proofs.Neighbours.{no_glyph}
+use Rattle.glyph_slices.specs.Lemmas.Neighbours.{no_glyph}
 
 pub or_false : (b : Bool) → (b || false) ≡ b
 or_false true = refl

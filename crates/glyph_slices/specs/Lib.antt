@@ -16,3 +16,4 @@ pub mod Places
 pub mod NoNewNumbers
 pub mod OneDeleted
 pub mod DeletedFlags
+pub mod Lemmas

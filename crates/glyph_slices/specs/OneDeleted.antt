@@ -9,7 +9,7 @@ use Rattle.glyph_lists.specs.Items.{clusters}
 use Rattle.glyph_lists.specs.Parts.{DeletePart, first_of, last_of, last_from, is_number}
 use Rattle.glyph_lists.specs.Deletions.{deleted}
 use Rattle.glyph_lists.specs.Order.{IsInOrder, IsOrdered}
-use Rattle.glyph_lists.specs.Readings.{IsMonotone}
+use Rattle.glyph_lists.specs.Levels.{IsMonotone}
 use Rattle.glyph_lists.specs.Lemmas.Deletions.{deletion_is_event, last_is, no_last}
 use Rattle.glyph_lists.specs.Lemmas.Parts.{event_keeps_order}
 use Rattle.glyph_slices.specs.Deleted.{clusters_deleted}

@@ -139,11 +139,6 @@ pub fn delete_within<F: Fn(&hb_glyph_info_t) -> bool>(
     ensures glyphs { (goes : Glyph → Bool) → Tells F.Fn filter goes → take result.0 glyphs.new ≡ (all_passed level goes glyphs.old positions.old).kept }
     ensures positions { (goes : Glyph → Bool) → Tells F.Fn filter goes → take result.0 positions.new ≡ (all_passed level goes glyphs.old positions.old).kept_positions }
     ensures marked { (goes : Glyph → Bool) → Tells F.Fn filter goes → result.1 ≡ (all_passed level goes glyphs.old positions.old).is_marked }
-    ensures items { (q : Item → Bool) → Tells F.Fn filter (λ g. q (item_of g)) → strip (take result.0 glyphs.new) ≡ items_kept q (strip glyphs.old) }
-    ensures kept_positions { (q : Item → Bool) → Tells F.Fn filter (λ g. q (item_of g)) → take result.0 positions.new ≡ positions_kept q (strip glyphs.old) positions.old }
-    ensures clusters { (q : Item → Bool) → Tells F.Fn filter (λ g. q (item_of g)) → clusters (take result.0 glyphs.new) ≡ clusters_kept level q (strip glyphs.old) (clusters glyphs.old) }
-    ensures numbers { (goes : Glyph → Bool) → Tells F.Fn filter goes → BringsNone (clusters glyphs.old) (clusters (take result.0 glyphs.new)) }
-    ensures flags { (q : Item → Bool) → Tells F.Fn filter (λ g. q (item_of g)) → flags_of (take result.0 glyphs.new) ≡ flags_kept level q (strip glyphs.old) (clusters glyphs.old) (flags_of glyphs.old) }
 {
     let mut walk = Walk {
         kept: 0,

@@ -2,7 +2,7 @@ ghost use Rattle.std.specs.Prelude.{◌≡◌, ◌≤◌, ◌<◌, ◌||◌, tru
 ghost use Rattle.glyph_types.specs.declared.level.BufferClusterLevel.{BufferClusterLevel as Level};
 ghost use Rattle.glyph_lists.specs.Items.{clusters};
 ghost use Rattle.glyph_lists.specs.Order.{IsOrdered};
-ghost use Rattle.glyph_lists.specs.Readings.{IsMonotone};
+ghost use Rattle.glyph_lists.specs.Levels.{IsMonotone};
 ghost use Rattle.glyph_lists.specs.Glyphs.{glyphs_merged_at, is_marked_at};
 ghost use Rattle.glyph_slices.specs.declared.due.Due.TheVariants.{Nothing};
 ghost use Rattle.glyph_slices.specs.Due.{IsWithin, MayBeDue, MayBeRound, meant};
@@ -13,23 +13,19 @@ use self::falling::{Stretch, carry_out, ends_lower, merge_falling};
 use crate::merges::merge_at;
 use glyph_types::info::hb_glyph_info_t;
 use glyph_types::level::BufferClusterLevel;
-use std::alloc::Global;
-use united_clusters::united::UnitedClusters;
 
-/// What merges left to be carried out. Where clusters don't rise, a merge at once may rename the same glyphs again and
-/// again, or look at all of them for each range; so they are renamed once it is known what they become.
-#[derive(Drop)]
+/// What merges left to be carried out. Where clusters fall, a merge at once may rename the same glyphs again and again; so
+/// they are renamed once it is known what they become.
+#[derive(Clone, Copy)]
 pub(crate) enum Due {
     /// Nothing: each merge is carried out at once.
     Nothing,
     /// Where clusters fall, one stretch is still to be renamed.
     Falling(Stretch),
-    /// Where clusters are in no order, all glyphs are still to go to what their clusters were united to.
-    United(UnitedClusters),
 }
 
 /// How far the merges of a walk have come.
-#[derive(Drop)]
+#[derive(Clone, Copy)]
 pub(crate) struct Merges {
     /// Whether one marked a glyph.
     pub(crate) marked: bool,
@@ -37,49 +33,37 @@ pub(crate) struct Merges {
     pub(crate) due: Due,
 }
 
-/// No merge has been. Where there are to be many, on clusters that are not known to stand in order, they are kept in a
-/// table, if there is memory for it.
+/// No merge has been.
 pub(crate) fn no_merges(
-    alloc: Global,
     glyphs: &[hb_glyph_info_t],
     level: BufferClusterLevel,
     in_order: bool,
-    many: bool,
 ) -> Merges
     requires known { in_order ≡ true → IsMonotone level → IsOrdered (clusters glyphs.now) }
     ensures due { MayBeDue level 0 result.due glyphs.now }
     ensures meant { meant result.due glyphs.now ≡ glyphs.now }
     ensures marked { result.marked ≡ false }
-    ensures none { in_order ≡ false → many ≡ false → result.due ≡ Nothing }
+    ensures none { in_order ≡ false → result.due ≡ Nothing }
 {
     Merges {
         marked: false,
-        due: no_due(alloc, glyphs, level, in_order, many),
+        due: no_due(glyphs, level, in_order),
     }
 }
 
-fn no_due(
-    alloc: Global,
-    glyphs: &[hb_glyph_info_t],
-    level: BufferClusterLevel,
-    in_order: bool,
-    many: bool,
-) -> Due
+fn no_due(glyphs: &[hb_glyph_info_t], level: BufferClusterLevel, in_order: bool) -> Due
     requires known { in_order ≡ true → IsMonotone level → IsOrdered (clusters glyphs.now) }
     ensures due { MayBeDue level 0 result glyphs.now }
     ensures meant { meant result glyphs.now ≡ glyphs.now }
-    ensures none { in_order ≡ false → many ≡ false → result ≡ Nothing }
+    ensures none { in_order ≡ false → result ≡ Nothing }
 {
+    if !in_order {
+        return Due::Nothing;
+    }
     match level {
         BufferClusterLevel::Characters => Due::Nothing,
         BufferClusterLevel::MonotoneGraphemes | BufferClusterLevel::MonotoneCharacters => {
-            if in_order {
-                no_stretch(glyphs)
-            } else if many {
-                no_unions(alloc, glyphs)
-            } else {
-                Due::Nothing
-            }
+            no_stretch(glyphs)
         }
     }
 }
@@ -97,17 +81,6 @@ fn no_stretch(glyphs: &[hb_glyph_info_t]) -> Due
         })
     } else {
         Due::Nothing
-    }
-}
-
-#[tactic(auto, using(crate::proofs::United::no_unions))]
-fn no_unions(alloc: Global, glyphs: &[hb_glyph_info_t]) -> Due
-    ensures due { (level : Level) → IsMonotone level → MayBeDue level 0 result glyphs.now }
-    ensures meant { meant result glyphs.now ≡ glyphs.now }
-{
-    match UnitedClusters::of(alloc, glyphs) {
-        Ok(unions) => Due::United(unions),
-        Err(_) => Due::Nothing,
     }
 }
 
@@ -143,13 +116,6 @@ pub(crate) fn merge_next(
             marked,
             due: Due::Falling(merge_falling(glyphs, stretch, start, end)),
         },
-        Due::United(mut unions) => {
-            unions.unite(&glyphs[start..end]);
-            Merges {
-                marked,
-                due: Due::United(unions),
-            }
-        }
     }
 }
 
@@ -161,6 +127,5 @@ pub(crate) fn settle(glyphs: &mut [hb_glyph_info_t], due: Due)
     match due {
         Due::Nothing => {}
         Due::Falling(stretch) => carry_out(glyphs, stretch),
-        Due::United(mut unions) => unions.rename(glyphs),
     }
 }

@@ -1,30 +1,24 @@
 ghost use Rattle.std.specs.Prelude.{◌≡◌, ◌<◌, ◌≤◌, ◌-◌, ◌||◌, true, false, Bool, length};
 ghost use Rattle.glyph_types.specs.declared.info.hb_glyph_info_t.{hb_glyph_info_t as Glyph};
-ghost use Rattle.glyph_lists.specs.Items.{Item, clusters, flags_of, item_of, strip};
-ghost use Rattle.glyph_lists.specs.Order.{BringsNone, IsOrdered};
-ghost use Rattle.glyph_lists.specs.Readings.{IsMonotone};
-ghost use Rattle.glyph_slices.specs.Facts.{clusters_turned, positions_turned};
+ghost use Rattle.glyph_lists.specs.Items.{clusters};
+ghost use Rattle.glyph_lists.specs.Order.{IsOrdered};
+ghost use Rattle.glyph_lists.specs.Levels.{IsMonotone};
 ghost use Rattle.glyph_slices.specs.declared.due.Due.TheVariants.{Nothing};
 ghost use Rattle.glyph_slices.specs.Due.{MayBeDue, MayBeRound, meant};
-ghost use Rattle.glyph_slices.specs.Flags.{flags_turned};
 ghost use Rattle.glyph_slices.specs.Groups.{Decides};
-ghost use Rattle.glyph_slices.specs.Turning.{first_turned, groups_turned, is_marked_if, merged_if, part_turned, turned, turning_at};
+ghost use Rattle.glyph_slices.specs.Turning.{first_turned, is_marked_if, merged_if, part_turned, turned, turning_at};
 
-mod ahead;
-
-use self::ahead::end_of_meant_group;
 use crate::due::{Merges, merge_next, no_merges, settle};
+use crate::groups::end_of_group;
 use glyph_types::info::hb_glyph_info_t;
 use glyph_types::level::BufferClusterLevel;
 use glyph_types::position::GlyphPosition;
-use std::alloc::Global;
 
 /// Turns round the order of the groups, and keeps the order within each; positions go with their glyphs. The groups are found
 /// from the left; where `merge` is told, each is merged before the next is looked for. Answers whether a merge marked a
-/// glyph. Where all clusters are known to stand in order the merges take linear time in all. Else they are kept in a table
-/// and take n log n for n glyphs; where there is no memory for the table each takes the glyphs times its group.
+/// glyph. Where all clusters are known to stand in order the merges take linear time in all; else each compares all glyphs
+/// with its group.
 pub fn reverse_groups<F: Fn(&hb_glyph_info_t, &hb_glyph_info_t) -> bool>(
-    alloc: Global,
     glyphs: &mut [hb_glyph_info_t],
     positions: &mut [GlyphPosition],
     level: BufferClusterLevel,
@@ -37,19 +31,15 @@ pub fn reverse_groups<F: Fn(&hb_glyph_info_t, &hb_glyph_info_t) -> bool>(
     requires known { in_order ≡ true → IsOrdered (clusters glyphs.old) }
     ensures glyphs { (joins : Glyph → Glyph → Bool) → Decides F.Fn group joins → glyphs.new ≡ (turned merge level joins glyphs.old positions.old).glyphs }
     ensures positions { (joins : Glyph → Glyph → Bool) → Decides F.Fn group joins → positions.new ≡ (turned merge level joins glyphs.old positions.old).positions }
-    ensures plain { (joins : Glyph → Glyph → Bool) → Decides F.Fn group joins → merge ≡ false → glyphs.new ≡ groups_turned joins glyphs.old }
     ensures marked { (joins : Glyph → Glyph → Bool) → Decides F.Fn group joins → result ≡ (turned merge level joins glyphs.old positions.old).is_marked }
-    ensures items { (q : Item → Item → Bool) → Decides F.Fn group (λ g h. q (item_of g) (item_of h)) → strip glyphs.new ≡ groups_turned q (strip glyphs.old) }
-    ensures turned_positions { (q : Item → Item → Bool) → Decides F.Fn group (λ g h. q (item_of g) (item_of h)) → positions.new ≡ positions_turned q (strip glyphs.old) positions.old }
-    ensures clusters { (q : Item → Item → Bool) → Decides F.Fn group (λ g h. q (item_of g) (item_of h)) → clusters glyphs.new ≡ clusters_turned merge level q (strip glyphs.old) (clusters glyphs.old) }
-    ensures numbers { (joins : Glyph → Glyph → Bool) → Decides F.Fn group joins → BringsNone (clusters glyphs.old) (clusters glyphs.new) }
-    ensures flags { (q : Item → Item → Bool) → Decides F.Fn group (λ g h. q (item_of g) (item_of h)) → flags_of glyphs.new ≡ flags_turned merge level q (strip glyphs.old) (clusters glyphs.old) (flags_of glyphs.old) }
 {
-    let mut merges = no_merges(alloc, glyphs, level, merge && in_order, merge);
+    let mut merges = no_merges(glyphs, level, merge && in_order);
     let mut start = 0;
     while start < glyphs.len() {
-        let end = end_of_meant_group(glyphs, start, &mut merges.due, &group);
-        merges = turn_group(glyphs, positions, level, in_order, merge, start, end, merges);
+        let end = end_of_group(glyphs, start, &group);
+        merges = turn_group(
+            glyphs, positions, level, in_order, merge, start, end, merges,
+        );
         start = end;
     }
     settle(glyphs, merges.due);
@@ -114,7 +104,7 @@ fn merge_group(
 }
 
 /// Turns round the items from `start` up to before `end`.
-#[tactic(auto, using(crate::proofs::Turned::turned_put))]
+#[tactic(auto, using(crate::specs::Lemmas::Turned::turned_put))]
 fn turn_part<T>(items: &mut [T], start: usize, end: usize)
     requires ordered { start ≤ end }
     requires within { end ≤ length items.old }

@@ -1,11 +1,10 @@
 ghost use Rattle.std.specs.Prelude.{◌≡◌, ◌+◌, ◌-◌, ◌<◌, ◌≤◌, ◌↔◌, ◌++◌, ℕ, Bool, IsTrue, true, take, drop, length, map, vec_len, IfOk, OnOk, OnErr, slice_range};
 ghost use Rattle.std.specs.List.{All};
 ghost use Rattle.glyph_types.specs.declared.info.hb_glyph_info_t.{hb_glyph_info_t as Glyph};
-ghost use Rattle.glyph_lists.specs.Items.{Item, clusters, flags_of, item_of, strip};
-ghost use Rattle.glyph_lists.specs.Order.{BringsNone, IsInOrder, IsOrdered};
+ghost use Rattle.glyph_lists.specs.Items.{clusters};
+ghost use Rattle.glyph_lists.specs.Order.{IsInOrder, IsOrdered};
 ghost use Rattle.stable_order.specs.Keys.{key_order};
 ghost use Rattle.glyph_slices.specs.Due.{MayBeDue, meant};
-ghost use Rattle.glyph_slices.specs.SortedFacts.{clusters_sorted, flags_sorted};
 ghost use Rattle.glyph_slices.specs.Sorting.{Gives, Spanned, glyph_at, keyed_from, put_in_order, range_merged, range_sorted, range_spanned, span_merged};
 
 use crate::due::{Merges, merge_next, no_merges, settle};
@@ -16,9 +15,7 @@ use std::alloc::{AllocError, Global};
 /// Puts the glyphs from `start` up to before `end` in stable order by the keys that they have, and merges each smallest
 /// span that the order permutes: one of more than one glyph, between places before which all came from before them. The
 /// merges come first, on the glyphs as they stood, so that where all clusters are known to stand in order they take linear
-/// time in all. Else a sort that moves many glyphs keeps what it merges in a table, and takes n log n for n glyphs in the
-/// slice; where there is no memory for the table each merge takes the glyphs times its span. Where memory is short for
-/// the sort the slice stays as it was.
+/// time in all; else each compares all glyphs with its span. Where memory is short for the sort the slice stays as it was.
 pub fn sort<F: Fn(&hb_glyph_info_t) -> u32>(
     alloc: Global,
     glyphs: &mut [hb_glyph_info_t],
@@ -33,19 +30,14 @@ pub fn sort<F: Fn(&hb_glyph_info_t) -> u32>(
     requires within { end ≤ length glyphs.old }
     requires known { in_order ≡ true → IsOrdered (clusters glyphs.old) }
     ensures sorted { (k : Glyph → ℕ) → Gives F.Fn key k → OnOk result (glyphs.new ≡ (range_sorted level start end k glyphs.old).glyphs) }
-    ensures items { (k : Item → ℕ) → Gives F.Fn key (λ g. k (item_of g)) → OnOk result (strip glyphs.new ≡ take start (strip glyphs.old) ++ key_order k (slice_range (strip glyphs.old) start end) ++ drop end (strip glyphs.old)) }
-    ensures clusters { (k : Item → ℕ) → Gives F.Fn key (λ g. k (item_of g)) → OnOk result (clusters glyphs.new ≡ clusters_sorted level start end k (strip glyphs.old) (clusters glyphs.old)) }
-    ensures numbers { (k : Glyph → ℕ) → Gives F.Fn key k → OnOk result (BringsNone (clusters glyphs.old) (clusters glyphs.new)) }
-    ensures flags { (k : Glyph → ℕ) → Gives F.Fn key k → OnOk result (flags_of glyphs.new ≡ flags_sorted level start end k glyphs.old) }
     ensures marked { (k : Glyph → ℕ) → Gives F.Fn key k → IfOk result (λ s. s.marked ≡ (range_sorted level start end k glyphs.old).is_marked) }
-    ensures same { (k : Glyph → ℕ) → Gives F.Fn key k → IfOk result (λ s. IsTrue s.in_order ↔ (clusters glyphs.new ≡ clusters (range_merged level start end k glyphs.old))) }
     ensures order { (falls : Bool) → IfOk result (λ s. s.in_order ≡ true → IsInOrder falls (clusters glyphs.old) → IsInOrder falls (clusters glyphs.new)) }
     ensures err { OnErr result (glyphs.new ≡ glyphs.old) }
 {
     let mut order = keyed_places(alloc, &glyphs[start..end], &key)?;
     sort_places(&mut order)?;
     let mut copy = glyphs[start..end].to_vec(alloc)?;
-    let marked = merge_spans(alloc, glyphs, level, in_order, start, &order);
+    let marked = merge_spans(glyphs, level, in_order, start, &order);
     let range = &mut glyphs[start..end];
     copy.copy_from_slice(range);
     let in_order = put_in_order(range, &copy, &order);
@@ -122,23 +114,8 @@ fn merge_span(
     merge_next(glyphs, level, in_order, start, end, merges)
 }
 
-/// Whether so many glyphs are in spans to merge that it takes less to keep what is united in a table than to merge each
-/// span at once.
-fn moves_many(order: &[Keyed]) -> bool {
-    let mut reach = 0;
-    let mut moved: usize = 0;
-    for (place, keyed) in order.iter().enumerate() {
-        reach = reach.max(keyed.place);
-        if reach > place {
-            moved += 1;
-        }
-    }
-    moved > 8
-}
-
 /// Merges the spans of a range that begins at `start`; answers whether a glyph was marked.
 fn merge_spans(
-    alloc: Global,
     glyphs: &mut [hb_glyph_info_t],
     level: BufferClusterLevel,
     in_order: bool,
@@ -150,7 +127,7 @@ fn merge_spans(
     ensures merged { record { glyphs = glyphs.new; is_marked = result } ≡ range_spanned level start order.now glyphs.old }
     ensures direction { (falls : Bool) → IsInOrder falls (clusters glyphs.old) → IsInOrder falls (clusters glyphs.new) }
 {
-    let mut merges = no_merges(alloc, glyphs, level, in_order, moves_many(order));
+    let mut merges = no_merges(glyphs, level, in_order);
     let mut begin = 0;
     let mut reach = 0;
     for place in 0..order.len() {

@@ -109,7 +109,6 @@ fn turns_groups_round(rt: HostRuntime) -> Result<(), Fail> {
     let mut glyphs = [glyph(1, 0, 0), glyph(2, 0, 0), glyph(3, 5, 0)];
     let mut positions = [place(10), place(20), place(30)];
     let marked = reverse_groups(
-        rt.alloc(),
         &mut glyphs,
         &mut positions,
         BufferClusterLevel::MonotoneGraphemes,
@@ -133,7 +132,6 @@ fn merges_groups_as_they_are_found(rt: HostRuntime) -> Result<(), Fail> {
     ];
     let mut positions = [place(10), place(20), place(30), place(40)];
     let marked = reverse_groups(
-        rt.alloc(),
         &mut glyphs,
         &mut positions,
         BufferClusterLevel::MonotoneGraphemes,
@@ -351,7 +349,6 @@ fn merges_groups_that_share_falling_clusters(rt: HostRuntime) -> Result<(), Fail
         place(70),
     ];
     let marked = reverse_groups(
-        rt.alloc(),
         &mut glyphs,
         &mut positions,
         BufferClusterLevel::MonotoneGraphemes,

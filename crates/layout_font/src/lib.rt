@@ -9,4 +9,4 @@ pub mod table;
 #[cfg(test)]
 mod tests;
 
-pub use keyed::{Keyed, is_above, is_rising};
+pub use sorted_rows::{Keyed, is_above, is_rising};

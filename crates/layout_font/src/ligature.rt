@@ -3,7 +3,8 @@ ghost use Rattle.std.specs.Option.{option_copied};
 ghost use Rattle.layout_font.specs.Keyed.{is_rising};
 ghost use Rattle.layout_font.specs.Layout.{LigatureTable, ligature_set_of};
 
-use crate::keyed::{Keyed, find_keyed};
+use crate::keyed::find_keyed;
+use sorted_rows::Keyed;
 use std::marker::Model;
 
 /// A ligature: the components behind the first, and the glyph that takes the place of all.
@@ -60,6 +61,8 @@ impl Model for LigatureSet {
 }
 
 impl Keyed for LigatureSet {
+    type Key = u32;
+
     ghost key_of = { λ s. s.first };
 
     fn key(&self) -> u32 {

@@ -4,8 +4,9 @@ ghost use Rattle.layout_font.specs.Choice.{first_lang_sys, chosen_lang_sys};
 ghost use Rattle.layout_font.specs.Keyed.{is_rising};
 ghost use Rattle.layout_font.specs.Layout.{LangSysEntry, lang_sys_with};
 
-use crate::keyed::{Keyed, find_first, find_keyed};
+use crate::keyed::{find_first, find_keyed};
 use shaping_text::tag::{Tag, TagExt};
+use sorted_rows::Keyed;
 use std::marker::Model;
 
 /// A language system: the features that it has, each by its place in the table's list of features.
@@ -65,6 +66,8 @@ impl Model for LangSysRecord {
 }
 
 impl Keyed for LangSysRecord {
+    type Key = u32;
+
     ghost key_of = { λ r. r.tag.0 };
 
     fn key(&self) -> u32 {
@@ -120,6 +123,8 @@ impl Model for ScriptRecord {
 }
 
 impl Keyed for ScriptRecord {
+    type Key = u32;
+
     ghost key_of = { λ s. s.tag.0 };
 
     fn key(&self) -> u32 {

@@ -7,7 +7,8 @@ use Rattle.unicode_tables.specs.Tables.{Tables, split_of, class_of}
 use Rattle.unicode_tables.specs.Texts.{full_text}
 use Rattle.unicode_tables.proofs.Steps.{equivalents_have_one_order}
 use Rattle.glyph_lists.specs.Items.{Item}
-use Rattle.normal_forms.specs.Characters.{is_mark, is_selector, is_mark_character, mark_class, standing_for, items_of_text}
+use Rattle.glyph_properties.specs.Properties.{is_mark_character}
+use Rattle.normal_forms.specs.Characters.{is_mark, is_selector, mark_class, standing_for, items_of_text}
 use Rattle.normal_forms.specs.Expanding.{part_of, expanded_list, expanded_groups}
 use Rattle.normal_forms.specs.Ordering.{ordered_list, joiners_shown}
 use Rattle.normal_forms.specs.NormalizedList.{has_later_mark, composed_if, arranged_marks, normalized}

@@ -13,7 +13,9 @@ use Rattle.unicode_tables.specs.Lawful.{ClassesAreOfMarks}
 use Rattle.unicode_tables.specs.Orders.{order_from_classes, classes_from_order}
 use Rattle.unicode_tables.specs.Tables.{Tables, class_of}
 use Rattle.glyph_lists.specs.Items.{Item}
-use Rattle.normal_forms.specs.Characters.{is_mark_number, is_mark, mark_class, is_mark_character, is_hidden_character, bit_if, properties_of, character_class, standing_for}
+use Rattle.glyph_properties.specs.Properties.{is_mark_character, properties_of, character_class}
+use Rattle.glyph_properties.proofs.Words.{low_bits_are_the_category}
+use Rattle.normal_forms.specs.Characters.{is_mark_number, is_mark, mark_class, standing_for}
 use Rattle.normal_forms.specs.Expanding.{part_of}
 use Rattle.normal_forms.specs.Normalizer.{Normalizer}
 use Rattle.normal_forms.specs.Premises.{HasShortRuns}
@@ -50,57 +52,9 @@ mark_numbers LineSeparator = refl
 mark_numbers ParagraphSeparator = refl
 mark_numbers SpaceSeparator = refl
 
-pub number_fits : (g : GeneralCategory) → category_number g % 32 ≡ category_number g
-number_fits Control = refl
-number_fits Format = refl
-number_fits Unassigned = refl
-number_fits PrivateUse = refl
-number_fits Surrogate = refl
-number_fits LowercaseLetter = refl
-number_fits ModifierLetter = refl
-number_fits OtherLetter = refl
-number_fits TitlecaseLetter = refl
-number_fits UppercaseLetter = refl
-number_fits SpacingMark = refl
-number_fits EnclosingMark = refl
-number_fits NonspacingMark = refl
-number_fits DecimalNumber = refl
-number_fits LetterNumber = refl
-number_fits OtherNumber = refl
-number_fits ConnectorPunctuation = refl
-number_fits DashPunctuation = refl
-number_fits ClosePunctuation = refl
-number_fits FinalPunctuation = refl
-number_fits InitialPunctuation = refl
-number_fits OtherPunctuation = refl
-number_fits OpenPunctuation = refl
-number_fits CurrencySymbol = refl
-number_fits ModifierSymbol = refl
-number_fits MathSymbol = refl
-number_fits OtherSymbol = refl
-number_fits LineSeparator = refl
-number_fits ParagraphSeparator = refl
-number_fits SpaceSeparator = refl
-
-bit_multiple : (b : Bool) (m : ℕ) → bit_if b (32 * m) ≡ 32 * bit_if b m
-bit_multiple true m = refl
-bit_multiple false m = refl
-
-low_bits : (n a b c d : ℕ) → n % 32 ≡ n → (n + (32 * a + (32 * b + (32 * c + 32 * d)))) % 32 ≡ n
-low_bits n a b c d h = omega (arith, h)
-
 -- the low bits of the property word are the category
-pub category_of_properties : (u : ℕ) → bit_and (properties_of u) 0x1F ≡ category_number (general_category u)
-unfolding properties_of
-category_of_properties u =
-    let p = bit_if (is_default_ignorable_character u) in
-    let ignorable = bit_multiple (is_default_ignorable_character u) 1 in
-    let hidden = bit_multiple (is_hidden_character u) 2 in
-    let joiner = bit_multiple (u == 0x200D) 8 in
-    let non_joiner = bit_multiple (u == 0x200C) 16 in
-    and_mask (properties_of u) 5
-    ∙ (ap (λ k. k % 32) (ap (λ k. category_number (general_category u) + k) (ap₂ (λ a b. a + b) ignorable (ap₂ (λ a b. a + b) hidden (ap₂ (λ a b. a + b) joiner non_joiner))))
-    ∙ low_bits (category_number (general_category u)) (bit_if (is_default_ignorable_character u) 1) (bit_if (is_hidden_character u) 2) (bit_if (u == 0x200D) 8) (bit_if (u == 0x200C) 16) (number_fits (general_category u)))
+category_of_properties : (u : ℕ) → bit_and (properties_of u) 0x1F ≡ category_number (general_category u)
+category_of_properties u = low_bits_are_the_category u
 
 -- an item that stands for a character is a mark where the character is
 pub mark_of_character : (t : Tables) (u : ℕ) (x : Item) → is_mark (standing_for t u x) ≡ is_mark_character u

@@ -10,7 +10,8 @@ use Rattle.unicode_tables.specs.ClassOrder.{run_order, order_after, class_order}
 use Rattle.unicode_tables.specs.Tables.{Tables, class_of}
 use Rattle.unicode_tables.specs.Texts.{AreEquivalent, same}
 use Rattle.glyph_lists.specs.Items.{Item}
-use Rattle.normal_forms.specs.Characters.{is_mark_number, mark_class, characters_of, without_bits, shown}
+use Rattle.glyph_properties.specs.Properties.{without_bits}
+use Rattle.normal_forms.specs.Characters.{is_mark_number, mark_class, characters_of, shown}
 use Rattle.normal_forms.specs.Composing.{last_class}
 use Rattle.normal_forms.specs.Ordering.{keeps_nothing_apart, joiner_between, with_joiners_shown, joiners_shown}
 use Rattle.normal_forms.proofs.Equivalence.{order_is_equivalent}

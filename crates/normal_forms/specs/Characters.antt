@@ -1,12 +1,11 @@
 -- Items that stand for characters, and their properties.
-use Rattle.std.specs.Prelude.{ℕ, Bool, ◌==◌, ◌||◌, ◌+◌, ◌-◌, if◌then◌else◌, List, [], ◌∷◌, map}
+use Rattle.std.specs.Prelude.{ℕ, Bool, ◌==◌, ◌||◌, ◌+◌, ◌-◌, if◌then◌else◌, List, map}
 use Rattle.std.specs.Int.RustNames.{bit_and, bit_or}
-use Rattle.std.specs.List.{list_any}
-use Rattle.unicode.specs.GeneralCategory.{general_category}
 use Rattle.ucd_category.specs.declared.GeneralCategory.TheVariants.{Format, SpacingMark, EnclosingMark, NonspacingMark, SpaceSeparator}
-use Rattle.unicode_chars.specs.Category.{category_number, is_mark_category}
-use Rattle.unicode_chars.specs.Character.{is_in_range, is_default_ignorable_character, is_variation_selector_character}
-use Rattle.unicode_tables.specs.Tables.{Tables, class_of}
+use Rattle.unicode_chars.specs.Category.{category_number}
+use Rattle.unicode_chars.specs.Character.{is_variation_selector_character}
+use Rattle.unicode_tables.specs.Tables.{Tables}
+use Rattle.glyph_properties.specs.Properties.{is_mark_character, properties_of, character_class, without_bits}
 use Rattle.glyph_lists.specs.Items.{Item}
 
 -- the number of an item's general category
@@ -30,30 +29,6 @@ is_selector x = is_variation_selector_character x.number
 abbrev pub mark_class : Item → ℕ
 mark_class x = if is_mark x then x.class else 0
 
-abbrev pub is_mark_character : ℕ → Bool
-is_mark_character u = is_mark_category (general_category u)
-
--- the Mongolian variation selectors, the tags and the grapheme joiner
-abbrev pub hidden_ranges : List (ℕ × ℕ)
-hidden_ranges = (0x180B, 0x180D) ∷ (0x180F, 0x180F) ∷ (0xE0020, 0xE007F) ∷ (0x034F, 0x034F) ∷ []
-
-abbrev pub is_hidden_character : ℕ → Bool
-is_hidden_character u = list_any (is_in_range u) hidden_ranges
-
-abbrev pub bit_if : Bool → ℕ → ℕ
-bit_if b n = if b then n else 0
-
--- the property word of a character: its category, and whether it is ignorable, hidden, a joiner or a non-joiner. The
--- mark of a continuation is no part of an item once the text stands in its native order
-unfoldable pub properties_of : ℕ → ℕ
-properties_of u =
-    category_number (general_category u)
-    + (bit_if (is_default_ignorable_character u) 0x20 + (bit_if (is_hidden_character u) 0x40 + (bit_if (u == 0x200D) 0x100 + bit_if (u == 0x200C) 0x200)))
-
--- the class of a character by the tables; what is no mark has class 0
-unfoldable pub character_class : Tables → ℕ → ℕ
-character_class t u = if is_mark_character u then class_of t u else 0
-
 -- an item that comes to stand for a character, with that character's properties
 abbrev pub standing_for : Tables → ℕ → Item → Item
 standing_for t u x = record x { number = u; unicode_props = properties_of u; class = character_class t u }
@@ -72,9 +47,6 @@ with_glyph g x = record x { glyph_index = g }
 -- another category in place of an item's own
 abbrev pub with_category : ℕ → ℕ → ℕ
 with_category n props = props - bit_and props 0x1F + n
-
-abbrev pub without_bits : ℕ → ℕ → ℕ
-without_bits bits props = props - bit_and props bits
 
 -- an item that is no longer hidden
 abbrev pub shown : Item → Item

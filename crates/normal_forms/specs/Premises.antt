@@ -6,7 +6,7 @@ use Rattle.unicode_tables.specs.Tables.{split_of, pair_of, class_of}
 use Rattle.unicode_tables.specs.Texts.{full_text}
 use Rattle.glyph_lists.specs.Items.{Item}
 use Rattle.normal_forms.specs.Arranged.{kept}
-use Rattle.normal_forms.specs.Characters.{is_mark_character}
+use Rattle.glyph_properties.specs.Properties.{is_mark_character}
 use Rattle.normal_forms.specs.Normalizer.{Normalizer, has_character, reach_alone, reach_with_marks}
 use Rattle.normal_forms.specs.SupportedExpansion.{Greatest}
 use Rattle.normal_forms.specs.declared.mode.TheConstants.{MAX_COMBINING_MARKS}

@@ -1,4 +1,3 @@
-pub mod Bits
 pub mod Supported
 pub mod Groups
 pub mod Runs

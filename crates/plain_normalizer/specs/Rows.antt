@@ -1,6 +1,6 @@
 -- What rows say of characters.
 use Rattle.std.specs.Prelude.{ℕ, ◌==◌, ◌&&◌, Bool, if◌then◌else◌, List, find, Option, None, option_map}
-use Rattle.normal_forms.specs.Characters.{is_mark_character}
+use Rattle.glyph_properties.specs.Properties.{is_mark_character}
 
 abbrev pub glyph_in : List (ℕ × ℕ) → ℕ → Option ℕ
 glyph_in rows u = option_map (λ (r : ℕ × ℕ). r.1) (find (λ (r : ℕ × ℕ). r.0 == u) rows)

@@ -9,8 +9,9 @@ ghost use Rattle.normal_forms.specs.Characters.{standing_for, is_selector};
 ghost use Rattle.normal_forms.specs.Expanding.{with_own_glyph, space_glyph, hyphen_glyph, whole_item, part_of, expanded_item, selected, waiting, selected_after, expanded_group, expanded_groups, expanded_list};
 ghost use Rattle.plain_normalizer.specs.PlainItems.{seen, seen_all};
 
-use crate::item::{PlainItem, properties_of};
+use crate::item::PlainItem;
 use crate::normalizing::Normalizing;
+use glyph_properties::character::properties_of;
 use normal_forms::{NormalizationMode, Reach};
 use std::alloc::{AllocError, Global};
 use unicode_chars::category::GeneralCategoryExt;
@@ -115,7 +116,7 @@ fn expansion<N: Normalizing>(
 }
 
 /// An item that comes to stand for a character.
-#[tactic(auto, unfolding(normal_forms::specs::Characters::character_class))]
+#[tactic(auto, unfolding(glyph_properties::specs::Properties::character_class))]
 pub(crate) fn standing_for<N: Normalizing>(by: &N, u: char, x: &PlainItem) -> PlainItem
     ensures { seen result ≡ standing_for (N.normalizer by.now).tables u (seen x.now) }
 {
@@ -127,7 +128,7 @@ pub(crate) fn standing_for<N: Normalizing>(by: &N, u: char, x: &PlainItem) -> Pl
     PlainItem {
         character: u,
         glyph: x.glyph,
-        props: properties_of(u),
+        props: u32::from(properties_of(u)),
         class,
     }
 }

@@ -1,12 +1,11 @@
 //! Items, with what normalising reads and writes of them.
-ghost use Rattle.std.specs.Prelude.{◌≡◌, ◌<◌, ◌≤◌, if◌then◌else◌};
-ghost use Rattle.normal_forms.specs.Characters.{is_mark, is_space, is_selector, mark_class, category_of, properties_of, shown, unjoined_selector, without_bits, bit_if, is_hidden_character};
-ghost use Rattle.unicode_chars.specs.Category.{category_number};
-ghost use Rattle.unicode.specs.GeneralCategory.{general_category};
+ghost use Rattle.std.specs.Prelude.{◌≡◌, if◌then◌else◌};
+ghost use Rattle.normal_forms.specs.Characters.{is_mark, is_space, is_selector, mark_class, category_of, shown, unjoined_selector};
+ghost use Rattle.glyph_properties.specs.Properties.{without_bits};
 ghost use Rattle.plain_normalizer.specs.PlainItems.{seen};
 
 use unicode_chars::category::{
-    GeneralCategoryExt, RB_UNICODE_GENERAL_CATEGORY_ENCLOSING_MARK,
+    RB_UNICODE_GENERAL_CATEGORY_ENCLOSING_MARK,
     RB_UNICODE_GENERAL_CATEGORY_FORMAT, RB_UNICODE_GENERAL_CATEGORY_NON_SPACING_MARK,
     RB_UNICODE_GENERAL_CATEGORY_SPACE_SEPARATOR, RB_UNICODE_GENERAL_CATEGORY_SPACING_MARK,
 };
@@ -17,10 +16,6 @@ const CATEGORY: u32 = 0x1F;
 const IGNORABLE: u32 = 0x20;
 
 const HIDDEN: u32 = 0x40;
-
-const JOINER: u32 = 0x100;
-
-const NON_JOINER: u32 = 0x200;
 
 const UNJOINED_SELECTOR: u32 = 0x400;
 
@@ -111,38 +106,4 @@ fn without_ignorable_if(b: bool, props: u32) -> u32
     } else {
         props
     }
-}
-
-/// Whether a character is one of those that are hidden.
-fn is_hidden(u: char) -> bool
-    ensures { result ≡ is_hidden_character u }
-{
-    matches!(u, '\u{180B}'..='\u{180D}' | '\u{180F}' | '\u{E0020}'..='\u{E007F}' | '\u{34F}')
-}
-
-fn bit_if(b: bool, bit: u32) -> u32
-    ensures value { result ≡ bit_if b bit }
-    ensures below { result ≤ bit }
-{
-    if b { bit } else { 0 }
-}
-
-/// The number of a character's general category.
-#[tactic(auto, using(crate::proofs::Bits::category_fits))]
-fn category_of(u: char) -> u32
-    ensures value { result ≡ category_number (general_category u) }
-    ensures below { result < 32 }
-{
-    u.general_category().to_rb()
-}
-
-/// The property word of a character.
-#[tactic(auto, unfolding(normal_forms::specs::Characters::properties_of))]
-pub(crate) fn properties_of(u: char) -> u32
-    ensures { result ≡ properties_of u }
-{
-    category_of(u)
-        + (bit_if(u.is_default_ignorable(), IGNORABLE)
-            + (bit_if(is_hidden(u), HIDDEN)
-                + (bit_if(u == '\u{200D}', JOINER) + bit_if(u == '\u{200C}', NON_JOINER))))
 }

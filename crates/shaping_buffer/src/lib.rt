@@ -1,6 +1,8 @@
 // The buffer layer under one name: glyph records, texts, characters, the buffer and its two wrappers, printing.
 #![tactic(auto)]
 
+pub mod laws;
+
 pub use feature_text::feature::{
     Feature, HB_FEATURE_GLOBAL_END, HB_FEATURE_GLOBAL_START, InvalidFeature,
 };

@@ -1,4 +1,4 @@
-ghost use Rattle.std.specs.Prelude.{◌≡◌, ◌+◌, ◌≤◌, ◌<◌, if◌then◌else◌, true, length};
+ghost use Rattle.std.specs.Prelude.{◌≡◌, ◌+◌, ◌-◌, ◌≤◌, ◌<◌, if◌then◌else◌, nat_lt, true, length};
 ghost use Rattle.glyph_lists.specs.Items.{clusters, flags_of};
 ghost use Rattle.glyph_lists.specs.Parts.{stretch};
 ghost use Rattle.glyph_lists.specs.Merges.{merged_at};
@@ -10,14 +10,15 @@ ghost use Rattle.glyph_buffer.specs.Marking.{asks_concat, concat_marked_across, 
 
 use super::hb_buffer_t;
 use super::merges::telling_flags;
-use glyph_sides::across::{flag_lists, mark_lists, merge_range};
+use buffer_lists::merges::merge_output;
+use glyph_clusters::marks::{flag_all, mark_across};
 use glyph_types::info::{UNSAFE_TO_BREAK, UNSAFE_TO_CONCAT, hb_mask_t};
 use glyph_types::level::BufferClusterLevel;
 
 // Ranges that begin in the output.
 impl hb_buffer_t {
     /// Merges the clusters of the glyphs of the output from `start` up to before `end`, as `merge_clusters` does those of the
-    /// input; at the level that keeps characters apart it does nothing at all. It takes memory as that does.
+    /// input; at the level that keeps characters apart it does nothing at all. It takes no memory.
     pub fn merge_out_clusters(&mut self, start: usize, end: usize)
         requires open { self.old.is_open ≡ true }
         requires ordered { start ≤ end }
@@ -42,12 +43,11 @@ impl hb_buffer_t {
         requires within { end ≤ length self.old.behind }
         ensures { self.new ≡ with_glyphs (glyphs_merged (stretch start end (clusters (all_glyphs self.old))) (all_glyphs self.old)) self.old }
     {
-        let order = self.order.settled(self.lent, &self.out_info, &self.info);
-        let in_order = order.is_known();
-        let out = &mut self.out_info;
-        merge_range(out, &mut self.info, self.idx, start, end, in_order);
-        self.order = order.walked(&self.out_info, &self.info, self.idx);
-        self.lent = None;
+        self.order.settle(&self.out_info, &self.info);
+        let known = self.order.known;
+        let input = &mut self.info[self.idx..];
+        merge_output(&mut self.out_info, input, start, end, known.is_known());
+        self.order.known = known.walked(&self.out_info, &self.info[self.idx..]);
     }
 
     /// Marks the glyphs from `start` of the output, over its end, up to before `end` of the input that are outside the least
@@ -100,11 +100,8 @@ impl hb_buffer_t {
         ensures clusters { clusters (all_glyphs self.new) ≡ clusters (all_glyphs self.old) }
         ensures flags { flags_of (all_glyphs self.new) ≡ flags_marked flags start (index_in_all end self.old) (all_glyphs self.old) }
     {
-        let order = self.order.settled(self.lent, &self.out_info, &self.info);
-        let out = &mut self.out_info;
-        let any = mark_lists(out, &mut self.info, start, self.idx, end, flags);
-        self.order = order;
-        self.lent = None;
+        let input = &mut self.info[self.idx..end];
+        let any = mark_across(&mut self.out_info[start..], input, flags);
         self.scratch_flags = telling_flags(any, self.scratch_flags);
     }
 
@@ -119,11 +116,18 @@ impl hb_buffer_t {
         ensures clusters { clusters (all_glyphs self.new) ≡ clusters (all_glyphs self.old) }
         ensures flags { flags_of (all_glyphs self.new) ≡ flags_flagged flags start (index_in_all end self.old) (all_glyphs self.old) }
     {
-        let order = self.order.settled(self.lent, &self.out_info, &self.info);
-        let out = &mut self.out_info;
-        let any = flag_lists(out, &mut self.info, start, self.idx, end, flags);
-        self.order = order;
-        self.lent = None;
+        flag_all(&mut self.out_info[start..], flags);
+        flag_all(&mut self.info[self.idx..end], flags);
+        let any = any_within(start, self.out_info.len(), self.idx, end);
         self.scratch_flags = telling_flags(any, self.scratch_flags);
     }
+}
+
+/// Whether there are elements from `start` up to before `count`, or from `from` up to before `end`.
+fn any_within(start: usize, count: usize, from: usize, end: usize) -> bool
+    requires begins { start ≤ count }
+    requires ordered { from ≤ end }
+    ensures { result ≡ nat_lt start (count + (end - from)) }
+{
+    start < count || from < end
 }

@@ -4,7 +4,7 @@ ghost use Rattle.glyph_buffer.specs.Sides.{all_glyphs, with_output, moved_on, fi
 ghost use Rattle.glyph_buffer.specs.Lending.{LendsGlyph, LendsLast, LendsPlace};
 
 use super::hb_buffer_t;
-use glyph_sides::order::Lent;
+use buffer_lists::order::Lent;
 use glyph_types::info::hb_glyph_info_t;
 use glyph_types::position::GlyphPosition;
 use std::alloc::AllocError;
@@ -51,8 +51,8 @@ impl hb_buffer_t {
         ensures* writes_back { sem 𝓛 (LendsLast self.entry result) }
     {
         let last = self.out_info.len() - 1;
-        self.order = self.order.settled(self.lent, &self.out_info, &self.info);
-        self.lent = Some(Lent {
+        self.order.settle(&self.out_info, &self.info);
+        self.order.lent = Some(Lent {
             in_output: true,
             at: last,
             cluster: self.out_info[last].cluster,
@@ -84,8 +84,8 @@ impl hb_buffer_t {
         ensures* writes_back { sem 𝓛 (LendsGlyph i self.entry result) }
     {
         let at = self.idx + i;
-        self.order = self.order.settled(self.lent, &self.out_info, &self.info);
-        self.lent = Some(Lent {
+        self.order.settle(&self.out_info, &self.info);
+        self.order.lent = Some(Lent {
             in_output: false,
             at,
             cluster: self.info[at].cluster,
@@ -123,10 +123,8 @@ impl hb_buffer_t {
             self.successful = false;
             return Ok(false);
         }
-        let order = self.order.settled(self.lent, &self.out_info, &self.info);
+        self.order.settle(&self.out_info, &self.info);
         self.out_info.push(self.info[self.idx])?;
-        self.order = order;
-        self.lent = None;
         self.idx += 1;
         Ok(true)
     }
@@ -148,15 +146,13 @@ impl hb_buffer_t {
             return Ok(false);
         }
         let count = self.out_info.len() + rest;
-        let order = self.order.settled(self.lent, &self.out_info, &self.info);
         self.out_info.reserve(rest)?;
         self.pos.clear();
         self.pos.resize(count, GlyphPosition::default())?;
+        self.order.settle(&self.out_info, &self.info);
         self.out_info
             .extend_from_slice(&self.info[self.idx..])
             .unwrap();
-        self.order = order;
-        self.lent = None;
         mem::swap(&mut self.info, &mut self.out_info);
         self.out_info.clear();
         self.have_output = false;

@@ -10,7 +10,7 @@ ghost use Rattle.glyph_buffer.specs.Grouping.{with_deleted};
 
 use super::hb_buffer_t;
 use super::merges::telling_flags;
-use glyph_sides::deletion::delete_at;
+use buffer_lists::deletion::delete_first;
 
 impl hb_buffer_t {
     /// The glyph at the cursor goes. Where neither neighbour is of its cluster, the run before it takes its cluster and its
@@ -29,14 +29,11 @@ impl hb_buffer_t {
         ensures numbers { BringsNone (clusters (all_glyphs self.old)) (clusters (all_glyphs self.new)) }
         ensures flags { (g : Glyph) (back : List Glyph) → self.old.ahead ≡ g ∷ back → flags_of (all_glyphs self.new) ≡ together (flags_deleted self.old.level (clusters self.old.behind) g.cluster (clusters back) (flags_of self.old.behind) (glyph_flags g) (flags_of back)) }
     {
-        let order = self.order.settled(self.lent, &self.out_info, &self.info);
-        let level = self.cluster_level;
-        let in_order = order.is_known();
-        let out = &mut self.out_info;
-        let marked = delete_at(out, &mut self.info, self.idx, level, in_order);
+        self.order.settle(&self.out_info, &self.info);
+        let in_order = self.order.known.is_known();
+        let input = &mut self.info[self.idx..];
+        let marked = delete_first(&mut self.out_info, input, self.cluster_level, in_order);
         self.idx += 1;
-        self.order = order;
-        self.lent = None;
         self.scratch_flags = telling_flags(marked, self.scratch_flags);
     }
 }

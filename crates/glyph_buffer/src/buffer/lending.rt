@@ -4,7 +4,7 @@ ghost use Rattle.glyph_buffer.specs.Sides.{all_glyphs};
 ghost use Rattle.glyph_buffer.specs.Lending.{LendsGlyphs, LendsOutput, LendsPlaces};
 
 use super::hb_buffer_t;
-use glyph_sides::order::KnownOrder;
+use buffer_lists::order::{ClusterOrder, KnownOrder};
 use glyph_types::info::hb_glyph_info_t;
 use glyph_types::position::GlyphPosition;
 
@@ -16,8 +16,7 @@ impl hb_buffer_t {
         ensures value { result.now ≡ all_glyphs self.old }
         ensures* writes_back { sem 𝓛 (LendsGlyphs self.entry result) }
     {
-        self.order = KnownOrder::Unknown;
-        self.lent = None;
+        self.order = ClusterOrder::of(KnownOrder::Unknown);
         &mut self.info
     }
 
@@ -27,7 +26,7 @@ impl hb_buffer_t {
         ensures value { result.now ≡ self.old.behind }
         ensures* writes_back { sem 𝓛 (LendsOutput self.entry result) }
     {
-        self.order = KnownOrder::Unknown;
+        self.order = ClusterOrder::of(KnownOrder::Unknown);
         &mut self.out_info
     }
 

@@ -8,7 +8,7 @@ ghost use Rattle.glyph_buffer.specs.Marking.{asks_concat, asks_tatweel, concat_m
 use super::hb_buffer_t;
 use super::merges::telling_flags;
 use bitflags::Flags;
-use glyph_sides::marks::{flag_in, mark_in};
+use glyph_clusters::marks::{flag_within, mark_within};
 use glyph_types::info::{SAFE_TO_INSERT_TATWEEL, UNSAFE_TO_BREAK, UNSAFE_TO_CONCAT, hb_mask_t};
 use shaping_text::constants::BufferFlags;
 
@@ -90,11 +90,7 @@ impl hb_buffer_t {
         ensures clusters { clusters (all_glyphs self.new) ≡ clusters (all_glyphs self.old) }
         ensures flags { flags_of (all_glyphs self.new) ≡ flags_marked flags (index_in_all start self.old) (index_in_all end self.old) (all_glyphs self.old) }
     {
-        let order = self.order.settled(self.lent, &self.out_info, &self.info);
-        let from = self.first_of_input();
-        let any = mark_in(&mut self.info, from, start, end, flags);
-        self.order = order;
-        self.lent = None;
+        let any = mark_within(&mut self.info, start, end, flags);
         self.scratch_flags = telling_flags(any, self.scratch_flags);
     }
 
@@ -108,11 +104,7 @@ impl hb_buffer_t {
         ensures clusters { clusters (all_glyphs self.new) ≡ clusters (all_glyphs self.old) }
         ensures flags { flags_of (all_glyphs self.new) ≡ flags_flagged flags (index_in_all start self.old) (index_in_all end self.old) (all_glyphs self.old) }
     {
-        let order = self.order.settled(self.lent, &self.out_info, &self.info);
-        let from = self.first_of_input();
-        flag_in(&mut self.info, from, start, end, flags);
-        self.order = order;
-        self.lent = None;
+        flag_within(&mut self.info, start, end, flags);
         self.scratch_flags = telling_flags(start < end, self.scratch_flags);
     }
 }

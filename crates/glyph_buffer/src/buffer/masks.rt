@@ -1,11 +1,11 @@
 ghost use Rattle.std.specs.Prelude.{◌≡◌, map, bit_and};
 ghost use Rattle.glyph_lists.specs.Items.{clusters, flags_of};
 ghost use Rattle.glyph_buffer.specs.Sides.{all_glyphs, items_of};
-ghost use Rattle.glyph_sides.specs.Masks.{flags_set, item_masked, items_set};
+ghost use Rattle.buffer_lists.specs.Masks.{flags_set, item_masked, items_set};
 ghost use Rattle.glyph_buffer.specs.Masks.{with_masks, with_set_masks};
 
 use super::hb_buffer_t;
-use glyph_sides::masks::{mask_all, set_all};
+use buffer_lists::masks::{reset_masks, set_masks};
 use glyph_types::info::hb_mask_t;
 
 impl hb_buffer_t {
@@ -16,8 +16,8 @@ impl hb_buffer_t {
         ensures clusters { clusters (all_glyphs self.new) ≡ clusters (all_glyphs self.old) }
         ensures flags { flags_of (all_glyphs self.new) ≡ map (λ _. bit_and mask 7) (all_glyphs self.old) }
     {
-        mask_all(&mut self.info, mask);
-        mask_all(&mut self.out_info, mask);
+        reset_masks(&mut self.info, mask);
+        reset_masks(&mut self.out_info, mask);
     }
 
     /// Of each glyph whose cluster is from `cluster_start` up to before `cluster_end` the bits under `mask` become those of
@@ -34,7 +34,7 @@ impl hb_buffer_t {
         ensures clusters { clusters (all_glyphs self.new) ≡ clusters (all_glyphs self.old) }
         ensures flags { flags_of (all_glyphs self.new) ≡ map (flags_set value mask cluster_start cluster_end) (all_glyphs self.old) }
     {
-        set_all(&mut self.info, value, mask, cluster_start, cluster_end);
-        set_all(&mut self.out_info, value, mask, cluster_start, cluster_end);
+        set_masks(&mut self.info, value, mask, cluster_start, cluster_end);
+        set_masks(&mut self.out_info, value, mask, cluster_start, cluster_end);
     }
 }

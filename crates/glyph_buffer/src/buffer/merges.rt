@@ -8,7 +8,7 @@ ghost use Rattle.glyph_buffer.specs.Sides.{all_glyphs, items_of};
 ghost use Rattle.glyph_buffer.specs.Merging.{index_in_all, telling_flags, with_merged};
 
 use super::hb_buffer_t;
-use glyph_sides::merges::merge_lists;
+use buffer_lists::merges::merge_input;
 use glyph_slices::deletion::set_cluster;
 use glyph_types::info::{hb_glyph_info_t, hb_mask_t};
 use shaping_text::constants::{HB_BUFFER_SCRATCH_FLAG_HAS_GLYPH_FLAGS, hb_buffer_scratch_flags_t};
@@ -17,8 +17,8 @@ impl hb_buffer_t {
     /// Merges the clusters of the glyphs from `start` up to before `end`, indices of the input. At the monotone levels each
     /// cluster that occurs among them becomes the least of them, wherever it is, and a glyph whose cluster changes loses
     /// its three flags. At the level that keeps characters apart those outside the least cluster are marked as unsafe to
-    /// break and to concat. Where clusters are in no order, a long range takes memory for a table; without it, it only takes
-    /// longer.
+    /// break and to concat. It takes no memory. Where clusters rise or fall it costs the range and the runs at its ends; in
+    /// no order each glyph is compared with the range.
     pub fn merge_clusters(&mut self, start: usize, end: usize)
         requires ordered { start ≤ end }
         requires within { end ≤ self.old.read + length self.old.ahead }
@@ -29,19 +29,18 @@ impl hb_buffer_t {
         ensures numbers { BringsNone (clusters (all_glyphs self.old)) (clusters (all_glyphs self.new)) }
         ensures flags { flags_of (all_glyphs self.new) ≡ flags_merged_at self.old.level (index_in_all start self.old) (index_in_all end self.old) (all_glyphs self.old) }
     {
-        let order = self.order.settled(self.lent, &self.out_info, &self.info);
         let from = self.first_of_input();
-        let marked = merge_lists(
-            &mut self.info,
+        self.order.settle(&self.out_info, &self.info);
+        let known = self.order.known;
+        let marked = merge_input(
             &mut self.out_info,
-            from,
-            start,
-            end,
+            &mut self.info[from..],
+            start - from,
+            end - from,
             self.cluster_level,
-            order.is_known(),
+            known.is_known(),
         );
-        self.order = order.walked(&self.out_info, &self.info, from);
-        self.lent = None;
+        self.order.known = known.walked(&self.out_info, &self.info[from..]);
         self.scratch_flags = telling_flags(marked, self.scratch_flags);
     }
 

@@ -6,7 +6,7 @@ ghost use Rattle.glyph_buffer.specs.Merging.{with_skipped};
 ghost use Rattle.glyph_buffer.specs.Moving.{fits_moved, moved_to};
 
 use super::hb_buffer_t;
-use glyph_sides::moves::put_in_front;
+use buffer_lists::moves::put_in_front;
 use std::alloc::AllocError;
 
 impl hb_buffer_t {
@@ -30,11 +30,9 @@ impl hb_buffer_t {
             self.successful = false;
             return Ok(false);
         }
-        let order = self.order.settled(self.lent, &self.out_info, &self.info);
+        self.order.settle(&self.out_info, &self.info);
         self.out_info
             .extend_from_slice(&self.info[self.idx..self.idx + count])?;
-        self.order = order;
-        self.lent = None;
         self.idx += count;
         Ok(true)
     }
@@ -50,8 +48,6 @@ impl hb_buffer_t {
         ensures numbers { BringsNone (clusters (all_glyphs self.old)) (clusters (all_glyphs self.new)) }
         ensures flags { flags_of (all_glyphs self.new) ≡ flags_of self.old.behind ++ drop 1 (flags_of self.old.ahead) }
     {
-        self.order = self.order.settled(self.lent, &self.out_info, &self.info);
-        self.lent = None;
         self.idx += 1;
     }
 
@@ -96,12 +92,10 @@ impl hb_buffer_t {
             self.successful = false;
             return Ok(false);
         }
-        let order = self.order.settled(self.lent, &self.out_info, &self.info);
+        self.order.settle(&self.out_info, &self.info);
         let first = put_in_front(&mut self.info, self.idx, &self.out_info[i..])?;
         self.idx = first;
         self.out_info.truncate(i);
-        self.order = order;
-        self.lent = None;
         Ok(true)
     }
 }

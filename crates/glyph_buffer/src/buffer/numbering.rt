@@ -4,7 +4,7 @@ ghost use Rattle.glyph_buffer.specs.Sides.{all_glyphs, items_of};
 ghost use Rattle.glyph_buffer.specs.Settings.{counted_from, glyphs_counted, with_counted};
 
 use super::hb_buffer_t;
-use glyph_sides::order::KnownOrder;
+use buffer_lists::order::{ClusterOrder, KnownOrder};
 use glyph_types::info::hb_glyph_info_t;
 
 impl hb_buffer_t {
@@ -17,8 +17,7 @@ impl hb_buffer_t {
         ensures flags { flags_of (all_glyphs self.new) ≡ flags_of (all_glyphs self.old) }
     {
         number_all(&mut self.info);
-        self.order = KnownOrder::Rising;
-        self.lent = None;
+        self.order = ClusterOrder::of(KnownOrder::Rising);
     }
 }
 

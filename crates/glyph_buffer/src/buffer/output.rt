@@ -7,7 +7,7 @@ ghost use Rattle.glyph_buffer.specs.Sides.{all_glyphs, has_output_room, items_of
 ghost use Rattle.glyph_buffer.specs.Merging.{fits_copies, with_copy, with_put, with_renumbered};
 
 use super::hb_buffer_t;
-use glyph_sides::replacement::push_copy;
+use buffer_lists::replacement::push_copies;
 use glyph_types::info::hb_glyph_info_t;
 use std::alloc::AllocError;
 
@@ -15,7 +15,6 @@ impl hb_buffer_t {
     /// Puts a copy of the glyph at the cursor behind the output under another number; where the cursor is past the end, a
     /// copy of the output's last, and with neither none. It answers false, and puts none, where the output would have more
     /// than it may.
-    #[tactic(auto, using(crate::proofs::Apart::copy_items, crate::proofs::Apart::copy_clusters, crate::proofs::Apart::copy_flags, crate::proofs::Brings::copied_brings))]
     pub fn output_glyph(&mut self, glyph_index: u32) -> Result<bool, AllocError>
         requires { self.old.is_open ≡ true }
         ensures held { IfOk result (λ b. b ≡ fits_copies 1 self.old) }
@@ -31,11 +30,9 @@ impl hb_buffer_t {
             self.successful = false;
             return Ok(false);
         }
-        let order = self.order.settled(self.lent, &self.out_info, &self.info);
         self.out_info.reserve(1)?;
-        self.order = order;
-        self.lent = None;
-        push_copy(&mut self.out_info, &self.info, self.idx, glyph_index);
+        self.order.settle(&self.out_info, &self.info);
+        push_copies(&mut self.out_info, &self.info[self.idx..], &[glyph_index]);
         Ok(true)
     }
 
@@ -55,12 +52,12 @@ impl hb_buffer_t {
             self.successful = false;
             return Ok(false);
         }
-        let order = self.order.settled(self.lent, &self.out_info, &self.info);
+        self.out_info.reserve(1)?;
+        self.order.settle(&self.out_info, &self.info);
+        let known = self.order.known;
         let rest = &self.info[self.idx..];
-        let order = order.with_between(&self.out_info, glyph_info.cluster, rest);
-        self.out_info.push(glyph_info)?;
-        self.order = order;
-        self.lent = None;
+        self.order.known = known.with_between(&self.out_info, glyph_info.cluster, rest);
+        self.out_info.push(glyph_info).unwrap();
         Ok(true)
     }
 
@@ -82,13 +79,11 @@ impl hb_buffer_t {
             self.successful = false;
             return Ok(false);
         }
-        let order = self.order.settled(self.lent, &self.out_info, &self.info);
+        self.order.settle(&self.out_info, &self.info);
         self.out_info.push(hb_glyph_info_t {
             glyph_id: glyph_index,
             ..self.info[self.idx]
         })?;
-        self.order = order;
-        self.lent = None;
         self.idx += 1;
         Ok(true)
     }

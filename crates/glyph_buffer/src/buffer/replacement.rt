@@ -10,7 +10,8 @@ ghost use Rattle.glyph_buffer.specs.Merging.{fits_copies, with_replaced};
 
 use super::hb_buffer_t;
 use super::merges::telling_flags;
-use glyph_sides::replacement::replace_lists;
+use buffer_lists::merges::merge_input;
+use buffer_lists::replacement::push_copies;
 use glyph_types::info::hb_glyph_info_t;
 use glyph_types::level::BufferClusterLevel;
 use std::alloc::AllocError;
@@ -41,20 +42,20 @@ impl hb_buffer_t {
             self.successful = false;
             return Ok(false);
         }
-        let order = self.order.settled(self.lent, &self.out_info, &self.info);
         self.out_info.reserve(num_out)?;
-        let marked = replace_lists(
-            &mut self.info,
+        self.order.settle(&self.out_info, &self.info);
+        let known = self.order.known;
+        let marked = merge_input(
             &mut self.out_info,
-            self.idx,
+            &mut self.info[self.idx..],
+            0,
             num_in,
-            glyph_data,
             self.cluster_level,
-            order.is_known(),
+            known.is_known(),
         );
+        push_copies(&mut self.out_info, &self.info[self.idx..], glyph_data);
         self.idx += num_in;
-        self.order = order.walked(&self.out_info, &self.info, self.idx);
-        self.lent = None;
+        self.order.known = known.walked(&self.out_info, &self.info[self.idx..]);
         self.scratch_flags = telling_flags(marked, self.scratch_flags);
         Ok(true)
     }

@@ -5,7 +5,7 @@ ghost use Rattle.glyph_buffer.specs.Sides.{all_glyphs, flags_of, items_of, rever
 ghost use Rattle.glyph_buffer.specs.Moving.{range_reversed, with_range_reversed};
 
 use super::hb_buffer_t;
-use glyph_sides::order::KnownOrder;
+use buffer_lists::order::{ClusterOrder, KnownOrder};
 use glyph_types::info::hb_glyph_info_t;
 use glyph_types::position::GlyphPosition;
 
@@ -19,11 +19,8 @@ impl hb_buffer_t {
         ensures numbers { BringsNone (clusters (all_glyphs self.old)) (clusters (all_glyphs self.new)) }
         ensures flags { flags_of (all_glyphs self.new) ≡ reverse (flags_of (all_glyphs self.old)) }
     {
-        self.order = self
-            .order
-            .settled(self.lent, &self.out_info, &self.info)
-            .turned();
-        self.lent = None;
+        self.order.settle(&self.out_info, &self.info);
+        self.order.known = self.order.known.reversed();
         self.info.reverse();
         self.pos.reverse();
     }
@@ -39,8 +36,7 @@ impl hb_buffer_t {
         ensures numbers { BringsNone (clusters (all_glyphs self.old)) (clusters (all_glyphs self.new)) }
         ensures flags { flags_of (all_glyphs self.new) ≡ range_reversed start end (flags_of (all_glyphs self.old)) }
     {
-        self.order = KnownOrder::Unknown;
-        self.lent = None;
+        self.order = ClusterOrder::of(KnownOrder::Unknown);
         turn_glyphs(&mut self.info, start, end);
         turn_positions(&mut self.pos, start, end);
     }

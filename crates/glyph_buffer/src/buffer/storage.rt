@@ -2,13 +2,13 @@ ghost use Rattle.std.specs.Prelude.{◌≡◌, ◌+◌, ◌≤◌, ◌<◌, ◌^
 ghost use Rattle.std.specs.Str.{chars};
 ghost use Rattle.glyph_buffer.specs.Sides.{all_glyphs, items_of, with_added, has_room, refused, zero_position, zero_positions};
 ghost use Rattle.glyph_lists.specs.Items.{clusters, flags_of, item_of};
-ghost use Rattle.glyph_sides.specs.Known.{HasOrder, is_known};
+ghost use Rattle.buffer_lists.specs.Known.{HasOrder, is_known};
 ghost use Rattle.glyph_buffer.specs.Text.{added_glyph, added_text, fits_text, offsets_fit, offsets_from, text_items};
 ghost use Rattle.glyph_buffer.specs.Moving.{of_length, with_len, zero_glyph};
 ghost use Rattle.glyph_buffer.specs.Appended.{IsAppended};
 
 use super::hb_buffer_t;
-use glyph_sides::order::KnownOrder;
+use buffer_lists::order::{ClusterOrder, KnownOrder};
 use glyph_types::info::hb_glyph_info_t;
 use glyph_types::position::GlyphPosition;
 use std::alloc::AllocError;
@@ -72,11 +72,8 @@ impl hb_buffer_t {
         }
         self.info.reserve(1)?;
         self.pos.push(GlyphPosition::default())?;
-        self.order = self
-            .order
-            .settled(self.lent, &self.out_info, &self.info)
-            .with_last(&self.info, cluster);
-        self.lent = None;
+        self.order.settle(&self.out_info, &self.info);
+        self.order.known = self.order.known.with_last(&self.info, cluster);
         self.info.push(added(codepoint, cluster)).unwrap();
         Ok(true)
     }
@@ -99,8 +96,7 @@ impl hb_buffer_t {
         }
         resize_lists(&mut self.info, &mut self.pos, n)?;
         self.idx = self.idx.min(n);
-        self.order = KnownOrder::Unknown;
-        self.lent = None;
+        self.order = ClusterOrder::of(KnownOrder::Unknown);
         Ok(true)
     }
 
@@ -121,10 +117,9 @@ impl hb_buffer_t {
         if self.max_len - self.info.len() < count || !offsets_fit(text) {
             return Ok(false);
         }
-        let order = order_of_text(&self.info, text);
+        let known = order_of_text(&self.info, text);
         append_text(&mut self.info, &mut self.pos, text, count)?;
-        self.order = order;
-        self.lent = None;
+        self.order = ClusterOrder::of(known);
         Ok(true)
     }
 }
@@ -219,8 +214,7 @@ fn push_chars(glyphs: &mut Vec<hb_glyph_info_t>, text: &str)
 /// What is known of the order of clusters with the characters of a text behind the glyphs.
 #[tactic(auto, using(crate::proofs::Rising::text_rises))]
 fn order_of_text(glyphs: &[hb_glyph_info_t], text: &str) -> KnownOrder
-    ensures order { HasOrder result (clusters glyphs.now ++ clusters (added_text text.now)) }
-    ensures seen { length glyphs.now ≡ 0 → is_known result ≡ true }
+    ensures { HasOrder result (clusters glyphs.now ++ clusters (added_text text.now)) }
 {
     if glyphs.is_empty() {
         KnownOrder::Rising

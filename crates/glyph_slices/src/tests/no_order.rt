@@ -71,7 +71,6 @@ fn merges_groups_that_share_clusters_in_no_order(rt: HostRuntime) -> Result<(), 
     let mut glyphs = glyphs_of([(1, 9, 9), (1, 4, 9), (2, 9, 9), (2, 6, 9), (3, 7, 9)]);
     let mut positions = places_of([10, 20, 30, 40, 50]);
     let marked = reverse_groups(
-        rt.alloc(),
         &mut glyphs,
         &mut positions,
         BufferClusterLevel::MonotoneCharacters,
@@ -93,7 +92,6 @@ fn finds_groups_by_what_merges_left(rt: HostRuntime) -> Result<(), Fail> {
     let mut glyphs = glyphs_of([(1, 8, 9), (1, 3, 9), (1, 6, 9), (2, 8, 9), (3, 3, 9)]);
     let mut positions = places_of([10, 20, 30, 40, 50]);
     let marked = reverse_groups(
-        rt.alloc(),
         &mut glyphs,
         &mut positions,
         BufferClusterLevel::MonotoneGraphemes,

@@ -5,8 +5,8 @@ use Rattle.glyph_lists.specs.Order.{BringsNone}
 use Rattle.glyph_slices.specs.NoNewNumbers.{deleting_brings_none}
 use Rattle.glyph_slices.specs.DeletionWalk.{Passed}
 use Rattle.glyph_slices.proofs.Walking.{settled_front}
-use Rattle.glyph_slices.proofs.Kept.{items_all, places_all, clusters_all}
-use Rattle.glyph_slices.proofs.KeptFlags.{flags_all}
+use Rattle.glyph_slices.specs.Lemmas.Kept.{items_all, places_all, clusters_all}
+use Rattle.glyph_slices.specs.Lemmas.KeptFlags.{flags_all}
 use Rattle.glyph_slices.proofs.Passing.{passes_on, passes_begin, passes_end}
 use Rattle.glyph_slices.proofs.deletion.delete_within.Goals as goal
 
@@ -40,19 +40,3 @@ returns-clause-positions g c = λ goes same. ap (λ (w : Passed). w.kept_positio
 
 pub returns-clause-marked : goal.returns-clause-marked
 returns-clause-marked g c = λ goes same. ap (λ (w : Passed). w.is_marked) (passes_end c.args.level goes c.loop-at.at c.loop-at.walk c.loop-at.glyphs c.loop-at.positions _ (omega arith) (c.loop-at.invariant.rest goes same))
-
-pub returns-clause-items : goal.returns-clause-items
-returns-clause-items g c = λ q same. ap strip (returns-clause-glyphs g c (λ h. q (item_of h)) same) ∙ items_all c.args.level q c.args.glyphs.now c.args.positions.now
-
-pub returns-clause-kept_positions : goal.returns-clause-kept_positions
-returns-clause-kept_positions g c = λ q same. returns-clause-positions g c (λ h. q (item_of h)) same ∙ places_all c.args.level q c.args.glyphs.now c.args.positions.now
-
-pub returns-clause-clusters : goal.returns-clause-clusters
-returns-clause-clusters g c = λ q same. ap clusters (returns-clause-glyphs g c (λ h. q (item_of h)) same) ∙ clusters_all c.args.level q c.args.glyphs.now c.args.positions.now
-
-pub returns-clause-flags : goal.returns-clause-flags
-returns-clause-flags g c = λ q same. ap flags_of (returns-clause-glyphs g c (λ h. q (item_of h)) same) ∙ flags_all c.args.level q c.args.glyphs.now c.args.positions.now
-
-pub returns-clause-numbers : goal.returns-clause-numbers
-returns-clause-numbers g c = λ goes same.
-    subst (λ (gs : List Glyph). BringsNone (clusters c.args.glyphs.now) (clusters gs)) (sym (returns-clause-glyphs g c goes same)) (deleting_brings_none c.args.level goes c.args.glyphs.now c.args.positions.now)

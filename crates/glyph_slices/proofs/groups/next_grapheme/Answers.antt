@@ -1,4 +1,4 @@
-use Rattle.glyph_slices.proofs.Neighbours.{no_glyph, grapheme_from}
+use Rattle.glyph_slices.specs.Lemmas.Neighbours.{no_glyph, grapheme_from}
 use Rattle.glyph_slices.proofs.groups.next_grapheme.Goals as goal
 
 pub returns : goal.returns

@@ -1,4 +1,4 @@
-use Rattle.glyph_slices.proofs.Kept.{numbers_joined}
+use Rattle.glyph_slices.specs.Lemmas.Kept.{numbers_joined}
 use Rattle.glyph_slices.proofs.laws.deletes_numbers.Goals as goal
 
 pub returns : goal.returns

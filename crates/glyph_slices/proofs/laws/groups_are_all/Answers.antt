@@ -1,4 +1,4 @@
-use Rattle.glyph_slices.proofs.GroupsTurned.{flat_groups}
+use Rattle.glyph_slices.specs.Lemmas.GroupsTurned.{flat_groups}
 use Rattle.glyph_slices.proofs.laws.groups_are_all.Goals as goal
 
 pub returns : goal.returns

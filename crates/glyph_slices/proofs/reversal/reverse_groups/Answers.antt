@@ -1,16 +1,17 @@
-use Rattle.std.proofs.Common.{◌≡◌, ◌-◌, Bool, arith, ap, subst, sym, List, length, reverse, ◌∙◌}
+use Rattle.std.proofs.Common.{◌≡◌, ◌+◌, ◌-◌, Bool, arith, ap, subst, sym, List, length, reverse, ◌∙◌}
 use Rattle.glyph_types.specs.declared.info.hb_glyph_info_t.{hb_glyph_info_t as Glyph}
 use Rattle.glyph_lists.specs.Items.{clusters, flags_of, item_of, strip}
 use Rattle.glyph_lists.specs.Order.{BringsNone, IsOrdered}
 use Rattle.glyph_slices.specs.NoNewNumbers.{turning_brings_none}
-use Rattle.glyph_slices.specs.Turning.{Turning, first_turned, turned, turning_at}
-use Rattle.glyph_slices.proofs.Turned.{Rest, rest_begins, rest_goes_on, rest_ends}
+use Rattle.glyph_slices.specs.Groups.{group_length}
+use Rattle.glyph_slices.specs.Turning.{Turning, turned}
+use Rattle.glyph_slices.specs.Lemmas.Turned.{Rest, rest_begins, rest_goes_on, rest_ends}
 use Rattle.glyph_slices.specs.Due.{meant}
-use Rattle.glyph_slices.proofs.Meant.{due_within}
+use Rattle.glyph_slices.proofs.Meant.{ahead_as_meant, due_within}
 use Rattle.glyph_slices.proofs.Meant.{meant_long}
-use Rattle.glyph_slices.proofs.GroupsTurned.{turned_plain}
-use Rattle.glyph_slices.proofs.Regrouped.{items_turned, places_beside, clusters_beside}
-use Rattle.glyph_slices.proofs.RegroupedFlags.{flags_beside}
+use Rattle.glyph_slices.specs.Lemmas.GroupsTurned.{turned_plain}
+use Rattle.glyph_slices.specs.Lemmas.Regrouped.{items_turned, places_beside, clusters_beside}
+use Rattle.glyph_slices.specs.Lemmas.RegroupedFlags.{flags_beside}
 use Rattle.glyph_slices.proofs.reversal.reverse_groups.Goals as goal
 use Rattle.glyph_slices.proofs.reversal.reverse_groups.Goals.{then-merge, else-merge}
 
@@ -22,7 +23,7 @@ loop-start-init g c =
       placed = c.requires.placed;
       known = λ asked sure mono. subst (λ (hs : List Glyph). IsOrdered (clusters hs)) (sym none.meant) (c.requires.known sure);
       due = none.due;
-      plain = λ off. none.none (elim c.if-merge.branch [ then-merge w ↦ let on = w.if-merge.true in cc | else-merge w ↦ w.no_merges-is ∙ off ]) off;
+      plain = λ off. none.none (elim c.if-merge.branch [ then-merge w ↦ let on = w.if-merge.true in cc | else-merge w ↦ w.no_merges-is ∙ off ]);
       rest = λ joins same. subst (λ (hs : List Glyph). Rest c.args.merge c.args.level joins 0 hs c.args.positions.now c.no_merges-merges.result.marked (turned c.args.merge c.args.level joins c.args.glyphs.now c.args.positions.now)) (sym none.meant)
           (subst (λ (m : Bool). Rest c.args.merge c.args.level joins 0 c.args.glyphs.now c.args.positions.now m (turned c.args.merge c.args.level joins c.args.glyphs.now c.args.positions.now)) (sym none.marked) (rest_begins c.args.merge c.args.level joins c.args.glyphs.now c.args.positions.now));
     }
@@ -31,7 +32,7 @@ pub loop-start-preserved : goal.loop-start-preserved
 loop-start-preserved g c =
     let turn = c.turn_group-merges.ensures in
     let inv = c.loop-start.invariant in
-    let found = c.end_of_meant_group-end in
+    let found = c.end_of_group-end in
     let start = c.loop-start.start in
     let end = found.result in
     let old = c.loop-start.glyphs in
@@ -41,13 +42,13 @@ loop-start-preserved g c =
     record {
       within = omega (arith, found.ensures.within);
       placed = omega (arith, inv.placed);
-      known = λ asked sure mono. turn.order asked mono (subst (λ (hs : List Glyph). IsOrdered (clusters hs)) (sym found.ensures.meant) (inv.known asked sure mono));
+      known = λ asked sure mono. turn.order asked mono (inv.known asked sure mono);
       due = turn.due;
       plain = turn.plain;
       rest = λ joins same. rest_goes_on c.args.merge c.args.level joins start end (meant c.loop-start.merges.due old) (meant c.turn_group-merges.result.due new) c.loop-start.positions c.turn_group-merges.new.positions
-          c.loop-start.merges.marked c.turn_group-merges.result.marked (turned c.args.merge c.args.level joins c.args.glyphs.now c.args.positions.now) (omega (arith, before, c.loop-start-test.true)) found.ensures.some (omega (arith, before, after, c.turn_group-merges.auto.glyphs, found.auto.glyphs))
-          (found.ensures.end joins same)
-          (turn.turned ∙ ap (λ (hs : List Glyph). first_turned c.args.merge c.args.level (end - start) (turning_at start hs c.loop-start.positions c.loop-start.merges.marked)) found.ensures.meant) (inv.rest joins same);
+          c.loop-start.merges.marked c.turn_group-merges.result.marked (turned c.args.merge c.args.level joins c.args.glyphs.now c.args.positions.now) (omega (arith, before, c.loop-start-test.true)) found.ensures.some (omega (arith, before, after, c.turn_group-merges.auto.glyphs))
+          (found.ensures.end joins same ∙ ap (λ hs. start + group_length joins hs) (sym (ahead_as_meant start c.loop-start.merges.due old (omega arith) inv.due.1)))
+          turn.turned (inv.rest joins same);
     }
 
 pub settle-requires : goal.settle-requires
@@ -72,22 +73,3 @@ returns-clause-marked g c = λ joins same.
     let inv = c.loop-start.invariant in
     let long : length (meant c.loop-start.merges.due c.loop-start.glyphs) ≡ length c.loop-start.glyphs = meant_long c.args.level c.loop-start.start c.loop-start.merges.due c.loop-start.glyphs inv.within inv.due in
     ap (λ (t : Turning). t.is_marked) (rest_ends c.args.merge c.args.level joins c.loop-start.start (meant c.loop-start.merges.due c.loop-start.glyphs) c.loop-start.positions c.loop-start.merges.marked _ (omega (arith, long, c.loop-start-test.false)) (omega (arith, long, inv.placed)) (inv.rest joins same))
-
-pub returns-clause-plain : goal.returns-clause-plain
-returns-clause-plain g c = λ joins same off. returns-clause-glyphs g c joins same ∙ ap (λ t. (turned t c.args.level joins c.args.glyphs.now c.args.positions.now).glyphs) off ∙ turned_plain c.args.level joins c.args.glyphs.now c.args.positions.now
-
-pub returns-clause-items : goal.returns-clause-items
-returns-clause-items g c = λ q same. ap strip (returns-clause-glyphs g c (λ h k. q (item_of h) (item_of k)) same) ∙ items_turned c.args.merge c.args.level q c.args.glyphs.now c.args.positions.now
-
-pub returns-clause-turned_positions : goal.returns-clause-turned_positions
-returns-clause-turned_positions g c = λ q same. returns-clause-positions g c (λ h k. q (item_of h) (item_of k)) same ∙ places_beside c.args.merge c.args.level q c.args.glyphs.now c.args.positions.now
-
-pub returns-clause-clusters : goal.returns-clause-clusters
-returns-clause-clusters g c = λ q same. ap clusters (returns-clause-glyphs g c (λ h k. q (item_of h) (item_of k)) same) ∙ clusters_beside c.args.merge c.args.level q c.args.glyphs.now c.args.positions.now
-
-pub returns-clause-flags : goal.returns-clause-flags
-returns-clause-flags g c = λ q same. ap flags_of (returns-clause-glyphs g c (λ h k. q (item_of h) (item_of k)) same) ∙ flags_beside c.args.merge c.args.level q c.args.glyphs.now c.args.positions.now
-
-pub returns-clause-numbers : goal.returns-clause-numbers
-returns-clause-numbers g c = λ joins same.
-    subst (λ (gs : List Glyph). BringsNone (clusters c.args.glyphs.now) (clusters gs)) (sym (returns-clause-glyphs g c joins same)) (turning_brings_none c.args.merge c.args.level joins c.args.glyphs.now c.args.positions.now)

@@ -2,12 +2,12 @@ use Rattle.std.proofs.Common.{◌≡◌, ◌-◌, ◌≤◌, true, false, Bool, 
 use Rattle.glyph_types.specs.declared.info.hb_glyph_info_t.{hb_glyph_info_t as Glyph}
 use Rattle.glyph_lists.specs.Items.{clusters}
 use Rattle.glyph_lists.specs.Order.{IsOrdered}
-use Rattle.glyph_lists.specs.Readings.{IsMonotone}
+use Rattle.glyph_lists.specs.Levels.{IsMonotone}
 use Rattle.glyph_slices.specs.Groups.{Decides}
 use Rattle.glyph_slices.specs.declared.due.Due.TheVariants.{Nothing}
 use Rattle.glyph_slices.specs.Due.{MayBeDue, meant}
 use Rattle.glyph_slices.specs.Turning.{turned}
-use Rattle.glyph_slices.proofs.Turned.{Rest}
+use Rattle.glyph_slices.specs.Lemmas.Turned.{Rest}
 use Rattle.glyph_slices.proofs.reversal.reverse_groups.Given as goal
 
 -- the groups before `start` were turned round, each in its place

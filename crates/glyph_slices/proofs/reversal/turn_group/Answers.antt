@@ -3,7 +3,7 @@ use Rattle.glyph_types.specs.declared.info.hb_glyph_info_t.{hb_glyph_info_t as G
 use Rattle.glyph_lists.specs.Items.{clusters}
 use Rattle.glyph_slices.specs.Due.{MayBeDue, meant}
 use Rattle.glyph_slices.specs.Turning.{is_marked_if, part_turned, turning_at}
-use Rattle.glyph_slices.proofs.Turned.{group_placed, group_ordered}
+use Rattle.glyph_slices.specs.Lemmas.Turned.{group_placed, group_ordered}
 use Rattle.glyph_slices.proofs.Meant.{meant_long, meant_turned, due_turned}
 use Rattle.glyph_slices.proofs.reversal.turn_group.Goals as goal
 

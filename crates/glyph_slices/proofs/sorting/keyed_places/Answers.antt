@@ -2,7 +2,7 @@ use Rattle.std.proofs.Common.{arith, length, refl, ◌<◌}
 use Rattle.std.proofs.lemmas.List.Elements.{All-push, All-same}
 use Rattle.std.proofs.lemmas.Fn.{says_at}
 use Rattle.glyph_slices.specs.declared.sorting.Keyed.{Keyed}
-use Rattle.glyph_slices.proofs.Neighbours.{no_glyph}
+use Rattle.glyph_slices.specs.Lemmas.Neighbours.{no_glyph}
 use Rattle.glyph_slices.proofs.Spans.{keyed_step}
 use Rattle.glyph_slices.proofs.sorting.keyed_places.Goals as goal
 

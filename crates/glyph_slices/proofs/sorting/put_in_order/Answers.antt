@@ -1,7 +1,7 @@
 use Rattle.glyph_slices.specs.declared.sorting.Keyed.{Keyed}
 use Rattle.glyph_slices.specs.Sorting.{glyph_at}
 use Rattle.std.proofs.Common.{get_or, refl}
-use Rattle.glyph_slices.proofs.Neighbours.{no_glyph}
+use Rattle.glyph_slices.specs.Lemmas.Neighbours.{no_glyph}
 use Rattle.glyph_slices.proofs.Spans.{no_place, put_step, same_step}
 use Rattle.glyph_slices.proofs.sorting.put_in_order.Goals as goal
 

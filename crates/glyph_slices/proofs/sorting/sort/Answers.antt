@@ -10,8 +10,8 @@ use Rattle.glyph_lists.specs.Items.{item_of, strip, clusters, flags_of}
 use Rattle.glyph_lists.specs.Order.{BringsNone, IsInOrder}
 use Rattle.glyph_slices.specs.NoNewNumbers.{sorting_brings_none}
 use Rattle.glyph_slices.specs.Places.{all_in_order, range_length}
-use Rattle.glyph_slices.proofs.SortedNumbers.{sorted_clusters, sorted_flags}
-use Rattle.glyph_slices.proofs.SortedItems.{items_sorted}
+use Rattle.glyph_slices.specs.Lemmas.SortedNumbers.{sorted_clusters, sorted_flags}
+use Rattle.glyph_slices.specs.Lemmas.SortedItems.{items_sorted}
 use Rattle.glyph_slices.proofs.sorting.sort.Goals as goal
 
 pub returns-clause-sorted : goal.returns-clause-sorted
@@ -25,22 +25,9 @@ returns-clause-marked g c = λ k same.
     sort_marks c.args.level c.args.start c.args.end k c.args.glyphs.now c.merge_spans-marked.new.glyphs c.in_ok-order.order.items c.deref.result.now c.merge_spans-marked.result
     (c.in_ok-order.ensures.keys k same) (c.deref.ensures.value ∙ c.in_ok-sort_places.ensures.sorted) c.merge_spans-marked.ensures.merged
 
-pub returns-clause-items : goal.returns-clause-items
-returns-clause-items g c = λ k same. ap strip (returns-clause-sorted g c (λ h. k (item_of h)) same) ∙ items_sorted c.args.level c.args.start c.args.end k c.args.glyphs.now
-
-pub returns-clause-clusters : goal.returns-clause-clusters
-returns-clause-clusters g c = λ k same. ap clusters (returns-clause-sorted g c (λ h. k (item_of h)) same) ∙ sorted_clusters c.args.level c.args.start c.args.end k c.args.glyphs.now
-
-pub returns-clause-flags : goal.returns-clause-flags
-returns-clause-flags g c = λ k same. ap flags_of (returns-clause-sorted g c k same) ∙ sorted_flags c.args.level c.args.start c.args.end k c.args.glyphs.now
-
 pub returns-clause-order : goal.returns-clause-order
 returns-clause-order g c = λ falls same ordered.
     subst (IsInOrder falls) (sym (put_same c.args.start (c.args.end - c.args.start) c.merge_spans-marked.new.glyphs c.put_in_order-in_order.new.range (c.put_in_order-in_order.ensures.same.0 same))) (c.merge_spans-marked.ensures.direction falls ordered)
-
-pub returns-clause-numbers : goal.returns-clause-numbers
-returns-clause-numbers g c = λ k same.
-    subst (λ (gs : List Glyph). BringsNone (clusters c.args.glyphs.now) (clusters gs)) (sym (returns-clause-sorted g c k same)) (sorting_brings_none c.args.level c.args.start c.args.end k c.args.glyphs.now)
 
 pub put_in_order-in_order-requires-clause-within : goal.put_in_order-in_order-requires-clause-within
 put_in_order-in_order-requires-clause-within g c =
@@ -51,14 +38,3 @@ put_in_order-in_order-requires-clause-within g c =
     let long = sym (ap length copied ∙ range_length c.args.start c.args.end c.args.glyphs.now mid c.merge_spans-marked.auto.glyphs) in
     All-same P c.deref-3.result.now _ (c.deref-3.ensures.value ∙ c.in_ok-sort_places.ensures.sorted)
     (all_in_order P (λ (e : Keyed). e.key) keyed (subst (λ (n : ℕ). All (λ (e : Keyed). e.place < n) keyed) long c.in_ok-order.ensures.within))
-
-pub returns-clause-same : goal.returns-clause-same
-returns-clause-same g c = λ k same.
-    let mid = c.merge_spans-marked.new.glyphs in
-    let range = c.put_in_order-in_order.new.range in
-    let wide = c.args.end - c.args.start in
-    let kept = c.put_in_order-in_order.ensures.same in
-    let is : mid ≡ range_merged c.args.level c.args.start c.args.end k c.args.glyphs.now =
-    merged_is c.args.level c.args.start c.args.end k c.args.glyphs.now mid c.in_ok-order.order.items c.deref.result.now c.merge_spans-marked.result (c.in_ok-order.ensures.keys k same) (c.deref.ensures.value ∙ c.in_ok-sort_places.ensures.sorted) c.merge_spans-marked.ensures.merged in
-    let long : length range ≡ length (take wide (drop c.args.start mid)) = omega arith in
-    (λ t. put_same c.args.start wide mid range (kept.0 t) ∙ ap clusters is, λ e. kept.1 (same_put c.args.start wide mid range long (e ∙ sym (ap clusters is))))

@@ -15,7 +15,7 @@ returns c =
 pub invariant_of-self-lent : goal.invariant_of-self-lent
 invariant_of-self-lent c w =
     let lt : c.self.inside.idx + c.args.i < length c.self.inside.info.items = grind (arith, common_steps) in
-    let known = (rw (c.deref.ensures.value, c.deref-2.ensures.value) at (c.settled-self-inside.ensures.order (start_of c.self.inside))) c.self.invariant.ordered in
+    let known = (rw (c.deref.ensures.value, c.deref-2.ensures.value) at (c.settle.ensures.order (start_of c.self.inside))) c.self.invariant.ordered in
     let back = clusters_back c.self.inside.info.items (c.self.inside.idx + c.args.i) w c.index.result.now lt in
     record {
       cursor = first_of (search rules, grind (arith, common_steps));

@@ -1,23 +1,45 @@
-use Rattle.std.proofs.Common.{None, ◌≡◌, false, min, length, rules, arith, ap, ◌∙◌}
+use Rattle.std.proofs.Common.{◌≡◌, false, min, length, take, refl, rules, arith, ap, ◌∙◌}
 use Rattle.std.proofs.lemmas.Grind.{common_steps}
-use Rattle.glyph_sides.specs.declared.order.KnownOrder.TheVariants.{Unknown}
+use Rattle.glyph_lists.specs.Items.{clusters, flags_of, item_of}
 use Rattle.glyph_buffer.specs.Grouping.{with_picked_deleted}
 use Rattle.glyph_buffer.specs.Merging.{telling_flags}
+use Rattle.glyph_buffer.specs.Sides.{Sides, all_glyphs, items_of}
+use Rattle.glyph_buffer.proofs.Brings.{brings_same}
+use Rattle.glyph_buffer.proofs.Grouped.{picked_bring_none, picked_clusters, picked_flags, picked_items, picked_positions}
 use Rattle.glyph_buffer.proofs.Picked.{picked_view}
-use Rattle.glyph_lists.specs.Items.{clusters}
-use Rattle.glyph_buffer.specs.Sides.{Sides, all_glyphs}
-use Rattle.glyph_buffer.proofs.Brings.{brings_same, picked_brings}
+use Rattle.glyph_buffer.proofs.Slices.{all_put, all_put_positions}
 use Rattle.glyph_buffer.proofs.buffer.hb_buffer_t.delete_glyphs_inplace.Goals as goal
 
 pub returns-clause-deleted : goal.returns-clause-deleted
 returns-clause-deleted g c goes tells =
     let b = c.self.inside in
     let closed : b.have_output ≡ false = rw (← c.self.view_is) at c.requires.closed in
-    let picked = c.delete_picked-marked in
-    let count : c.len.result ≡ length picked.new.info.items = first_of (search rules, grind (arith, common_steps)) in
-    let flags = c.telling_flags-self-inside.ensures ∙ ap (λ any. telling_flags any b.scratch_flags) (picked.ensures.marked goes tells) in
-    picked_view b picked.new.info picked.new.positions Unknown None goes c.min-self-inside.result _ closed (picked.ensures.glyphs goes tells) (picked.ensures.positions goes tells) (c.min-self-inside.ensures ∙ ap (min b.idx) count) flags
+    let in_info : b.info.len ≡ length b.info.items = first_of (search rules, grind (arith, common_steps)) in
+    let in_pos : b.pos.len ≡ length b.pos.items = first_of (search rules, grind (arith, common_steps)) in
+    let walk = c.delete_within-kept in
+    let wide : length walk.new.glyphs ≡ length b.info.items = first_of (search rules, grind (arith, common_steps)) in
+    let long : length walk.new.positions ≡ length b.pos.items = first_of (search rules, grind (arith, common_steps)) in
+    let glyphs = rw (c.deref_mut.ensures.value, c.deref_mut-2.ensures.value) at (walk.ensures.glyphs goes tells) in
+    let positions = rw (c.deref_mut.ensures.value, c.deref_mut-2.ensures.value) at (walk.ensures.positions goes tells) in
+    let marks = rw (c.deref_mut.ensures.value, c.deref_mut-2.ensures.value) at (walk.ensures.marked goes tells) in
+    let count : c.len.result ≡ length c.truncate.new.self.items = first_of (search rules, grind (arith, common_steps)) in
+    picked_view b c.truncate.new.self c.truncate-2.new.self c.of-self-inside.result goes c.min-self-inside.result _ closed
+    (c.truncate.ensures.items ∙ ap (take walk.result.0) (all_put b.info walk.new.glyphs walk.new.glyphs in_info refl wide) ∙ glyphs)
+    (c.truncate-2.ensures.items ∙ ap (take walk.result.0) (all_put_positions b.pos walk.new.positions walk.new.positions in_pos refl long) ∙ positions)
+    (c.min-self-inside.ensures ∙ ap (min b.idx) count) (c.telling_flags-self-inside.ensures ∙ ap (λ m. telling_flags m b.scratch_flags) marks)
     ∙ ap (with_picked_deleted goes) c.self.view_is
 
+pub returns-clause-items : goal.returns-clause-items
+returns-clause-items g c q tells = ap items_of (returns-clause-deleted g c (λ h. q (item_of h)) tells) ∙ picked_items q c.args.self.now
+
+pub returns-clause-positions : goal.returns-clause-positions
+returns-clause-positions g c q tells = ap (λ (s : Sides). s.positions) (returns-clause-deleted g c (λ h. q (item_of h)) tells) ∙ picked_positions q c.args.self.now
+
+pub returns-clause-clusters : goal.returns-clause-clusters
+returns-clause-clusters g c q tells = ap (λ (s : Sides). clusters (all_glyphs s)) (returns-clause-deleted g c (λ h. q (item_of h)) tells) ∙ picked_clusters q c.args.self.now
+
 pub returns-clause-numbers : goal.returns-clause-numbers
-returns-clause-numbers g c goes tells = brings_same _ _ _ (ap (λ (s : Sides). clusters (all_glyphs s)) (returns-clause-deleted g c goes tells)) (picked_brings goes c.args.self.now)
+returns-clause-numbers g c goes tells = brings_same _ _ _ (ap (λ (s : Sides). clusters (all_glyphs s)) (returns-clause-deleted g c goes tells)) (picked_bring_none goes c.args.self.now)
+
+pub returns-clause-flags : goal.returns-clause-flags
+returns-clause-flags g c q tells = ap (λ (s : Sides). flags_of (all_glyphs s)) (returns-clause-deleted g c (λ h. q (item_of h)) tells) ∙ picked_flags q c.args.self.now

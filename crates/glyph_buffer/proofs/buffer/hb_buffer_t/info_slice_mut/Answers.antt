@@ -15,5 +15,5 @@ invariant_of-self-lent c w =
       output_within = first_of (search rules, grind (arith, common_steps));
       closed = first_of (search rules, grind (arith, common_steps));
       placed = rw closed (even ∙ sym counted ∙ length_refill b.info.len b.info.items w counted);
-      ordered = tt;
+      ordered = rw c.of-self-inside.ensures.known tt;
     }

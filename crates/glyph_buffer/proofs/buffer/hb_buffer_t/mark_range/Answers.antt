@@ -1,17 +1,28 @@
-use Rattle.std.proofs.Common.{◌≡◌, ◌≤◌, ◌-◌, None, rules, arith, drop, ap, ◌∙◌}
+use Rattle.std.specs.Vec.{with_items}
+use Rattle.std.proofs.Common.{◌≡◌, ◌≤◌, true, length, rules, arith, refl, drop, ap, ◌∙◌}
 use Rattle.std.proofs.lemmas.Grind.{common_steps}
 use Rattle.glyph_lists.specs.Items.{clusters, flags_of}
-use Rattle.glyph_buffer.specs.Sides.{Sides, all_glyphs, items_of}
+use Rattle.glyph_lists.specs.Glyphs.{glyphs_marked, tells_apart}
+use Rattle.glyph_lists.specs.Lemmas.Glyphs.{clusters_marked}
 use Rattle.glyph_buffer.specs.Inside.{start_of}
+use Rattle.glyph_buffer.specs.Sides.{Sides, all_glyphs, items_of}
 use Rattle.glyph_buffer.specs.Merging.{index_in_all, telling_flags}
 use Rattle.glyph_buffer.specs.Marking.{with_marked}
-use Rattle.glyph_buffer.proofs.Marked.{places_order, marked_items, marked_clusters, marked_flags, marked_view, order_marked}
-use Rattle.glyph_buffer.proofs.Ordered.{known_ahead, known_back}
+use Rattle.glyph_buffer.proofs.Marked.{places_order, marked_items, marked_clusters, marked_flags, marked_view, marked_rest, marked_length, stretch_rest, start_before, start_within}
+use Rattle.glyph_buffer.proofs.Slices.{all_put}
 use Rattle.glyph_buffer.proofs.buffer.hb_buffer_t.mark_range.Goals as goal
 
 pub returns-clause-marked : goal.returns-clause-marked
 returns-clause-marked c =
-    marked_view c.self.inside c.mark_in-any.new.info c.settled-order.result None c.args.flags c.first_of_input-from.result c.args.start c.args.end _ c.self.invariant.cursor c.requires.ordered (rw (← c.self.view_is) at c.requires.unread) (rw (← c.self.view_is) at c.first_of_input-from.ensures) c.mark_in-any.ensures.items (c.telling_flags-self-inside.ensures ∙ ap (λ any. telling_flags any c.self.inside.scratch_flags) c.mark_in-any.ensures.any)
+    let b = c.self.inside in
+    let in_info : b.info.len ≡ length b.info.items = first_of (search rules, grind (arith, common_steps)) in
+    let info = all_put b.info c.mark_within-any.new.glyphs (glyphs_marked c.args.flags c.args.start c.args.end b.info.items) in_info (rw c.deref_mut.ensures.value at c.mark_within-any.ensures.marked) (marked_length c.args.flags c.args.start c.args.end b.info.items c.requires.ordered) in
+    let marks = rw c.deref_mut.ensures.value at c.mark_within-any.ensures.any in
+    let unread : b.have_output ≡ true → b.idx ≤ c.args.start = rw (← c.self.view_is) at c.requires.unread in
+    let before = start_within b c.self.invariant.cursor in
+    let begins = start_before b c.args.start unread in
+    marked_view b (with_items b.info c.mark_within-any.new.glyphs) b.order c.args.flags (start_of b) c.args.start c.args.end _ c.self.invariant.cursor c.requires.ordered unread refl
+    (ap (drop (start_of b)) info ∙ marked_rest c.args.flags c.args.start c.args.end (start_of b) b.info.items before begins c.requires.ordered) (c.telling_flags-self-inside.ensures ∙ ap (λ any. telling_flags any b.scratch_flags) (marks ∙ ap tells_apart (stretch_rest c.args.start c.args.end (start_of b) b.info.items before begins c.requires.ordered)))
     ∙ ap (λ (s : Sides). with_marked c.args.flags (index_in_all c.args.start s) (index_in_all c.args.end s) s) c.self.view_is
 
 pub returns-clause-items : goal.returns-clause-items
@@ -31,18 +42,14 @@ returns-clause-flags c =
 
 pub invariant_of-self : goal.invariant_of-self
 invariant_of-self c =
-    let begins : c.first_of_input-from.result ≡ start_of c.self.inside = rw (← c.self.view_is) at c.first_of_input-from.ensures in
-    let from = c.first_of_input-from.result in
-    let order = c.settled-order.result in
-    let known = (rw (c.deref.ensures.value, c.deref-2.ensures.value) at (c.settled-order.ensures.order (start_of c.self.inside))) c.self.invariant.ordered in
-    let before = known_ahead order c.self.inside.out_info.items c.self.inside.info.items from (start_of c.self.inside) begins known in
-    let le : c.args.start - from ≤ c.args.end - from = omega (arith, c.requires.ordered) in
-    let after = order_marked order c.args.flags (c.args.start - from) (c.args.end - from) (clusters c.self.inside.out_info.items) (drop from c.self.inside.info.items) (drop from c.mark_in-any.new.info.items) le c.mark_in-any.ensures.items before in
+    let b = c.self.inside in
+    let in_info : b.info.len ≡ length b.info.items = first_of (search rules, grind (arith, common_steps)) in
+    let info = all_put b.info c.mark_within-any.new.glyphs (glyphs_marked c.args.flags c.args.start c.args.end b.info.items) in_info (rw c.deref_mut.ensures.value at c.mark_within-any.ensures.marked) (marked_length c.args.flags c.args.start c.args.end b.info.items c.requires.ordered) in
     record {
       cursor = first_of (search rules, grind (arith, common_steps));
       input_within = first_of (search rules, grind (arith, common_steps));
       output_within = first_of (search rules, grind (arith, common_steps));
       closed = first_of (search rules, grind (arith, common_steps));
       placed = first_of (search rules, grind (arith, common_steps));
-      ordered = known_back order c.self.inside.out_info.items c.mark_in-any.new.info.items from (start_of c.self.inside) begins after;
+      ordered = rw (info, clusters_marked c.args.flags c.args.start c.args.end b.info.items c.requires.ordered) c.self.invariant.ordered;
     }

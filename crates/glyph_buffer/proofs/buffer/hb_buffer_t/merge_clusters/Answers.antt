@@ -1,19 +1,44 @@
-use Rattle.std.proofs.Common.{None, ◌≡◌, ◌≤◌, ◌-◌, rules, arith, drop, sym, ap, ◌∙◌}
+use Rattle.std.specs.Vec.{with_items}
+use borrow.Rule.Slice.PartMut.{put_mid}
+use Rattle.std.proofs.Common.{◌≡◌, ◌≤◌, ◌-◌, rules, arith, length, drop, sym, ap, ◌∙◌}
 use Rattle.std.proofs.lemmas.Grind.{common_steps}
-use Rattle.glyph_buffer.specs.Inside.{start_of}
-use Rattle.glyph_buffer.proofs.Ordered.{known_ordered, known_ahead, known_back, order_merged}
+use Rattle.std.proofs.lemmas.List.{length-drop, take_rest}
 use Rattle.glyph_lists.specs.Items.{clusters, flags_of}
+use Rattle.glyph_lists.specs.Parts.{stretch}
+use Rattle.glyph_lists.specs.Glyphs.{beside_merged}
+use Rattle.glyph_lists.specs.Lemmas.Glyphs.{length_beside, length_merged_at}
+use Rattle.glyph_lists.specs.Lemmas.Merges.{merged_at_brings}
+use Rattle.glyph_buffer.specs.Inside.{start_of}
 use Rattle.glyph_buffer.specs.Sides.{Sides, all_glyphs, items_of}
 use Rattle.glyph_buffer.specs.Merging.{index_in_all, telling_flags, with_merged}
-use Rattle.glyph_buffer.proofs.Merged.{merged_view, merged_items, merged_clusters, merged_flags}
-use Rattle.glyph_lists.specs.Lemmas.Merges.{merged_at_brings}
 use Rattle.glyph_buffer.proofs.Brings.{brings_same}
+use Rattle.glyph_buffer.proofs.Marked.{start_within}
+use Rattle.glyph_buffer.proofs.Merged.{merged_view, merged_items, merged_clusters, merged_flags}
+use Rattle.glyph_buffer.proofs.Ordered.{known_ordered, known_ahead, known_back, none_lent, order_merged}
+use Rattle.glyph_buffer.proofs.Slices.{all_put, rest_is}
 use Rattle.glyph_buffer.proofs.buffer.hb_buffer_t.merge_clusters.Goals as goal
 
 pub returns-clause-merged : goal.returns-clause-merged
 returns-clause-merged c =
-    let flags = c.telling_flags-self-inside.ensures ∙ ap (λ any. telling_flags any c.self.inside.scratch_flags) c.merge_lists-marked.ensures.any in
-    merged_view c.self.inside c.merge_lists-marked.new.info c.merge_lists-marked.new.out c.walked-self-inside.result None c.first_of_input-from.result c.args.start c.args.end _ c.self.invariant.cursor c.requires.ordered (rw (← c.self.view_is) at c.requires.unread) (rw (← c.self.view_is) at c.first_of_input-from.ensures) c.merge_lists-marked.ensures.input c.merge_lists-marked.ensures.output flags
+    let b = c.self.inside in
+    let begins : c.first_of_input-from.result ≡ start_of b = rw (← c.self.view_is) at c.first_of_input-from.ensures in
+    let from = c.first_of_input-from.result in
+    let known = known_ahead c.settle.new.self.known b.out_info.items b.info.items from (start_of b) begins ((rw (c.deref.ensures.value, c.deref-2.ensures.value) at (c.settle.ensures.order (start_of b))) c.self.invariant.ordered) in
+    let in_info : b.info.len ≡ length b.info.items = first_of (search rules, grind (arith, common_steps)) in
+    let in_out : b.out_info.len ≡ length b.out_info.items = first_of (search rules, grind (arith, common_steps)) in
+    let le : c.args.start - from ≤ c.args.end - from = omega (arith, c.requires.ordered) in
+    let within : from ≤ length b.info.items = omega (arith, begins, start_within b c.self.invariant.cursor) in
+    let rest = drop from b.info.items in
+    let range = stretch (c.args.start - from) (c.args.end - from) (clusters rest) in
+    let input = rw (c.deref_mut-2.ensures.value, take_rest b.info.items from) at c.merge_input-marked.ensures.input in
+    let output = rw (c.deref_mut.ensures.value, c.deref_mut-2.ensures.value, take_rest b.info.items from) at c.merge_input-marked.ensures.output in
+    let any = rw (c.deref_mut-2.ensures.value, take_rest b.info.items from) at c.merge_input-marked.ensures.any in
+    let count : length c.deref_mut-2.result.now ≡ length b.info.items = ap length c.deref_mut-2.ensures.value in
+    let ahead = rest_is b.info c.deref_mut-2.result.now c.merge_input-marked.new.input from in_info c.deref_mut-2.ensures.value within (omega (arith, ap length input, length_merged_at b.cluster_level (c.args.start - from) (c.args.end - from) rest le, length-drop from b.info.items, count)) ∙ input in
+    let behind = all_put b.out_info c.merge_input-marked.new.output (beside_merged b.cluster_level range b.out_info.items) in_out output (length_beside b.cluster_level range b.out_info.items) in
+    let info = with_items b.info (put_mid from (length c.deref_mut-2.result.now - from) c.deref_mut-2.result.now c.merge_input-marked.new.input) in
+    let out = with_items b.out_info c.merge_input-marked.new.output in
+    merged_view b info out (record { known = c.walked-self-inside.result; lent = c.settle.new.self.lent }) from c.args.start c.args.end _ c.self.invariant.cursor c.requires.ordered (rw (← c.self.view_is) at c.requires.unread) begins ahead behind (c.telling_flags-self-inside.ensures ∙ ap (λ m. telling_flags m b.scratch_flags) any)
     ∙ ap (λ (s : Sides). with_merged (index_in_all c.args.start s) (index_in_all c.args.end s) s) c.self.view_is
 
 pub returns-clause-items : goal.returns-clause-items
@@ -28,27 +53,41 @@ returns-clause-numbers c = brings_same _ _ _ (returns-clause-clusters c) (merged
 pub returns-clause-flags : goal.returns-clause-flags
 returns-clause-flags c = ap (λ (s : Sides). flags_of (all_glyphs s)) (returns-clause-merged c) ∙ merged_flags c.args.start c.args.end c.args.self.now
 
-pub merge_lists-marked-requires-clause-known : goal.merge_lists-marked-requires-clause-known
-merge_lists-marked-requires-clause-known c e =
-    let begins : c.first_of_input-from.result ≡ start_of c.self.inside = rw (← c.self.view_is) at c.first_of_input-from.ensures in
-    let known = (rw (c.deref.ensures.value, c.deref-2.ensures.value) at (c.settled-order.ensures.order (start_of c.self.inside))) c.self.invariant.ordered in
-    known_ordered c.settled-order.result _ (known_ahead c.settled-order.result c.self.inside.out_info.items c.self.inside.info.items c.first_of_input-from.result (start_of c.self.inside) begins known) (sym c.is_known.ensures ∙ e)
+pub merge_input-marked-requires-clause-known : goal.merge_input-marked-requires-clause-known
+merge_input-marked-requires-clause-known c e =
+    let b = c.self.inside in
+    let begins : c.first_of_input-from.result ≡ start_of b = rw (← c.self.view_is) at c.first_of_input-from.ensures in
+    let from = c.first_of_input-from.result in
+    let known = known_ahead c.settle.new.self.known b.out_info.items b.info.items from (start_of b) begins ((rw (c.deref.ensures.value, c.deref-2.ensures.value) at (c.settle.ensures.order (start_of b))) c.self.invariant.ordered) in
+    rw (c.deref_mut.ensures.value, c.deref_mut-2.ensures.value, take_rest b.info.items from) (known_ordered c.settle.new.self.known _ known (sym c.is_known.ensures ∙ e))
 
 pub invariant_of-self : goal.invariant_of-self
 invariant_of-self c =
-    let begins : c.first_of_input-from.result ≡ start_of c.self.inside = rw (← c.self.view_is) at c.first_of_input-from.ensures in
+    let b = c.self.inside in
+    let begins : c.first_of_input-from.result ≡ start_of b = rw (← c.self.view_is) at c.first_of_input-from.ensures in
     let from = c.first_of_input-from.result in
-    let order = c.settled-order.result in
-    let known = (rw (c.deref.ensures.value, c.deref-2.ensures.value) at (c.settled-order.ensures.order (start_of c.self.inside))) c.self.invariant.ordered in
-    let before = known_ahead order c.self.inside.out_info.items c.self.inside.info.items from (start_of c.self.inside) begins known in
+    let known = known_ahead c.settle.new.self.known b.out_info.items b.info.items from (start_of b) begins ((rw (c.deref.ensures.value, c.deref-2.ensures.value) at (c.settle.ensures.order (start_of b))) c.self.invariant.ordered) in
+    let in_info : b.info.len ≡ length b.info.items = first_of (search rules, grind (arith, common_steps)) in
+    let in_out : b.out_info.len ≡ length b.out_info.items = first_of (search rules, grind (arith, common_steps)) in
     let le : c.args.start - from ≤ c.args.end - from = omega (arith, c.requires.ordered) in
-    let after = order_merged order c.self.inside.cluster_level (c.args.start - from) (c.args.end - from) c.self.inside.out_info.items (drop from c.self.inside.info.items) c.merge_lists-marked.new.out.items (drop from c.merge_lists-marked.new.info.items) le c.merge_lists-marked.ensures.output c.merge_lists-marked.ensures.input before in
-    let walked = (rw (c.deref-3.ensures.value, c.deref-4.ensures.value) at c.walked-self-inside.ensures.order) after in
+    let within : from ≤ length b.info.items = omega (arith, begins, start_within b c.self.invariant.cursor) in
+    let rest = drop from b.info.items in
+    let range = stretch (c.args.start - from) (c.args.end - from) (clusters rest) in
+    let input = rw (c.deref_mut-2.ensures.value, take_rest b.info.items from) at c.merge_input-marked.ensures.input in
+    let output = rw (c.deref_mut.ensures.value, c.deref_mut-2.ensures.value, take_rest b.info.items from) at c.merge_input-marked.ensures.output in
+    let any = rw (c.deref_mut-2.ensures.value, take_rest b.info.items from) at c.merge_input-marked.ensures.any in
+    let count : length c.deref_mut-2.result.now ≡ length b.info.items = ap length c.deref_mut-2.ensures.value in
+    let ahead = rest_is b.info c.deref_mut-2.result.now c.merge_input-marked.new.input from in_info c.deref_mut-2.ensures.value within (omega (arith, ap length input, length_merged_at b.cluster_level (c.args.start - from) (c.args.end - from) rest le, length-drop from b.info.items, count)) ∙ input in
+    let behind = all_put b.out_info c.merge_input-marked.new.output (beside_merged b.cluster_level range b.out_info.items) in_out output (length_beside b.cluster_level range b.out_info.items) in
+    let info = with_items b.info (put_mid from (length c.deref_mut-2.result.now - from) c.deref_mut-2.result.now c.merge_input-marked.new.input) in
+    let out = with_items b.out_info c.merge_input-marked.new.output in
+    let after = order_merged c.settle.new.self.known b.cluster_level (c.args.start - from) (c.args.end - from) b.out_info.items rest out.items (drop from info.items) le behind ahead known in
+    let walked = (rw (c.deref-3.ensures.value, c.deref-4.ensures.value, take_rest info.items from) at c.walked-self-inside.ensures) after in
     record {
       cursor = first_of (search rules, grind (arith, common_steps));
       input_within = first_of (search rules, grind (arith, common_steps));
       output_within = first_of (search rules, grind (arith, common_steps));
       closed = first_of (search rules, grind (arith, common_steps));
       placed = first_of (search rules, grind (arith, common_steps));
-      ordered = known_back c.walked-self-inside.result c.merge_lists-marked.new.out.items c.merge_lists-marked.new.info.items from (start_of c.self.inside) begins walked;
+      ordered = none_lent c.walked-self-inside.result c.settle.new.self.lent out.items info.items (start_of b) c.settle.ensures.back (known_back c.walked-self-inside.result out.items info.items from (start_of b) begins walked);
     }

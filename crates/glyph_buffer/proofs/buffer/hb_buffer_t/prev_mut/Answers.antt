@@ -20,7 +20,7 @@ invariant_of-self-lent c w =
     let open_now : b.have_output ≡ true = rw (← c.self.view_is) at c.requires.open in
     let lt : c.len-last.result - 1 < length b.out_info.items = grind (arith, common_steps) in
     let before = rw open_now at c.self.invariant.ordered in
-    let known = (rw (c.deref.ensures.value, c.deref-2.ensures.value) at (c.settled-self-inside.ensures.order b.idx)) before in
+    let known = (rw (c.deref.ensures.value, c.deref-2.ensures.value) at (c.settle.ensures.order b.idx)) before in
     let back = clusters_back b.out_info.items (c.len-last.result - 1) w c.index.result.now lt in
     record {
       cursor = first_of (search rules, grind (arith, common_steps));

@@ -1,7 +1,6 @@
-use Rattle.std.proofs.Common.{[], None, ◌≡◌, false, rules, arith, ap, ◌∙◌}
+use Rattle.std.proofs.Common.{[], ◌≡◌, false, rules, arith, ap, ◌∙◌}
 use Rattle.std.proofs.lemmas.Grind.{common_steps}
 use Rattle.glyph_lists.specs.Items.{clusters, flags_of}
-use Rattle.glyph_sides.specs.declared.order.KnownOrder.TheVariants.{Rising}
 use Rattle.glyph_buffer.specs.Sides.{Sides, all_glyphs, items_of}
 use Rattle.glyph_buffer.specs.Settings.{with_counted}
 use Rattle.glyph_buffer.proofs.Counted.{clusters_counted, counted_view, counted_items, counted_clusters, counted_flags, counted_rises}
@@ -10,7 +9,7 @@ use Rattle.glyph_buffer.proofs.buffer.hb_buffer_t.reset_clusters.Goals as goal
 pub returns-clause-counted : goal.returns-clause-counted
 returns-clause-counted c =
     let closed : c.self.inside.have_output ≡ false = rw (← c.self.view_is) at c.requires in
-    counted_view c.self.inside c.number_all.new.glyphs Rising None closed c.self.invariant.cursor c.number_all.ensures.items ∙ ap with_counted c.self.view_is
+    counted_view c.self.inside c.number_all.new.glyphs c.of-self-inside.result closed c.self.invariant.cursor c.number_all.ensures.items ∙ ap with_counted c.self.view_is
 
 pub returns-clause-items : goal.returns-clause-items
 returns-clause-items c = ap items_of (returns-clause-counted c) ∙ counted_items c.args.self.now
@@ -31,5 +30,5 @@ invariant_of-self c =
       output_within = first_of (search rules, grind (arith, common_steps));
       closed = first_of (search rules, grind (arith, common_steps));
       placed = first_of (search rules, grind (arith, common_steps));
-      ordered = rw (closed, none, c.number_all.ensures.items, clusters_counted 0 c.self.inside.info.items) (counted_rises 0 c.self.inside.info.items);
+      ordered = rw (closed, none, c.number_all.ensures.items, c.of-self-inside.ensures.known, c.of-self-inside.ensures.lent, clusters_counted 0 c.self.inside.info.items) (counted_rises 0 c.self.inside.info.items);
     }

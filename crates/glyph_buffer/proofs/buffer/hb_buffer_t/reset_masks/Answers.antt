@@ -1,14 +1,25 @@
-use Rattle.std.proofs.Common.{rules, arith, ap, ◌∙◌}
+use Rattle.std.specs.Vec.{with_items}
+use Rattle.std.proofs.Common.{◌≡◌, map, length, rules, arith, ap, ◌∙◌}
+use Rattle.std.proofs.lemmas.List.{length-map}
+use Rattle.buffer_lists.specs.Masks.{glyph_masked}
 use Rattle.std.proofs.lemmas.Grind.{common_steps}
 use Rattle.glyph_buffer.proofs.Ordered.{clusters_masked}
 use Rattle.glyph_lists.specs.Items.{clusters, flags_of}
 use Rattle.glyph_buffer.specs.Sides.{Sides, all_glyphs, items_of}
 use Rattle.glyph_buffer.specs.Masks.{with_masks}
 use Rattle.glyph_buffer.proofs.Masked.{masked_view, masked_items, masked_clusters, masked_flags}
+use Rattle.glyph_buffer.proofs.Slices.{all_put}
 use Rattle.glyph_buffer.proofs.buffer.hb_buffer_t.reset_masks.Goals as goal
 
 pub returns-clause-masked : goal.returns-clause-masked
-returns-clause-masked c = masked_view c.self.inside c.mask_all.new.glyphs c.mask_all-2.new.glyphs c.args.mask c.mask_all.ensures.items c.mask_all-2.ensures.items ∙ ap (with_masks c.args.mask) c.self.view_is
+returns-clause-masked c =
+    let b = c.self.inside in
+    let f = glyph_masked c.args.mask in
+    let in_info : b.info.len ≡ length b.info.items = first_of (search rules, grind (arith, common_steps)) in
+    let in_out : b.out_info.len ≡ length b.out_info.items = first_of (search rules, grind (arith, common_steps)) in
+    let info = all_put b.info c.reset_masks.new.glyphs (map f b.info.items) in_info (rw c.deref_mut.ensures.value at c.reset_masks.ensures) (length-map b.info.items f) in
+    let out = all_put b.out_info c.reset_masks-2.new.glyphs (map f b.out_info.items) in_out (rw c.deref_mut-2.ensures.value at c.reset_masks-2.ensures) (length-map b.out_info.items f) in
+    masked_view b (with_items b.info c.reset_masks.new.glyphs) (with_items b.out_info c.reset_masks-2.new.glyphs) c.args.mask info out ∙ ap (with_masks c.args.mask) c.self.view_is
 
 pub returns-clause-items : goal.returns-clause-items
 returns-clause-items c = ap items_of (returns-clause-masked c) ∙ masked_items c.args.mask c.args.self.now
@@ -20,11 +31,18 @@ pub returns-clause-flags : goal.returns-clause-flags
 returns-clause-flags c = ap (λ (s : Sides). flags_of (all_glyphs s)) (returns-clause-masked c) ∙ masked_flags c.args.mask c.args.self.now
 
 pub invariant_of-self : goal.invariant_of-self
-invariant_of-self c = record {
-  cursor = first_of (search rules, grind (arith, common_steps));
-  input_within = first_of (search rules, grind (arith, common_steps));
-  output_within = first_of (search rules, grind (arith, common_steps));
-  closed = first_of (search rules, grind (arith, common_steps));
-  placed = first_of (search rules, grind (arith, common_steps));
-  ordered = rw (c.mask_all.ensures.items, c.mask_all-2.ensures.items, clusters_masked c.args.mask c.self.inside.info.items, clusters_masked c.args.mask c.self.inside.out_info.items) c.self.invariant.ordered;
-}
+invariant_of-self c =
+    let b = c.self.inside in
+    let f = glyph_masked c.args.mask in
+    let in_info : b.info.len ≡ length b.info.items = first_of (search rules, grind (arith, common_steps)) in
+    let in_out : b.out_info.len ≡ length b.out_info.items = first_of (search rules, grind (arith, common_steps)) in
+    let info = all_put b.info c.reset_masks.new.glyphs (map f b.info.items) in_info (rw c.deref_mut.ensures.value at c.reset_masks.ensures) (length-map b.info.items f) in
+    let out = all_put b.out_info c.reset_masks-2.new.glyphs (map f b.out_info.items) in_out (rw c.deref_mut-2.ensures.value at c.reset_masks-2.ensures) (length-map b.out_info.items f) in
+    record {
+      cursor = first_of (search rules, grind (arith, common_steps));
+      input_within = first_of (search rules, grind (arith, common_steps));
+      output_within = first_of (search rules, grind (arith, common_steps));
+      closed = first_of (search rules, grind (arith, common_steps));
+      placed = first_of (search rules, grind (arith, common_steps));
+      ordered = rw (info, out, clusters_masked c.args.mask b.info.items, clusters_masked c.args.mask b.out_info.items) c.self.invariant.ordered;
+    }

@@ -30,13 +30,13 @@ invariant_of-self c =
     let closed : c.self.inside.have_output ≡ false = rw (← c.self.view_is) at c.requires in
     let none : c.self.inside.out_info.items ≡ [] = rw closed at c.self.invariant.closed in
     let before = rw closed at c.self.invariant.ordered in
-    let settled = (rw (c.deref.ensures.value, c.deref-2.ensures.value) at (c.settled.ensures.order 0)) before in
-    let known = c.turned-self-inside.ensures.order (clusters c.self.inside.info.items) (rw none at settled) in
+    let settled = (rw (c.deref.ensures.value, c.deref-2.ensures.value) at (c.settle.ensures.order 0)) before in
+    let known = c.reversed-self-inside.ensures (clusters c.self.inside.info.items) (rw none at settled) in
     record {
       cursor = first_of (search rules, grind (arith, common_steps));
       input_within = first_of (search rules, grind (arith, common_steps));
       output_within = first_of (search rules, grind (arith, common_steps));
       closed = first_of (search rules, grind (arith, common_steps));
       placed = first_of (search rules, grind (arith, common_steps));
-      ordered = rw (closed, none, c.reverse.ensures.items, ← clusters_reversed c.self.inside.info.items) known;
+      ordered = rw (closed, none, c.reverse.ensures.items, c.settle.ensures.back, ← clusters_reversed c.self.inside.info.items) known;
     }

@@ -1,15 +1,45 @@
-use Rattle.std.proofs.Common.{◌≡◌, false, ap}
-use Rattle.std.proofs.lemmas.List.{take-append-drop}
-use Rattle.glyph_lists.specs.Items.{clusters}
-use Rattle.glyph_lists.specs.Order.{BringsNone}
-use Rattle.glyph_slices.specs.NoNewNumbers.{turning_brings_none}
+use Rattle.std.specs.Vec.{with_items}
+use Rattle.std.proofs.Common.{◌≡◌, false, length, rules, arith, ap, sym, ◌∙◌}
+use Rattle.std.proofs.lemmas.Grind.{common_steps}
+use Rattle.glyph_lists.specs.Items.{clusters, flags_of, item_of}
+use Rattle.glyph_buffer.specs.Grouping.{with_groups_turned}
+use Rattle.glyph_buffer.specs.Merging.{telling_flags}
+use Rattle.glyph_buffer.specs.Sides.{Sides, all_glyphs, items_of}
 use Rattle.glyph_buffer.proofs.Brings.{brings_same}
+use Rattle.glyph_buffer.proofs.Grouped.{grouped_view, groups_bring_none, groups_clusters, groups_flags, groups_items, groups_plain, groups_positions}
+use Rattle.glyph_buffer.proofs.Slices.{all_put, all_put_positions}
 use Rattle.glyph_buffer.proofs.buffer.hb_buffer_t.reverse_groups.Goals as goal
 
-pub returns-clause-numbers : goal.returns-clause-numbers
-returns-clause-numbers g c joins decides =
+pub returns-clause-turned : goal.returns-clause-turned
+returns-clause-turned g c joins decides =
     let b = c.self.inside in
     let closed : b.have_output ≡ false = rw (← c.self.view_is) at c.requires.closed in
-    let turned = c.turn_groups-marked in
-    let brought : BringsNone (clusters b.info.items) (clusters turned.new.info.items) = brings_same _ _ _ (ap clusters (turned.ensures.glyphs joins decides)) (turning_brings_none c.args.merge b.cluster_level joins b.info.items b.pos.items) in
-    rw (← c.self.view_is, closed, take-append-drop b.idx b.info.items, take-append-drop b.idx turned.new.info.items) brought
+    let in_info : b.info.len ≡ length b.info.items = first_of (search rules, grind (arith, common_steps)) in
+    let in_pos : b.pos.len ≡ length b.pos.items = first_of (search rules, grind (arith, common_steps)) in
+    let groups = c.reverse_groups-marked in
+    let glyphs = rw (c.deref_mut.ensures.value, c.deref_mut-2.ensures.value) at (groups.ensures.glyphs joins decides) in
+    let positions = rw (c.deref_mut.ensures.value, c.deref_mut-2.ensures.value) at (groups.ensures.positions joins decides) in
+    let marks = rw (c.deref_mut.ensures.value, c.deref_mut-2.ensures.value) at (groups.ensures.marked joins decides) in
+    let wide : length groups.new.glyphs ≡ length b.info.items = first_of (search rules, grind (arith, common_steps)) in
+    let long : length groups.new.positions ≡ length b.pos.items = first_of (search rules, grind (arith, common_steps)) in
+    grouped_view c.args.merge joins b (with_items b.info groups.new.glyphs) (with_items b.pos groups.new.positions) c.of-self-inside.result _ closed
+    (all_put b.info groups.new.glyphs _ in_info glyphs (sym (ap length glyphs) ∙ wide)) (all_put_positions b.pos groups.new.positions _ in_pos positions (sym (ap length positions) ∙ long)) (c.telling_flags-self-inside.ensures ∙ ap (λ m. telling_flags m b.scratch_flags) marks)
+    ∙ ap (with_groups_turned c.args.merge joins) c.self.view_is
+
+pub returns-clause-plain : goal.returns-clause-plain
+returns-clause-plain g c joins decides off = ap all_glyphs (returns-clause-turned g c joins decides) ∙ groups_plain c.args.merge joins c.args.self.now off
+
+pub returns-clause-items : goal.returns-clause-items
+returns-clause-items g c q decides = ap items_of (returns-clause-turned g c (λ h k. q (item_of h) (item_of k)) decides) ∙ groups_items c.args.merge q c.args.self.now
+
+pub returns-clause-positions : goal.returns-clause-positions
+returns-clause-positions g c q decides = ap (λ (s : Sides). s.positions) (returns-clause-turned g c (λ h k. q (item_of h) (item_of k)) decides) ∙ groups_positions c.args.merge q c.args.self.now
+
+pub returns-clause-clusters : goal.returns-clause-clusters
+returns-clause-clusters g c q decides = ap (λ (s : Sides). clusters (all_glyphs s)) (returns-clause-turned g c (λ h k. q (item_of h) (item_of k)) decides) ∙ groups_clusters c.args.merge q c.args.self.now
+
+pub returns-clause-numbers : goal.returns-clause-numbers
+returns-clause-numbers g c joins decides = brings_same _ _ _ (ap (λ (s : Sides). clusters (all_glyphs s)) (returns-clause-turned g c joins decides)) (groups_bring_none c.args.merge joins c.args.self.now)
+
+pub returns-clause-flags : goal.returns-clause-flags
+returns-clause-flags g c q decides = ap (λ (s : Sides). flags_of (all_glyphs s)) (returns-clause-turned g c (λ h k. q (item_of h) (item_of k)) decides) ∙ groups_flags c.args.merge q c.args.self.now

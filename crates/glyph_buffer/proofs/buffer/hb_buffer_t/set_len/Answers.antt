@@ -1,6 +1,5 @@
-use Rattle.std.proofs.Common.{None, ◌≡◌, false, ap, ◌∙◌}
+use Rattle.std.proofs.Common.{◌≡◌, false, ap, ◌∙◌}
 use Rattle.glyph_lists.specs.Items.{clusters, flags_of}
-use Rattle.glyph_sides.specs.declared.order.KnownOrder.TheVariants.{Unknown}
 use Rattle.glyph_buffer.specs.Moving.{with_len}
 use Rattle.glyph_buffer.specs.Sides.{all_glyphs, items_of}
 use Rattle.glyph_buffer.proofs.Resized.{resized_view, len_items, len_clusters, len_flags}
@@ -10,7 +9,7 @@ pub returns-clause-set : goal.returns-clause-set
 returns-clause-set c = λ e.
     let b = c.self.inside in
     let closed : b.have_output ≡ false = rw (← c.self.view_is) at c.requires in
-    resized_view b c.resize_lists.new.glyphs c.resize_lists.new.positions Unknown None c.min-self-inside.result c.args.n closed c.in_ok-resize_lists.ensures.glyphs_ok c.in_ok-resize_lists.ensures.places_ok c.min-self-inside.ensures
+    resized_view b c.resize_lists.new.glyphs c.resize_lists.new.positions c.of-self-inside.result c.min-self-inside.result c.args.n closed c.in_ok-resize_lists.ensures.glyphs_ok c.in_ok-resize_lists.ensures.places_ok c.min-self-inside.ensures
     ∙ ap (with_len c.args.n) c.self.view_is
 
 pub returns-clause-items : goal.returns-clause-items

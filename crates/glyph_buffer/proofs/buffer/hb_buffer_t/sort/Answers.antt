@@ -1,15 +1,55 @@
-use Rattle.std.proofs.Common.{◌≡◌, false, ap}
-use Rattle.std.proofs.lemmas.List.{take-append-drop}
-use Rattle.glyph_lists.specs.Items.{clusters}
-use Rattle.glyph_lists.specs.Order.{BringsNone}
-use Rattle.glyph_slices.specs.NoNewNumbers.{sorting_brings_none}
+use Rattle.std.specs.Vec.{with_items}
+use Rattle.std.proofs.Common.{[], ◌≡◌, false, length, refl, rules, arith, ap, sym, ◌∙◌}
+use Rattle.std.proofs.lemmas.Grind.{common_steps}
+use Rattle.glyph_lists.specs.Items.{clusters, flags_of, item_of}
+use Rattle.glyph_buffer.specs.Merging.{telling_flags}
+use Rattle.glyph_buffer.specs.Sides.{Sides, all_glyphs, items_of}
+use Rattle.glyph_buffer.specs.Sorting.{with_range_sorted}
 use Rattle.glyph_buffer.proofs.Brings.{brings_same}
+use Rattle.glyph_buffer.proofs.Grouped.{range_clusters, range_flags, sort_brings_none, sorted_items, sorted_view}
+use Rattle.glyph_buffer.proofs.Slices.{all_put}
 use Rattle.glyph_buffer.proofs.buffer.hb_buffer_t.sort.Goals as goal
 
-pub returns-clause-numbers : goal.returns-clause-numbers
-returns-clause-numbers g c k gives =
+pub returns-clause-sorted : goal.returns-clause-sorted
+returns-clause-sorted g c k gives =
     let b = c.self.inside in
     let closed : b.have_output ≡ false = rw (← c.self.view_is) at c.requires.closed in
-    let new = c.sort_range.new.info.items in
-    let brought : BringsNone (clusters b.info.items) (clusters new) = brings_same _ _ _ (ap clusters (c.in_ok-sorted.ensures.sorted k gives)) (sorting_brings_none b.cluster_level c.args.start c.args.end k b.info.items) in
-    rw (← c.self.view_is, closed, take-append-drop b.idx b.info.items, take-append-drop b.idx new) brought
+    let in_info : b.info.len ≡ length b.info.items = first_of (search rules, grind (arith, common_steps)) in
+    let wide : length c.sort.new.glyphs ≡ length b.info.items = first_of (search rules, grind (arith, common_steps)) in
+    let glyphs = rw c.deref_mut.ensures.value at (c.in_ok-sorted.ensures.sorted k gives) in
+    let marks = rw c.deref_mut.ensures.value at (c.in_ok-sorted.ensures.marked k gives) in
+    sorted_view b (with_items b.info c.sort.new.glyphs) (record { known = c.if_kept-self-inside.result; lent = c.settle.new.self.lent }) c.args.start c.args.end k _ closed c.self.invariant.cursor
+    (all_put b.info c.sort.new.glyphs _ in_info glyphs (sym (ap length glyphs) ∙ wide)) (c.telling_flags-self-inside.ensures ∙ ap (λ m. telling_flags m b.scratch_flags) marks)
+    ∙ ap (with_range_sorted c.args.start c.args.end k) c.self.view_is
+
+pub returns-clause-items : goal.returns-clause-items
+returns-clause-items g c k gives = ap items_of (returns-clause-sorted g c (λ h. k (item_of h)) gives) ∙ sorted_items c.args.start c.args.end k c.args.self.now
+
+pub returns-clause-clusters : goal.returns-clause-clusters
+returns-clause-clusters g c k gives = ap (λ (s : Sides). clusters (all_glyphs s)) (returns-clause-sorted g c (λ h. k (item_of h)) gives) ∙ range_clusters c.args.start c.args.end k c.args.self.now
+
+pub returns-clause-numbers : goal.returns-clause-numbers
+returns-clause-numbers g c k gives = brings_same _ _ _ (ap (λ (s : Sides). clusters (all_glyphs s)) (returns-clause-sorted g c k gives)) (sort_brings_none c.args.start c.args.end k c.args.self.now)
+
+pub returns-clause-flags : goal.returns-clause-flags
+returns-clause-flags g c k gives = ap (λ (s : Sides). flags_of (all_glyphs s)) (returns-clause-sorted g c k gives) ∙ range_flags c.args.start c.args.end k c.args.self.now
+
+pub invariant_of-self-2 : goal.invariant_of-self-2
+invariant_of-self-2 g c =
+    let b = c.self.inside in
+    let closed : b.have_output ≡ false = rw (← c.self.view_is) at c.requires.closed in
+    let none : b.out_info.items ≡ [] = rw closed at c.self.invariant.closed in
+    let in_info : b.info.len ≡ length b.info.items = first_of (search rules, grind (arith, common_steps)) in
+    let wide : length c.sort.new.glyphs ≡ length b.info.items = first_of (search rules, grind (arith, common_steps)) in
+    let items = all_put b.info c.sort.new.glyphs c.sort.new.glyphs in_info refl wide in
+    let before = rw none at ((rw (c.deref.ensures.value, c.deref-2.ensures.value) at (c.settle.ensures.order 0)) (rw closed at c.self.invariant.ordered)) in
+    let walked = (rw (c.deref-3.ensures.value, c.deref-4.ensures.value, none) at c.walked-known.ensures) before in
+    let kept = c.if_kept-self-inside.ensures (clusters b.info.items) (clusters c.sort.new.glyphs) (λ falls same o. c.in_ok-sorted.ensures.order falls same (rw c.deref_mut.ensures.value o)) walked in
+    record {
+      cursor = first_of (search rules, grind (arith, common_steps));
+      input_within = first_of (search rules, grind (arith, common_steps));
+      output_within = first_of (search rules, grind (arith, common_steps));
+      closed = first_of (search rules, grind (arith, common_steps));
+      placed = first_of (search rules, grind (arith, common_steps));
+      ordered = rw (closed, none, c.settle.ensures.back, items) kept;
+    }

@@ -4,7 +4,7 @@ use Rattle.glyph_slices.specs.DeletionWalk.{Deletes, settled}
 use Rattle.glyph_lists.specs.Items.{clusters}
 use Rattle.glyph_lists.specs.Order.{IsOrdered}
 use Rattle.glyph_slices.specs.OneDeleted.{taken_less}
-use Rattle.glyph_slices.proofs.Neighbours.{no_glyph}
+use Rattle.glyph_slices.specs.Lemmas.Neighbours.{no_glyph}
 use Rattle.glyph_slices.proofs.Walking.{settled_front, settled_back}
 use Rattle.glyph_slices.proofs.Dues.{recast_due, due_new}
 use Rattle.glyph_slices.proofs.deletion.walk.delete_behind.Goals as goal

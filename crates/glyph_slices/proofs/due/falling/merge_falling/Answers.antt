@@ -5,7 +5,7 @@ use Rattle.glyph_types.specs.declared.info.hb_glyph_info_t.{hb_glyph_info_t as G
 use Rattle.glyph_lists.specs.Items.{clusters}
 use Rattle.glyph_lists.specs.Merges.{least_number}
 use Rattle.glyph_slices.specs.Falling.{IsDueBefore, carried}
-use Rattle.glyph_slices.proofs.Neighbours.{no_glyph}
+use Rattle.glyph_slices.specs.Lemmas.Neighbours.{no_glyph}
 use Rattle.glyph_slices.proofs.Carried.{range_at, kept_merged, joined_merged, joined_due, begun_merged, begun_due, low_below, all_ahead}
 use Rattle.glyph_slices.proofs.due.falling.merge_falling.Goals as goal
 use Rattle.glyph_slices.proofs.due.falling.merge_falling.Goals.{else-ahead-eq0-via-then-ahead-eq0+else-due-cluster, else-ahead-eq0-via-else-ahead-eq0}

@@ -1,0 +1,45 @@
+ghost use Rattle.std.specs.Prelude.{◌≡◌, ◌<◌, ◌++◌, true, false, length, drop};
+ghost use Rattle.glyph_types.specs.declared.level.BufferClusterLevel.{BufferClusterLevel as Level};
+ghost use Rattle.glyph_lists.specs.Items.{clusters};
+ghost use Rattle.glyph_lists.specs.Order.{IsOrdered};
+ghost use Rattle.glyph_slices.specs.DeletionWalk.{Deletes};
+
+use glyph_slices::deletion::{delete_at_front, last_cluster, next_has, recast_end};
+use glyph_types::info::hb_glyph_info_t;
+use glyph_types::level::BufferClusterLevel;
+
+/// The first glyph of the input goes, from behind the output; answers whether another was marked. What stands in its place
+/// has no meaning.
+pub fn delete_first(
+    output: &mut [hb_glyph_info_t],
+    input: &mut [hb_glyph_info_t],
+    level: BufferClusterLevel,
+    in_order: bool,
+) -> bool
+    requires some { 0 < length input.old }
+    requires known { in_order ≡ true → IsOrdered (clusters output.old ++ clusters input.old) }
+    ensures { Deletes level output.old input.old output.new (drop 1 input.new) result }
+{
+    if output.is_empty() {
+        return delete_at_front(input, 0, level, in_order);
+    }
+    delete_behind(output, input);
+    false
+}
+
+/// The first glyph of the input goes, with others before it in the output.
+fn delete_behind(output: &mut [hb_glyph_info_t], input: &[hb_glyph_info_t])
+    requires some { 0 < length output.old }
+    requires there { 0 < length input.now }
+    ensures { (level : Level) → Deletes level output.old input.now output.new (drop 1 input.now) false }
+{
+    let glyph = input[0];
+    let last = last_cluster(output);
+    if last <= glyph.cluster {
+        return;
+    }
+    if next_has(input, 1, glyph.cluster) {
+        return;
+    }
+    recast_end(output, &glyph);
+}

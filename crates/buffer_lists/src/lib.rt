@@ -1,0 +1,11 @@
+// The glyphs on both sides of a cursor: the output's list, and the input's from the cursor on.
+#![tactic(auto)]
+
+pub mod deletion;
+pub mod masks;
+pub mod merges;
+pub mod moves;
+pub mod order;
+pub mod replacement;
+#[cfg(test)]
+mod tests;

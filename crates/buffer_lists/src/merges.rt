@@ -1,0 +1,69 @@
+ghost use Rattle.std.specs.Prelude.{◌≡◌, ◌≤◌, ◌++◌, true, length};
+ghost use Rattle.glyph_lists.specs.Items.{clusters};
+ghost use Rattle.glyph_lists.specs.Parts.{stretch};
+ghost use Rattle.glyph_lists.specs.Order.{IsOrdered};
+ghost use Rattle.glyph_lists.specs.Glyphs.{beside_merged, glyphs_merged, glyphs_merged_at, is_marked_at};
+
+use glyph_clusters::runs::{merge_after, merge_beside, merge_within};
+use glyph_slices::merges::merge_range;
+use glyph_types::info::hb_glyph_info_t;
+use glyph_types::level::BufferClusterLevel;
+
+/// Merges a range of the input on both lists; answers whether a glyph was marked. Where clusters are in no order each glyph
+/// is compared with the range.
+#[tactic(auto, using(glyph_lists::specs::Lemmas::Glyphs::stretch_is, crate::proofs::Ranges::range_known, crate::proofs::Ranges::ahead_known))]
+pub fn merge_input(
+    output: &mut [hb_glyph_info_t],
+    input: &mut [hb_glyph_info_t],
+    start: usize,
+    end: usize,
+    level: BufferClusterLevel,
+    in_order: bool,
+) -> bool
+    requires ordered { start ≤ end }
+    requires within { end ≤ length input.old }
+    requires known { in_order ≡ true → IsOrdered (clusters output.old ++ clusters input.old) }
+    ensures input { input.new ≡ glyphs_merged_at level start end input.old }
+    ensures output { output.new ≡ beside_merged level (stretch start end (clusters input.old)) output.old }
+    ensures any { result ≡ is_marked_at level start end (clusters input.old) }
+{
+    merge_beside_range(output, &input[start..end], level, in_order);
+    merge_range(input, level, start, end, in_order)
+}
+
+/// What a merge of a range leaves of the glyphs before it.
+fn merge_beside_range(
+    glyphs: &mut [hb_glyph_info_t],
+    range: &[hb_glyph_info_t],
+    level: BufferClusterLevel,
+    in_order: bool,
+)
+    requires { in_order ≡ true → IsOrdered (clusters glyphs.old ++ clusters range.now) }
+    ensures { glyphs.new ≡ beside_merged level (clusters range.now) glyphs.old }
+{
+    match level {
+        BufferClusterLevel::Characters => {}
+        BufferClusterLevel::MonotoneGraphemes | BufferClusterLevel::MonotoneCharacters => {
+            merge_beside(glyphs, range, in_order);
+        }
+    }
+}
+
+/// Merges a range of the output on both lists. Where clusters are in no order each glyph is compared with the range.
+#[tactic(auto, using(glyph_lists::specs::Lemmas::Glyphs::stretch_is, crate::proofs::Ranges::range_ordered, crate::proofs::Ranges::front_ordered))]
+pub fn merge_output(
+    output: &mut [hb_glyph_info_t],
+    input: &mut [hb_glyph_info_t],
+    start: usize,
+    end: usize,
+    in_order: bool,
+)
+    requires ordered { start ≤ end }
+    requires within { end ≤ length output.old }
+    requires known { in_order ≡ true → IsOrdered (clusters output.old ++ clusters input.old) }
+    ensures output { output.new ≡ glyphs_merged (stretch start end (clusters output.old)) output.old }
+    ensures input { input.new ≡ glyphs_merged (stretch start end (clusters output.old)) input.old }
+{
+    merge_after(input, &output[start..end], in_order);
+    merge_within(output, start, end, in_order);
+}

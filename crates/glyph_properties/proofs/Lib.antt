@@ -1,0 +1,2 @@
+pub mod Categories
+pub mod Words

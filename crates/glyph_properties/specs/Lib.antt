@@ -1,0 +1,2 @@
+pub mod Properties
+pub mod Laws

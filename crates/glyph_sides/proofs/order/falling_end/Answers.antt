@@ -1,5 +1,0 @@
-use Rattle.glyph_sides.proofs.Falling.{falling_to_next}
-use Rattle.glyph_sides.proofs.order.falling_end.Goals as goal
-
-pub loop-glyph-preserved : goal.loop-glyph-preserved
-loop-glyph-preserved c = falling_to_next c.args.start c.loop-glyph.last c.args.glyphs.now c.loop-glyph.glyph-index _ c.loop-glyph-test.true c.loop-glyph.invariant c.if-glyph-last.false

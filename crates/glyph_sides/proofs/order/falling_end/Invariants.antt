@@ -1,8 +1,0 @@
-use Rattle.std.proofs.Common.{take}
-use Rattle.glyph_lists.specs.Items.{clusters}
-use Rattle.glyph_sides.specs.Known.{IsFallingTo}
-use Rattle.glyph_sides.proofs.order.falling_end.Given as goal
-
--- the clusters that were passed never rise
-abbrev pub invariant-loop-glyph : goal.invariant-loop-glyph
-invariant-loop-glyph l = IsFallingTo l.start (clusters (take l.glyph-index l.glyphs)) l.last

@@ -1,0 +1,10 @@
+pub mod GroupsTurned
+pub mod Kept
+pub mod KeptFlags
+pub mod Neighbours
+pub mod Regrouped
+pub mod RegroupedFlags
+pub mod SortedItems
+pub mod SortedNumbers
+pub mod Stretches
+pub mod Turned

@@ -1,0 +1,120 @@
+//! What callers rely on of the layer's plain types: `==` holds exactly between a value and itself, and the numbers of
+//! constants that clauses cite by name.
+ghost use Rattle.std.specs.Prelude.{◌≡◌, ◌≢◌, MatchBool, [], ◌∷◌};
+ghost use Rattle.shaping_text.specs.declared.direction.Direction.TheVariants.{Invalid};
+
+use feature_text::feature::Feature;
+use glyph_types::cause::ShapeCause;
+use glyph_types::flags::{GlyphPropsFlags, SerializeFlags, UnicodeProps};
+use glyph_types::info::hb_glyph_info_t;
+use glyph_types::level::BufferClusterLevel;
+use glyph_types::names::GlyphId;
+use shaping_text::constants::BufferFlags;
+use shaping_text::direction::Direction;
+use shaping_text::script::Script;
+use shaping_text::tag::Tag;
+use unicode_rows::fault::TablesFault;
+use unicode_tables::hangul::{
+    L_BASE, L_COUNT, N_COUNT, S_BASE, S_COUNT, T_BASE, T_COUNT, V_BASE, V_COUNT,
+};
+use unicode_tables::law_fault::LawFault;
+
+pub fn directions_are_equal(left: Direction, right: Direction) -> bool
+    ensures { MatchBool result (left ≡ right) (left ≢ right) }
+{
+    left == right
+}
+
+pub fn scripts_are_equal(left: Script, right: Script) -> bool
+    ensures { MatchBool result (left ≡ right) (left ≢ right) }
+{
+    left == right
+}
+
+pub fn tags_are_equal(left: Tag, right: Tag) -> bool
+    ensures { MatchBool result (left ≡ right) (left ≢ right) }
+{
+    left == right
+}
+
+pub fn features_are_equal(left: Feature, right: Feature) -> bool
+    ensures { MatchBool result (left ≡ right) (left ≢ right) }
+{
+    left == right
+}
+
+pub fn levels_are_equal(left: BufferClusterLevel, right: BufferClusterLevel) -> bool
+    ensures { MatchBool result (left ≡ right) (left ≢ right) }
+{
+    left == right
+}
+
+pub fn infos_are_equal(left: &hb_glyph_info_t, right: &hb_glyph_info_t) -> bool
+    ensures { MatchBool result (left.now ≡ right.now) (left.now ≢ right.now) }
+{
+    left == right
+}
+
+pub fn glyph_ids_are_equal(left: GlyphId, right: GlyphId) -> bool
+    ensures { MatchBool result (left ≡ right) (left ≢ right) }
+{
+    left == right
+}
+
+pub fn causes_are_equal(left: ShapeCause, right: ShapeCause) -> bool
+    ensures { MatchBool result (left ≡ right) (left ≢ right) }
+{
+    left == right
+}
+
+pub fn glyph_properties_are_equal(left: GlyphPropsFlags, right: GlyphPropsFlags) -> bool
+    ensures { MatchBool result (left ≡ right) (left ≢ right) }
+{
+    left == right
+}
+
+pub fn unicode_properties_are_equal(left: UnicodeProps, right: UnicodeProps) -> bool
+    ensures { MatchBool result (left ≡ right) (left ≢ right) }
+{
+    left == right
+}
+
+pub fn buffer_flags_are_equal(left: BufferFlags, right: BufferFlags) -> bool
+    ensures { MatchBool result (left ≡ right) (left ≢ right) }
+{
+    left == right
+}
+
+pub fn serialize_flags_are_equal(left: SerializeFlags, right: SerializeFlags) -> bool
+    ensures { MatchBool result (left ≡ right) (left ≢ right) }
+{
+    left == right
+}
+
+pub fn table_faults_are_equal(left: TablesFault, right: TablesFault) -> bool
+    ensures { MatchBool result (left ≡ right) (left ≢ right) }
+{
+    left == right
+}
+
+pub fn law_faults_are_equal(left: LawFault, right: LawFault) -> bool
+    ensures { MatchBool result (left ≡ right) (left ≢ right) }
+{
+    left == right
+}
+
+/// A direction that nobody set.
+pub fn default_direction() -> Direction
+    ensures { result ≡ Invalid }
+{
+    Direction::default()
+}
+
+/// The bases and counts of Hangul syllables (The Unicode Standard, section 3.12).
+pub fn hangul_numbers() -> [u32; 9]
+    ensures { result ≡ 0xAC00 ∷ 0x1100 ∷ 0x1161 ∷ 0x11A7 ∷ 19 ∷ 21 ∷ 28 ∷ 588 ∷ 11172 ∷ [] }
+{
+    [
+        S_BASE, L_BASE, V_BASE, T_BASE, L_COUNT, V_COUNT, T_COUNT, N_COUNT, S_COUNT,
+    ]
+}

@@ -1,0 +1,27 @@
+-- Records in the strict order of their keys.
+use Rattle.std.specs.Prelude.{ℕ, ◌&&◌, ◌==◌, Bool, true, List, [], ◌∷◌, Option, Some, None, find}
+use Rattle.std.specs.declared.cmp.Ordering.{Ordering}
+use Rattle.std.specs.Ordering.{is_lt, is_eq, nat_cmp}
+
+-- a key is above the one before it, if there is one
+abbrev pub is_above : {K : Type 0} → (K → K → Ordering) → Option K → K → Bool
+is_above order None k = true
+is_above order (Some b) k = is_lt (order b k)
+
+-- each key is above the one before it
+abbrev pub is_rising : {R K : Type 0} → (K → K → Ordering) → (R → K) → Option K → List R → Bool
+is_rising order key before [] = true
+is_rising order key before (r ∷ rows) = is_above order before (key r) && is_rising order key (Some (key r)) rows
+
+-- the record of a key
+abbrev pub row_with : {R K : Type 0} → (K → K → Ordering) → (R → K) → K → List R → Option R
+row_with order key k rows = find (λ r. is_eq (order (key r) k)) rows
+
+-- ---- keys that are numbers
+
+abbrev pub numbers_rise : {R : Type 0} → (R → ℕ) → List R → Bool
+numbers_rise key rows = is_rising nat_cmp key None rows
+
+-- the record of a number
+abbrev pub row_of : {R : Type 0} → (R → ℕ) → ℕ → List R → Option R
+row_of key k rows = find (λ r. key r == k) rows

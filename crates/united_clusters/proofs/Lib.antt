@@ -1,4 +1,0 @@
-pub mod Numbers
-pub mod Roots
-pub mod Rows
-pub mod Rising

@@ -1,2 +1,0 @@
-pub mod United
-pub mod Forest

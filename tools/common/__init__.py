@@ -1,0 +1,1 @@
+"""What the tools share: faults in one line, notes on what was left out, progress, and writing JSON."""

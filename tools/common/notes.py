@@ -1,0 +1,43 @@
+"""What a tool left out, counted by kind, and how far it has come."""
+
+import sys
+from collections import Counter
+from typing import TextIO
+
+
+class Notes:
+    """Counts of what was left out, in the order in which it was first met."""
+
+    def __init__(self) -> None:
+        self.counts: Counter[str] = Counter()
+
+    def left_out(self, what: str, times: int = 1) -> None:
+        """Counts something that the format has no word for."""
+        if times > 0:
+            self.counts[what] += times
+
+    def lines(self) -> list[str]:
+        """One line a kind, with how often it was left out."""
+        return [f"left out: {what} ({times})" for what, times in self.counts.items()]
+
+
+class Progress:
+    """A line on a terminal that is written over; on anything else nothing."""
+
+    def __init__(self, name: str, stream: TextIO = sys.stderr) -> None:
+        self.name = name
+        self.stream = stream
+        self.shown = stream.isatty()
+
+    def step(self, what: str, done: int = 0, of: int = 0) -> None:
+        """Tells what is done now, and how much of it."""
+        if self.shown:
+            part = f" {done} of {of}" if of else ""
+            self.stream.write(f"\r\x1b[K{self.name}: {what}{part}")
+            self.stream.flush()
+
+    def end(self) -> None:
+        """Clears the line."""
+        if self.shown:
+            self.stream.write("\r\x1b[K")
+            self.stream.flush()

@@ -1,0 +1,1 @@
+"""A font file as the JSON value that hb_shape reads."""

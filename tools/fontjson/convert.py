@@ -1,0 +1,73 @@
+"""All keys of a font."""
+
+import os
+from typing import Any
+
+from fontjson import metrics
+from fontjson.gdef import gdef_of
+from fontjson.keep import Kept, keep_layout
+from fontjson.layout import layout_of
+from fontjson.source import Source
+
+# Tables that could move or change glyphs in other shapers, and for which the format has no word.
+TABLES_LEFT_OUT = (
+    "BASE", "JSTF", "MATH", "kern",
+    "ankr", "bsln", "feat", "just", "kerx", "lcar", "ltag", "mort", "morx", "opbd", "prop", "trak",
+    "avar", "cvar", "fvar", "gvar", "HVAR", "MVAR", "VVAR",
+    "CBDT", "COLR", "EBDT", "SVG ", "sbix",
+    "Silf",
+)  # fmt: skip
+
+
+def convert(source: Source, kept: Kept) -> dict[str, Any]:
+    """The keys that stay, in the order of the format."""
+    note_tables(source)
+    wanted = set(kept.keys)
+    value: dict[str, Any] = {"source": origin_of(source)}
+    for key, part in metric_keys(source, wanted).items():
+        value[key] = part
+    gdef = gdef_of(source) if wanted & {"gdef", "gsub", "gpos"} else None
+    if gdef is not None and "gdef" in wanted:
+        value["gdef"] = gdef
+    set_count = len((gdef or {}).get("sets", []))
+    for key in ("gsub", "gpos"):
+        table = layout_of(source, key.upper(), set_count) if key in wanted else None
+        if table is not None:
+            value[key] = keep_layout(table, kept, source.notes)
+    value["source"]["left_out"] = dict(source.notes.counts)
+    return value
+
+
+def origin_of(source: Source) -> dict[str, Any]:
+    """Where the value comes from; readers of the format pass this key over."""
+    return {"file": os.path.basename(source.path), "index": source.index}
+
+
+def metric_keys(source: Source, wanted: set[str]) -> dict[str, Any]:
+    value: dict[str, Any] = {}
+    cmap = metrics.cmap_rows(source) if wanted & {"cmap", "variants"} else []
+    boxes = metrics.boxes(source) if wanted & {"origins", "extents"} else {}
+    makers = {
+        "upem": lambda: metrics.units_per_em(source),
+        "ascender": lambda: metrics.ascender(source),
+        "cmap": lambda: cmap,
+        "variants": lambda: metrics.variant_rows(source, cmap),
+        "h": lambda: metrics.horizontal_rows(source),
+        "v": lambda: metrics.vertical_rows(source),
+        "origins": lambda: metrics.origin_rows(source, boxes),
+        "extents": lambda: metrics.extent_rows(source, boxes),
+        "names": lambda: metrics.name_rows(source),
+    }
+    for key, make in makers.items():
+        if key in wanted:
+            source.progress.step(key)
+            part = make()
+            if part != []:
+                value[key] = part
+    return value
+
+
+def note_tables(source: Source) -> None:
+    for tag in TABLES_LEFT_OUT:
+        if source.has(tag):
+            source.notes.left_out(f"table {tag.strip()}")

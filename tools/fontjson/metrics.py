@@ -1,0 +1,236 @@
+"""Characters, advances, vertical origins, extents and names of a font's glyphs."""
+
+import math
+import os
+from concurrent.futures import ProcessPoolExecutor
+from typing import Any
+
+from fontTools.pens.boundsPen import BoundsPen
+
+from fontjson.numbers import Row, batches, is_value, rising
+from fontjson.source import Source
+
+USE_TYPO_METRICS = 1 << 7
+SYMBOL_PRIVATE_USE = 0xF000
+BATCH = 500
+# From this many glyphs on, outlines are drawn by several processes.
+MANY_OUTLINES = 4000
+
+Box = tuple[int, int, int, int]
+
+
+def units_per_em(source: Source) -> int:
+    return source.font["head"].unitsPerEm
+
+
+def ascender(source: Source) -> int:
+    """The typographic ascender where the font asks for it, else that of the horizontal header, else one of OS/2's."""
+    return line_metric(source, "sTypoAscender", "ascent", "usWinAscent", 1)
+
+
+def descender(source: Source) -> int:
+    return line_metric(source, "sTypoDescender", "descent", "usWinDescent", -1)
+
+
+def line_metric(source: Source, typographic: str, header: str, windows: str, sign: int) -> int:
+    os2 = source.font["OS/2"] if source.has("OS/2") else None
+    if os2 is not None and os2.fsSelection & USE_TYPO_METRICS and getattr(os2, typographic):
+        return getattr(os2, typographic)
+    value = getattr(source.font["hhea"], header) if source.has("hhea") else 0
+    if value or os2 is None:
+        return value
+    return getattr(os2, typographic) or sign * getattr(os2, windows)
+
+
+def cmap_rows(source: Source) -> list[Row]:
+    """Characters and glyphs by the best Unicode subtable, else by the symbol subtable."""
+    if not source.has("cmap"):
+        return []
+    best = source.font.getBestCmap()
+    glyphs = symbol_cmap(source) if best is None else best
+    return rising(characters(source, glyphs), 1, source.notes, "cmap")
+
+
+def characters(source: Source, glyphs: dict[int, str]) -> list[Row]:
+    rows = []
+    for character, name in glyphs.items():
+        if not is_character(character):
+            source.notes.left_out("cmap: numbers that are no characters")
+        elif source.glyph(name) != 0:
+            rows.append([character, source.glyph(name)])
+    return rows
+
+
+def is_character(number: int) -> bool:
+    return 0 <= number < 0xD800 or 0xE000 <= number <= 0x10FFFF
+
+
+def symbol_cmap(source: Source) -> dict[int, str]:
+    """A symbol subtable's characters, and those below U+0100 by their private ones."""
+    table = source.font["cmap"].getcmap(3, 0)
+    if table is None:
+        source.notes.left_out("cmap: no subtable of Unicode or symbols")
+        return {}
+    glyphs = dict(table.cmap)
+    for character in range(0x100):
+        private = SYMBOL_PRIVATE_USE + character
+        if character not in glyphs and private in glyphs:
+            glyphs[character] = glyphs[private]
+    return glyphs
+
+
+def variant_rows(source: Source, cmap: list[Row]) -> list[Row]:
+    """Character, selector and glyph; where the font says that the usual glyph stands, that one."""
+    if not source.has("cmap"):
+        return []
+    usual = dict(cmap)
+    rows = []
+    for table in source.font["cmap"].tables:
+        for selector, pairs in getattr(table, "uvsDict", {}).items() if table.format == 14 else ():
+            for character, name in pairs:
+                glyph = usual.get(character) if name is None else source.glyph(name)
+                if glyph is not None:
+                    rows.append([character, selector, glyph])
+    return rising(rows, 2, source.notes, "variants")
+
+
+def advance_rows(source: Source, table: str) -> list[Row]:
+    """Glyphs and their advances."""
+    if not source.has(table):
+        return []
+    metrics = source.font[table].metrics
+    return [[glyph, metrics[name][0]] for glyph, name in enumerate(source.font.getGlyphOrder()) if name in metrics]
+
+
+def horizontal_rows(source: Source) -> list[Row]:
+    """Advances that are not 0, which a missing row means."""
+    return [row for row in advance_rows(source, "hmtx") if row[1] != 0]
+
+
+def vertical_rows(source: Source) -> list[Row]:
+    return advance_rows(source, "vmtx")
+
+
+def name_rows(source: Source) -> list[Row]:
+    """The names that the font itself gives its glyphs."""
+    font = source.font
+    if source.has("CFF ") and not hasattr(font["CFF "].cff.topDictIndex[0], "ROS"):
+        return [[glyph, name] for glyph, name in enumerate(font.getGlyphOrder())]
+    if not source.has("post") or font["post"].formatType not in (1.0, 2.0):
+        return []
+    given = getattr(font["post"], "mapping", {})
+    return [[glyph, given.get(name, name)] for glyph, name in enumerate(font.getGlyphOrder())]
+
+
+# ---- extents
+
+
+def boxes(source: Source) -> dict[int, Box]:
+    """Least and greatest coordinates of each glyph with an outline."""
+    if source.has("glyf"):
+        return glyf_boxes(source)
+    if source.has("CFF ") or source.has("CFF2"):
+        return cff_boxes(source)
+    source.notes.left_out("extents: no outlines that are read")
+    return {}
+
+
+def glyf_boxes(source: Source) -> dict[int, Box]:
+    """The boxes that the headers of the outlines name."""
+    table = source.font["glyf"]
+    names = source.font.getGlyphOrder()
+    found = {}
+    for number, name in enumerate(names):
+        if number % BATCH == 0:
+            source.progress.step("outlines", number, len(names))
+        glyph = table[name]
+        if glyph.numberOfContours != 0:
+            found[number] = (glyph.xMin, glyph.yMin, glyph.xMax, glyph.yMax)
+    return found
+
+
+def cff_boxes(source: Source) -> dict[int, Box]:
+    """The boxes of the curves, drawn by fontTools' bounds pen."""
+    names = source.font.getGlyphOrder()
+    if len(names) < MANY_OUTLINES:
+        return dict(enumerate_boxes(source, draw_boxes(source.font, names)))
+    found: list[Box | None] = []
+    parts = [(source.path, source.index, part) for part in batches(names, BATCH)]
+    with ProcessPoolExecutor(os.cpu_count()) as pool:
+        for part in pool.map(draw_part, parts):
+            found.extend(part)
+            source.progress.step("outlines", len(found), len(names))
+    return dict(enumerate_boxes(source, found))
+
+
+def enumerate_boxes(source: Source, found: list[Box | None]) -> list[tuple[int, Box]]:
+    return [(glyph, box) for glyph, box in enumerate(found) if box is not None]
+
+
+_opened: dict[tuple[str, int], Any] = {}
+
+
+def draw_part(part: tuple[str, int, list[str]]) -> list[Box | None]:
+    """Draws some glyphs in a process of its own, which opens the font once."""
+    from fontTools.ttLib import TTFont
+
+    path, index, names = part
+    if (path, index) not in _opened:
+        _opened[path, index] = TTFont(path, fontNumber=index, lazy=True)
+    return draw_boxes(_opened[path, index], names)
+
+
+def draw_boxes(font: Any, names: list[str]) -> list[Box | None]:
+    glyphs = font.getGlyphSet()
+    return [draw_box(glyphs, name) for name in names]
+
+
+def draw_box(glyphs: Any, name: str) -> Box | None:
+    pen = BoundsPen(glyphs)
+    glyphs[name].draw(pen)
+    if pen.bounds is None:
+        return None
+    left, bottom, right, top = pen.bounds
+    return math.floor(left), math.floor(bottom), math.ceil(right), math.ceil(top)
+
+
+def extent_rows(source: Source, found: dict[int, Box]) -> list[Row]:
+    """Left and upper side, width, and the height as it runs downwards."""
+    rows = []
+    for glyph, (left, bottom, right, top) in sorted(found.items()):
+        row = [glyph, left, top, right - left, bottom - top]
+        if all(is_value(number) for number in row[1:]):
+            rows.append(row)
+        else:
+            source.notes.left_out("extents: boxes past 16 bits")
+    return rows
+
+
+# ---- vertical origins
+
+
+def origin_rows(source: Source, found: dict[int, Box]) -> list[Row]:
+    """Heights of vertical origins, where they are not the ascender."""
+    usual = ascender(source)
+    rows = []
+    for glyph, name in enumerate(source.font.getGlyphOrder()):
+        height = origin(source, name, found.get(glyph))
+        if height is not None and height != usual:
+            if is_value(height):
+                rows.append([glyph, height])
+            else:
+                source.notes.left_out("origins: heights past 16 bits")
+    return rows
+
+
+def origin(source: Source, name: str, box: Box | None) -> int | None:
+    """VORG's height; else the outline's top and its bearing; else the outline in the middle of the line's height."""
+    if source.has("VORG"):
+        return source.font["VORG"][name]
+    if box is None:
+        return None
+    bottom, top = box[1], box[3]
+    if source.has("vmtx") and name in source.font["vmtx"].metrics:
+        return top + source.font["vmtx"].metrics[name][1]
+    line = ascender(source) - descender(source)
+    return top + ((line - (top - bottom)) >> 1)

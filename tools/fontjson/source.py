@@ -1,0 +1,88 @@
+"""Opening a font file, and refusing what is none."""
+
+import logging
+import os
+import struct
+from dataclasses import dataclass
+from typing import Any
+
+from common.faults import DATA, FILES, ToolFault
+from common.notes import Notes, Progress
+
+try:
+    from fontTools.ttLib import TTFont, TTLibError
+except ImportError as missing:
+    raise ToolFault(
+        FILES, "fontTools is missing: apt-get install python3-fonttools, and run this by Debian's /usr/bin/python3"
+    ) from missing
+
+GLYPH_LIMIT = 0x10000
+COLLECTION = b"ttcf"
+
+
+@dataclass
+class Source:
+    """A font that is being read, with the numbers of its glyphs and what was left out so far."""
+
+    path: str
+    index: int
+    font: Any
+    notes: Notes
+    progress: Progress
+
+    def __post_init__(self) -> None:
+        self._numbers = self.font.getReverseGlyphMap()
+
+    def glyph(self, name: str) -> int:
+        """The number of a glyph by the name that fontTools gives it."""
+        number = self._numbers.get(name)
+        return self.font.getGlyphID(name) if number is None else number
+
+    def glyphs(self, names: list[str]) -> list[int]:
+        return [self.glyph(name) for name in names]
+
+    def has(self, table: str) -> bool:
+        return table in self.font
+
+
+def open_font(path: str, index: int, notes: Notes, progress: Progress) -> Source:
+    """Opens the font of a file, or the font at an index of a collection."""
+    logging.getLogger("fontTools").setLevel(logging.CRITICAL)
+    check_file(path, index)
+    try:
+        font = TTFont(path, fontNumber=index, lazy=True)
+        check_tables(path, font)
+        return Source(path, index, font, notes, progress)
+    except TTLibError as error:
+        raise ToolFault(DATA, f"{path}: no font that can be read: {error}") from error
+    except struct.error as error:
+        raise ToolFault(DATA, f"{path}: the font is cut short: its list of tables ends too early") from error
+
+
+def check_file(path: str, index: int) -> None:
+    """Refuses a folder, an empty file, and an index that a collection has no font for."""
+    if os.path.isdir(path):
+        raise ToolFault(FILES, f"{path}: a folder, not a font file")
+    with open(path, "rb") as file:
+        head = file.read(12)
+    if not head:
+        raise ToolFault(DATA, f"{path}: no font: the file is empty")
+    if head[:4] == COLLECTION and len(head) == 12:
+        count = struct.unpack(">L", head[8:])[0]
+        if not 0 <= index < count:
+            raise ToolFault(DATA, f"{path}: no font at index {index}: the collection has {count}, from index 0 on")
+    elif index != 0:
+        raise ToolFault(DATA, f"{path}: no font at index {index}: the file is no collection")
+
+
+def check_tables(path: str, font: Any) -> None:
+    """Refuses a font whose tables run past the end of the file, or that lacks the tables of every font."""
+    size = os.path.getsize(path)
+    for tag, entry in font.reader.tables.items():
+        if entry.offset + entry.length > size and font.flavor != "woff2":
+            raise ToolFault(DATA, f"{path}: the font is cut short: table {tag} runs past the end of the file")
+    for tag in ("head", "maxp"):
+        if tag not in font:
+            raise ToolFault(DATA, f"{path}: no font that can be read: table {tag} is missing")
+    if font["maxp"].numGlyphs >= GLYPH_LIMIT:
+        raise ToolFault(DATA, f"{path}: more than {GLYPH_LIMIT - 1} glyphs")

@@ -1,0 +1,1 @@
+"""Grammars of syllables, compiled to the machines of the format."""

@@ -1,0 +1,32 @@
+"""Where the tools and the fonts are, and running a tool."""
+
+import json
+import os
+import subprocess
+import sys
+import tempfile
+from pathlib import Path
+from typing import Any
+
+TOOLS = Path(__file__).parent.parent
+sys.path.insert(0, str(TOOLS))
+
+DEJAVU = "/usr/share/fonts/truetype/dejavu/DejaVuSans.ttf"
+NASKH = "/usr/share/fonts/truetype/noto/NotoNaskhArabic-Regular.ttf"
+DEVANAGARI = "/usr/share/fonts/truetype/noto/NotoSansDevanagari-Regular.ttf"
+FONTS = (DEJAVU, NASKH, DEVANAGARI)
+NOTO = "/usr/share/fonts/truetype/noto/"
+
+
+def run(tool: str, *words: str | bytes) -> subprocess.CompletedProcess[bytes]:
+    """Runs a tool; its cache is a folder of its own, so that no test sees another's."""
+    environment = {**os.environ, "XDG_CACHE_HOME": tempfile.gettempdir()}
+    return subprocess.run([TOOLS / tool, *words], capture_output=True, check=False, env=environment)
+
+
+def json_of(tool: str, *words: str) -> dict[str, Any]:
+    """What a tool prints, as a value; it has to succeed."""
+    result = run(tool, *words)
+    if result.returncode != 0:
+        raise AssertionError(result.stderr.decode())
+    return json.loads(result.stdout)

@@ -1,0 +1,170 @@
+"""Machines of syllables: the compiler against Python's own expressions, words of four scripts, and hb-shape's circles."""
+
+import functools
+import random
+import re
+import shutil
+import subprocess
+import tempfile
+import unicodedata
+import unittest
+from pathlib import Path
+
+from support import NOTO, TOOLS, json_of
+
+from fontTools.ttLib import TTFont
+from syllables.grammar import Category, Choice, Expression, GrammarFault, Repeat, read_grammar
+from syllables.machine import Machine, compile_grammar, syllables_of
+from unicodejson.lists import KINDS
+
+CIRCLE = 0x25CC
+# Vowels of Khmer that are split before shaping.
+KHMER_SPLITS = {0x17BE, 0x17BF, 0x17C0, 0x17C4, 0x17C5}
+KHMER_VOWEL_E = 0x17C1
+
+
+@functools.cache
+def compiled(shaper: str) -> tuple[Machine, list[str]]:
+    grammar = read_grammar(TOOLS / "machines" / f"{shaper}.txt")
+    return compile_grammar(grammar), [kind for kind, _ in grammar.kinds]
+
+
+def syllables(shaper: str, categories: list[str]) -> list[tuple[int, str]]:
+    machine, kinds = compiled(shaper)
+    return syllables_of(machine, kinds, categories, "non")
+
+
+def pattern(expression: Expression, letters: dict[str, str]) -> str:
+    """The expression for Python's `re`, a private letter for each category."""
+    if isinstance(expression, Category):
+        return letters.setdefault(expression.name, chr(0xE000 + len(letters)))
+    if isinstance(expression, Repeat):
+        sign = {(False, False): "?", (False, True): "*", (True, True): "+"}
+        return f"(?:{pattern(expression.part, letters)}){sign[expression.at_least_once, expression.more_than_once]}"
+    joiner = "|" if isinstance(expression, Choice) else ""
+    return "(?:" + joiner.join(f"(?:{pattern(part, letters)})" for part in expression.parts) + ")"
+
+
+class TheCompiler(unittest.TestCase):
+    def test_against_expressions(self) -> None:
+        """For random categories the machine finds the longest front that some kind fits, the first kind on a tie."""
+        for shaper in KINDS:
+            grammar = read_grammar(TOOLS / "machines" / f"{shaper}.txt")
+            letters: dict[str, str] = {}
+            kinds = [(kind, re.compile(pattern(expression, letters))) for kind, expression in grammar.kinds]
+            draw = random.Random(shaper)
+            for _ in range(400):
+                categories = [draw.choice(list(letters)) for _ in range(draw.randint(1, 7))]
+                text = "".join(letters[category] for category in categories)
+                self.assertEqual(syllables(shaper, categories), by_expressions(kinds, text), (shaper, categories))
+
+    def test_faults(self) -> None:
+        """A grammar that can't be read says where."""
+        lines = ["kind x", "kind x = (A", "kind x = A)", "kind x = ", "kind x = *", "kind x = A & B", "word y = A"]
+        with tempfile.TemporaryDirectory() as folder:
+            path = Path(folder) / "bad.txt"
+            for line in [*lines, "name a = B\nname a = C"]:
+                path.write_text(f"# nothing\n{line}\n")
+                with self.assertRaisesRegex(GrammarFault, "bad.txt, line [23]"):
+                    read_grammar(path)
+
+
+def by_expressions(kinds: list[tuple[str, re.Pattern[str]]], text: str) -> list[tuple[int, str]]:
+    found, start = [], 0
+    while start < len(text):
+        end, kind = start + 1, "non"
+        for stop in range(len(text), start, -1):
+            fitting = [name for name, expression in kinds if expression.fullmatch(text, start, stop)]
+            if fitting:
+                end, kind = stop, fitting[0]
+                break
+        found.append((end, kind))
+        start = end
+    return found
+
+
+class Words(unittest.TestCase):
+    """Words of four scripts, with the ends of their syllables as the script specifications cut them."""
+
+    @classmethod
+    def setUpClass(cls) -> None:
+        tables = json_of("unicode_to_json", "--only", "indic,universal")
+        cls.indic = {row[0]: row[1] for row in tables["indic"]}
+        cls.universal = {row[0]: row[1] for row in tables["universal"]}
+
+    def categories(self, shaper: str, text: str) -> list[str]:
+        if shaper == "universal":
+            return [self.universal.get(ord(c), "O") for c in text]
+        return [self.indic.get(ord(c), "X") for c in text]
+
+    def test_words(self) -> None:
+        cases = [
+            # Devanagari: hi-ndi; ksha-tri-ya; rka with reph; a vowel with candrabindu; a matra without a base.
+            ("indic", "\u0939\u093f\u0928\u094d\u0926\u0940", [(2, "consonant"), (6, "consonant")]),
+            (
+                "indic",
+                "\u0915\u094d\u0937\u0924\u094d\u0930\u093f\u092f",
+                [(3, "consonant"), (7, "consonant"), (8, "consonant")],
+            ),
+            ("indic", "\u0930\u094d\u0915", [(3, "consonant")]),
+            ("indic", "\u0906\u0901\u0916", [(2, "vowel"), (3, "consonant")]),
+            ("indic", "\u093f\u0915", [(1, "broken"), (2, "consonant")]),
+            ("indic", "\u25cc\u093f a", [(2, "standalone"), (3, "non"), (4, "non")]),
+            ("indic", "\u093d\u0915", [(1, "symbol"), (2, "consonant")]),
+            # Khmer: khmae with a coeng mo and a left vowel; sroh; a vowel alone.
+            ("khmer", "\u1781\u17d2\u1798\u17c2\u179a", [(4, "consonant"), (5, "consonant")]),
+            ("khmer", "\u179f\u17d2\u179a\u17bb\u17c7", [(5, "consonant")]),
+            ("khmer", "\u17c1\u1780", [(1, "broken"), (2, "consonant")]),
+            ("khmer", "a\u1780", [(1, "non"), (2, "consonant")]),
+            # Myanmar: mranma with medial ra and a stacked ma; kinzi; a vowel alone.
+            ("myanmar", "\u1019\u103c\u1014\u103a\u1019\u102c", [(2, "consonant"), (4, "consonant"), (6, "consonant")]),
+            ("myanmar", "\u1021\u1004\u103a\u1039\u1002", [(1, "consonant"), (5, "consonant")]),
+            ("myanmar", "\u1031\u1000", [(1, "broken"), (2, "consonant")]),
+            # Balinese: ba-li with a left vowel sign; aksara with a gantungan; the sign surang alone.
+            ("universal", "\u1b29\u1b2e\u1b36", [(1, "standard"), (3, "standard")]),
+            ("universal", "\u1b05\u1b13\u1b44\u1b31\u1b2d", [(1, "standard"), (4, "standard"), (5, "standard")]),
+            ("universal", "\u1b3e\u1b13", [(1, "broken"), (2, "standard")]),
+            ("universal", "\u1b13\u1b44", [(2, "standard")]),
+        ]
+        for shaper, text, expected in cases:
+            with self.subTest(text=text):
+                self.assertEqual(syllables(shaper, self.categories(shaper, text)), expected)
+
+    @unittest.skipUnless(shutil.which("hb-shape"), "needs hb-shape (libharfbuzz-bin)")
+    def test_circles(self) -> None:
+        """HarfBuzz puts a dotted circle into each broken syllable; so as many circles as broken syllables."""
+        # Without independent vowels, before whose signs it puts circles of another kind.
+        cases = [
+            ("indic", "Devanagari", "deva", [*range(0x915, 0x93A), *range(0x93C, 0x950), 0x902, 0x903, 0x200C, 0x200D]),
+            ("indic", "Bengali", "beng", [*range(0x995, 0x9B3), *range(0x9BC, 0x9CF), 0x981, 0x982, 0x200C, 0x200D]),
+            ("khmer", "Khmer", "khmr", [*range(0x1780, 0x17A3), *range(0x17B6, 0x17D4), 0x200C, 0x200D]),
+            ("myanmar", "Myanmar", "mymr", [*range(0x1000, 0x1022), *range(0x102B, 0x1040), 0x200C, 0x200D]),
+            ("universal", "Balinese", "bali", [*range(0x1B13, 0x1B4C), 0x1B00, 0x1B01, 0x1B02, 0x1B03, 0x1B04]),
+        ]
+        for shaper, name, script, characters in cases:
+            path = f"{NOTO}NotoSans{name}-Regular.ttf"
+            draw = random.Random(script)
+            texts = ["".join(chr(draw.choice(characters)) for _ in range(draw.randint(1, 4))) for _ in range(500)]
+            for text, circles in zip(texts, circles_of(path, script, texts), strict=True):
+                split = normalized(text)
+                broken = sum(kind == "broken" for _, kind in syllables(shaper, self.categories(shaper, split)))
+                self.assertEqual(circles, broken, (script, [hex(ord(c)) for c in text]))
+
+
+def normalized(text: str) -> str:
+    split = "".join(chr(KHMER_VOWEL_E) + c if ord(c) in KHMER_SPLITS else c for c in text)
+    return unicodedata.normalize("NFD", split)
+
+
+def circles_of(path: str, script: str, texts: list[str]) -> list[int]:
+    font = TTFont(path)
+    glyph = str(font.getGlyphID(font.getBestCmap()[CIRCLE]))
+    words = ["--no-glyph-names", "--no-positions", "--no-clusters", f"--script={script}", "--language=und"]
+    result = subprocess.run(
+        ["hb-shape", *words, "--direction=ltr", path], input="\n".join(texts) + "\n", capture_output=True, text=True, check=True
+    )
+    return [line.strip("[]").split("|").count(glyph) for line in result.stdout.splitlines()]
+
+
+if __name__ == "__main__":
+    unittest.main()
