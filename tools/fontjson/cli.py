@@ -55,7 +55,9 @@ def read_font(path: str, index: int, kept: Kept, notes: Notes) -> dict[str, Any]
 
     progress = Progress(NAME)
     try:
-        return convert(open_font(path, index, notes, progress), kept)
+        source = open_font(path, index, notes, progress)
+        with source.font:
+            return convert(source, kept)
     except (ToolFault, OSError):
         raise
     except Exception as error:

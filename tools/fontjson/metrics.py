@@ -43,11 +43,20 @@ def line_metric(source: Source, typographic: str, header: str, windows: str, sig
 
 
 def cmap_rows(source: Source) -> list[Row]:
-    """Characters and glyphs by the best Unicode subtable, else by the symbol subtable."""
+    """Characters and glyphs by the symbol subtable, else the best Unicode one, else Mac Roman, as HarfBuzz chooses."""
     if not source.has("cmap"):
         return []
-    best = source.font.getBestCmap()
-    glyphs = symbol_cmap(source) if best is None else best
+    table = source.font["cmap"]
+    symbols, best, roman = table.getcmap(3, 0), table.getBestCmap(), table.getcmap(1, 0)
+    if symbols is not None:
+        glyphs = with_private_use(symbols.cmap)
+    elif best is not None:
+        glyphs = best
+    elif roman is not None:
+        glyphs = {ord(bytes([code]).decode("mac_roman")): name for code, name in roman.cmap.items() if code <= 0xFF}
+    else:
+        glyphs = {}
+        source.notes.left_out("cmap: no subtable that is read")
     return rising(characters(source, glyphs), 1, source.notes, "cmap")
 
 
@@ -65,13 +74,9 @@ def is_character(number: int) -> bool:
     return 0 <= number < 0xD800 or 0xE000 <= number <= 0x10FFFF
 
 
-def symbol_cmap(source: Source) -> dict[int, str]:
-    """A symbol subtable's characters, and those below U+0100 by their private ones."""
-    table = source.font["cmap"].getcmap(3, 0)
-    if table is None:
-        source.notes.left_out("cmap: no subtable of Unicode or symbols")
-        return {}
-    glyphs = dict(table.cmap)
+def with_private_use(symbols: dict[int, str]) -> dict[int, str]:
+    """A symbol font's characters, and those below U+0100 by the private ones that stand for them."""
+    glyphs = dict(symbols)
     for character in range(0x100):
         private = SYMBOL_PRIVATE_USE + character
         if character not in glyphs and private in glyphs:

@@ -18,9 +18,9 @@ NAME = "shape"
 PROGRAM = Path(__file__).parent.parent / "hb_shape"
 USAGE = """usage: shape FONT TEXT [--index N] [options of hb_shape]
 
-Shapes a text in a font file (.ttf, .otf, or a collection with an index), and prints the glyphs as hb_shape does. The program
-is built first where it is not built yet. The font is converted by font_to_json once and kept beside the font, as
-FONT.N.kuspveli.json, or in ~/.cache/kuspveli where that folder can't be written. Needs fontTools: Debian's
+Shapes a text in a font file (.ttf, .otf, or a collection with an index), and prints the glyphs as hb_shape does. The
+program is built first where it is not built yet. The font is converted by font_to_json once and kept beside the font,
+as FONT.N.kuspveli.json, or in ~/.cache/kuspveli where that folder can't be written. Needs fontTools: Debian's
 python3-fonttools, under /usr/bin/python3."""
 
 # What the program reads of a font and of tables so far; the whole formats are Kept() and list(unicodejson.cli.MAKERS).
@@ -84,8 +84,15 @@ def convert(path: Path, index: int) -> dict[str, Any]:
 
 def tables_file() -> Path:
     """The tables as a file."""
-    stamp = fingerprint(TABLES_READ)
-    return cached(user_folder() / "tables.json", stamp, lambda: make_tables(DEBIAN, TABLES_READ, Progress(NAME)))
+    return cached(user_folder() / "tables.json", fingerprint(TABLES_READ), make_read_tables)
+
+
+def make_read_tables() -> dict[str, Any]:
+    progress = Progress(NAME)
+    try:
+        return make_tables(DEBIAN, TABLES_READ, progress)
+    finally:
+        progress.end()
 
 
 def run_program(tables: Path, font: Path, text: bytes, options: list[str]) -> int:

@@ -1,4 +1,7 @@
-"""The rules of the two formats, as a checker: shapes, ranges, order of keys, indices. Faults are lines, none in a valid file."""
+"""The rules of the two formats, as a checker: shapes, ranges, order of keys, indices.
+
+Faults are lines; a valid file has none.
+"""
 
 from typing import Any, Callable, Iterator
 
@@ -193,7 +196,8 @@ def contexts(where: str, subtable: Any, count: int) -> Faults:
         for each in subtable["classes"]:
             yield from rows(f"{where} classes", each, row_of(word, word), first)
     records = list_of(row_of(word, below(count)))
-    yield from rows(f"{where} rules", subtable["rules"], row_of(list_of(items), list_of(items), list_of(items), records), None)
+    rule = row_of(list_of(items), list_of(items), list_of(items), records)
+    yield from rows(f"{where} rules", subtable["rules"], rule, None)
     if any(not rule[1] for rule in subtable["rules"]):
         yield f"{where}: a rule without input"
 

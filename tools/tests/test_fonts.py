@@ -3,7 +3,7 @@
 import itertools
 import random
 import unittest
-from typing import Any
+from typing import Any, Callable
 
 from support import DEJAVU, DEVANAGARI, FONTS, NASKH, json_of
 
@@ -189,8 +189,7 @@ def fits(subtable: Any, form: str, first: Any, rule: Any, line: list[str], at: i
     behind = line[:at][::-1]
     if form == "coverage":
         if not chained:
-            return all_fit(rule.Coverage, line[at:], lambda want, got: got in want.glyphs)
-        in_coverage = lambda want, got: got in want.glyphs  # noqa: E731
+            return all_fit(rule.Coverage, line[at:], in_coverage)
         ahead = line[at + len(rule.InputCoverage) :]
         return (
             all_fit(rule.InputCoverage, line[at:], in_coverage)
@@ -201,15 +200,24 @@ def fits(subtable: Any, form: str, first: Any, rule: Any, line: list[str], at: i
         return False
     rest = rule.Input if chained or form == "glyphs" else rule.Class
     wanted = [first, *rest]
-    equal = lambda classes: lambda want, got: want == (got if classes is None else classes.classDefs.get(got, 0))  # noqa: E731
     if not chained:
         return all_fit(wanted, line[at:], equal(None if form == "glyphs" else subtable.ClassDef))
-    maps = [None] * 3 if form == "glyphs" else [subtable.InputClassDef, subtable.BacktrackClassDef, subtable.LookAheadClassDef]
+    names = ("InputClassDef", "BacktrackClassDef", "LookAheadClassDef")
+    maps = [None if form == "glyphs" else getattr(subtable, name) for name in names]
     return (
         all_fit(wanted, line[at:], equal(maps[0]))
         and all_fit(rule.Backtrack, behind, equal(maps[1]))
         and all_fit(rule.LookAhead, line[at + len(wanted) :], equal(maps[2]))
     )
+
+
+def in_coverage(want: Any, got: str) -> bool:
+    return got in want.glyphs
+
+
+def equal(classes: Any) -> Callable[[Any, str], bool]:
+    """Whether a glyph is the item that is wanted, or has its class."""
+    return lambda want, got: want == (got if classes is None else classes.classDefs.get(got, 0))
 
 
 def all_fit(wanted: list[Any], given: list[Any], fit: Any) -> bool:

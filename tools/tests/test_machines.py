@@ -1,4 +1,4 @@
-"""Machines of syllables: the compiler against Python's own expressions, words of four scripts, and hb-shape's circles."""
+"""Machines of syllables: the compiler against Python's expressions, words of four scripts, hb-shape's circles."""
 
 import functools
 import random
@@ -139,7 +139,8 @@ class Words(unittest.TestCase):
             ("indic", "Bengali", "beng", [*range(0x995, 0x9B3), *range(0x9BC, 0x9CF), 0x981, 0x982, 0x200C, 0x200D]),
             ("khmer", "Khmer", "khmr", [*range(0x1780, 0x17A3), *range(0x17B6, 0x17D4), 0x200C, 0x200D]),
             ("myanmar", "Myanmar", "mymr", [*range(0x1000, 0x1022), *range(0x102B, 0x1040), 0x200C, 0x200D]),
-            ("universal", "Balinese", "bali", [*range(0x1B13, 0x1B4C), 0x1B00, 0x1B01, 0x1B02, 0x1B03, 0x1B04]),
+            ("universal", "Balinese", "bali", [*range(0x1B13, 0x1B4C), *range(0x1B00, 0x1B05)]),
+            ("universal", "Javanese", "java", [*range(0xA980, 0xA9CE)]),
         ]
         for shaper, name, script, characters in cases:
             path = f"{NOTO}NotoSans{name}-Regular.ttf"
@@ -160,9 +161,9 @@ def circles_of(path: str, script: str, texts: list[str]) -> list[int]:
     font = TTFont(path)
     glyph = str(font.getGlyphID(font.getBestCmap()[CIRCLE]))
     words = ["--no-glyph-names", "--no-positions", "--no-clusters", f"--script={script}", "--language=und"]
-    result = subprocess.run(
-        ["hb-shape", *words, "--direction=ltr", path], input="\n".join(texts) + "\n", capture_output=True, text=True, check=True
-    )
+    lines = "\n".join(texts) + "\n"
+    command = ["hb-shape", *words, "--direction=ltr", path]
+    result = subprocess.run(command, input=lines, capture_output=True, text=True, check=True)
     return [line.strip("[]").split("|").count(glyph) for line in result.stdout.splitlines()]
 
 

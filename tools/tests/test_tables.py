@@ -13,6 +13,47 @@ from unicodejson.lawful import Tables, law_fault
 from unicodejson.ucd import Ucd, version_of
 
 
+# UAX 15, ArabicShaping.txt, BidiMirroring.txt, and HarfBuzz's classes, categories and vertical forms.
+KNOWN_ROWS = [
+    ("splits", [0xE1, 0x61, 0x301]),
+    ("splits", [0x2126, 0x3A9, 0]),
+    ("pairs", [0x61, 0x301, 0xE1]),
+    ("pairs", [0x1B05, 0x1B35, 0x1B06]),
+    ("classes", [0x301, 230]),
+    ("classes", [0x5B0, 22]),
+    ("classes", [0x5BC, 12]),
+    ("classes", [0x651, 27]),
+    ("classes", [0x64E, 31]),
+    ("classes", [0xE38, 3]),
+    ("classes", [0xF74, 131]),
+    ("classes", [0x1A60, 254]),
+    ("classes", [0xF39, 127]),
+    ("mirrored", [0x28, 0x29]),
+    ("vertical", [0x2026, 0xFE19]),
+    ("vertical", [0xFF08, 0xFE35]),
+    ("vertical", [0xFE4F, 0xFE34]),
+    ("pictographic", [0xA9, 0xA9]),
+    ("joining", [0x628, "D"]),
+    ("joining", [0x640, "D"]),
+    ("joining", [0x710, "ALAPH"]),
+    ("joining", [0x715, "DALATH_RISH"]),
+    ("indic", [0x915, "C", "BASE_C"]),
+    ("indic", [0x930, "Ra", "BASE_C"]),
+    ("indic", [0x93F, "M", "PRE_M"]),
+    ("indic", [0x94D, "H", "BELOW_C"]),
+    ("indic", [0xB01, "SM", "BEFORE_SUB"]),
+    ("indic", [0x17C1, "VPre", "PRE_C"]),
+    ("indic", [0x1031, "VPre", "PRE_C"]),
+    ("universal", [0x1B13, "B"]),
+    ("universal", [0x1B44, "H"]),
+    ("universal", [0x1B3E, "VPre"]),
+    ("universal", [0x1B03, "FAbv"]),
+    ("universal", [0x11F02, "R"]),
+    ("thai", [0xE48, "SD", 0xF70A, 0xF88B]),
+    ("languages", ["en", ["ENG "]]),
+]
+
+
 class TheTables(unittest.TestCase):
     @classmethod
     def setUpClass(cls) -> None:
@@ -49,46 +90,7 @@ class TheTables(unittest.TestCase):
         self.assertTrue(str(law_fault(self.tables, lambda u: "Mn")).startswith("AsciiMark"))
 
     def test_known_rows(self) -> None:
-        """UAX 15, ArabicShaping.txt, BidiMirroring.txt, HarfBuzz's modified classes and vertical forms."""
-        rows = [
-            ("splits", [0xE1, 0x61, 0x301]),
-            ("splits", [0x2126, 0x3A9, 0]),
-            ("pairs", [0x61, 0x301, 0xE1]),
-            ("pairs", [0x1B05, 0x1B35, 0x1B06]),
-            ("classes", [0x301, 230]),
-            ("classes", [0x5B0, 22]),
-            ("classes", [0x5BC, 12]),
-            ("classes", [0x651, 27]),
-            ("classes", [0x64E, 31]),
-            ("classes", [0xE38, 3]),
-            ("classes", [0xF74, 131]),
-            ("classes", [0x1A60, 254]),
-            ("classes", [0xF39, 127]),
-            ("mirrored", [0x28, 0x29]),
-            ("vertical", [0x2026, 0xFE19]),
-            ("vertical", [0xFF08, 0xFE35]),
-            ("vertical", [0xFE4F, 0xFE34]),
-            ("pictographic", [0xA9, 0xA9]),
-            ("joining", [0x628, "D"]),
-            ("joining", [0x640, "D"]),
-            ("joining", [0x710, "ALAPH"]),
-            ("joining", [0x715, "DALATH_RISH"]),
-            ("indic", [0x915, "C", "BASE_C"]),
-            ("indic", [0x930, "Ra", "BASE_C"]),
-            ("indic", [0x93F, "M", "PRE_M"]),
-            ("indic", [0x94D, "H", "BELOW_C"]),
-            ("indic", [0xB01, "SM", "BEFORE_SUB"]),
-            ("indic", [0x17C1, "VPre", "PRE_C"]),
-            ("indic", [0x1031, "VPre", "PRE_C"]),
-            ("universal", [0x1B13, "B"]),
-            ("universal", [0x1B44, "H"]),
-            ("universal", [0x1B3E, "VPre"]),
-            ("universal", [0x1B03, "FAbv"]),
-            ("universal", [0x11F02, "R"]),
-            ("thai", [0xE48, "SD", 0xF70A, 0xF88B]),
-            ("languages", ["en", ["ENG "]]),
-        ]
-        for key, row in rows:
+        for key, row in KNOWN_ROWS:
             with self.subTest(key=key, row=row):
                 self.assertIn(row, self.tables[key])
 
@@ -99,7 +101,7 @@ class TheTables(unittest.TestCase):
         self.assertFalse({0xC55, 0xC56} & {u for u, _ in self.tables["classes"]})
 
     def test_all_of_normalization(self) -> None:
-        """The full expansions are the canonical decompositions of Python's own Unicode, where that knows a character."""
+        """Full expansions are the canonical decompositions of Python's own Unicode, where that knows a character."""
         tables = Tables(self.tables)
         for number in range(0x110000):
             if unicodedata.category(chr(number)) not in ("Cn", "Cs"):

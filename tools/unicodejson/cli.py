@@ -11,14 +11,15 @@ from common.writing import write_object
 from unicodejson import forms, indic, lists, normal, universal
 from unicodejson.lawful import law_fault
 from unicodejson.ucd import Ucd, version_of
+from unicodejson.universal import unknown_values
 
 NAME = "unicode_to_json"
 DEBIAN = Path("/usr/share/unicode")
 # The version of the crate `unicode`, from which the program has the general categories.
 CRATE_VERSION = "18.0.0"
 ABOUT = f"""Writes the Unicode Character Database and the shapers' machines as the JSON value that hb_shape reads as
-TABLES, on standard output. The files are those of Debian's unicode-data unless a folder with others is named; of a version
-after {CRATE_VERSION}, which the program's crate `unicode` has, newer characters are left out."""
+TABLES, on standard output. The files are those of Debian's unicode-data unless a folder with others is named; of a
+version after {CRATE_VERSION}, which the program's crate `unicode` has, newer characters are left out."""
 
 MAKERS: dict[str, Callable[[Ucd], Any]] = {
     "splits": normal.split_rows,
@@ -55,8 +56,10 @@ def main(words: list[str]) -> int:
     """Makes the tables; its status is 0."""
     options = parser().parse_args(words)
     progress = Progress(NAME)
-    value = make_tables(options.ucd, kept_keys(options.only), progress)
-    progress.end()
+    try:
+        value = make_tables(options.ucd, kept_keys(options.only), progress)
+    finally:
+        progress.end()
     write_object(value, sys.stdout)
     if not options.quiet:
         for line in value["unicode"]["lost"]:
@@ -100,4 +103,6 @@ def about(ucd: Ucd) -> dict[str, Any]:
     if version_of(version) > version_of(CRATE_VERSION):
         newer = sum(1 for age in ucd.ages.values() if age > ucd.newest)
         lost.append(f"lost: {newer} characters after {CRATE_VERSION}, which the crate leaves unassigned")
+    if "IndicSyllabicCategory.txt" in ucd.versions:
+        lost += [f"lost: the syllabic category {value}, for which there is no rule" for value in unknown_values(ucd)]
     return {"version": version, "crate": CRATE_VERSION, "lost": lost}

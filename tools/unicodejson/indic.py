@@ -6,8 +6,9 @@ Row = list[object]
 
 BLOCKS = {
     "Basic Latin", "Latin-1 Supplement", "Devanagari", "Bengali", "Gurmukhi", "Gujarati", "Oriya", "Tamil", "Telugu",
-    "Kannada", "Malayalam", "Myanmar", "Khmer", "Vedic Extensions", "General Punctuation", "Superscripts and Subscripts",
-    "Devanagari Extended", "Devanagari Extended-A", "Myanmar Extended-A", "Myanmar Extended-B", "Myanmar Extended-C",
+    "Kannada", "Malayalam", "Myanmar", "Khmer", "Vedic Extensions", "General Punctuation",
+    "Superscripts and Subscripts", "Devanagari Extended", "Devanagari Extended-A", "Myanmar Extended-A",
+    "Myanmar Extended-B", "Myanmar Extended-C",
 }  # fmt: skip
 
 # IndicSyllabicCategory.txt's values; those that are not here are X.
@@ -41,11 +42,12 @@ OVERRIDES: dict[int, str] = {
     0x0A51: "M",  # Gurmukhi udaat, a tone below
     0x0A72: "C", 0x0A73: "C",  # Gurmukhi vowel bearers
     0x0AFB: "N", 0x0B55: "N",  # Gujarati and Oriya signs that sit as nuktas do
-    0x0980: "PLACEHOLDER", 0x09FC: "PLACEHOLDER", 0x0C80: "PLACEHOLDER", 0x0D04: "PLACEHOLDER",  # letters that bear signs
+    **dict.fromkeys([0x0980, 0x09FC, 0x0C80, 0x0D04], "PLACEHOLDER"),  # letters that bear signs
     0x1CED: "A",  # Vedic tiryak, a tone
     0x11301: "SM", 0x11302: "SM", 0x11303: "SM", 0x1133B: "N", 0x1133C: "N",  # Grantha signs in Tamil
     **dict.fromkeys(range(0xFE00, 0xFE10), "VS"),  # variation selectors, which Myanmar's syllables have
-    **dict.fromkeys([0x2015, 0x2022, 0x25FB, 0x25FC, 0x25FD, 0x25FE], "PLACEHOLDER"),  # bases by the Myanmar specification
+    # Bases by the Myanmar specification.
+    **dict.fromkeys([0x2015, 0x2022, 0x25FB, 0x25FC, 0x25FD, 0x25FE], "PLACEHOLDER"),
     0x25CC: "DOTTEDCIRCLE",
     # Khmer: Ra, and the signs by the side on which they sit.
     0x179A: "Ra",
@@ -66,8 +68,9 @@ BASES = {"C", "CS", "Ra", "CM", "V", "PLACEHOLDER", "DOTTEDCIRCLE"}
 MATRAS = {"M", "MPst"}
 MODIFIERS = {"SM", "VD", "A", "Symbol"}
 
-# Where a matra of a side goes in a script's syllable (the OpenType Indic specification's table of matra positions, but for
-# signs above in Gurmukhi, which go behind post-base forms as in fonts in use); a script or side without a row is AFTER_SUB.
+# Where a matra of a side goes in a script's syllable: the OpenType Indic specification's table of matra positions, but
+# for signs above in Gurmukhi, which go behind post-base forms as fonts in use ask. A script or side without a row has
+# AFTER_SUB.
 MATRA_POSITIONS = {
     ("Bengali", "Right"): "AFTER_POST",
     ("Gurmukhi", "Right"): "AFTER_POST", ("Gurmukhi", "Top"): "AFTER_POST", ("Gurmukhi", "Bottom"): "AFTER_POST",

@@ -26,7 +26,7 @@ PLAIN = {
     "Hieroglyph_Segment_Begin": "SB", "Hieroglyph_Segment_End": "SE", "Non_Joiner": "ZWNJ", "Joiner": "CGJ",
     "Consonant_Preceding_Repha": "R", "Consonant_Prefixed": "R", "Symbol_Modifier": "SM", "Pure_Killer": "V",
     "Tone_Mark": "VM", "Cantillation_Mark": "VM", "Register_Shifter": "VM", "Visarga": "VM",
-    "Consonant_Succeeding_Repha": "F",
+    "Consonant_Succeeding_Repha": "F", "Reordering_Killer": "V",
     "Number": "B", "Consonant": "B", "Consonant_Head_Letter": "B", "Tone_Letter": "B", "Vowel_Independent": "B",
 }  # fmt: skip
 # Values that are this where the character is no letter (Lo), and a base where it is one.
@@ -35,7 +35,10 @@ SIGNS = {
     "Bindu": "VM", "Avagraha": "O",
 }  # fmt: skip
 
-# The side of a category's name by the positional category, which is Right where neither says more.
+# Values that are no category of their own.
+OTHERS = {"Other", "Consonant_Dead", "Modifying_Letter"}
+
+# The side of a category's name by the positional category, and the usual one where that has none.
 SIDES = {
     "F": {"Top": "Abv", "Bottom": "Blw", "Right": "Pst"},
     "M": {
@@ -54,7 +57,7 @@ SIDES = {
 }  # fmt: skip
 USUAL_SIDES = {"F": "Pst", "M": "Pst", "CM": "Abv", "V": "Pst", "VM": "Pst", "SM": "Abv", "FM": "Pst"}
 
-# Scripts of the universal shaper whose marks the UCD gives no syllabic category: a mark there is a tone, a letter a base.
+# Scripts of the universal shaper to whose marks the UCD gives no syllabic category: a mark is a tone, a letter a base.
 SCRIPTS = {
     "Adlam", "Chorasmian", "Cypro_Minoan", "Duployan", "Elymaic", "Garay", "Hanifi_Rohingya", "Khitan_Small_Script",
     "Mandaic", "Manichaean", "Medefaidrin", "Miao", "Mongolian", "Nag_Mundari", "Nko", "Nyiakeng_Puachue_Hmong",
@@ -86,6 +89,12 @@ def universal_rows(ucd: Ucd) -> list[Row]:
     return rows
 
 
+def unknown_values(ucd: Ucd) -> list[str]:
+    """Syllabic categories of a newer version that no rule here knows."""
+    known = PLAIN.keys() | SIGNS.keys() | OTHERS
+    return sorted(set(ucd.property("IndicSyllabicCategory.txt").values()) - known)
+
+
 def all_properties(ucd: Ucd) -> list[Properties]:
     syllabic = ucd.property("IndicSyllabicCategory.txt")
     positional = ucd.property("IndicPositionalCategory.txt")
@@ -109,7 +118,7 @@ def all_properties(ucd: Ucd) -> list[Properties]:
 
 
 def additions(ucd: Ucd) -> dict[int, tuple[str, str]]:
-    """Syllabic and positional category by the file of additions, or by the general category in scripts that have none."""
+    """Both categories by the file of additions, or by the general category in scripts that have none."""
     found: dict[int, tuple[str, str]] = {}
     known = ucd.property("IndicSyllabicCategory.txt")
     for character, script in ucd.property("Scripts.txt").items():

@@ -49,7 +49,7 @@ groups_flags merge q s = ap flags_of (all_turned merge (λ g h. q (item_of g) (i
 pub groups_bring_none : (merge : Bool) (joins : Glyph → Glyph → Bool) (s : Sides) → BringsNone (clusters (all_glyphs s)) (clusters (all_glyphs (with_groups_turned merge joins s)))
 groups_bring_none merge joins s = brings_same _ _ _ (ap clusters (all_turned merge joins s)) (turning_brings_none merge s.level joins (all_glyphs s) s.positions)
 
-all_picked : (goes : Glyph → Bool) (s : Sides) → all_glyphs (with_picked_deleted goes s) ≡ (all_passed s.level goes (all_glyphs s) s.positions).kept
+pub all_picked : (goes : Glyph → Bool) (s : Sides) → all_glyphs (with_picked_deleted goes s) ≡ (all_passed s.level goes (all_glyphs s) s.positions).kept
 all_picked goes s = let gs = (all_passed s.level goes (all_glyphs s) s.positions).kept in take-append-drop (min s.read (length gs)) gs
 
 pub picked_items : (q : Item → Bool) (s : Sides) → items_of (with_picked_deleted (λ g. q (item_of g)) s) ≡ items_kept q (items_of s)

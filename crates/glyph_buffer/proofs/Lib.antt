@@ -20,3 +20,4 @@ pub mod Apart
 pub mod Brings
 pub mod Grouped
 pub mod Slices
+pub mod Walked

@@ -77,6 +77,13 @@ flagged_view b info order bits from start end flags le before unread begins i f 
         let input : info.items ≡ glyphs_flagged bits start end b.info.items = rw (here, one, two) at i in
         rw (e, input, long, at, to, take-append-drop b.idx b.info.items, f) refl
 
+-- with no output open as many glyphs stand behind the cursor as it has passed, and indices are those of the list
+pub closed_behind : (b : Inside) → b.have_output ≡ false → b.idx ≤ length b.info.items → length (sides_of b).behind ≡ (sides_of b).read
+closed_behind b h le = rw h (length-take-le b.idx b.info.items le)
+
+pub closed_index : (i : ℕ) (b : Inside) → b.have_output ≡ false → b.idx ≤ length b.info.items → index_in_all i (sides_of b) ≡ i
+closed_index i b h le = let long = closed_behind b h le in omega (arith, long)
+
 -- where the glyphs ahead, or with no output open all glyphs, begin
 pub start_within : (b : Inside) → b.idx ≤ length b.info.items → start_of b ≤ length b.info.items
 start_within b le = elim b.have_output as (λ t. (if t then b.idx else 0) ≤ length b.info.items) [ true ↦ le | false ↦ omega arith ]

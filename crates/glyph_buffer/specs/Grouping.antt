@@ -1,12 +1,12 @@
 -- Groups in turned order, and glyphs that a test picks taken out.
-use Rattle.std.specs.Prelude.{◌+◌, Bool, List, min, length}
+use Rattle.std.specs.Prelude.{ℕ, zero, suc, ◌+◌, Bool, if◌then◌else◌, List, [], ◌∷◌, min, length}
 use Rattle.glyph_types.specs.declared.info.hb_glyph_info_t.{hb_glyph_info_t}
 use Rattle.glyph_lists.specs.Items.{clusters}
 use Rattle.glyph_slices.specs.Deleting.{Left, glyphs_deleted, deletion_marks}
 use Rattle.glyph_slices.specs.Turning.{Turning, turned}
 use Rattle.glyph_slices.specs.DeletionWalk.{Passed, all_passed}
 use Rattle.glyph_buffer.specs.Merging.{telling_flags}
-use Rattle.glyph_buffer.specs.Sides.{Sides, all_glyphs, with_list}
+use Rattle.glyph_buffer.specs.Sides.{Sides, all_glyphs, moved_on, with_list}
 
 abbrev pub with_turning : Turning → Sides → Sides
 with_turning t s = record (with_list t.glyphs t.positions s) { scratch_flags = telling_flags t.is_marked s.scratch_flags }
@@ -29,3 +29,13 @@ with_left l any s = record s { behind = l.front; ahead = l.back; read = s.read +
 -- the glyph at the cursor goes, from between those behind it and those after
 abbrev pub with_deleted : hb_glyph_info_t → List hb_glyph_info_t → Sides → Sides
 with_deleted g back s = with_left (glyphs_deleted s.level s.behind g back) (deletion_marks s.level (clusters s.behind) g.cluster (clusters back)) s
+
+-- the glyph at the cursor goes where a test picks it, as by `delete_glyph`; else the cursor moves over it, as by `next_glyph`
+abbrev pub picked_or_passed : (hb_glyph_info_t → Bool) → List hb_glyph_info_t → Sides → Sides
+picked_or_passed goes [] s = s
+picked_or_passed goes (g ∷ back) s = if goes g then with_deleted g back s else moved_on 1 s
+
+-- so many glyphs, one after another
+abbrev pub walked_over : (hb_glyph_info_t → Bool) → ℕ → Sides → Sides
+walked_over goes zero s = s
+walked_over goes (suc n) s = walked_over goes n (picked_or_passed goes s.ahead s)

@@ -1,7 +1,14 @@
 -- What holds of all buffers.
-use Rattle.std.specs.Prelude.{◌≡◌, length}
-use Rattle.glyph_buffer.specs.Sides.{Sides, reversed}
+use Rattle.std.specs.Prelude.{◌≡◌, Bool, length}
+use Rattle.glyph_types.specs.declared.info.hb_glyph_info_t.{hb_glyph_info_t}
+use Rattle.glyph_buffer.specs.Grouping.{walked_over, with_picked_deleted}
+use Rattle.glyph_buffer.specs.Sides.{Sides, all_glyphs, reversed, with_output}
 
 -- what is turned round twice is as it was; with no output open as many glyphs were read as stand behind the cursor
 abbrev pub ReverseTwice : Type 0
 ReverseTwice = (s : Sides) → s.read ≡ length s.behind → reversed (reversed s) ≡ s
+
+-- to delete glyphs in place leaves the glyphs that the walk over an open output leaves, and tells as much of flags
+abbrev pub DeletesAsWalk : Type 0
+DeletesAsWalk = (goes : hb_glyph_info_t → Bool) (s : Sides) → let walked = walked_over goes (length (all_glyphs s)) (with_output s) in
+    (all_glyphs (with_picked_deleted goes s) ≡ all_glyphs walked) × ((with_picked_deleted goes s).scratch_flags ≡ walked.scratch_flags)

@@ -1,7 +1,12 @@
-ghost use Rattle.glyph_buffer.specs.Laws.{ReverseTwice};
+ghost use Rattle.glyph_buffer.specs.Laws.{DeletesAsWalk, ReverseTwice};
 
 /// A buffer that is turned round twice is as it was.
 #[tactic(auto, using(crate::proofs::Twice::reverse_twice))]
 pub fn reverse_twice()
     ensures { ReverseTwice }
+{}
+
+/// To delete glyphs in place leaves what the walk by `delete_glyph` and `next_glyph` leaves.
+pub fn deletes_as_walk()
+    ensures { DeletesAsWalk }
 {}

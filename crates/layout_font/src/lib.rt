@@ -1,6 +1,7 @@
 // The parsed layout tables of a font and the look-ups in them: scripts, features and lookups.
 #![tactic(auto)]
 
+mod indices;
 mod keyed;
 pub mod ligature;
 pub mod lookup;

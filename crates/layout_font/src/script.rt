@@ -163,6 +163,13 @@ impl ScriptRecord {
         self.default_lang_sys.as_ref()
     }
 
+    /// The language systems, by rising tags.
+    pub fn lang_systems(&self) -> &[LangSysRecord]
+        ensures { result.now ≡ self.now.lang_systems }
+    {
+        &self.lang_systems
+    }
+
     /// The language system of a tag.
     pub fn lang_sys(&self, tag: Tag) -> Option<&LangSysRecord>
         ensures { option_copied result ≡ lang_sys_with tag self.now.lang_systems }

@@ -104,6 +104,20 @@ impl LayoutTable {
         find_keyed(&self.scripts, tag.0)
     }
 
+    /// The scripts, by rising tags.
+    pub fn scripts(&self) -> &[ScriptRecord]
+        ensures { result.now ≡ self.now.scripts }
+    {
+        &self.scripts
+    }
+
+    /// The features, in the order of their indices.
+    pub fn features(&self) -> &[FeatureRecord]
+        ensures { result.now ≡ self.now.features }
+    {
+        &self.features
+    }
+
     /// The feature at a place of the list of features.
     pub fn feature(&self, index: u16) -> Option<&FeatureRecord>
         ensures { option_copied result ≡ slice_get self.now.features index }

@@ -9,12 +9,6 @@ use Rattle.unicode_rows.specs.Keys.{is_below, precedes, follows, rises_after, is
 below_trans : (a b c d e f : ℕ) → is_below a b c d ≡ true → is_below c d e f ≡ true → is_below a b e f ≡ true
 below_trans a b c d e f p q = grind (arith, nat_tests)
 
-below_apart : (a b e f : ℕ) → is_below a b e f ≡ true → (a == e && b == f) ≡ false
-below_apart a b e f p = grind (arith, nat_tests)
-
-above_apart : (a b e f : ℕ) → is_below e f a b ≡ true → (a == e && b == f) ≡ false
-above_apart a b e f p = grind (arith, nat_tests)
-
 between_is_at : (a b c d : ℕ) → is_below a b c d ≡ false → is_below c d a b ≡ false → (a == c && b == d) ≡ true
 between_is_at a b c d p q = grind (arith, nat_tests)
 
@@ -51,34 +45,6 @@ rising_front high low before (y ∷ ys) rest r =
     let parts = and_parts (follows high low before y) (rises_after high low (Some y) (ys ++ rest)) r in
     and_from _ _ parts.0 (rising_front high low (Some y) ys rest parts.1)
 
--- no row is at a key that is below the first
-none_above : {R : Type 0} (high low : R → ℕ) (h l : ℕ) (row : R) (after : List R)
-    → rises_after high low (Some row) after ≡ true → is_below h l (high row) (low row) ≡ true → find (is_at high low h l) after ≡ None
-none_above high low h l row [] r b = refl
-none_above high low h l row (y ∷ ys) r b =
-    let parts = and_parts (precedes high low row y) (rises_after high low (Some y) ys) r in
-    let further = below_trans h l (high row) (low row) (high y) (low y) b parts.0 in
-    cond-false _ _ _ (above_apart (high y) (low y) h l further) ∙ none_above high low h l y ys parts.1 further
-
--- rows below the key can be left out
-past_front : {R : Type 0} (high low : R → ℕ) (h l : ℕ) (front : List R) (row : R) (after : List R)
-    → is_rising high low (front ++ row ∷ after) ≡ true → is_below (high row) (low row) h l ≡ true
-    → find (is_at high low h l) (front ++ row ∷ after) ≡ find (is_at high low h l) after
-past_front high low h l [] row after r b = cond-false _ _ _ (below_apart (high row) (low row) h l b)
-past_front high low h l (y ∷ ys) row after r b =
-    let under = rises_behind high low y ys row after r in
-    let further = below_trans (high y) (low y) (high row) (low row) h l under b in
-    cond-false _ _ _ (below_apart (high y) (low y) h l further) ∙ past_front high low h l ys row after (forget_first high low (Some y) (ys ++ row ∷ after) r) b
-
--- rows above the key can be left out
-only_front : {R : Type 0} (high low : R → ℕ) (h l : ℕ) (before : Option R) (front : List R) (row : R) (after : List R)
-    → rises_after high low before (front ++ row ∷ after) ≡ true → is_below h l (high row) (low row) ≡ true
-    → find (is_at high low h l) (front ++ row ∷ after) ≡ find (is_at high low h l) front
-only_front high low h l before [] row after r b =
-    cond-false _ _ _ (above_apart (high row) (low row) h l b) ∙ none_above high low h l row after (first_rises high low before row after r) b
-only_front high low h l before (y ∷ ys) row after r b =
-    ap (λ o. if is_at high low h l y then Some y else o) (only_front high low h l (Some y) ys row after (first_rises high low before y (ys ++ row ∷ after) r) b)
-
 at_row : {R : Type 0} (high low : R → ℕ) (h l : ℕ) (front : List R) (row : R) (after : List R)
     → is_rising high low (front ++ row ∷ after) ≡ true → is_below (high row) (low row) h l ≡ false → is_below h l (high row) (low row) ≡ false
     → find (is_at high low h l) (front ++ row ∷ after) ≡ Some row
@@ -106,20 +72,8 @@ halved rest front back row middle f b h e =
 pub after_rises : {R : Type 0} (high low : R → ℕ) (rest front : List R) (row : R) (after : List R) → rest ≡ front ++ row ∷ after → is_rising high low rest ≡ true → is_rising high low after ≡ true
 after_rises high low rest front row after e r = forget_first high low (Some row) after (rising_tail high low None front row after (rw e at r))
 
-pub after_has : {R : Type 0} (high low : R → ℕ) (h l : ℕ) (rest front : List R) (row : R) (after : List R) → rest ≡ front ++ row ∷ after → is_rising high low rest ≡ true
-    → is_below (high row) (low row) h l ≡ true → find (is_at high low h l) after ≡ find (is_at high low h l) rest
-after_has high low h l rest front row after e r b = rw e (sym (past_front high low h l front row after (rw e at r) b))
-
 pub front_rises : {R : Type 0} (high low : R → ℕ) (rest front : List R) (row : R) (after : List R) → rest ≡ front ++ row ∷ after → is_rising high low rest ≡ true → is_rising high low front ≡ true
 front_rises high low rest front row after e r = rising_front high low None front (row ∷ after) (rw e at r)
-
-pub front_has : {R : Type 0} (high low : R → ℕ) (h l : ℕ) (rest front : List R) (row : R) (after : List R) → rest ≡ front ++ row ∷ after → is_rising high low rest ≡ true
-    → is_below h l (high row) (low row) ≡ true → find (is_at high low h l) front ≡ find (is_at high low h l) rest
-front_has high low h l rest front row after e r b = rw e (sym (only_front high low h l None front row after (rw e at r) b))
-
-pub row_is_found : {R : Type 0} (high low : R → ℕ) (h l : ℕ) (rest front : List R) (row : R) (after : List R) → rest ≡ front ++ row ∷ after → is_rising high low rest ≡ true
-    → is_below (high row) (low row) h l ≡ false → is_below h l (high row) (low row) ≡ false → Some row ≡ find (is_at high low h l) rest
-row_is_found high low h l rest front row after e r p q = rw e (sym (at_row high low h l front row after (rw e at r) p q))
 
 -- what is found passes each test that all rows pass
 pub find_passes : {X : Type 0} (p q : X → Bool) (xs : List X) (x : X) → find p xs ≡ Some x → list_all q xs ≡ true → (p x ≡ true) × (q x ≡ true)

@@ -9,19 +9,9 @@ pub fn find_row<R: Keyed>(rows: &[R], high: u32, low: u32) -> Option<R>
     requires { is_rising R.high R.low rows.now ≡ true }
     ensures { result ≡ find (is_at R.high R.low high low) rows.now }
 {
-    let mut rest = rows;
-    'halving: loop {
-        let (front, back) = rest.split_at(rest.len() / 2);
-        let [row, after @ ..] = back else {
-            return None;
-        };
-        if is_below(row.high(), row.low(), high, low) {
-            rest = after;
-        } else if is_below(high, low, row.high(), row.low()) {
-            rest = front;
-        } else {
-            return Some(*row);
-        }
+    match rows.binary_search_by_key(&(high, low), |row| (row.high(), row.low())) {
+        Ok(index) => Some(rows[index]),
+        Err(_) => None,
     }
 }
 

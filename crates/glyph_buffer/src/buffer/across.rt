@@ -51,10 +51,9 @@ impl hb_buffer_t {
     }
 
     /// Marks the glyphs from `start` of the output, over its end, up to before `end` of the input that are outside the least
-    /// cluster among them as unsafe to break and to concat. Where they are not told, the range begins at 0 and ends at the
-    /// length of the input.
+    /// cluster among them as unsafe to break and to concat; with no output open, those of the list, as `unsafe_to_break`.
+    /// Where they are not told, the range begins at 0 and ends at the length of the input.
     pub fn unsafe_to_break_from_outbuffer(&mut self, start: Option<usize>, end: Option<usize>)
-        requires open { self.old.is_open ≡ true }
         requires begins { start_or start ≤ length self.old.behind }
         requires unread { self.old.read ≤ end_or end self.old }
         requires within { end_or end self.old ≤ self.old.read + length self.old.ahead }
@@ -63,6 +62,9 @@ impl hb_buffer_t {
         ensures clusters { clusters (all_glyphs self.new) ≡ clusters (all_glyphs self.old) }
         ensures flags { flags_of (all_glyphs self.new) ≡ flags_marked 3 (start_or start) (index_in_all (end_or end self.old) self.old) (all_glyphs self.old) }
     {
+        if !self.have_output {
+            return self.unsafe_to_break(start, end);
+        }
         let count = self.info.len();
         self.mark_both(
             start.unwrap_or(0),
@@ -72,9 +74,8 @@ impl hb_buffer_t {
     }
 
     /// Marks the glyphs from `start` of the output, over its end, up to before `end` of the input as unsafe to concat, where
-    /// that is asked for.
+    /// that is asked for; with no output open, those of the list.
     pub fn unsafe_to_concat_from_outbuffer(&mut self, start: Option<usize>, end: Option<usize>)
-        requires open { self.old.is_open ≡ true }
         requires begins { start_or start ≤ length self.old.behind }
         requires unread { self.old.read ≤ end_or end self.old }
         requires within { end_or end self.old ≤ self.old.read + length self.old.ahead }
@@ -83,6 +84,9 @@ impl hb_buffer_t {
         ensures clusters { clusters (all_glyphs self.new) ≡ clusters (all_glyphs self.old) }
         ensures flags { flags_of (all_glyphs self.new) ≡ (if asks_concat self.old then flags_flagged 2 (start_or start) (index_in_all (end_or end self.old) self.old) (all_glyphs self.old) else flags_of (all_glyphs self.old)) }
     {
+        if !self.have_output {
+            return self.unsafe_to_concat(start, end);
+        }
         if self.asks_concat() {
             let count = self.info.len();
             self.flag_both(start.unwrap_or(0), end.unwrap_or(count), UNSAFE_TO_CONCAT);

@@ -34,24 +34,32 @@ impl hb_buffer_t {
         }
     }
 
-    /// The last glyph of the output.
+    /// The glyph behind the cursor: the last of the output while one is open.
     pub fn prev(&self) -> &hb_glyph_info_t
-        requires open { self.now.is_open ≡ true }
-        requires there { 0 < length self.now.behind }
+        requires { 0 < length self.now.behind }
         ensures { slice_get self.now.behind (length self.now.behind - 1) ≡ Some result.now }
     {
-        &self.out_info[self.out_info.len() - 1]
+        let behind = self.out_info();
+        &behind[behind.len() - 1]
     }
 
-    /// The last glyph of the output, to be written.
+    /// The glyph behind the cursor, to be written.
     pub fn prev_mut(&mut self) -> &mut hb_glyph_info_t
-        requires open { self.old.is_open ≡ true }
-        requires there { 0 < length self.old.behind }
+        requires { 0 < length self.old.behind }
         ensures value { slice_get self.old.behind (length self.old.behind - 1) ≡ Some result.now }
         ensures* writes_back { sem 𝓛 (LendsLast self.entry result) }
     {
-        let last = self.out_info.len() - 1;
         self.order.settle(&self.out_info, &self.info);
+        if !self.have_output {
+            let last = self.idx - 1;
+            self.order.lent = Some(Lent {
+                in_output: false,
+                at: last,
+                cluster: self.info[last].cluster,
+            });
+            return &mut self.info[last];
+        }
+        let last = self.out_info.len() - 1;
         self.order.lent = Some(Lent {
             in_output: true,
             at: last,
@@ -60,12 +68,14 @@ impl hb_buffer_t {
         &mut self.out_info[last]
     }
 
-    /// The glyphs of the output.
+    /// The glyphs behind the cursor: those of the output while one is open.
     pub fn out_info(&self) -> &[hb_glyph_info_t]
-        requires { self.now.is_open ≡ true }
         ensures { result.now ≡ self.now.behind }
     {
-        &self.out_info
+        if self.have_output {
+            return &self.out_info;
+        }
+        &self.info[..self.idx]
     }
 
     /// The i-th glyph from the cursor on.

@@ -1,4 +1,4 @@
-ghost use Rattle.std.specs.Prelude.{◌≡◌, ◌+◌, ◌≤◌, ◌<◌, ◌^◌, ◌==◌, ◌++◌, ◌∷◌, [], length, replicate, nat_le, false, true, Ok, OnOk, OnErr, IfOk, IsTrue, vec_len, vec_capacity};
+ghost use Rattle.std.specs.Prelude.{◌≡◌, ◌+◌, ◌≤◌, ◌<◌, ◌^◌, ◌==◌, ◌++◌, ◌∷◌, [], length, not, replicate, nat_le, false, true, Ok, OnOk, OnErr, IfOk, IsTrue, vec_len, vec_capacity};
 ghost use Rattle.std.specs.Str.{chars};
 ghost use Rattle.glyph_buffer.specs.Sides.{all_glyphs, items_of, with_added, has_room, refused, zero_position, zero_positions};
 ghost use Rattle.glyph_lists.specs.Items.{clusters, flags_of, item_of};
@@ -24,11 +24,25 @@ impl hb_buffer_t {
         self.info.len()
     }
 
-    /// Whether there is no glyph while no output is open.
+    /// Whether there is no glyph.
     pub fn is_empty(&self) -> bool
-        ensures { self.now.is_open ≡ false → result ≡ (length (all_glyphs self.now) == 0) }
+        ensures { result ≡ (length (all_glyphs self.now) == 0) }
     {
-        self.info.is_empty()
+        self.out_info.is_empty() && self.info.len() == self.first_of_input()
+    }
+
+    /// Whether an output is open.
+    pub fn have_output(&self) -> bool
+        ensures { result ≡ self.now.is_open }
+    {
+        self.have_output
+    }
+
+    /// Whether no call was refused for length.
+    pub fn successful(&self) -> bool
+        ensures { result ≡ not self.now.has_refused }
+    {
+        self.successful
     }
 
     /// How many glyphs were read since the output was opened; with none open, how many the cursor has passed.

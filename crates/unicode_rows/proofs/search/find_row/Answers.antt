@@ -1,29 +1,19 @@
-use Rattle.std.proofs.Common.{◌≡◌, ◌∙◌, true, false, arith}
-use Rattle.unicode_rows.specs.Keys.{is_below}
-use Rattle.unicode_rows.specs.Searches.{halved, after_rises, after_has, front_rises, front_has, row_is_found}
+use Rattle.std.proofs.Common.{ap, ◌∙◌, Some, None, Ok, Err, rules}
+use Rattle.std.proofs.lemmas.List.Sorted.{answers_always}
+use Rattle.sorted_rows.specs.Searched.{searched}
+use Rattle.unicode_rows.proofs.Pairs.{pair_order, pairs_total, pairs_rise, row_of_pair}
 use Rattle.unicode_rows.proofs.search.find_row.Goals as goal
 
-pub halving-preserved-then-is_below : goal.halving-preserved-then-is_below
-halving-preserved-then-is_below g c =
-    let whole = halved c.halving.rest.now c.split_at.result.0.now c.split_at.result.1.now c.row-item.result _ c.split_at.ensures.front c.split_at.ensures.back (omega arith) c.row-item.is in
-    let below : is_below (g.R.Keyed.high c.row-item.result) (g.R.Keyed.low c.row-item.result) c.args.high c.args.low ≡ true = cc in
-    record {
-      rising = after_rises g.R.Keyed.high g.R.Keyed.low _ _ _ _ whole c.halving.invariant.rising;
-      same = after_has g.R.Keyed.high g.R.Keyed.low c.args.high c.args.low _ _ _ _ whole c.halving.invariant.rising below ∙ c.halving.invariant.same;
-    }
+-- the closure gives a row's key
+pub returns-in-Ok : goal.returns-in-Ok
+returns-in-Ok g c =
+    let by_key = c.in-Ok.ensures.position (λ r. (g.R.Keyed.high r, g.R.Keyed.low r)) (answers_always _ _ _ (λ f a r h called. search rules)) in
+    ap (λ r. Some r) c.index-rows-index.is
+    ∙ searched pair_order pairs_total (λ r. (g.R.Keyed.high r, g.R.Keyed.low r)) None c.args.rows.now (c.args.high, c.args.low) (Ok c.in-Ok.index) (pairs_rise g.R.Keyed.high g.R.Keyed.low c.args.rows.now c.requires) c.in-Ok.ensures.bound by_key c.index-rows-index.result
+    ∙ row_of_pair g.R.Keyed.high g.R.Keyed.low c.args.high c.args.low c.args.rows.now
 
-pub halving-preserved : goal.halving-preserved
-halving-preserved g c =
-    let whole = halved c.halving.rest.now c.split_at.result.0.now c.split_at.result.1.now c.row-item.result _ c.split_at.ensures.front c.split_at.ensures.back (omega arith) c.row-item.is in
-    let above : is_below c.args.high c.args.low (g.R.Keyed.high c.row-item.result) (g.R.Keyed.low c.row-item.result) ≡ true = cc in
-    record {
-      rising = front_rises g.R.Keyed.high g.R.Keyed.low _ _ _ _ whole c.halving.invariant.rising;
-      same = front_has g.R.Keyed.high g.R.Keyed.low c.args.high c.args.low _ _ _ _ whole c.halving.invariant.rising above ∙ c.halving.invariant.same;
-    }
-
-pub returns-else-is_below-2 : goal.returns-else-is_below-2
-returns-else-is_below-2 g c =
-    let whole = halved c.halving.rest.now c.split_at.result.0.now c.split_at.result.1.now c.row-item.result _ c.split_at.ensures.front c.split_at.ensures.back (omega arith) c.row-item.is in
-    let not_below : is_below (g.R.Keyed.high c.row-item.result) (g.R.Keyed.low c.row-item.result) c.args.high c.args.low ≡ false = cc in
-    let not_above : is_below c.args.high c.args.low (g.R.Keyed.high c.row-item.result) (g.R.Keyed.low c.row-item.result) ≡ false = cc in
-    row_is_found g.R.Keyed.high g.R.Keyed.low c.args.high c.args.low _ _ _ _ whole c.halving.invariant.rising not_below not_above ∙ c.halving.invariant.same
+pub returns-in-Err : goal.returns-in-Err
+returns-in-Err g c =
+    let by_key = c.in-Err.ensures.position (λ r. (g.R.Keyed.high r, g.R.Keyed.low r)) (answers_always _ _ _ (λ f a r h called. search rules)) in
+    searched pair_order pairs_total (λ r. (g.R.Keyed.high r, g.R.Keyed.low r)) None c.args.rows.now (c.args.high, c.args.low) (Err c.in-Err.field-0) (pairs_rise g.R.Keyed.high g.R.Keyed.low c.args.rows.now c.requires) c.in-Err.ensures.bound by_key
+    ∙ row_of_pair g.R.Keyed.high g.R.Keyed.low c.args.high c.args.low c.args.rows.now

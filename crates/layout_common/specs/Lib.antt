@@ -1,0 +1,4 @@
+pub mod Classes
+pub mod Coverage
+pub mod CoverageSearch
+pub mod Rows

@@ -1,0 +1,41 @@
+//! Sets of glyphs.
+ghost use Rattle.std.specs.Prelude.{◌≡◌, ℕ};
+ghost use Rattle.layout_common.specs.Coverage.{is_covered};
+
+use std::marker::Model;
+
+/// A set of glyphs (OpenType, chapter 2, coverage table): the order in which they were listed is not kept.
+#[derive(Debug, Drop)]
+pub struct Coverage {
+    glyphs: Vec<u16>,
+}
+
+impl Model for Coverage {
+    ghost use Rattle.std.specs.Prelude.{ℕ, List};
+    ghost use Rattle.std.specs.Ordering.{nat_cmp};
+    ghost use Rattle.std.specs.List.Sorted.{IsSorted};
+
+    ghost Value = { List ℕ };
+
+    ghost view = { λ c. c.glyphs.items };
+
+    ghost invariant = { λ c. IsSorted nat_cmp c.glyphs.items };
+}
+
+impl Coverage {
+    /// The set of the listed glyphs, which may stand in any order and more than once.
+    pub fn new(glyphs: Vec<u16>) -> Coverage
+        ensures { (g : ℕ) → is_covered g result ≡ is_covered g glyphs.items }
+    {
+        let mut glyphs = glyphs;
+        glyphs.sort_unstable();
+        Coverage { glyphs }
+    }
+
+    /// Whether the set has a glyph, in logarithmic time.
+    pub fn contains(&self, glyph: u16) -> bool
+        ensures { result ≡ is_covered glyph self.now }
+    {
+        self.glyphs.binary_search(&glyph).is_ok()
+    }
+}

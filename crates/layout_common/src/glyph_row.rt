@@ -1,0 +1,33 @@
+//! Rows of a glyph and what a table says of it.
+ghost use Rattle.std.specs.Prelude.{◌≡◌};
+ghost use Rattle.layout_common.specs.Rows.{value_of};
+
+use sorted_rows::{Keyed, SortedRows};
+
+/// A glyph, and what a table says of it.
+#[derive(Clone, Copy, Debug, Drop)]
+pub struct GlyphRow<V> {
+    pub glyph: u16,
+    pub value: V,
+}
+
+impl<V> Keyed for GlyphRow<V> {
+    type Key = u16;
+
+    ghost key_of = { λ r. r.glyph };
+
+    fn key(&self) -> u16 {
+        self.glyph
+    }
+}
+
+/// What a table says of a glyph, none where it has no row of the glyph, in logarithmic time.
+#[tactic(auto, using(sorted_rows::specs::Searched::row_of_number))]
+pub fn find_value<V: Copy>(rows: &SortedRows<GlyphRow<V>>, glyph: u16) -> Option<V>
+    ensures { result ≡ value_of glyph rows.now }
+{
+    match rows.get(glyph) {
+        Some(row) => Some(row.value),
+        None => None,
+    }
+}

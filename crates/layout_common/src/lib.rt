@@ -1,0 +1,9 @@
+// What the subtables of substitution and positioning share: coverage, classes of glyphs, lookup flags.
+#![tactic(auto)]
+
+pub mod class_definition;
+pub mod coverage;
+pub mod flags;
+pub mod glyph_row;
+#[cfg(test)]
+mod tests;

@@ -1,0 +1,47 @@
+use layout_common::class_definition::ClassDefinition;
+use layout_common::coverage::Coverage;
+
+/// A lookup to apply at a glyph of the input sequence (`SequenceLookupRecord`).
+#[derive(Clone, Copy, PartialEq, Eq, Debug, Drop)]
+pub struct SequenceLookupRecord {
+    /// The index of the glyph in the input sequence, the first being 0.
+    pub sequence_index: u16,
+    /// The index of the lookup in the table's list of lookups.
+    pub lookup_index: u16,
+}
+
+/// A rule: what stands before, in and after the input sequence, and the lookups to apply then. An item is a glyph, a
+/// class or a set of glyphs.
+#[derive(Debug, Drop)]
+pub struct SequenceRule<I> {
+    /// What stands before the input, the nearest item first.
+    pub backtrack: Vec<I>,
+    /// The input sequence with its first glyph.
+    pub input: Vec<I>,
+    /// What stands after the input, the nearest item first.
+    pub lookahead: Vec<I>,
+    /// The lookups, in the order in which they are applied.
+    pub records: Vec<SequenceLookupRecord>,
+}
+
+/// Rules by classes (format 2): `first` covers the first glyph of the input.
+#[derive(Debug, Drop)]
+pub struct ClassRules {
+    pub first: Coverage,
+    pub backtrack: ClassDefinition,
+    pub input: ClassDefinition,
+    pub lookahead: ClassDefinition,
+    /// The rules, in the order in which they are tried.
+    pub rules: Vec<SequenceRule<u16>>,
+}
+
+/// A contextual or chained contextual subtable in one of its formats; its rules stand in the order in which they are tried.
+#[derive(Debug, Drop)]
+pub enum ContextSubtable {
+    /// Items are glyphs (format 1).
+    Glyphs(Vec<SequenceRule<u16>>),
+    /// Items are classes (format 2).
+    Classes(ClassRules),
+    /// Items are sets of glyphs (format 3).
+    Coverage(Vec<SequenceRule<Coverage>>),
+}

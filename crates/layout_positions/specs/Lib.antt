@@ -1,0 +1,4 @@
+pub mod Fits
+pub mod Marks
+pub mod Pairs
+pub mod PairSearch

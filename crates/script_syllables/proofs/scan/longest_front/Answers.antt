@@ -1,0 +1,5 @@
+use Rattle.script_syllables.specs.Spans.{longest_within}
+use Rattle.script_syllables.proofs.scan.longest_front.Goals as goal
+
+pub returns-clause-within : goal.returns-clause-within
+returns-clause-within c = longest_within c.args.machine.now c.args.categories.now c.walk.result c.walk.ensures

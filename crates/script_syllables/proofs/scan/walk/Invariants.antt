@@ -1,0 +1,10 @@
+use Rattle.std.proofs.Common.{◌≡◌, take, Some}
+use Rattle.script_syllables.specs.Fronts.{longest_up_to, state_after}
+use Rattle.script_syllables.proofs.scan.walk.Given as goal
+
+-- the longest of the fronts so far, and the state that they lead to
+abbrev pub invariant-loop-i : goal.invariant-loop-i
+invariant-loop-i l = record {
+  front : l.front ≡ longest_up_to l.machine l.categories l.i;
+  state : Some l.state ≡ state_after l.machine (take l.i l.categories);
+}
