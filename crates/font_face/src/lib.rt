@@ -6,6 +6,5 @@ pub mod parts;
 #[cfg(test)]
 mod tests;
 
-pub use face::Face;
-pub use face::Face as hb_font_t;
+pub use face::{Face, Face as hb_font_t};
 pub use parts::FaceParts;
