@@ -2,8 +2,11 @@
 
 /// The last glyph of a cursive chain stands on the baseline.
 pub const RIGHT_TO_LEFT: u16 = 1;
+
 pub const IGNORE_BASE_GLYPHS: u16 = 2;
+
 pub const IGNORE_LIGATURES: u16 = 4;
+
 pub const IGNORE_MARKS: u16 = 8;
 /// Base glyphs, ligatures and marks.
 pub const IGNORE_FLAGS: u16 = 14;

@@ -8,7 +8,14 @@ use std::test::Fail;
 #[test]
 fn glyphs_of_a_set(rt: HostRuntime) -> Result<(), Fail> {
     let set = Coverage::new([9, 3, 65535, 3, 0].to_vec(rt.alloc())?);
-    for (glyph, has) in [(0, true), (1, false), (3, true), (9, true), (10, false), (65535, true)] {
+    for (glyph, has) in [
+        (0, true),
+        (1, false),
+        (3, true),
+        (9, true),
+        (10, false),
+        (65535, true),
+    ] {
         assert_eq!(rt; set.contains(glyph), has);
     }
     assert!(rt; !Coverage::new(Vec::new(rt.alloc())).contains(0));

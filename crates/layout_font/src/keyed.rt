@@ -16,10 +16,7 @@ pub(crate) fn find_keyed<R: Keyed<Key = u32>>(records: &[R], key: u32) -> Option
 }
 
 /// The record of the first tag that has one, in records whose key is their tag's number.
-pub(crate) fn find_first<'a, R: Keyed<Key = u32>>(
-    records: &'a [R],
-    tags: &[Tag],
-) -> Option<&'a R>
+pub(crate) fn find_first<'a, R: Keyed<Key = u32>>(records: &'a [R], tags: &[Tag]) -> Option<&'a R>
     requires { is_rising R.key_of None records.now ≡ true }
     ensures { option_copied result ≡ first_found (λ tag. find (λ r. R.key_of r == tag.0) records.entry.now) tags.now }
 {

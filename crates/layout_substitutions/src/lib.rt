@@ -2,7 +2,7 @@
 #![tactic(auto)]
 
 pub mod reverse;
-pub mod single;
 pub mod sequence;
+pub mod single;
 #[cfg(test)]
 mod tests;

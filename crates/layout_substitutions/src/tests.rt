@@ -26,8 +26,14 @@ fn substitutes(rt: HostRuntime) -> Result<(), Fail> {
 
 fn sequences(alloc: Global) -> Result<Option<SortedRows<SequenceRow>>, AllocError> {
     let mut rows = Vec::new(alloc);
-    rows.push(SequenceRow { glyph: 2, glyphs: [3, 4].to_vec(alloc)? })?;
-    rows.push(SequenceRow { glyph: 7, glyphs: Vec::new(alloc) })?;
+    rows.push(SequenceRow {
+        glyph: 2,
+        glyphs: [3, 4].to_vec(alloc)?,
+    })?;
+    rows.push(SequenceRow {
+        glyph: 7,
+        glyphs: Vec::new(alloc),
+    })?;
     if !is_rising(&rows) {
         return Ok(None);
     }

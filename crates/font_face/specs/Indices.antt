@@ -1,0 +1,11 @@
+-- Indices and classes of a font that stay within their lists.
+use Rattle.std.specs.Prelude.{◌&&◌, Bool, true, length}
+use Rattle.std.specs.Option.{option_map_or}
+use Rattle.layout_lookups.specs.Indices.{substitution_fits, positioning_fits}
+use Rattle.font_face.specs.declared.parts.FaceParts.{FaceParts}
+
+-- features, lookups, sets of marks, records of pairs and anchors are there, in both layout tables
+abbrev pub indices_fit : FaceParts → Bool
+indices_fit font =
+    option_map_or (λ t. substitution_fits (length font.gdef.sets.items) t) font.gsub true
+    && option_map_or (λ t. positioning_fits (length font.gdef.sets.items) t) font.gpos true

@@ -1,0 +1,3 @@
+pub mod Glyphs
+pub mod Indices
+pub mod VariationSearch

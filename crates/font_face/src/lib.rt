@@ -1,0 +1,10 @@
+// A font as a parsed value, and what shaping asks it of its glyphs.
+#![tactic(auto)]
+
+pub mod face;
+pub mod parts;
+#[cfg(test)]
+mod tests;
+
+pub use face::{Face, Face as hb_font_t};
+pub use parts::FaceParts;
