@@ -2,7 +2,7 @@
 use Rattle.std.proofs.Common.{◌≡◌, ◌≢◌, suc, List, [], ◌∷◌, length, get_or, false, is_some, Ok, Err, ap, arith, refl}
 use Rattle.serde_json.specs.declared.value.Value.{Value}
 use Rattle.serde_json.specs.View.{view, items_view}
-use Rattle.run_options.specs.declared.fault.JsonFault.TheVariants.{WrongShape}
+use Rattle.json_values.specs.declared.fault.JsonFault.TheVariants.{WrongShape}
 use Rattle.font_json.specs.Lists.{two_in, three_in, item_count}
 use Rattle.serde_json.specs.Find.{as_number}
 use Rattle.font_json.specs.Gsub.{is_ligature}

@@ -1,13 +1,12 @@
 -- Rows that were read by their keys rise.
 use Rattle.std.proofs.Common.{◌≡◌, ℕ, Bool, true, false, List, [], ◌∷◌, Option, Some, Result, Ok, Err, if◌then◌else◌, refl, subst}
 use Rattle.serde_json.specs.Data.{Data, Items, no_items, item}
-use Rattle.run_options.specs.declared.fault.JsonFault.{JsonFault}
-use Rattle.run_options.specs.declared.fault.JsonFault.TheVariants.{OutOfOrder}
+use Rattle.json_values.specs.declared.fault.JsonFault.{JsonFault}
+use Rattle.json_values.specs.declared.fault.JsonFault.TheVariants.{OutOfOrder}
 use Rattle.layout_font.specs.Keyed.{is_above, is_rising}
-use Rattle.font_json.specs.Cell.{and_then}
-use Rattle.font_json.specs.Rows.{behind}
+use Rattle.json_values.specs.Cell.{and_then}
+use Rattle.json_values.specs.Rows.{behind, ok_cons}
 use Rattle.font_json.specs.Lists.{rows_by_key}
-use Rattle.font_json.proofs.Rising.{ok_cons}
 
 module _ {A : Type 0} (key : A → ℕ) where
   -- with a row in front that is above the key before it

@@ -5,15 +5,15 @@ use Rattle.std.specs.Str.{bytes_eq}
 use Rattle.std.specs.Option.{ok_or}
 use Rattle.serde_json.specs.Data.{Data, null, boolean, number, string, array, object, Items, no_items, item}
 use Rattle.serde_json.specs.Find.{get, as_str, as_number}
-use Rattle.run_options.specs.declared.fault.JsonFault.{JsonFault}
-use Rattle.run_options.specs.declared.fault.JsonFault.TheVariants.{WrongShape, UnknownName, OutOfRange, OutOfOrder}
+use Rattle.json_values.specs.declared.fault.JsonFault.{JsonFault}
+use Rattle.json_values.specs.declared.fault.JsonFault.TheVariants.{WrongShape, UnknownName, OutOfRange, OutOfOrder}
 use Rattle.shaping_text.specs.declared.tag.Tag.{Tag}
 use Rattle.shaping_text.specs.Tag.{tag_of, tag_of_text}
 use Rattle.layout_font.specs.Keyed.{is_rising}
 use Rattle.layout_font.specs.Layout.{LangSysTable, LangSysEntry, ScriptTable, FeatureTable, LigatureTable, LigatureSetTable, ligature_subtables, LookupTable, LayoutLists}
-use Rattle.font_json.specs.Cell.{and_then, word}
+use Rattle.json_values.specs.Cell.{and_then, word}
 use Rattle.font_json.specs.Lists.{array_of, array_at, parts_of, part_list, rows_in_turn, rows_by_key, row_of_two, row_of_three, count_at}
-use Rattle.font_json.specs.Objects.{read_or, without, of_object}
+use Rattle.json_values.specs.Objects.{read_or, without, of_object}
 
 -- ---- parts
 

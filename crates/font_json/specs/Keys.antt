@@ -3,11 +3,11 @@ use Rattle.std.specs.Prelude.{ℕ, ℤ, pos, List, [], ◌∷◌, codes, ⊤, Op
 use Rattle.std.specs.Ordering.{nat_cmp}
 use Rattle.serde_json.specs.Data.{Data}
 use Rattle.serde_json.specs.Find.{get}
-use Rattle.run_options.specs.declared.fault.JsonFault.{JsonFault}
+use Rattle.json_values.specs.declared.fault.JsonFault.{JsonFault}
 use Rattle.layout_font.specs.Layout.{LayoutLists}
-use Rattle.font_json.specs.Cell.{and_then, word, signed_word, character}
+use Rattle.json_values.specs.Cell.{and_then, word, signed_word, character}
 use Rattle.font_json.specs.Rows.{row_of}
-use Rattle.font_json.specs.Objects.{read_or, read_if_there, rows_of, without, of_object}
+use Rattle.json_values.specs.Objects.{read_or, read_if_there, rows_of, without, of_object}
 use Rattle.font_json.specs.Gsub.{gsub_of}
 
 -- the keys of a font

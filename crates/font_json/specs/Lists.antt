@@ -3,11 +3,11 @@ use Rattle.std.specs.Prelude.{ℕ, suc, if◌then◌else◌, List, [], ◌∷◌
 use Rattle.std.specs.Option.{ok_or, option_map_or}
 use Rattle.serde_json.specs.Data.{Data, Items, no_items, item}
 use Rattle.serde_json.specs.Find.{get, as_array}
-use Rattle.run_options.specs.declared.fault.JsonFault.{JsonFault}
-use Rattle.run_options.specs.declared.fault.JsonFault.TheVariants.{WrongShape, OutOfOrder}
+use Rattle.json_values.specs.declared.fault.JsonFault.{JsonFault}
+use Rattle.json_values.specs.declared.fault.JsonFault.TheVariants.{WrongShape, OutOfOrder}
 use Rattle.layout_font.specs.Keyed.{is_above}
-use Rattle.font_json.specs.Cell.{and_then, both, first_fault}
-use Rattle.font_json.specs.Rows.{behind}
+use Rattle.json_values.specs.Cell.{and_then, both, first_fault}
+use Rattle.json_values.specs.Rows.{behind}
 
 abbrev pub array_of : Data → Result Items JsonFault
 array_of d = ok_or (as_array d) WrongShape

@@ -3,15 +3,15 @@ ghost use Rattle.std.specs.Option.{option_copied};
 ghost use Rattle.std.specs.List.{Contains};
 ghost use Rattle.serde_json.specs.Find.{get};
 ghost use Rattle.serde_json.specs.View.{view};
-ghost use Rattle.font_json.specs.Objects.{read_if_there};
+ghost use Rattle.json_values.specs.Objects.{read_if_there};
 ghost use Rattle.font_json.specs.Gsub.{gsub_of};
 ghost use Rattle.font_json.specs.Keys.{glyph_of, advance_of, face_of};
 
 use crate::gsub::read_gsub;
-use crate::keys::{read_key, read_row_key, refuse_keys};
 use crate::rows::find_row;
+use json_values::fault::JsonFault;
+use json_values::keys::{read_key, read_row_key, refuse_keys};
 use layout_font::table::LayoutTable;
-use run_options::fault::JsonFault;
 use serde_json::Value;
 use std::alloc::Global;
 use std::marker::Model;
@@ -30,7 +30,7 @@ impl Model for FontFace {
     ghost use Rattle.std.specs.Prelude.{◌≡◌, None, true};
     ghost use Rattle.std.specs.Ordering.{nat_cmp};
     ghost use Rattle.font_json.specs.Keys.{FontKeys};
-    ghost use Rattle.font_json.specs.Rows.{is_rising};
+    ghost use Rattle.json_values.specs.Rows.{is_rising};
 
     ghost Value = { FontKeys };
 

@@ -4,13 +4,13 @@ ghost use Rattle.serde_json.specs.View.{view, items_view};
 ghost use Rattle.layout_font.specs.Layout.{LangSysTable, LangSysEntry, ScriptTable, FeatureTable, LayoutLists};
 ghost use Rattle.font_json.specs.Gsub.{lang_sys_or_null, lang_sys, lang_sys_entry, script, feature, liga, gsub_of};
 
-use crate::keys::refuse_keys;
 use crate::lists::{Part, array_at, read_parts, read_rows_by_key, read_rows_in_turn};
 use crate::parts::{PartList, count_at, read_three, read_two};
+use json_values::fault::JsonFault;
+use json_values::keys::refuse_keys;
 use layout_font::is_rising;
 use layout_font::script::{LangSys, LangSysRecord, ScriptRecord};
 use layout_font::table::{FeatureRecord, LayoutTable};
-use run_options::fault::JsonFault;
 use serde_json::Value;
 use shaping_text::tag::Tag;
 use std::alloc::Global;

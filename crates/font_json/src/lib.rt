@@ -1,10 +1,8 @@
 // Reads the tables and the font of a run from JSON values.
 #![tactic(auto)]
 
-mod cell;
 mod face;
 mod gsub;
-mod keys;
 mod lists;
 mod lookups;
 mod names;

@@ -4,11 +4,11 @@ ghost use Rattle.serde_json.specs.Data.{Data};
 ghost use Rattle.serde_json.specs.View.{view, items_view};
 ghost use Rattle.layout_font.specs.Keyed.{is_rising};
 ghost use Rattle.font_json.specs.Lists.{array_of, array_at, behind_all, parts_of, rows_in_turn, rows_by_key};
-ghost use Rattle.run_options.specs.declared.fault.JsonFault.{JsonFault};
+ghost use Rattle.json_values.specs.declared.fault.JsonFault.{JsonFault};
 
-use crate::cell::first_fault;
+use json_values::cell::first_fault;
+use json_values::fault::JsonFault;
 use layout_font::{Keyed, is_above};
-use run_options::fault::JsonFault;
 use serde_json::Value;
 use std::alloc::Global;
 

@@ -2,16 +2,16 @@ ghost use Rattle.std.specs.Prelude.{◌≡◌, ◌≢◌, IfOk, IfErr, Ok, Err, 
 ghost use Rattle.serde_json.specs.Find.{get};
 ghost use Rattle.serde_json.specs.View.{view, items_view};
 ghost use Rattle.layout_font.specs.Layout.{LigatureTable, LigatureSetTable, LookupTable};
-ghost use Rattle.font_json.specs.Cell.{and_then, word};
-ghost use Rattle.font_json.specs.Objects.{read_or};
+ghost use Rattle.json_values.specs.Cell.{and_then, word};
+ghost use Rattle.json_values.specs.Objects.{read_or};
 ghost use Rattle.font_json.specs.Gsub.{ligature, is_ligature, ligatures, ligature_set, ligature_subst, no_flags, is_later_type, ligature_name, ligature_type_in, lookup};
 
-use crate::keys::{read_key, refuse_keys};
 use crate::lists::{Part, array, array_at, read_parts, read_rows_by_key, read_rows_in_turn};
 use crate::parts::{PartList, read_two};
+use json_values::fault::JsonFault;
+use json_values::keys::{read_key, refuse_keys};
 use layout_font::ligature::{Ligature, LigatureSet, LigatureSubst};
 use layout_font::lookup::{Lookup, Subtables};
-use run_options::fault::JsonFault;
 use serde_json::Value;
 use std::alloc::Global;
 use std::marker::Model;

@@ -2,12 +2,12 @@ ghost use Rattle.std.specs.Prelude.{◌≡◌, ◌≢◌, IfOk, IfErr, Ok, Err};
 ghost use Rattle.std.specs.List.{list_all};
 ghost use Rattle.serde_json.specs.View.{view, items_view};
 ghost use Rattle.font_json.specs.Lists.{array_of, two_in, three_in, row_of_two, row_of_three, part_list, count_at};
-ghost use Rattle.font_json.specs.Cell.{and_then};
+ghost use Rattle.json_values.specs.Cell.{and_then};
 ghost use Rattle.font_json.specs.Gsub.{tag, tag_in_text, is_tag_text, is_printable, number_below};
 
-use crate::cell::{Cell, pair};
 use crate::lists::{Part, array, read_parts};
-use run_options::fault::JsonFault;
+use json_values::cell::{Cell, pair};
+use json_values::fault::JsonFault;
 use serde_json::Value;
 use shaping_text::tag::Tag;
 use std::alloc::Global;

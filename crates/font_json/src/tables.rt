@@ -2,8 +2,8 @@ ghost use Rattle.std.specs.Prelude.{◌≡◌};
 ghost use Rattle.serde_json.specs.View.{view};
 ghost use Rattle.font_json.specs.Keys.{tables_of};
 
-use crate::keys::refuse_keys;
-use run_options::fault::JsonFault;
+use json_values::fault::JsonFault;
+use json_values::keys::refuse_keys;
 use serde_json::Value;
 
 /// Reads the tables. Keys that are not of the format are passed over; no key of the format is read yet, and each is a

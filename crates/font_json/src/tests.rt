@@ -1,8 +1,8 @@
 use crate::{FontFace, read_face, read_tables};
+use json_values::fault::JsonFault;
+use json_values::fault::JsonFault::{FloatNumber, OutOfOrder, OutOfRange, UnknownName, WrongShape};
 use layout_font::lookup::Subtables;
 use layout_font::table::LayoutTable;
-use run_options::fault::JsonFault;
-use run_options::fault::JsonFault::{FloatNumber, OutOfOrder, OutOfRange, UnknownName, WrongShape};
 use serde_json::Value;
 use shaping_text::tag::Tag;
 use std::alloc::Global;
@@ -391,5 +391,32 @@ fn systems_and_features_are_read(rt: HostRuntime) -> Result<(), Fail> {
         .ok_or("no system")?;
     assert_eq!(rt; system.lang_sys().features(), [1].as_slice());
     assert!(rt; table.script(Tag::from_bytes(b"b   ")).is_none());
+    Ok(())
+}
+
+fn component_count(table: &LayoutTable) -> Option<usize> {
+    let Subtables::Ligature(subtables) = table.lookup(0)?.subtables();
+    let ligature = subtables.first()?.set_of(1)?.ligatures().first()?;
+    Some(ligature.components().len())
+}
+
+// A list past 65,536 characters, and a ligature of as many parts.
+#[test]
+fn long_lists_are_read(rt: HostRuntime) -> Result<(), Fail> {
+    let mut text = String::from_str(rt.alloc(), r#"{"cmap":[[131072,0]"#)?;
+    for row in 1..70_000u32 {
+        text.push_str(&format!(in rt.alloc(); ",[{},{}]", 131072 + row, row % 1000)?)?;
+    }
+    text.push_str(r#"],"gsub":{"lookups":[{"type":"ligature","subtables":[[[1,[[0"#)?;
+    for part in 1..70_000u32 {
+        text.push_str(&format!(in rt.alloc(); ",{}", part % 1000)?)?;
+    }
+    text.push_str("],7]]]]}]}}")?;
+    let face = read_face(rt.alloc(), &Value::from_str(rt.alloc(), &text)?)?;
+    assert_eq!(rt; face.get_nominal_glyph('\u{20000}'), Some(0));
+    assert_eq!(rt; face.get_nominal_glyph('\u{3116F}'), Some(999));
+    assert_eq!(rt; face.get_nominal_glyph('\u{31170}'), None);
+    let parts = face.gsub().and_then(component_count);
+    assert_eq!(rt; parts, Some(70_000));
     Ok(())
 }

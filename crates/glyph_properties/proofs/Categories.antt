@@ -1,5 +1,5 @@
 -- Numbers of categories fit their bits.
-use Rattle.std.proofs.Common.{ℕ, ◌≡◌, ◌<◌, ◌%◌, refl, arith}
+use Rattle.std.proofs.Common.{◌≡◌, ◌<◌, ◌%◌, refl, arith}
 use Rattle.ucd_category.specs.declared.GeneralCategory.{GeneralCategory}
 use Rattle.ucd_category.specs.declared.GeneralCategory.TheVariants.{Control, Format, Unassigned, PrivateUse, Surrogate, LowercaseLetter, ModifierLetter, OtherLetter, TitlecaseLetter, UppercaseLetter, SpacingMark, EnclosingMark, NonspacingMark, DecimalNumber, LetterNumber, OtherNumber, ConnectorPunctuation, DashPunctuation, ClosePunctuation, FinalPunctuation, InitialPunctuation, OtherPunctuation, OpenPunctuation, CurrencySymbol, ModifierSymbol, MathSymbol, OtherSymbol, LineSeparator, ParagraphSeparator, SpaceSeparator}
 use Rattle.unicode_chars.specs.Category.{category_number}

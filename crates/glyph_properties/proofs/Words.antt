@@ -1,5 +1,5 @@
 -- The bits of a property word.
-use Rattle.std.proofs.Common.{ℕ, ◌≡◌, ◌≤◌, ◌<◌, ◌+◌, ◌-◌, ◌*◌, ◌%◌, ◌==◌, Bool, true, false, refl, ap, ap₂, ◌∙◌, arith}
+use Rattle.std.proofs.Common.{ℕ, ◌≡◌, ◌≤◌, ◌<◌, ◌+◌, ◌-◌, ◌*◌, ◌%◌, ◌==◌, Bool, true, false, ap, ap₂, ◌∙◌, arith}
 use Rattle.std.proofs.lemmas.Nat.{and_mask, and_block}
 use Rattle.std.specs.Int.RustNames.{bit_and}
 use Rattle.unicode.specs.GeneralCategory.{general_category}
@@ -17,7 +17,6 @@ bit_times false m = omega arith
 at_most_one : (b : Bool) → bit_if b 1 ≤ 1
 at_most_one true = omega arith
 at_most_one false = omega arith
-
 
 word_of : (u : ℕ) → properties_of u ≡ category_number (general_category u) + (32 * bit_if (is_default_ignorable_character u) 1 + (64 * bit_if (is_hidden_character u) 1 + (256 * bit_if (u == 0x200D) 1 + 512 * bit_if (u == 0x200C) 1)))
 unfolding properties_of

@@ -7,6 +7,7 @@ use glyph_types::names::{GlyphId, GlyphNames, hb_glyph_extents_t};
 use glyph_types::position::GlyphPosition;
 use std::alloc::Global;
 use std::process::Abort;
+use std::test::Fail;
 
 /// A font whose glyph 2 has a name and a box.
 struct TwoGlyphs;
@@ -119,4 +120,22 @@ fn sums_advances_beyond_their_type(rt: HostRuntime) {
         36,
         "1=0|1=0@2147483647,-2147483648|1=0@4294967294,-4294967296",
     );
+}
+
+// A text past 65,536 glyphs, with names and clusters alone.
+#[test]
+fn prints_a_long_run(rt: HostRuntime) -> Result<(), Fail> {
+    let mut glyphs = Vec::new(rt.alloc());
+    let mut positions = Vec::new(rt.alloc());
+    let mut want = String::new(rt.alloc());
+    for cluster in 0..70_000u32 {
+        glyphs.push(glyph(1, cluster, 0))?;
+        positions.push(place(500, 0, 0, 0))?;
+        if 0 < cluster {
+            want.push_str("|")?;
+        }
+        want.push_str(&format!(in rt.alloc(); "1={cluster}")?)?;
+    }
+    prints(&rt, rt.alloc(), &glyphs, &positions, 6, &want);
+    Ok(())
 }

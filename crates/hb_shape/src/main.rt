@@ -2,22 +2,21 @@
 #![tactic(auto)]
 
 use run_options::fault::RunFault;
-use run_options::options::Options;
 use shape_run::run::run;
-use shape_words::parse_options;
+use shape_words::{CommandLine, parse_options};
 use std::fs::File;
 use std::process::ExitCode;
 use std::{env, io};
 
 /// Opens the files that the options name, in their order, and runs.
-fn run_files(rt: &HostRuntime, options: &Options) -> Result<(), RunFault> {
-    let mut tables = open(rt, &options.tables)?;
-    let mut font = open(rt, &options.font)?;
-    let mut text = open(rt, &options.text)?;
+fn run_files(rt: &HostRuntime, line: &CommandLine) -> Result<(), RunFault> {
+    let mut tables = open(rt, &line.tables)?;
+    let mut font = open(rt, &line.font)?;
+    let mut text = open(rt, &line.text)?;
     let mut out = io::writer(rt);
     run(
         rt.alloc(),
-        options,
+        &line.options,
         &mut tables,
         &mut font,
         &mut text,
@@ -30,8 +29,8 @@ fn open(rt: &HostRuntime, name: &String) -> Result<File, RunFault> {
 }
 
 fn shape(rt: &HostRuntime, words: &[String]) -> Result<(), RunFault> {
-    let options = parse_options(rt.alloc(), words)?;
-    run_files(rt, &options)
+    let line = parse_options(rt.alloc(), words)?;
+    run_files(rt, &line)
 }
 
 fn main(rt: HostRuntime) -> io::Result<ExitCode> {

@@ -6,12 +6,6 @@ use shaping_text::script::Script;
 /// What a run of the program is asked for.
 #[derive(Debug, Drop)]
 pub struct Options {
-    /// The name of the file of the tables.
-    pub tables: String,
-    /// The name of the file of the font.
-    pub font: String,
-    /// The name of the file of the text.
-    pub text: String,
     /// The direction of the text; `Invalid` where it is to be guessed.
     pub direction: Direction,
     /// The script of the text; none where it is to be guessed.

@@ -6,3 +6,4 @@ pub mod Bytes
 pub mod Printing
 pub mod Faults
 pub mod Empty
+pub mod Writing

@@ -16,6 +16,7 @@ use Rattle.shape_run.specs.Stages.{is_glyph_number, text_buffer}
 use Rattle.shape_run.specs.Path.{shaping}
 use Rattle.shape_run.specs.Waiting.{waits}
 use Rattle.font_json.specs.Keys.{FontKeys}
+use Rattle.run_options.specs.declared.fault.RunFault.TheVariants.{NotYet}
 use Rattle.run_options.specs.declared.options.Options.{Options}
 use Rattle.glyph_buffer.specs.Sides.{Sides, all_glyphs, items_of, run_of, empty_buffer}
 use Rattle.shape_run.specs.Answer.{printed_line, line_of, line_of_run, line_of_reading}
@@ -65,3 +66,9 @@ line_shaped options font text b line fits here f e =
     let s = text_buffer options text in
     let r = read_of (shaping font options.features.items s.script) (run_of s) in
     line_of_fitting options font text fits here ∙ line_follows options.flags r (run_of s) b f ∙ ap Ok (sym e)
+
+-- the line of a text that fits and waits
+pub line_waits : (options : Options) (font : FontKeys) (text : List ℕ) → fits_text text empty_buffer ≡ true
+    → waits options.features.items (text_buffer options text).script (text_buffer options text).direction (items_of (text_buffer options text)) ≡ true
+    → line_of options font text ≡ Err NotYet
+line_waits options font text fits here = rw (fits, here) refl

@@ -8,9 +8,11 @@ use Rattle.glyph_types.specs.declared.flags.SerializeFlags.{SerializeFlags}
 use Rattle.feature_text.specs.declared.feature.Feature.{Feature}
 use Rattle.shaping_text.specs.declared.direction.Direction.{Direction}
 use Rattle.shaping_text.specs.declared.script.Script.{Script}
-use Rattle.run_options.specs.declared.fault.JsonFault.{JsonFault}
+use Rattle.json_values.specs.declared.fault.JsonFault.{JsonFault}
+use Rattle.json_values.specs.declared.fault.JsonFault.TheVariants.{NotJson}
+use Rattle.glyph_types.specs.declared.cause.ShapeCause.TheVariants.{TooLong}
 use Rattle.run_options.specs.declared.fault.RunFault.{RunFault}
-use Rattle.run_options.specs.declared.fault.RunFault.TheVariants.{NotJson, NotUtf8, NotYet, TooLong}
+use Rattle.run_options.specs.declared.fault.RunFault.TheVariants.{Json, NotUtf8, NotYet, Shape}
 use Rattle.run_options.specs.declared.options.Options.{Options}
 use Rattle.run_options.specs.Fault.{run_fault_of, fault_of_cause}
 use Rattle.font_json.specs.Keys.{FontKeys, face_of, tables_of}
@@ -36,12 +38,12 @@ then_run (Err e) next = Err e
 -- ---- bytes
 
 abbrev pub json_or_fault : Option Data → Result Data RunFault
-json_or_fault None = Err NotJson
+json_or_fault None = Err (Json NotJson)
 json_or_fault (Some d) = Ok d
 
 -- the JSON value of bytes
 abbrev pub json_of : List ℕ → Result Data RunFault
-json_of bytes = if is_utf8 bytes then json_or_fault (read bytes) else Err NotJson
+json_of bytes = if is_utf8 bytes then json_or_fault (read bytes) else Err (Json NotJson)
 
 -- a text without one line feed at its end
 abbrev pub without_line_feed : List ℕ → List ℕ
@@ -106,7 +108,7 @@ line_of_guess font options script gs = line_of_text font options.flags options.f
 abbrev pub line_of : Options → FontKeys → List ℕ → Result (List ℕ) RunFault
 line_of options font text = if fits_text text empty_buffer
     then line_of_guess font options (or options.script (first_script (added_text text))) (added_text text)
-    else Err TooLong
+    else Err (Shape TooLong)
 
 -- ---- all of it
 

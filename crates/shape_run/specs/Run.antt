@@ -1,5 +1,6 @@
 -- What a run says of its readers.
-use Rattle.std.specs.Prelude.{ℕ, ⊤, List, Option, Some, None}
+use Rattle.std.specs.Prelude.{ℕ, ⊤, List, Option, Some, None, take}
+use Rattle.std.specs.Io.KnownBytes.{Appends}
 use Rattle.run_options.specs.declared.fault.RunFault.{RunFault}
 use Rattle.run_options.specs.declared.fault.RunFault.TheVariants.{Words, Read, ReadLimit, Write, OutOfMemory}
 
@@ -26,3 +27,7 @@ OnKnown (Some a) (Some b) (Some c) P = P a b c
 OnKnown (Some a) (Some b) None P = ⊤
 OnKnown (Some a) None c P = ⊤
 OnKnown None b c P = ⊤
+
+-- known bytes grow by a front of the line
+abbrev pub AppendsFront : Option (List ℕ) → Option (List ℕ) → List ℕ → Type 0
+AppendsFront old new line = (count : ℕ) × Appends old new (take count line)

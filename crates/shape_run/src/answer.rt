@@ -12,10 +12,10 @@ ghost use Rattle.shape_run.specs.Run.{IsOfRun};
 ghost use Rattle.shape_run.specs.Stages.{is_glyph_number, text_buffer};
 
 use crate::path::shape;
-use crate::waiting::waits;
 use font_json::{FontFace, read_face, read_tables};
-use glyph_buffer::buffer::hb_buffer_t;
+use glyph_types::cause::ShapeCause;
 use glyph_types::flags::SerializeFlags;
+use json_values::fault::JsonFault;
 use run_options::fault::RunFault;
 use run_options::options::Options;
 use serde_json::Value;
@@ -38,7 +38,7 @@ fn read_json(alloc: Global, bytes: &[u8]) -> Result<Value, RunFault>
     ensures kind { IfErr result IsOfRun }
 {
     let Some(text) = utf8(bytes) else {
-        return Err(RunFault::NotJson);
+        return Err(RunFault::Json(JsonFault::NotJson));
     };
     match Value::from_str(alloc, text) {
         Ok(value) => Ok(value),
@@ -48,12 +48,12 @@ fn read_json(alloc: Global, bytes: &[u8]) -> Result<Value, RunFault>
 
 fn json_fault(error: &serde_json::Error) -> RunFault
     ensures memory { IsMemory error.now → result ≡ RunFault.OutOfMemory }
-    ensures text { ¬ IsMemory error.now → result ≡ RunFault.NotJson }
+    ensures text { ¬ IsMemory error.now → result ≡ RunFault.Json JsonFault.NotJson }
 {
     if error.is_memory() {
         RunFault::OutOfMemory
     } else {
-        RunFault::NotJson
+        RunFault::Json(JsonFault::NotJson)
     }
 }
 
@@ -89,19 +89,19 @@ fn new_text(alloc: Global, options: &Options) -> UnicodeBuffer
 }
 
 /// The characters of a text, with what was not asked for guessed.
-fn text_buffer(alloc: Global, options: &Options, text: &str) -> Result<hb_buffer_t, RunFault>
+fn text_buffer(alloc: Global, options: &Options, text: &str) -> Result<UnicodeBuffer, RunFault>
     ensures fits { OnOk result (fits_text text.now empty_buffer ≡ true) }
     ensures text { IfOk result (λ b. b ≡ text_buffer options.now text.now) }
     ensures refused { IfErr result (λ e. e ≢ RunFault.OutOfMemory
-        → (e ≡ RunFault.TooLong) × (fits_text text.now empty_buffer ≡ false)) }
+        → (e ≡ RunFault.Shape ShapeCause.TooLong) × (fits_text text.now empty_buffer ≡ false)) }
     ensures kind { IfErr result IsOfRun }
 {
     let mut buffer = new_text(alloc, options);
     if !buffer.push_str(text)? {
-        return Err(RunFault::TooLong);
+        return Err(RunFault::Shape(ShapeCause::TooLong));
     }
     buffer.guess_segment_properties();
-    Ok(buffer.into_buffer())
+    Ok(buffer)
 }
 
 /// The printed text of glyphs, and a line feed.
@@ -110,14 +110,12 @@ fn print(
     alloc: Global,
     face: &FontFace,
     flags: SerializeFlags,
-    buffer: hb_buffer_t,
+    glyphs: &GlyphBuffer,
 ) -> Result<String, AllocError>
-    requires closed { buffer.is_open ≡ false }
-    requires numbers { list_all is_glyph_number (all_glyphs buffer) ≡ true }
+    requires numbers { list_all is_glyph_number (all_glyphs glyphs.now) ≡ true }
     ensures { IfOk result (λ line.
-        string_bytes line ≡ printed_line flags (all_glyphs buffer) buffer.positions) }
+        string_bytes line ≡ printed_line flags (all_glyphs glyphs.now) glyphs.now.positions) }
 {
-    let glyphs = GlyphBuffer::from_buffer(buffer);
     let mut line = glyphs.serialize(alloc, face, flags)?;
     line.push_str("\n")?;
     Ok(line)
@@ -130,17 +128,9 @@ fn line(alloc: Global, options: &Options, face: &FontFace, text: &str) -> Result
         → line_of options.now face.now text.now ≡ Err e) }
     ensures kind { IfErr result IsOfRun }
 {
-    let mut buffer = text_buffer(alloc, options, text)?;
-    if waits(
-        &options.features,
-        buffer.script(),
-        buffer.direction(),
-        buffer.info_slice(),
-    ) {
-        return Err(RunFault::NotYet);
-    }
-    shape(alloc, face, &options.features, &mut buffer)?;
-    let line = print(alloc, face, options.flags, buffer)?;
+    let text = text_buffer(alloc, options, text)?;
+    let glyphs = shape(alloc, face, &options.features, text)?;
+    let line = print(alloc, face, options.flags, &glyphs)?;
     Ok(line)
 }
 

@@ -4,8 +4,9 @@
 mod answer;
 pub mod laws;
 mod path;
-pub mod read;
+mod read;
 pub mod run;
 #[cfg(test)]
 mod tests;
 mod waiting;
+mod write;

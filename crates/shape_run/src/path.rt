@@ -10,8 +10,10 @@ ghost use Rattle.std.specs.Option.{option_copied};
 ghost use Rattle.std.specs.List.{list_any, list_all};
 ghost use Rattle.unicode.specs.GeneralCategory.{general_category};
 ghost use Rattle.shape_run.specs.Path.{advance_position, is_decimal_number, is_letter, is_regional_indicator, is_number_text, is_numeral, native_direction, nominal_glyph, runs_against, script_direction, shaping, substituted, substitution_map, with_numbers, written_direction};
+ghost use Rattle.shape_run.specs.Waiting.{waits};
 ghost use Rattle.shape_run.specs.Stages.{drawn, is_glyph_number, mapped_glyph, ordered, with_advances, with_mapped, with_next_advanced, with_next_mapped};
 
+use crate::waiting::waits;
 use feature_text::feature::Feature;
 use font_json::FontFace;
 use glyph_buffer::buffer::hb_buffer_t;
@@ -22,12 +24,15 @@ use layout_font::table::LayoutTable;
 use layout_map::map::hb_ot_map_t;
 use layout_map::request::asked_value;
 use layout_stages::apply::apply_lookups;
+use run_options::fault::RunFault;
 use shaping_text::direction::Direction;
 use shaping_text::language_tags::LanguageTable;
 use shaping_text::script::Script;
 use shaping_text::script_tags::tags_from_script_and_language;
 use shaping_text::tag::Tag;
 use std::alloc::{AllocError, Global};
+use text_buffers::glyphs::GlyphBuffer;
+use text_buffers::unicode_buffer::UnicodeBuffer;
 use unicode::properties::GeneralCategory;
 use unicode_chars::{CharExt, GeneralCategoryExt};
 
@@ -287,9 +292,9 @@ fn place_glyphs(face: &FontFace, buffer: &mut hb_buffer_t)
     draw(buffer);
 }
 
-/// Shapes a text: puts it in native order, each character's glyph in its place, does the font's substitutions, gives each
+/// Shapes a buffer's text: puts it in native order, each character's glyph in its place, does the font's substitutions, gives each
 /// glyph its advance, and puts the glyphs in the order in which they are drawn.
-pub(crate) fn shape(
+fn shape_buffer(
     alloc: Global,
     face: &FontFace,
     features: &[Feature],
@@ -309,4 +314,31 @@ pub(crate) fn shape(
     substitute(face.gsub(), &map, buffer)?;
     place_glyphs(face, buffer);
     Ok(())
+}
+
+/// Shapes a text. One that waits is not shaped yet.
+pub(crate) fn shape(
+    alloc: Global,
+    face: &FontFace,
+    features: &[Feature],
+    text: UnicodeBuffer,
+) -> Result<GlyphBuffer, RunFault>
+    ensures shaped { OnOk result (waits features.now text.script text.direction (items_of text) ≡ false) }
+    ensures ok { IfOk result (λ glyphs. Follows
+        (read_of (shaping face.now features.now text.script) (run_of text)) (run_of text) (run_of glyphs)) }
+    ensures numbers { IfOk result (λ glyphs. list_all is_glyph_number (all_glyphs glyphs) ≡ true) }
+    ensures refused { IfErr result (λ e. e ≢ RunFault.OutOfMemory
+        → (e ≡ RunFault.NotYet) × (waits features.now text.script text.direction (items_of text) ≡ true)) }
+{
+    let mut buffer = text.into_buffer();
+    if waits(
+        features,
+        buffer.script(),
+        buffer.direction(),
+        buffer.info_slice(),
+    ) {
+        return Err(RunFault::NotYet);
+    }
+    shape_buffer(alloc, face, features, &mut buffer)?;
+    Ok(GlyphBuffer::from_buffer(buffer))
 }

@@ -1,17 +1,18 @@
-ghost use Rattle.std.specs.Prelude.{◌≡◌, ◌≢◌, ◌⊎◌, ◌≤◌, Ok, Err, length, IfOk, IfErr, OnOk, OnErr, IfSome, IsOkAnd, IsOk};
+ghost use Rattle.std.specs.Prelude.{◌≡◌, ◌≢◌, ◌⊎◌, ◌≤◌, ◌^◌, Ok, Err, length, IfOk, IfErr, OnOk, OnErr, IfSome, IsOkAnd};
 ghost use Rattle.std.specs.Io.KnownBytes.{Appends, IsAtEnd, Keeps};
 ghost use Rattle.shape_run.specs.Answer.{answer_of};
-ghost use Rattle.shape_run.specs.Run.{IsOfBytes, OnKnown};
+ghost use Rattle.shape_run.specs.Run.{AppendsFront, IsOfBytes, OnKnown};
 
 use crate::answer::answer;
-use crate::read::{READ_LIMIT, read_all};
+use crate::read::read_all;
+use crate::write::write_line;
 use run_options::fault::RunFault;
 use run_options::options::Options;
 use std::alloc::Global;
 use std::io::{Read, Write};
 
 /// Reads tables, a font and a text to their ends, and writes the printed glyphs of the text and a line feed, and
-/// nothing else. The names of the options are not read.
+/// nothing else.
 pub fn run<T: Read, F: Read, X: Read, W: Write>(
     alloc: Global,
     options: &Options,
@@ -29,17 +30,26 @@ pub fn run<T: Read, F: Read, X: Read, W: Write>(
     ensures font_ended { OnOk result (IfSome (F.remaining font.old) (λ _. IsAtEnd (F.remaining font.new))) }
     ensures text_ended { OnOk result (IfSome (X.remaining text.old) (λ _. IsAtEnd (X.remaining text.new))) }
 
-    // A fault of the bytes is the first that is found in them.
+    // A fault of the bytes is the first that is found in them, once all readers are at their ends.
     ensures refused { IfErr result (λ e. IsOfBytes e
         → OnKnown (T.remaining tables.old) (F.remaining font.old) (X.remaining text.old)
         (λ ts fs xs. answer_of options.now ts fs xs ≡ Err e)) }
+    ensures refused_tables { IfErr result (λ e. IsOfBytes e
+        → IfSome (T.remaining tables.old) (λ _. IsAtEnd (T.remaining tables.new))) }
+    ensures refused_font { IfErr result (λ e. IsOfBytes e
+        → IfSome (F.remaining font.old) (λ _. IsAtEnd (F.remaining font.new))) }
+    ensures refused_text { IfErr result (λ e. IsOfBytes e
+        → IfSome (X.remaining text.old) (λ _. IsAtEnd (X.remaining text.new))) }
+
+    // Writing comes last, and where it fails a front of the line was written.
     ensures write_last { result ≡ Err RunFault.Write
         → OnKnown (T.remaining tables.old) (F.remaining font.old) (X.remaining text.old)
-        (λ ts fs xs. IsOk (answer_of options.now ts fs xs)) }
+        (λ ts fs xs. IsOkAnd (answer_of options.now ts fs xs)
+        (AppendsFront (W.contents out.old) (W.contents out.new))) }
     ensures read_limit { result ≡ Err RunFault.ReadLimit
-        → IfSome (T.remaining tables.old) (λ bs. READ_LIMIT ≤ length bs)
-        ⊎ IfSome (F.remaining font.old) (λ bs. READ_LIMIT ≤ length bs)
-        ⊎ IfSome (X.remaining text.old) (λ bs. READ_LIMIT ≤ length bs) }
+        → IfSome (T.remaining tables.old) (λ bs. 2 ^ 26 ≤ length bs)
+        ⊎ IfSome (F.remaining font.old) (λ bs. 2 ^ 26 ≤ length bs)
+        ⊎ IfSome (X.remaining text.old) (λ bs. 2 ^ 26 ≤ length bs) }
     ensures not_words { result ≢ Err RunFault.Words }
     ensures kept { result ≢ Err RunFault.Write → OnErr result (Keeps (W.contents out.old) (W.contents out.new)) }
 {
@@ -47,8 +57,5 @@ pub fn run<T: Read, F: Read, X: Read, W: Write>(
     let font = read_all(alloc, font)?;
     let text = read_all(alloc, text)?;
     let line = answer(alloc, options, &tables, &font, &text)?;
-    if out.write_all(line.as_bytes()).is_err() {
-        return Err(RunFault::Write);
-    }
-    Ok(())
+    write_line(out, line.as_bytes())
 }

@@ -1,6 +1,7 @@
 use crate::run::run;
 use feature_text::feature::Feature;
 use glyph_types::flags::SerializeFlags;
+use json_values::fault::JsonFault;
 use run_options::fault::RunFault;
 use run_options::options::Options;
 use shaping_text::direction::Direction;
@@ -23,9 +24,6 @@ fn options(
     flags: SerializeFlags,
 ) -> Result<Options, AllocError> {
     Ok(Options {
-        tables: String::new(alloc),
-        font: String::new(alloc),
-        text: String::new(alloc),
         direction,
         script,
         features: Vec::new(alloc),
@@ -96,7 +94,7 @@ fn refuses_in_order(rt: HostRuntime) -> Result<(), Fail> {
             "{}",
             "{\"upem\":1000.5}",
             b"ab".as_slice(),
-            RunFault::FloatNumber,
+            RunFault::Json(JsonFault::FloatNumber),
             3,
         ),
         (
@@ -114,7 +112,7 @@ fn refuses_in_order(rt: HostRuntime) -> Result<(), Fail> {
             "{",
             "{",
             broken.as_slice(),
-            RunFault::NotJson,
+            RunFault::Json(JsonFault::NotJson),
             3,
         ),
         (
@@ -123,7 +121,7 @@ fn refuses_in_order(rt: HostRuntime) -> Result<(), Fail> {
             "[]",
             "{",
             broken.as_slice(),
-            RunFault::WrongShape,
+            RunFault::Json(JsonFault::WrongShape),
             3,
         ),
         (
@@ -132,7 +130,7 @@ fn refuses_in_order(rt: HostRuntime) -> Result<(), Fail> {
             "{\"splits\":[]}",
             FONT,
             b"a".as_slice(),
-            RunFault::WrongShape,
+            RunFault::Json(JsonFault::WrongShape),
             3,
         ),
         (
@@ -141,7 +139,7 @@ fn refuses_in_order(rt: HostRuntime) -> Result<(), Fail> {
             "{}",
             "{",
             broken.as_slice(),
-            RunFault::NotJson,
+            RunFault::Json(JsonFault::NotJson),
             3,
         ),
         (
@@ -150,7 +148,7 @@ fn refuses_in_order(rt: HostRuntime) -> Result<(), Fail> {
             "{}",
             "{\"cmap\":[[98,1],[97,2]]}",
             b"a".as_slice(),
-            RunFault::OutOfOrder,
+            RunFault::Json(JsonFault::OutOfOrder),
             3,
         ),
         (
@@ -159,7 +157,7 @@ fn refuses_in_order(rt: HostRuntime) -> Result<(), Fail> {
             "{}",
             "{\"upem\":65536}",
             broken.as_slice(),
-            RunFault::OutOfRange,
+            RunFault::Json(JsonFault::OutOfRange),
             3,
         ),
         (
@@ -270,6 +268,7 @@ fn reads_to_each_end_and_writes_byte_by_byte(rt: HostRuntime) -> Result<(), Fail
     for (room, answer, written) in [
         (16, Ok(()), "1=0+500|2=1+600\n"),
         (15, Err(RunFault::Write), "1=0+500|2=1+600"),
+        (7, Err(RunFault::Write), "1=0+500"),
         (0, Err(RunFault::Write), ""),
     ] {
         let mut tables = ByteReader {
@@ -388,7 +387,28 @@ fn features_that_wait_are_refused(rt: HostRuntime) -> Result<(), Fail> {
     let font = "{\"gsub\":{\"scripts\":[],\"features\":[[\"kern\",[]]],\"lookups\":[]}}";
     let options = featured(rt.alloc(), &[], None)?;
     let (answer, out) = ran(rt.alloc(), &options, "{}", font, b"fi");
-    assert_eq!(rt; answer, Err(RunFault::WrongShape));
+    assert_eq!(rt; answer, Err(RunFault::Json(JsonFault::WrongShape)));
     assert!(rt; out.is_empty());
+    Ok(())
+}
+
+// A text past 65,536 characters, with and without ligatures.
+#[test]
+fn long_texts_are_shaped(rt: HostRuntime) -> Result<(), Fail> {
+    let mut text = String::new(rt.alloc());
+    let mut want = String::new(rt.alloc());
+    for start in 0..25_000u32 {
+        let start = 3 * start;
+        text.push_str("afi")?;
+        if 0 < start {
+            want.push_str("|")?;
+        }
+        want.push_str(&format!(in rt.alloc(); "1={start}+500|7={}+520", start + 1)?)?;
+    }
+    want.push_str("\n")?;
+    let options = featured(rt.alloc(), &[], None)?;
+    let (answer, out) = ran(rt.alloc(), &options, "{}", LIGATURES, text.as_bytes());
+    assert_eq!(rt; answer, Ok(()));
+    assert!(rt; out.as_slice() == want.as_bytes());
     Ok(())
 }

@@ -1,5 +1,5 @@
 -- The command line of the program: hb_shape [options] TABLES FONT TEXT.
-use Rattle.std.specs.Prelude.{ℕ, Bool, true, false, List, [], ◌∷◌, codes, if◌then◌else◌, Option, Some, None, Result, Ok, Err, string_bytes, unwrap_or, ◌++◌, ◌==◌}
+use Rattle.std.specs.Prelude.{ℕ, Bool, true, false, List, [], ◌∷◌, codes, if◌then◌else◌, Option, Some, None, Result, Ok, Err, string_bytes, unwrap_or, ◌++◌, ◌==◌, ◌+◌}
 use Rattle.std.specs.List.{slice_split, flat_map}
 use Rattle.feature_text.specs.declared.feature.Feature.{Feature}
 use Rattle.feature_text.specs.FeatureText.{feature_of_text}
@@ -14,7 +14,7 @@ use Rattle.clap.specs.declared.error.kind.ErrorKind.TheVariants as kind
 use Rattle.glyph_types.specs.declared.flags.SerializeFlags.{SerializeFlags}
 use Rattle.run_options.specs.declared.fault.RunFault.{RunFault}
 use Rattle.run_options.specs.declared.fault.RunFault.TheVariants.{Words, OutOfMemory}
-use Rattle.run_options.specs.declared.options.Options.{Options}
+use Rattle.shape_words.specs.declared.options.CommandLine.{CommandLine}
 use Rattle.shaping_text.specs.declared.direction.Direction.{Direction}
 use Rattle.shaping_text.specs.declared.direction.Direction.TheVariants.{Invalid}
 use Rattle.shaping_text.specs.declared.script.Script.{Script}
@@ -42,8 +42,11 @@ switch_rule id = record (new_rule id) { long = Some id; action = Some SetTrue }
 
 abbrev pub hb_shape : App
 hb_shape =
-    with_rule (with_rule (with_rule (with_rule (with_rule (with_rule (with_rule (new_app (codes "hb_shape"))
-    (option_rule (codes "direction"))) (option_rule (codes "script"))) (list_rule (codes "features"))) (switch_rule (codes "no-glyph-names")))
+    with_rule (with_rule (with_rule (with_rule (with_rule (with_rule (with_rule (with_rule (with_rule (with_rule (with_rule (with_rule
+    (new_app (codes "hb_shape"))
+    (option_rule (codes "direction"))) (option_rule (codes "script"))) (list_rule (codes "features")))
+    (switch_rule (codes "no-clusters"))) (switch_rule (codes "no-positions"))) (switch_rule (codes "no-glyph-names")))
+    (switch_rule (codes "show-extents"))) (switch_rule (codes "show-flags"))) (switch_rule (codes "no-advances")))
     (file_rule (codes "tables"))) (file_rule (codes "font"))) (file_rule (codes "text"))
 
 -- ---- what it asks for
@@ -58,15 +61,15 @@ pub record Settings : Type 0 where
   pub features : List Feature
   pub flags : SerializeFlags
 
-abbrev pub settings_in : Options → Settings
-settings_in o = record {
-  tables = string_bytes o.tables;
-  font = string_bytes o.font;
-  text = string_bytes o.text;
-  direction = o.direction;
-  script = o.script;
-  features = o.features.items;
-  flags = o.flags;
+abbrev pub settings_in : CommandLine → Settings
+settings_in c = record {
+  tables = string_bytes c.tables;
+  font = string_bytes c.font;
+  text = string_bytes c.text;
+  direction = c.options.direction;
+  script = c.options.script;
+  features = c.options.features.items;
+  flags = c.options.flags;
 }
 
 -- the value of an id, where the words give one
@@ -120,14 +123,20 @@ features_in values = features_of (flat_map parts_of values)
 abbrev pub is_given : List ℕ → Lookup → Bool
 is_given id value = option_map_or (λ text. bytes_eq text (codes "true")) (value id) false
 
-abbrev pub default_flags : SerializeFlags
-default_flags = record { 0 = 0 }
+-- a flag where its switch is given
+abbrev pub flag_of : List ℕ → ℕ → Lookup → ℕ
+flag_of id flag value = if is_given id value then flag else 0
 
-abbrev pub no_glyph_names : SerializeFlags
-no_glyph_names = record { 0 = 4 }
-
+-- what is printed: each switch has its flag
 abbrev pub flags_in : Lookup → SerializeFlags
-flags_in value = if is_given (codes "no-glyph-names") value then no_glyph_names else default_flags
+flags_in value = record {
+  0 = flag_of (codes "no-clusters") 1 value
+      + (flag_of (codes "no-positions") 2 value
+      + (flag_of (codes "no-glyph-names") 4 value
+      + (flag_of (codes "show-extents") 8 value
+      + (flag_of (codes "show-flags") 16 value
+      + flag_of (codes "no-advances") 32 value))));
+}
 
 -- what the first value of each id and all values of `features` ask for
 abbrev pub settings_of : Lookup → List (List ℕ) → Result Settings RunFault

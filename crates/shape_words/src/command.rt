@@ -13,7 +13,12 @@ pub(crate) fn command<'a>(alloc: Global) -> Result<Command<'a>, AllocError>
         .arg(option(alloc, "direction"))?
         .arg(option(alloc, "script"))?
         .arg(list(alloc, "features"))?
+        .arg(switch(alloc, "no-clusters"))?
+        .arg(switch(alloc, "no-positions"))?
         .arg(switch(alloc, "no-glyph-names"))?
+        .arg(switch(alloc, "show-extents"))?
+        .arg(switch(alloc, "show-flags"))?
+        .arg(switch(alloc, "no-advances"))?
         .arg(file(alloc, "tables"))?
         .arg(file(alloc, "font"))?
         .arg(file(alloc, "text"))

@@ -6,4 +6,4 @@ mod options;
 #[cfg(test)]
 mod tests;
 
-pub use options::parse_options;
+pub use options::{CommandLine, parse_options};

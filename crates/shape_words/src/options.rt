@@ -1,7 +1,7 @@
-ghost use Rattle.std.specs.Prelude.{◌≡◌, ◌≢◌, IfOk, IfErr, OnOk, Ok, Err, map, string_bytes};
+ghost use Rattle.std.specs.Prelude.{◌≡◌, ◌≢◌, ◌≤◌, IfOk, IfErr, OnOk, Ok, Err, map, string_bytes};
 ghost use Rattle.feature_text.specs.FeatureText.{feature_of_text};
 ghost use Rattle.clap.specs.Words.{found_of, first_value};
-ghost use Rattle.shape_words.specs.Words.{options_of, refusal_of, settings_of, settings_in, file_in, direction_in, script_in, flags_in, feature_values, features_in, features_of, parts_of, behind, or_words};
+ghost use Rattle.shape_words.specs.Words.{options_of, refusal_of, settings_of, settings_in, file_in, direction_in, script_in, flag_of, flags_in, feature_values, features_in, features_of, parts_of, behind, or_words};
 
 use crate::command::command;
 use clap::ArgMatches;
@@ -16,11 +16,24 @@ use std::alloc::{AllocError, Global};
 use std::convert::AsStr;
 use std::str::FromStr;
 
+/// What the words of the command line ask for.
+#[derive(Debug, Drop)]
+pub struct CommandLine {
+    /// The name of the file of the tables.
+    pub tables: String,
+    /// The name of the file of the font.
+    pub font: String,
+    /// The name of the file of the text.
+    pub text: String,
+    pub options: Options,
+}
+
 /// Reads the words of the command line, `hb_shape [options] TABLES FONT TEXT`, of which the first is the program's name.
-/// The options stand anywhere among the names of the files, each at most once: `--direction D`, `--script S` and
-/// `--no-glyph-names`; only `--features F` may be repeated and then adds, and each F is features with commas between
-/// them. Words that are anything else, `--help` among them, are refused.
-pub fn parse_options<'a, S: AsStr>(alloc: Global, words: &'a [S]) -> Result<Options, RunFault>
+/// The options stand anywhere among the names of the files, each at most once: `--direction D`, `--script S`, and of what
+/// is printed `--no-clusters`, `--no-positions`, `--no-glyph-names`, `--show-extents`, `--show-flags` and
+/// `--no-advances`. Only `--features F` may be repeated and then adds, and each F is features with commas between them.
+/// Words that are anything else, `--help` among them, are refused.
+pub fn parse_options<'a, S: AsStr>(alloc: Global, words: &'a [S]) -> Result<CommandLine, RunFault>
     ensures ok { IfOk result (λ o. options_of (map S.text words.entry.now) ≡ Ok (settings_in o)) }
     ensures refused { IfErr result (λ e. e ≢ RunFault.OutOfMemory
         → options_of (map S.text words.entry.now) ≡ Err e) }
@@ -41,19 +54,21 @@ fn refusal(kind: ErrorKind) -> RunFault
     }
 }
 
-fn read_options(alloc: Global, matches: &ArgMatches<'_>) -> Result<Options, RunFault>
+fn read_options(alloc: Global, matches: &ArgMatches<'_>) -> Result<CommandLine, RunFault>
     ensures ok { IfOk result (λ o. settings_of (first_value (found_of matches.now)) (feature_values (found_of matches.now)) ≡ Ok (settings_in o)) }
     ensures refused { IfErr result (λ e. e ≢ RunFault.OutOfMemory
         → settings_of (first_value (found_of matches.now)) (feature_values (found_of matches.now)) ≡ Err e) }
 {
-    Ok(Options {
+    Ok(CommandLine {
         tables: read_name(alloc, matches, "tables")?,
         font: read_name(alloc, matches, "font")?,
         text: read_name(alloc, matches, "text")?,
-        direction: read_direction(matches)?,
-        script: read_script(matches)?,
-        features: read_features(alloc, matches)?,
-        flags: read_flags(matches),
+        options: Options {
+            direction: read_direction(matches)?,
+            script: read_script(matches)?,
+            features: read_features(alloc, matches)?,
+            flags: read_flags(matches),
+        },
     })
 }
 
@@ -139,9 +154,24 @@ fn read_feature(text: &str) -> Result<Feature, RunFault>
 fn read_flags(matches: &ArgMatches<'_>) -> SerializeFlags
     ensures { result ≡ flags_in (first_value (found_of matches.now)) }
 {
-    if matches.get_str("no-glyph-names") == Some("true") {
-        SerializeFlags::NO_GLYPH_NAMES
+    SerializeFlags(
+        flag_of(matches, "no-clusters", SerializeFlags::NO_CLUSTERS)
+            + (flag_of(matches, "no-positions", SerializeFlags::NO_POSITIONS)
+                + (flag_of(matches, "no-glyph-names", SerializeFlags::NO_GLYPH_NAMES)
+                    + (flag_of(matches, "show-extents", SerializeFlags::GLYPH_EXTENTS)
+                        + (flag_of(matches, "show-flags", SerializeFlags::GLYPH_FLAGS)
+                            + flag_of(matches, "no-advances", SerializeFlags::NO_ADVANCES))))),
+    )
+}
+
+/// The bits of a flag where its switch is given.
+fn flag_of(matches: &ArgMatches<'_>, id: &str, flag: SerializeFlags) -> u8
+    ensures value { result ≡ flag_of id.now flag.0 (first_value (found_of matches.now)) }
+    ensures below { result ≤ flag.0 }
+{
+    if matches.get_str(id) == Some("true") {
+        flag.0
     } else {
-        SerializeFlags::DEFAULT
+        0
     }
 }

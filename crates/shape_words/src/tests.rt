@@ -1,8 +1,7 @@
-use crate::parse_options;
+use crate::{CommandLine, parse_options};
 use feature_text::feature::Feature;
 use glyph_types::flags::SerializeFlags;
 use run_options::fault::RunFault;
-use run_options::options::Options;
 use shaping_text::direction::Direction;
 use shaping_text::direction::Direction::{Invalid, LeftToRight, RightToLeft};
 use shaping_text::script::{GREEK, INHERITED, LATIN, Script, UNKNOWN};
@@ -11,7 +10,10 @@ use std::alloc::{AllocError, Global};
 use std::test::Fail;
 
 // Words before the three names that are refused.
-const REFUSED: [&[&str]; 36] = [
+const REFUSED: [&[&str]; 39] = [
+    &["--no-clusters", "--no-clusters"],
+    &["--show-flags=1"],
+    &["--slices"],
     &["--foo"],
     &["-x"],
     &["--direction=x"],
@@ -50,7 +52,10 @@ const REFUSED: [&[&str]; 36] = [
     &["--features='liga"],
 ];
 
-fn with_names(alloc: Global, options: &[&str]) -> Result<Result<Options, RunFault>, AllocError> {
+fn with_names(
+    alloc: Global,
+    options: &[&str],
+) -> Result<Result<CommandLine, RunFault>, AllocError> {
     let mut words = Vec::new(alloc);
     words.push("hb_shape")?;
     words.extend_from_slice(options)?;
@@ -72,7 +77,25 @@ const NAMED: SerializeFlags = SerializeFlags::DEFAULT;
 const UNNAMED: SerializeFlags = SerializeFlags::NO_GLYPH_NAMES;
 
 // Words before the three names, with the direction, the script and the flags that they set.
-const TAKEN: [(&[&str], Direction, Option<Script>, SerializeFlags); 14] = [
+const TAKEN: [(&[&str], Direction, Option<Script>, SerializeFlags); 20] = [
+    (&["--no-clusters"], Invalid, None, SerializeFlags(1)),
+    (&["--no-positions"], Invalid, None, SerializeFlags(2)),
+    (&["--show-extents"], Invalid, None, SerializeFlags(8)),
+    (&["--show-flags"], Invalid, None, SerializeFlags(16)),
+    (&["--no-advances"], Invalid, None, SerializeFlags(32)),
+    (
+        &[
+            "--show-flags",
+            "--no-advances",
+            "--no-glyph-names",
+            "--show-extents",
+            "--no-positions",
+            "--no-clusters",
+        ],
+        Invalid,
+        None,
+        SerializeFlags(63),
+    ),
     (&[], Invalid, None, NAMED),
     (&["--no-glyph-names"], Invalid, None, UNNAMED),
     (&["--direction=rtl"], RightToLeft, None, NAMED),
@@ -102,11 +125,11 @@ const TAKEN: [(&[&str], Direction, Option<Script>, SerializeFlags); 14] = [
 #[test]
 fn options_are_read(rt: HostRuntime) -> Result<(), Fail> {
     for (words, direction, script, flags) in TAKEN {
-        let options = with_names(rt.alloc(), words)??;
-        assert_eq!(rt; options.direction, direction, "{words:?}");
-        assert_eq!(rt; options.script, script, "{words:?}");
-        assert_eq!(rt; options.flags, flags, "{words:?}");
-        assert_eq!(rt; options.text.as_str(), "text", "{words:?}");
+        let found = with_names(rt.alloc(), words)??;
+        assert_eq!(rt; found.options.direction, direction, "{words:?}");
+        assert_eq!(rt; found.options.script, script, "{words:?}");
+        assert_eq!(rt; found.options.flags, flags, "{words:?}");
+        assert_eq!(rt; found.text.as_str(), "text", "{words:?}");
     }
     Ok(())
 }
@@ -114,10 +137,10 @@ fn options_are_read(rt: HostRuntime) -> Result<(), Fail> {
 #[test]
 fn names_stand_anywhere(rt: HostRuntime) -> Result<(), Fail> {
     let words = ["hb_shape", "a", "--direction=l", "b", "--", "-c"];
-    let options = parse_options(rt.alloc(), words.as_slice())?;
-    assert_eq!(rt; options.tables.as_str(), "a");
-    assert_eq!(rt; options.font.as_str(), "b");
-    assert_eq!(rt; options.text.as_str(), "-c");
+    let found = parse_options(rt.alloc(), words.as_slice())?;
+    assert_eq!(rt; found.tables.as_str(), "a");
+    assert_eq!(rt; found.font.as_str(), "b");
+    assert_eq!(rt; found.text.as_str(), "-c");
     for words in [&[][..], &["hb_shape"][..], &["hb_shape", "a", "b"][..]] {
         let found = parse_options(rt.alloc(), words);
         assert_eq!(rt; found.err(), Some(RunFault::Words), "{words:?}");
@@ -165,8 +188,22 @@ fn features_are_read(rt: HostRuntime) -> Result<(), Fail> {
         ),
     ];
     for (words, features) in cases {
-        let options = with_names(rt.alloc(), words)??;
-        assert_eq!(rt; options.features.as_slice(), features, "{words:?}");
+        let found = with_names(rt.alloc(), words)??;
+        assert_eq!(rt; found.options.features.as_slice(), features, "{words:?}");
     }
+    Ok(())
+}
+
+// A value past 65,536 features.
+#[test]
+fn many_features_are_read(rt: HostRuntime) -> Result<(), Fail> {
+    let mut word = String::from_str(rt.alloc(), "--features=kern=2")?;
+    for _ in 1..70_000u32 {
+        word.push_str(",liga")?;
+    }
+    let found = with_names(rt.alloc(), &[word.as_str()])??;
+    assert_eq!(rt; found.options.features.len(), 70_000);
+    assert_eq!(rt; found.options.features.first(), Some(&request(b"kern", 2)));
+    assert_eq!(rt; found.options.features.last(), Some(&request(b"liga", 1)));
     Ok(())
 }

@@ -1,3 +1,4 @@
 pub mod Category
 pub mod Character
 pub mod Scripts
+pub mod Spaces

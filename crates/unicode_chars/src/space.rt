@@ -1,4 +1,5 @@
 //! The types of spaces, by which a space that the font lacks gets its width.
+ghost use Rattle.unicode_chars.specs.Spaces.{SpaceTypesAreListed};
 
 /// The type of a space: for the types named `EM`, the part of an em.
 pub type space_t = u8;
@@ -29,3 +30,8 @@ pub const SPACE_FIGURE: space_t = 19;
 pub const SPACE_PUNCTUATION: space_t = 20;
 
 pub const SPACE_NARROW: space_t = 21;
+
+/// The types of spaces have their numbers: those of the parts of an em are the parts.
+pub fn space_types_are_listed()
+    ensures { SpaceTypesAreListed }
+{}

@@ -1,7 +1,7 @@
 use Rattle.std.proofs.Common.{◌≡◌, drop}
 use Rattle.serde_json.specs.View.{items_view}
 use Rattle.font_json.specs.Lists.{rows_in_turn}
-use Rattle.font_json.specs.Rows.{behind}
+use Rattle.json_values.specs.Rows.{behind}
 use Rattle.font_json.proofs.lists.read_rows_in_turn.Given as goal
 
 -- the rows so far, and those of what is left

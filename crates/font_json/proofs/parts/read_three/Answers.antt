@@ -1,5 +1,5 @@
 use Rattle.serde_json.specs.View.{view}
-use Rattle.font_json.specs.Cell.{both}
+use Rattle.json_values.specs.Cell.{both}
 use Rattle.font_json.proofs.Means.{means_of, means_both, means_refused}
 use Rattle.font_json.proofs.parts.read_three.Goals as goal
 

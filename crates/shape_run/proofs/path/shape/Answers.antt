@@ -1,55 +1,28 @@
-use Rattle.std.proofs.Common.{◌≡◌, true, ap, subst, sym, ◌∙◌}
-use Rattle.std.specs.Prelude.{Option}
+use Rattle.std.proofs.Common.{◌≡◌, false, true, ap, sym, subst, ◌∙◌}
 use Rattle.std.specs.List.{list_all}
-use Rattle.std.specs.Int.RustNames.{bit_and}
 use Rattle.glyph_lists.specs.Readings.{Follows, read_of}
-use Rattle.glyph_buffer.specs.Sides.{Sides, all_glyphs, run_of}
-use Rattle.layout_font.specs.Layout.{LayoutLists}
-use Rattle.layout_map.specs.Map.{OtMap}
-use Rattle.layout_rules.specs.Ready.{IsReady, IsDone}
-use Rattle.shape_run.specs.Path.{substituted, substitution_map, shaped_with}
+use Rattle.glyph_buffer.specs.Sides.{Sides, all_glyphs, items_of, run_of}
+use Rattle.shape_run.specs.Path.{shaping}
 use Rattle.shape_run.specs.Stages.{is_glyph_number}
-use Rattle.shape_run.proofs.Whole.{glyphs_made, made_ready, numbers_seen, numbers_stay, shaped_follows, placed_all}
+use Rattle.shape_run.specs.Waiting.{waits}
 use Rattle.shape_run.proofs.path.shape.Goals as goal
 
-pub substitute-requires-clause-ready : goal.substitute-requires-clause-ready
-substitute-requires-clause-ready c =
-    let s = c.args.buffer.now in
-    subst IsReady (sym c.in_ok-map_text.ensures.ok) (made_ready c.args.face.now c.get_global_mask.result s c.requires.closed c.requires.unrefused)
-
-pub substitute-requires-clause-numbers : goal.substitute-requires-clause-numbers
-substitute-requires-clause-numbers c = numbers_seen (all_glyphs c.map_text.new.buffer) ∙ c.in_ok-map_text.ensures.numbers
-
-pub place_glyphs-requires-clause-numbers : goal.place_glyphs-requires-clause-numbers
-place_glyphs-requires-clause-numbers c = numbers_stay _ c.map_text.new.buffer c.substitute.new.buffer c.in_ok-substitute.ensures.ok c.in_ok-map_text.ensures.numbers
-
--- the substitutions, as they are known
-done : (c : goal.After-drop-map-inside-2) → IsDone (substituted c.args.face.now.gsub c.in_ok-map.map) (glyphs_made c.args.face.now c.in_ok-map.map.global_mask c.args.buffer.now) c.substitute.new.buffer
-done c =
-    let m = c.in_ok-map.map in
-    let face = c.args.face.now in
-    let s = c.args.buffer.now in
-    let made : c.map_text.new.buffer ≡ glyphs_made face m.global_mask s = c.in_ok-map_text.ensures.ok ∙ ap (λ k. glyphs_made face k s) c.get_global_mask.ensures.value in
-    let P : Option LayoutLists → Type 0 = λ o. IsDone (substituted o m) c.map_text.new.buffer c.substitute.new.buffer in
-    let Q : Sides → Type 0 = λ t. IsDone (substituted face.gsub m) t c.substitute.new.buffer in
-    subst Q made (subst P c.gsub-2.ensures c.in_ok-substitute.ensures.ok)
-
-map_is : (c : goal.After-drop-map-inside-2) → c.in_ok-map.map ≡ substitution_map c.args.face.now.gsub c.args.buffer.now.script c.args.features.now
-map_is c =
+pub returns-clause-shaped : goal.returns-clause-shaped
+returns-clause-shaped c =
     let features = c.args.features.now in
-    c.in_ok-map.ensures ∙ ap (λ o. substitution_map o c.script.result features) c.gsub.ensures ∙ ap (λ script. substitution_map c.args.face.now.gsub script features) c.script.ensures
+    let now : waits features c.into_buffer-buffer.result.script c.into_buffer-buffer.result.direction (items_of c.into_buffer-buffer.result) ≡ false =
+    rw (c.script.ensures, c.direction.ensures, c.info_slice.ensures) at (sym c.waits.ensures ∙ c.if-waits.false) in
+    subst (λ (s : Sides). waits features s.script s.direction (items_of s) ≡ false) c.into_buffer-buffer.ensures.same now
 
 pub returns-clause-ok : goal.returns-clause-ok
 returns-clause-ok c =
-    let s = c.args.buffer.now in
     let face = c.args.face.now in
-    let flagless : bit_and c.in_ok-map.map.global_mask 7 ≡ 0 = ap (λ k. bit_and k 7) (sym c.get_global_mask.ensures.value) ∙ c.get_global_mask.ensures.flagless in
-    let P : OtMap → Type 0 = λ m. Follows (read_of (shaped_with face m s.script) (run_of s)) (run_of s) (run_of c.place_glyphs.new.buffer) in
-    let Q : Sides → Type 0 = λ t. Follows (read_of (shaped_with face c.in_ok-map.map s.script) (run_of s)) (run_of s) (run_of t) in
-    subst P (map_is c) (subst Q (sym c.place_glyphs.ensures) (shaped_follows face c.in_ok-map.map s c.substitute.new.buffer flagless (done c)))
+    let features = c.args.features.now in
+    let P : Sides → Type 0 = λ s. Follows (read_of (shaping face features s.script) (run_of s)) (run_of s) (run_of c.shape_buffer.new.buffer) in
+    let Q : Sides → Type 0 = λ t. Follows (read_of (shaping face features c.args.text.script) (run_of c.args.text)) (run_of c.args.text) (run_of t) in
+    subst Q (sym c.from_buffer.ensures) (subst P c.into_buffer-buffer.ensures.same c.in_ok-shape_buffer.ensures.ok)
 
 pub returns-clause-numbers : goal.returns-clause-numbers
 returns-clause-numbers c =
-    let P : Sides → Type 0 = λ t. list_all is_glyph_number (all_glyphs t) ≡ true in
-    let stay = numbers_stay _ c.map_text.new.buffer c.substitute.new.buffer c.in_ok-substitute.ensures.ok c.in_ok-map_text.ensures.numbers in
-    subst P (sym c.place_glyphs.ensures) (placed_all is_glyph_number c.args.face.now c.substitute.new.buffer ∙ stay)
+    let Q : Sides → Type 0 = λ t. list_all is_glyph_number (all_glyphs t) ≡ true in
+    subst Q (sym c.from_buffer.ensures) c.in_ok-shape_buffer.ensures.numbers

@@ -6,10 +6,15 @@ use Rattle.shape_words.proofs.command.command.Goals as goal
 -- one argument after another
 pub returns : goal.returns
 returns c =
-    let one = c.in_ok-arg.ensures.shape c.option.ensures.own ∙ ap₂ with_rule c.new.ensures.app c.option.ensures.rule in
-    let two = c.in_ok-arg-2.ensures.shape c.option-2.ensures.own ∙ ap₂ with_rule one c.option-2.ensures.rule in
-    let three = c.in_ok-arg-3.ensures.shape c.list.ensures.own ∙ ap₂ with_rule two c.list.ensures.rule in
-    let four = c.in_ok-arg-4.ensures.shape c.switch.ensures.own ∙ ap₂ with_rule three c.switch.ensures.rule in
-    let five = c.in_ok-arg-5.ensures.shape c.file.ensures.own ∙ ap₂ with_rule four c.file.ensures.rule in
-    let six = c.in_ok-arg-6.ensures.shape c.file-2.ensures.own ∙ ap₂ with_rule five c.file-2.ensures.rule in
-    IfOk-weaker c.arg-7.result _ _ (λ r h. h.shape c.file-3.ensures.own ∙ ap₂ with_rule six c.file-3.ensures.rule) c.arg-7.ensures
+    let a1 = c.in_ok-arg.ensures.shape c.option.ensures.own ∙ ap₂ with_rule c.new.ensures.app c.option.ensures.rule in
+    let a2 = c.in_ok-arg-2.ensures.shape c.option-2.ensures.own ∙ ap₂ with_rule a1 c.option-2.ensures.rule in
+    let a3 = c.in_ok-arg-3.ensures.shape c.list.ensures.own ∙ ap₂ with_rule a2 c.list.ensures.rule in
+    let a4 = c.in_ok-arg-4.ensures.shape c.switch.ensures.own ∙ ap₂ with_rule a3 c.switch.ensures.rule in
+    let a5 = c.in_ok-arg-5.ensures.shape c.switch-2.ensures.own ∙ ap₂ with_rule a4 c.switch-2.ensures.rule in
+    let a6 = c.in_ok-arg-6.ensures.shape c.switch-3.ensures.own ∙ ap₂ with_rule a5 c.switch-3.ensures.rule in
+    let a7 = c.in_ok-arg-7.ensures.shape c.switch-4.ensures.own ∙ ap₂ with_rule a6 c.switch-4.ensures.rule in
+    let a8 = c.in_ok-arg-8.ensures.shape c.switch-5.ensures.own ∙ ap₂ with_rule a7 c.switch-5.ensures.rule in
+    let a9 = c.in_ok-arg-9.ensures.shape c.switch-6.ensures.own ∙ ap₂ with_rule a8 c.switch-6.ensures.rule in
+    let a10 = c.in_ok-arg-10.ensures.shape c.file.ensures.own ∙ ap₂ with_rule a9 c.file.ensures.rule in
+    let a11 = c.in_ok-arg-11.ensures.shape c.file-2.ensures.own ∙ ap₂ with_rule a10 c.file-2.ensures.rule in
+    IfOk-weaker c.arg-12.result _ _ (λ r h. h.shape c.file-3.ensures.own ∙ ap₂ with_rule a11 c.file-3.ensures.rule) c.arg-12.ensures

@@ -1,7 +1,7 @@
 use Rattle.std.proofs.Common.{◌≡◌, drop, map}
 use Rattle.serde_json.specs.View.{view}
-use Rattle.font_json.specs.Objects.{has_some}
-use Rattle.font_json.proofs.keys.refuse_keys.Given as goal
+use Rattle.json_values.specs.Objects.{has_some}
+use Rattle.json_values.proofs.keys.refuse_keys.Given as goal
 
 -- no key so far is there
 abbrev pub invariant-loop-key : goal.invariant-loop-key

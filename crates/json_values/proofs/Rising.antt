@@ -2,14 +2,10 @@
 use Rattle.std.proofs.Common.{◌≡◌, Bool, true, false, List, [], ◌∷◌, Option, Some, Result, Ok, Err, if◌then◌else◌, refl, subst}
 use Rattle.std.specs.declared.cmp.Ordering.{Ordering}
 use Rattle.serde_json.specs.Data.{Data, Items, no_items, item}
-use Rattle.run_options.specs.declared.fault.JsonFault.{JsonFault}
-use Rattle.run_options.specs.declared.fault.JsonFault.TheVariants.{OutOfOrder}
-use Rattle.font_json.specs.Cell.{and_then}
-use Rattle.font_json.specs.Rows.{behind, is_above, rows_after, is_rising}
-
-pub ok_cons : {R : Type 0} (r : R) (rest : Result (List R) JsonFault) (rows : List R) (P : List R → Type 0) → behind (r ∷ []) rest ≡ Ok rows → ((xs : List R) → rest ≡ Ok xs → P (r ∷ xs)) → P rows
-ok_cons r (Ok xs) rows P e have = let same : r ∷ xs ≡ rows = cc in subst P same (have xs refl)
-ok_cons r (Err f) rows P e have = let no : ⊥ = cc in absurd no
+use Rattle.json_values.specs.declared.fault.JsonFault.{JsonFault}
+use Rattle.json_values.specs.declared.fault.JsonFault.TheVariants.{OutOfOrder}
+use Rattle.json_values.specs.Cell.{and_then}
+use Rattle.json_values.specs.Rows.{behind, is_above, rows_after, is_rising, ok_cons}
 
 module _ {K V : Type 0} (cmp : K → K → Ordering) where
   -- with a row in front that is above the key before it

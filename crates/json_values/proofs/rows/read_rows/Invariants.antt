@@ -1,8 +1,8 @@
 use Rattle.std.proofs.Common.{◌≡◌, None, drop}
 use Rattle.serde_json.specs.View.{items_view}
-use Rattle.font_json.specs.Cell.{pair_of}
-use Rattle.font_json.specs.Rows.{rows_after, behind}
-use Rattle.font_json.proofs.rows.read_rows.Given as goal
+use Rattle.json_values.specs.Cell.{pair_of}
+use Rattle.json_values.specs.Rows.{rows_after, behind}
+use Rattle.json_values.proofs.rows.read_rows.Given as goal
 
 -- the rows so far, and those of what is left
 abbrev pub invariant-loop-value : goal.invariant-loop-value

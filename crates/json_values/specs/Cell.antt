@@ -3,8 +3,8 @@ use Rattle.std.specs.Prelude.{ℕ, ℤ, pos, negsuc, int_le, ◌&&◌, ◌||◌,
 use Rattle.serde_json.specs.Data.{Num, Data, Items, no_items, item}
 use Rattle.std.specs.Option.{ok_or}
 use Rattle.serde_json.specs.Find.{as_number, as_array, as_integer}
-use Rattle.run_options.specs.declared.fault.JsonFault.{JsonFault}
-use Rattle.run_options.specs.declared.fault.JsonFault.TheVariants.{NotJson, WrongShape, FloatNumber, UnknownName, OutOfOrder, OutOfRange, SplitDepth, OutOfMemory}
+use Rattle.json_values.specs.declared.fault.JsonFault.{JsonFault}
+use Rattle.json_values.specs.declared.fault.JsonFault.TheVariants.{NotJson, WrongShape, FloatNumber, UnknownName, OutOfOrder, OutOfRange, SplitDepth, OutOfMemory}
 
 -- shapes come before floats, floats before names, names before ranges, ranges before the order of rows; where memory
 -- ran out nothing else is known

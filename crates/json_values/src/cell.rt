@@ -1,14 +1,14 @@
 ghost use Rattle.std.specs.Prelude.{◌≡◌, Result};
 ghost use Rattle.serde_json.specs.Data.{Data};
 ghost use Rattle.serde_json.specs.View.{view, items_view};
-ghost use Rattle.run_options.specs.declared.fault.JsonFault.{JsonFault};
-ghost use Rattle.font_json.specs.Cell.{rank_of, first_fault, both, integer, word, signed_word, character, pair_of, two_of};
+ghost use Rattle.json_values.specs.declared.fault.JsonFault.{JsonFault};
+ghost use Rattle.json_values.specs.Cell.{rank_of, first_fault, both, integer, word, signed_word, character, pair_of, two_of};
 
-use run_options::fault::JsonFault;
+use crate::fault::JsonFault;
 use serde_json::Value;
 
 /// A part of a row: a number, or a list of parts.
-pub(crate) trait Cell: Drop {
+pub trait Cell: Drop {
     ghost cell: { Data → Result Self JsonFault };
 
     fn read(value: &Value) -> Result<Self, JsonFault>
@@ -94,7 +94,7 @@ fn rank(fault: JsonFault) -> u8
 }
 
 /// Two parts, or of their faults the one that comes first.
-pub(crate) fn pair<A: Drop, B: Drop>(
+pub fn pair<A: Drop, B: Drop>(
     first: Result<A, JsonFault>,
     second: Result<B, JsonFault>,
 ) -> Result<(A, B), JsonFault>
@@ -108,7 +108,7 @@ pub(crate) fn pair<A: Drop, B: Drop>(
 }
 
 /// The one of two faults that comes first.
-pub(crate) fn first_fault(one: JsonFault, other: JsonFault) -> JsonFault
+pub fn first_fault(one: JsonFault, other: JsonFault) -> JsonFault
     ensures { result ≡ first_fault one other }
 {
     if rank(one) <= rank(other) { one } else { other }

@@ -3,9 +3,9 @@ use Rattle.std.proofs.Common.{◌≡◌, ◌≢◌, List, [], ◌∷◌, length,
 use Rattle.serde_json.specs.declared.value.Value.{Value}
 use Rattle.serde_json.specs.Data.{Data}
 use Rattle.serde_json.specs.View.{view, items_view}
-use Rattle.run_options.specs.declared.fault.JsonFault.{JsonFault}
-use Rattle.run_options.specs.declared.fault.JsonFault.TheVariants.{WrongShape}
-use Rattle.font_json.specs.Cell.{two_of, both}
+use Rattle.json_values.specs.declared.fault.JsonFault.{JsonFault}
+use Rattle.json_values.specs.declared.fault.JsonFault.TheVariants.{WrongShape}
+use Rattle.json_values.specs.Cell.{two_of, both}
 
 pub two_values : {A B : Type 0} (f : Data → Result A JsonFault) (g : Data → Result B JsonFault) (vs : List Value) (d e : Value)
     → length vs ≡ 2 → both (f (view (get_or vs 0 d))) (g (view (get_or vs 1 e))) ≡ two_of f g (items_view vs)

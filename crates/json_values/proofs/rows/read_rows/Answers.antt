@@ -1,10 +1,10 @@
 use Rattle.std.proofs.Common.{◌≡◌, None, Ok, arith}
 use Rattle.std.proofs.lemmas.Grind.{common_steps}
 use Rattle.serde_json.specs.View.{items_view}
-use Rattle.font_json.specs.Cell.{pair_of}
-use Rattle.font_json.specs.Rows.{rows_after}
-use Rattle.font_json.proofs.Rising.{rows_rise}
-use Rattle.font_json.proofs.rows.read_rows.Goals as goal
+use Rattle.json_values.specs.Cell.{pair_of}
+use Rattle.json_values.specs.Rows.{rows_after}
+use Rattle.json_values.proofs.Rising.{rows_rise}
+use Rattle.json_values.proofs.rows.read_rows.Goals as goal
 
 -- the rows are those of the list, and rise as those do
 pub returns-clause-rising : goal.returns-clause-rising

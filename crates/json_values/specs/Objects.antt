@@ -3,10 +3,10 @@ use Rattle.std.specs.Prelude.{ℕ, List, [], ◌∷◌, Bool, true, false, ⊤, 
 use Rattle.std.specs.declared.cmp.Ordering.{Ordering}
 use Rattle.serde_json.specs.Data.{Data}
 use Rattle.serde_json.specs.Find.{get, as_object, as_array}
-use Rattle.run_options.specs.declared.fault.JsonFault.{JsonFault}
-use Rattle.run_options.specs.declared.fault.JsonFault.TheVariants.{WrongShape}
-use Rattle.font_json.specs.Cell.{and_then, pair_of, of_list}
-use Rattle.font_json.specs.Rows.{rows_after}
+use Rattle.json_values.specs.declared.fault.JsonFault.{JsonFault}
+use Rattle.json_values.specs.declared.fault.JsonFault.TheVariants.{WrongShape}
+use Rattle.json_values.specs.Cell.{and_then, pair_of, of_list}
+use Rattle.json_values.specs.Rows.{rows_after}
 
 -- the value of a key as `read` reads it, or `missing` where the key is not there
 abbrev pub read_or : {A : Type 0} → A → (Data → Result A JsonFault) → Option Data → Result A JsonFault

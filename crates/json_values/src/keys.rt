@@ -1,17 +1,17 @@
 ghost use Rattle.std.specs.Prelude.{◌≡◌, ◌≢◌, IfOk, IfErr, Ok, Err, None, [], true, map};
 ghost use Rattle.serde_json.specs.Find.{get};
 ghost use Rattle.serde_json.specs.View.{view};
-ghost use Rattle.font_json.specs.Rows.{is_rising};
-ghost use Rattle.font_json.specs.Objects.{read_or, rows_of, has_some, without};
+ghost use Rattle.json_values.specs.Rows.{is_rising};
+ghost use Rattle.json_values.specs.Objects.{read_or, rows_of, has_some, without};
 
 use crate::cell::Cell;
+use crate::fault::JsonFault;
 use crate::rows::read_rows;
-use run_options::fault::JsonFault;
 use serde_json::Value;
 use std::alloc::Global;
 
 /// The value of a key, or another where the key is missing.
-pub(crate) fn read_key<T: Cell>(value: &Value, key: &str, missing: T) -> Result<T, JsonFault>
+pub fn read_key<T: Cell>(value: &Value, key: &str, missing: T) -> Result<T, JsonFault>
     ensures { result ≡ read_or missing T.cell (get key.now (view value.now)) }
 {
     match value.get(key) {
@@ -21,7 +21,7 @@ pub(crate) fn read_key<T: Cell>(value: &Value, key: &str, missing: T) -> Result<
 }
 
 /// The rows of a key, none where the key is missing.
-pub(crate) fn read_row_key<K: Cell + Ord + Copy, V: Cell>(
+pub fn read_row_key<K: Cell + Ord + Copy, V: Cell>(
     alloc: Global,
     value: &Value,
     key: &str,
@@ -42,7 +42,7 @@ pub(crate) fn read_row_key<K: Cell + Ord + Copy, V: Cell>(
 }
 
 /// Refuses each of the keys.
-pub(crate) fn refuse_keys(value: &Value, keys: &[&str]) -> Result<(), JsonFault>
+pub fn refuse_keys(value: &Value, keys: &[&str]) -> Result<(), JsonFault>
     ensures { result ≡ without (map (λ k. k.now) keys.now) (view value.now) }
 {
     for key in keys {

@@ -1,0 +1,4 @@
+pub mod Fault
+pub mod Cell
+pub mod Rows
+pub mod Objects
