@@ -44,7 +44,11 @@ impl ClusterOrder {
 
     /// A glyph that was lent is back: where it is in another cluster, nothing is known.
     pub fn settle(&mut self, output: &[hb_glyph_info_t], input: &[hb_glyph_info_t])
-        ensures order { (n : ℕ) → HasOrder self.old.known (put_back_behind self.old.lent (clusters output.now) ++ drop n (put_back_ahead self.old.lent (clusters input.now))) → HasOrder self.new.known (clusters output.now ++ drop n (clusters input.now)) }
+        ensures order { (n : ℕ) →
+            HasOrder self.old.known
+            (put_back_behind self.old.lent (clusters output.now)
+            ++ drop n (put_back_ahead self.old.lent (clusters input.now))) →
+            HasOrder self.new.known (clusters output.now ++ drop n (clusters input.now)) }
         ensures back { self.new.lent ≡ None }
     {
         let known = self.known.after_loan(self.lent, output, input);
@@ -90,7 +94,9 @@ impl KnownOrder {
         output: &[hb_glyph_info_t],
         input: &[hb_glyph_info_t],
     ) -> KnownOrder
-        ensures { (n : ℕ) → HasOrder self (put_back_behind lent (clusters output.now) ++ drop n (put_back_ahead lent (clusters input.now))) → HasOrder result (clusters output.now ++ drop n (clusters input.now)) }
+        ensures { (n : ℕ) → HasOrder self
+            (put_back_behind lent (clusters output.now) ++ drop n (put_back_ahead lent (clusters input.now))) →
+            HasOrder result (clusters output.now ++ drop n (clusters input.now)) }
     {
         match lent {
             Some(lent) if !lent.is_as_it_was(output, input) => KnownOrder::Unknown,
@@ -116,7 +122,8 @@ impl KnownOrder {
         cluster: u32,
         input: &[hb_glyph_info_t],
     ) -> KnownOrder
-        ensures { HasOrder self (clusters output.now ++ clusters input.now) → HasOrder result (clusters output.now ++ cluster ∷ clusters input.now) }
+        ensures { HasOrder self (clusters output.now ++ clusters input.now) →
+            HasOrder result (clusters output.now ++ cluster ∷ clusters input.now) }
     {
         if self.holds_after(output, cluster) && self.holds_before(cluster, input) {
             self
@@ -128,7 +135,8 @@ impl KnownOrder {
     /// Whether a glyph of the cluster may stand after the others.
     #[tactic(auto, using(crate::proofs::Known::known_last_alone))]
     fn holds_after(self, glyphs: &[hb_glyph_info_t], cluster: u32) -> bool
-        ensures { result ≡ true → HasOrder self (clusters glyphs.now) → HasOrder self (clusters glyphs.now ++ cluster ∷ []) }
+        ensures { result ≡ true → HasOrder self (clusters glyphs.now) →
+            HasOrder self (clusters glyphs.now ++ cluster ∷ []) }
     {
         match (self, glyphs) {
             (KnownOrder::Unknown, _) | (_, []) => true,
@@ -163,14 +171,16 @@ impl KnownOrder {
 
     /// What is known of other clusters that stand in order where these do, if that is so.
     pub fn if_kept(self, kept: bool) -> KnownOrder
-        ensures { (old new : List ℕ) → ((falls : Bool) → kept ≡ true → IsInOrder falls old → IsInOrder falls new) → HasOrder self old → HasOrder result new }
+        ensures { (old new : List ℕ) → ((falls : Bool) → kept ≡ true → IsInOrder falls old → IsInOrder falls new) →
+            HasOrder self old → HasOrder result new }
     {
         if kept { self } else { KnownOrder::Unknown }
     }
 
     /// What is known once two lists whose order was not known have been walked.
     pub fn walked(self, output: &[hb_glyph_info_t], input: &[hb_glyph_info_t]) -> KnownOrder
-        ensures { HasOrder self (clusters output.now ++ clusters input.now) → HasOrder result (clusters output.now ++ clusters input.now) }
+        ensures { HasOrder self (clusters output.now ++ clusters input.now) →
+            HasOrder result (clusters output.now ++ clusters input.now) }
     {
         match self {
             KnownOrder::Unknown => order_of(output, input),

@@ -7,7 +7,8 @@ use glyph_types::info::hb_glyph_info_t;
 /// Puts copies of the first glyph of the input, past its end of the output's last, behind the output, one for each number.
 pub fn push_copies(output: &mut Vec<hb_glyph_info_t>, input: &[hb_glyph_info_t], numbers: &[u32])
     requires { vec_len output.old + length numbers.now ≤ vec_capacity output.old }
-    ensures { output.new.items ≡ output.old.items ++ copied glyph_numbered (or (first_of input.now) (last_of output.old.items)) numbers.now }
+    ensures { output.new.items
+        ≡ output.old.items ++ copied glyph_numbered (or (first_of input.now) (last_of output.old.items)) numbers.now }
 {
     if let Some(model) = model_of(input, output) {
         push_numbered(output, model, numbers);

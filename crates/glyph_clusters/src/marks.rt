@@ -36,8 +36,10 @@ pub fn mark_across(
     ahead: &mut [hb_glyph_info_t],
     flags: hb_mask_t,
 ) -> bool
-    ensures behind { behind.new ≡ map (marked_outside flags (least_number (clusters behind.old ++ clusters ahead.old))) behind.old }
-    ensures ahead { ahead.new ≡ map (marked_outside flags (least_number (clusters behind.old ++ clusters ahead.old))) ahead.old }
+    ensures behind { behind.new
+        ≡ map (marked_outside flags (least_number (clusters behind.old ++ clusters ahead.old))) behind.old }
+    ensures ahead { ahead.new
+        ≡ map (marked_outside flags (least_number (clusters behind.old ++ clusters ahead.old))) ahead.old }
     ensures any { result ≡ tells_apart (clusters behind.old ++ clusters ahead.old) }
 {
     let low = least_across(behind, ahead);

@@ -223,8 +223,8 @@ shared_has falls at taken k ns (x ∷ xs) e o h there =
       | inl front ↦ subst (Has (map f others)) from.2 (map_has f from.0 others (has_left from.0 (take at ns) (drop (at + taken) ns) front))
       | inr rest ↦ elim (has_at from.0 taken (drop at ns) rest) [
         | inl inside ↦
-          let same : f p.0 ≡ k = joined_alike falls x p.0 xs o p.1 ∙ sym (joined_alike falls x from.0 xs o (subst (λ (ys : List ℕ). Has ys from.0) cut inside)) ∙ from.2 in
-          subst (Has (map f others)) same (map_has f p.0 others p.2)
+            let same : f p.0 ≡ k = joined_alike falls x p.0 xs o p.1 ∙ sym (joined_alike falls x from.0 xs o (subst (λ (ys : List ℕ). Has ys from.0) cut inside)) ∙ from.2 in
+            subst (Has (map f others)) same (map_has f p.0 others p.2)
         | inr back ↦ subst (Has (map f others)) from.2 (map_has f from.0 others (has_right from.0 (take at ns) (drop (at + taken) ns) (subst (λ (ys : List ℕ). Has ys from.0) (drop-drop taken at ns) back)))
       ]
     ])

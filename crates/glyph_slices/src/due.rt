@@ -70,7 +70,8 @@ fn no_due(glyphs: &[hb_glyph_info_t], level: BufferClusterLevel, in_order: bool)
 
 #[tactic(auto, using(crate::proofs::Carried::nothing_due))]
 fn no_stretch(glyphs: &[hb_glyph_info_t]) -> Due
-    ensures due { (level : Level) → IsMonotone level → IsOrdered (clusters glyphs.now) → MayBeDue level 0 result glyphs.now }
+    ensures due { (level : Level) → IsMonotone level → IsOrdered (clusters glyphs.now) →
+        MayBeDue level 0 result glyphs.now }
     ensures meant { meant result glyphs.now ≡ glyphs.now }
 {
     if ends_lower(glyphs) {
@@ -99,7 +100,8 @@ pub(crate) fn merge_next(
     requires known { in_order ≡ true → IsMonotone level → IsOrdered (clusters (meant merges.due glyphs.old)) }
     requires due { MayBeDue level start merges.due glyphs.old }
     ensures merged { meant result.due glyphs.new ≡ glyphs_merged_at level start end (meant merges.due glyphs.old) }
-    ensures marked { result.marked ≡ (merges.marked || is_marked_at level start end (clusters (meant merges.due glyphs.old))) }
+    ensures marked { result.marked
+        ≡ (merges.marked || is_marked_at level start end (clusters (meant merges.due glyphs.old))) }
     ensures due { MayBeDue level end result.due glyphs.new }
     ensures round { MayBeRound start end result.due }
 {

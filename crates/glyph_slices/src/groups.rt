@@ -16,7 +16,8 @@ pub fn group_end<F: Fn(&hb_glyph_info_t, &hb_glyph_info_t) -> bool>(
 ) -> usize
     requires callable { F.IsAlwaysCallable group }
     requires within { start < length glyphs.now }
-    ensures { (joins : Glyph → Glyph → Bool) → Decides F.Fn group joins → result ≡ start + group_length joins (drop start glyphs.now) }
+    ensures { (joins : Glyph → Glyph → Bool) → Decides F.Fn group joins →
+        result ≡ start + group_length joins (drop start glyphs.now) }
 {
     end_of_group(glyphs, start, &group)
 }
@@ -28,7 +29,8 @@ pub(crate) fn end_of_group<F: Fn(&hb_glyph_info_t, &hb_glyph_info_t) -> bool>(
 ) -> usize
     requires callable { F.IsAlwaysCallable group.now }
     requires within { start < length glyphs.now }
-    ensures end { (joins : Glyph → Glyph → Bool) → Decides F.Fn group.now joins → result ≡ start + group_length joins (drop start glyphs.now) }
+    ensures end { (joins : Glyph → Glyph → Bool) → Decides F.Fn group.now joins →
+        result ≡ start + group_length joins (drop start glyphs.now) }
     ensures some { start < result }
     ensures within { result ≤ length glyphs.now }
 {

@@ -29,9 +29,12 @@ pub fn reverse_groups<F: Fn(&hb_glyph_info_t, &hb_glyph_info_t) -> bool>(
     requires callable { F.IsAlwaysCallable group }
     requires placed { length positions.old ≡ length glyphs.old }
     requires known { in_order ≡ true → IsOrdered (clusters glyphs.old) }
-    ensures glyphs { (joins : Glyph → Glyph → Bool) → Decides F.Fn group joins → glyphs.new ≡ (turned merge level joins glyphs.old positions.old).glyphs }
-    ensures positions { (joins : Glyph → Glyph → Bool) → Decides F.Fn group joins → positions.new ≡ (turned merge level joins glyphs.old positions.old).positions }
-    ensures marked { (joins : Glyph → Glyph → Bool) → Decides F.Fn group joins → result ≡ (turned merge level joins glyphs.old positions.old).is_marked }
+    ensures glyphs { (joins : Glyph → Glyph → Bool) → Decides F.Fn group joins →
+        glyphs.new ≡ (turned merge level joins glyphs.old positions.old).glyphs }
+    ensures positions { (joins : Glyph → Glyph → Bool) → Decides F.Fn group joins →
+        positions.new ≡ (turned merge level joins glyphs.old positions.old).positions }
+    ensures marked { (joins : Glyph → Glyph → Bool) → Decides F.Fn group joins →
+        result ≡ (turned merge level joins glyphs.old positions.old).is_marked }
 {
     let mut merges = no_merges(glyphs, level, merge && in_order);
     let mut start = 0;
@@ -62,11 +65,15 @@ fn turn_group(
     requires some { start < end }
     requires within { end ≤ length glyphs.old }
     requires placed { length positions.old ≡ length glyphs.old }
-    requires known { merge ≡ true → in_order ≡ true → IsMonotone level → IsOrdered (clusters (meant merges.due glyphs.old)) }
+    requires known { merge ≡ true → in_order ≡ true → IsMonotone level →
+        IsOrdered (clusters (meant merges.due glyphs.old)) }
     requires due { MayBeDue level start merges.due glyphs.old }
     requires plain { merge ≡ false → merges.due ≡ Nothing }
-    ensures turned { turning_at end (meant result.due glyphs.new) positions.new result.marked ≡ first_turned merge level (end - start) (turning_at start (meant merges.due glyphs.old) positions.old merges.marked) }
-    ensures order { merge ≡ true → IsMonotone level → IsOrdered (clusters (meant merges.due glyphs.old)) → IsOrdered (clusters (meant result.due glyphs.new)) }
+    ensures turned { turning_at end (meant result.due glyphs.new) positions.new result.marked
+        ≡ first_turned merge level (end - start)
+        (turning_at start (meant merges.due glyphs.old) positions.old merges.marked) }
+    ensures order { merge ≡ true → IsMonotone level → IsOrdered (clusters (meant merges.due glyphs.old)) →
+        IsOrdered (clusters (meant result.due glyphs.new)) }
     ensures due { MayBeDue level end result.due glyphs.new }
     ensures plain { merge ≡ false → result.due ≡ Nothing }
 {
@@ -87,11 +94,13 @@ fn merge_group(
 ) -> Merges
     requires some { start < end }
     requires within { end ≤ length glyphs.old }
-    requires known { merge ≡ true → in_order ≡ true → IsMonotone level → IsOrdered (clusters (meant merges.due glyphs.old)) }
+    requires known { merge ≡ true → in_order ≡ true → IsMonotone level →
+        IsOrdered (clusters (meant merges.due glyphs.old)) }
     requires due { MayBeDue level start merges.due glyphs.old }
     requires plain { merge ≡ false → merges.due ≡ Nothing }
     ensures merged { meant result.due glyphs.new ≡ merged_if merge level start end (meant merges.due glyphs.old) }
-    ensures marked { result.marked ≡ (merges.marked || is_marked_if merge level start end (clusters (meant merges.due glyphs.old))) }
+    ensures marked { result.marked
+        ≡ (merges.marked || is_marked_if merge level start end (clusters (meant merges.due glyphs.old))) }
     ensures due { MayBeDue level end result.due glyphs.new }
     ensures round { MayBeRound start end result.due }
     ensures plain { merge ≡ false → result.due ≡ Nothing }

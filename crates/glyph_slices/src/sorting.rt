@@ -29,9 +29,13 @@ pub fn sort<F: Fn(&hb_glyph_info_t) -> u32>(
     requires ordered { start ≤ end }
     requires within { end ≤ length glyphs.old }
     requires known { in_order ≡ true → IsOrdered (clusters glyphs.old) }
-    ensures sorted { (k : Glyph → ℕ) → Gives F.Fn key k → OnOk result (glyphs.new ≡ (range_sorted level start end k glyphs.old).glyphs) }
-    ensures marked { (k : Glyph → ℕ) → Gives F.Fn key k → IfOk result (λ s. s.marked ≡ (range_sorted level start end k glyphs.old).is_marked) }
-    ensures order { (falls : Bool) → IfOk result (λ s. s.in_order ≡ true → IsInOrder falls (clusters glyphs.old) → IsInOrder falls (clusters glyphs.new)) }
+    ensures sorted { (k : Glyph → ℕ) → Gives F.Fn key k →
+        OnOk result (glyphs.new ≡ (range_sorted level start end k glyphs.old).glyphs) }
+    ensures marked { (k : Glyph → ℕ) → Gives F.Fn key k →
+        IfOk result (λ s. s.marked ≡ (range_sorted level start end k glyphs.old).is_marked) }
+    ensures order { (falls : Bool) →
+        IfOk result (λ s. s.in_order ≡ true → IsInOrder falls (clusters glyphs.old) →
+        IsInOrder falls (clusters glyphs.new)) }
     ensures err { OnErr result (glyphs.new ≡ glyphs.old) }
 {
     let mut order = keyed_places(alloc, &glyphs[start..end], &key)?;
@@ -105,7 +109,8 @@ fn merge_span(
     requires within { end ≤ length glyphs.old }
     requires known { in_order ≡ true → IsOrdered (clusters (meant merges.due glyphs.old)) }
     requires due { MayBeDue level start merges.due glyphs.old }
-    ensures merged { record { glyphs = meant result.due glyphs.new; is_marked = result.marked } ≡ span_merged level start end (record { glyphs = meant merges.due glyphs.old; is_marked = merges.marked }) }
+    ensures merged { record { glyphs = meant result.due glyphs.new; is_marked = result.marked }
+        ≡ span_merged level start end (record { glyphs = meant merges.due glyphs.old; is_marked = merges.marked }) }
     ensures due { MayBeDue level end result.due glyphs.new }
 {
     if end - start < 2 {
@@ -124,7 +129,8 @@ fn merge_spans(
 ) -> bool
     requires within { start + length order.now ≤ length glyphs.old }
     requires known { in_order ≡ true → IsOrdered (clusters glyphs.old) }
-    ensures merged { record { glyphs = glyphs.new; is_marked = result } ≡ range_spanned level start order.now glyphs.old }
+    ensures merged { record { glyphs = glyphs.new; is_marked = result }
+        ≡ range_spanned level start order.now glyphs.old }
     ensures direction { (falls : Bool) → IsInOrder falls (clusters glyphs.old) → IsInOrder falls (clusters glyphs.new) }
 {
     let mut merges = no_merges(glyphs, level, in_order);

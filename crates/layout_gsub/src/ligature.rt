@@ -50,7 +50,8 @@ fn match_components(components: &[u16], mask: u32, buffer: &hb_buffer_t) -> Opti
 fn mark_attempt(count: usize, buffer: &mut hb_buffer_t)
     requires open { buffer.old.is_open ≡ true }
     requires there { count < length buffer.old.ahead }
-    ensures { IsPassed (Concat (length buffer.old.behind) (length buffer.old.behind + (count + 1)) ∷ []) buffer.old buffer.new }
+    ensures { IsPassed (Concat (length buffer.old.behind) (length buffer.old.behind + (count + 1))
+        ∷ []) buffer.old buffer.new }
 {
     let at = buffer.idx();
     let _end = buffer.len();
@@ -68,7 +69,8 @@ fn apply_ligature(
     requires no_positions { buffer.old.positions ≡ [] }
     requires there { 0 < length buffer.old.ahead }
     requires room { length buffer.old.behind < buffer.old.max_len }
-    ensures ok { IfOk result (λ acted. Does (ligature_rule mask ligature.now (cut_of buffer.old)) acted buffer.old buffer.new) }
+    ensures ok { IfOk result
+        (λ acted. Does (ligature_rule mask ligature.now (cut_of buffer.old)) acted buffer.old buffer.new) }
     ensures err { IfErr result (λ e. e ≡ ShapeCause.OutOfMemory) }
 {
     if let Some(count) = match_components(ligature.components(), mask, buffer) {
@@ -93,7 +95,9 @@ fn apply_ligatures(
     requires no_positions { buffer.old.positions ≡ [] }
     requires there { 0 < length buffer.old.ahead }
     requires room { length buffer.old.behind < buffer.old.max_len }
-    ensures ok { IfOk result (λ acted. Does (first_rule (ligature_rule mask) ligatures.now (cut_of buffer.old)) acted buffer.old buffer.new) }
+    ensures ok { IfOk result
+        (λ acted. Does (first_rule (ligature_rule mask) ligatures.now
+        (cut_of buffer.old)) acted buffer.old buffer.new) }
     ensures err { IfErr result (λ e. e ≡ ShapeCause.OutOfMemory) }
 {
     for ligature in ligatures {
@@ -119,7 +123,8 @@ pub fn apply_ligature_subst(
     requires there { 0 < length buffer.old.ahead }
     requires room { length buffer.old.behind < buffer.old.max_len }
     requires number { are_glyphs (items_of buffer.old) ≡ true }
-    ensures ok { IfOk result (λ acted. Does (ligature_subtable mask subtable.now (cut_of buffer.old)) acted buffer.old buffer.new) }
+    ensures ok { IfOk result
+        (λ acted. Does (ligature_subtable mask subtable.now (cut_of buffer.old)) acted buffer.old buffer.new) }
     ensures err { IfErr result (λ e. e ≡ ShapeCause.OutOfMemory) }
 {
     let Some(set) = subtable.set_of(buffer.cur(0).as_glyph().0) else {

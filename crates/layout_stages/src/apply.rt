@@ -63,7 +63,9 @@ fn apply_mapped(
 ) -> Result<(), ShapeCause>
     requires ready { IsReady buffer.old }
     requires numbers { are_glyphs (items_of buffer.old) ≡ true }
-    ensures ok { OnOk result (IsDone (lookup_stage (slice_get table.now.lookups lookup_map.now.index) lookup_map.now.mask) buffer.old buffer.new) }
+    ensures ok { OnOk result
+        (IsDone (lookup_stage
+        (slice_get table.now.lookups lookup_map.now.index) lookup_map.now.mask) buffer.old buffer.new) }
     ensures err { IfErr result (λ e. e ≡ ShapeCause.OutOfMemory) }
 {
     let Some(lookup) = table.lookup(lookup_map.index) else {

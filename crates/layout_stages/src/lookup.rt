@@ -23,7 +23,9 @@ fn apply_subtables(
     requires there { 0 < length buffer.old.ahead }
     requires room { length buffer.old.behind < buffer.old.max_len }
     requires number { are_glyphs (items_of buffer.old) ≡ true }
-    ensures ok { IfOk result (λ acted. Does (first_rule (ligature_subtable mask) subtables.now (cut_of buffer.old)) acted buffer.old buffer.new) }
+    ensures ok { IfOk result
+        (λ acted. Does (first_rule (ligature_subtable mask) subtables.now
+        (cut_of buffer.old)) acted buffer.old buffer.new) }
     ensures err { IfErr result (λ e. e ≡ ShapeCause.OutOfMemory) }
 {
     for subtable in subtables {
@@ -48,7 +50,8 @@ pub fn apply_lookup(
     requires there { 0 < length buffer.old.ahead }
     requires room { length buffer.old.behind < buffer.old.max_len }
     requires number { are_glyphs (items_of buffer.old) ≡ true }
-    ensures ok { IfOk result (λ acted. Does (lookup_action mask lookup.now (cut_of buffer.old)) acted buffer.old buffer.new) }
+    ensures ok { IfOk result
+        (λ acted. Does (lookup_action mask lookup.now (cut_of buffer.old)) acted buffer.old buffer.new) }
     ensures err { IfErr result (λ e. e ≡ ShapeCause.OutOfMemory) }
 {
     if !shares_mask(mask, buffer.cur(0)) {

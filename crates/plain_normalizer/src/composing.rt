@@ -36,7 +36,8 @@ fn composite<N: Normalizing>(
     between: &[PlainItem],
     x: &PlainItem,
 ) -> Option<PlainItem>
-    ensures { option_map seen result ≡ composite (N.normalizer by.now) (seen starter.now) (seen_all between.now) (seen x.now) }
+    ensures { option_map seen result
+        ≡ composite (N.normalizer by.now) (seen starter.now) (seen_all between.now) (seen x.now) }
 {
     if !(x.is_mark() && is_reaching(between, x)) {
         return None;
@@ -53,7 +54,8 @@ fn composed_behind<N: Normalizing>(
     first: PlainItem,
     rest: &[PlainItem],
 ) -> Result<Vec<PlainItem>, AllocError>
-    ensures { IfOk result (λ v. seen_all v.items ≡ (composed_from (N.normalizer by.now) [] (seen first) [] (seen_all rest.now)).items) }
+    ensures { IfOk result
+        (λ v. seen_all v.items ≡ (composed_from (N.normalizer by.now) [] (seen first) [] (seen_all rest.now)).items) }
 {
     let mut done = Vec::new(alloc);
     let mut starter = first;

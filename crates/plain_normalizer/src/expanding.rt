@@ -47,7 +47,9 @@ fn supported<N: Normalizing>(
     depth: u32,
     u: char,
 ) -> Result<Option<Vec<char>>, AllocError>
-    ensures { IfOk result (λ o. option_map (λ v. v.items) o ≡ supported reach (has_character (N.normalizer by.now)) (N.normalizer by.now).splits depth u) }
+    ensures { IfOk result
+        (λ o. option_map (λ v. v.items) o
+        ≡ supported reach (has_character (N.normalizer by.now)) (N.normalizer by.now).splits depth u) }
 {
     if depth == 0 {
         return alone(alloc, by, u);
@@ -77,7 +79,11 @@ fn in_parts<N: Normalizing>(
     depth: u32,
     u: char,
 ) -> Result<Option<Vec<char>>, AllocError>
-    ensures { IfOk result (λ o. option_map (λ v. v.items) o ≡ by_supported (has_character (N.normalizer by.now)) (supported reach (has_character (N.normalizer by.now)) (N.normalizer by.now).splits depth) ((N.normalizer by.now).splits u)) }
+    ensures { IfOk result
+        (λ o. option_map (λ v. v.items) o
+        ≡ by_supported (has_character (N.normalizer by.now))
+        (supported reach (has_character (N.normalizer by.now)) (N.normalizer by.now).splits depth)
+        ((N.normalizer by.now).splits u)) }
 {
     let Some((first, second)) = by.decompose(u) else {
         return Ok(None);
@@ -102,7 +108,9 @@ fn expansion<N: Normalizing>(
     reach: Reach,
     u: char,
 ) -> Result<Option<Vec<char>>, AllocError>
-    ensures { IfOk result (λ o. option_map (λ v. v.items) o ≡ expansion reach (has_character (N.normalizer by.now)) (N.normalizer by.now).splits u) }
+    ensures { IfOk result
+        (λ o. option_map (λ v. v.items) o
+        ≡ expansion reach (has_character (N.normalizer by.now)) (N.normalizer by.now).splits u) }
 {
     match reach {
         Reach::Least => {
@@ -191,7 +199,9 @@ fn push_parts<N: Normalizing>(
     characters: &[char],
     out: &mut Vec<PlainItem>,
 ) -> Result<(), AllocError>
-    ensures { OnOk result (seen_all out.new.items ≡ seen_all out.old.items ++ map (part_of (N.normalizer by.now) (seen x.now)) characters.now) }
+    ensures { OnOk result
+        (seen_all out.new.items
+        ≡ seen_all out.old.items ++ map (part_of (N.normalizer by.now) (seen x.now)) characters.now) }
 {
     for u in characters {
         out.push(part_of(by, x, *u))?;
@@ -208,7 +218,8 @@ fn expand_item<N: Normalizing>(
     x: &PlainItem,
     out: &mut Vec<PlainItem>,
 ) -> Result<(), AllocError>
-    ensures { OnOk result (seen_all out.new.items ≡ seen_all out.old.items ++ expanded_item (N.normalizer by.now) reach (seen x.now)) }
+    ensures { OnOk result
+        (seen_all out.new.items ≡ seen_all out.old.items ++ expanded_item (N.normalizer by.now) reach (seen x.now)) }
 {
     match expansion(alloc, by, reach, x.character)? {
         None => out.push(whole_item(by, x))?,
@@ -224,7 +235,9 @@ fn expand_items<N: Normalizing>(
     xs: &[PlainItem],
     out: &mut Vec<PlainItem>,
 ) -> Result<(), AllocError>
-    ensures { OnOk result (seen_all out.new.items ≡ seen_all out.old.items ++ flat_map (expanded_item (N.normalizer by.now) reach) (seen_all xs.now)) }
+    ensures { OnOk result
+        (seen_all out.new.items
+        ≡ seen_all out.old.items ++ flat_map (expanded_item (N.normalizer by.now) reach) (seen_all xs.now)) }
 {
     for x in xs {
         expand_item(alloc, by, reach, x, out)?;
@@ -239,7 +252,11 @@ fn push_selected<N: Normalizing>(
     selector: &PlainItem,
     out: &mut Vec<PlainItem>,
 ) -> Result<(), AllocError>
-    ensures { OnOk result (seen_all out.new.items ≡ seen_all out.old.items ++ flat_map items (selected (N.normalizer by.now) (seen x.now) (seen selector.now) ((N.normalizer by.now).variant_of x.now.character selector.now.character))) }
+    ensures { OnOk result
+        (seen_all out.new.items
+        ≡ seen_all out.old.items
+        ++ flat_map items (selected (N.normalizer by.now) (seen x.now) (seen selector.now)
+        ((N.normalizer by.now).variant_of x.now.character selector.now.character))) }
 {
     if let Some(glyph) = by.variant(x.character, selector.character) {
         out.push(PlainItem { glyph, ..*x })?;
@@ -257,7 +274,9 @@ fn push_waiting<N: Normalizing>(
     before: Option<PlainItem>,
     out: &mut Vec<PlainItem>,
 ) -> Result<(), AllocError>
-    ensures { OnOk result (seen_all out.new.items ≡ seen_all out.old.items ++ flat_map items (waiting (N.normalizer by.now) (option_map seen before))) }
+    ensures { OnOk result
+        (seen_all out.new.items
+        ≡ seen_all out.old.items ++ flat_map items (waiting (N.normalizer by.now) (option_map seen before))) }
 {
     if let Some(x) = before {
         out.push(with_own_glyph(by, &x))?;
@@ -272,7 +291,11 @@ fn select_next<N: Normalizing>(
     x: &PlainItem,
     out: &mut Vec<PlainItem>,
 ) -> Result<Option<PlainItem>, AllocError>
-    ensures { IfOk result (λ o. (xs : List Item) → seen_all out.new.items ++ flat_map items (selected_after (N.normalizer by.now) (option_map seen o) xs) ≡ seen_all out.old.items ++ flat_map items (selected_after (N.normalizer by.now) (option_map seen before) (seen x.now ∷ xs))) }
+    ensures { IfOk result
+        (λ o. (xs : List Item) →
+        seen_all out.new.items ++ flat_map items (selected_after (N.normalizer by.now) (option_map seen o) xs)
+        ≡ seen_all out.old.items
+        ++ flat_map items (selected_after (N.normalizer by.now) (option_map seen before) (seen x.now ∷ xs))) }
 {
     if !x.is_selector() {
         push_waiting(by, before, out)?;
@@ -292,7 +315,10 @@ fn push_with_selectors<N: Normalizing>(
     marks: &[PlainItem],
     out: &mut Vec<PlainItem>,
 ) -> Result<(), AllocError>
-    ensures { OnOk result (seen_all out.new.items ≡ seen_all out.old.items ++ flat_map items (selected_after (N.normalizer by.now) (Some (seen first.now)) (seen_all marks.now))) }
+    ensures { OnOk result
+        (seen_all out.new.items
+        ≡ seen_all out.old.items
+        ++ flat_map items (selected_after (N.normalizer by.now) (Some (seen first.now)) (seen_all marks.now))) }
 {
     let mut before = Some(*first);
     for x in marks {
@@ -348,7 +374,12 @@ fn expand_each<N: Normalizing>(
     marks: &[PlainItem],
     out: &mut Vec<PlainItem>,
 ) -> Result<(), AllocError>
-    ensures { OnOk result (seen_all out.new.items ≡ seen_all out.old.items ++ (expanded_item (N.normalizer by.now) (reach_with_marks (N.normalizer by.now).mode) (seen first.now) ++ flat_map (expanded_item (N.normalizer by.now) (reach_with_marks (N.normalizer by.now).mode)) (seen_all marks.now))) }
+    ensures { OnOk result
+        (seen_all out.new.items
+        ≡ seen_all out.old.items
+        ++ (expanded_item (N.normalizer by.now) (reach_with_marks (N.normalizer by.now).mode) (seen first.now)
+        ++ flat_map (expanded_item (N.normalizer by.now) (reach_with_marks (N.normalizer by.now).mode))
+        (seen_all marks.now))) }
 {
     let reach = reach_with_marks(by.mode());
     expand_item(alloc, by, reach, first, out)?;
@@ -365,7 +396,10 @@ fn expand_group<N: Normalizing>(
     marks: &[PlainItem],
     out: &mut Vec<PlainItem>,
 ) -> Result<(), AllocError>
-    ensures { OnOk result (seen_all out.new.items ≡ seen_all out.old.items ++ flat_map items (expanded_group (N.normalizer by.now) (seen first.now) (seen_all marks.now))) }
+    ensures { OnOk result
+        (seen_all out.new.items
+        ≡ seen_all out.old.items
+        ++ flat_map items (expanded_group (N.normalizer by.now) (seen first.now) (seen_all marks.now))) }
 {
     if marks.is_empty() {
         expand_item(alloc, by, reach_alone(by.mode()), first, out)?;
@@ -386,7 +420,9 @@ fn expanded_from<N: Normalizing>(
     first: PlainItem,
     rest: &[PlainItem],
 ) -> Result<Vec<PlainItem>, AllocError>
-    ensures { IfOk result (λ v. seen_all v.items ≡ flat_map items (expanded_groups (N.normalizer by.now) (seen first) [] (seen_all rest.now))) }
+    ensures { IfOk result
+        (λ v. seen_all v.items
+        ≡ flat_map items (expanded_groups (N.normalizer by.now) (seen first) [] (seen_all rest.now))) }
 {
     let mut first = first;
     let mut marks = Vec::new(alloc);

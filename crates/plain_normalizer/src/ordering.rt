@@ -21,7 +21,8 @@ fn sort_run(run: &mut Vec<PlainItem>) -> Result<(), AllocError>
 /// Puts a run in order, and has the shaper rewrite it; a run of more than 32 stays.
 #[tactic(auto, using(crate::proofs::Runs::empty_run, crate::proofs::Runs::long_run, crate::proofs::Runs::short_run))]
 fn arrange_run<N: Normalizing>(by: &N, run: &mut Vec<PlainItem>) -> Result<(), AllocError>
-    ensures { OnOk result (seen_all run.new.items ≡ (arranged_run (N.normalizer by.now).reorders (seen_all run.old.items)).items) }
+    ensures { OnOk result
+        (seen_all run.new.items ≡ (arranged_run (N.normalizer by.now).reorders (seen_all run.old.items)).items) }
 {
     if run.is_empty() {
         return Ok(());
@@ -40,7 +41,9 @@ fn append_run<N: Normalizing>(
     run: &mut Vec<PlainItem>,
     ordered: &mut Vec<PlainItem>,
 ) -> Result<(), AllocError>
-    ensures ok { OnOk result (seen_all ordered.new.items ≡ seen_all ordered.old.items ++ (arranged_run (N.normalizer by.now).reorders (seen_all run.old.items)).items) }
+    ensures ok { OnOk result
+        (seen_all ordered.new.items
+        ≡ seen_all ordered.old.items ++ (arranged_run (N.normalizer by.now).reorders (seen_all run.old.items)).items) }
     ensures emptied { OnOk result (run.new.items ≡ []) }
 {
     arrange_run(by, run)?;
@@ -56,7 +59,8 @@ pub(crate) fn ordered_list<N: Normalizing>(
     by: &N,
     xs: &[PlainItem],
 ) -> Result<Vec<PlainItem>, AllocError>
-    ensures { IfOk result (λ v. seen_all v.items ≡ (ordered_list (N.normalizer by.now).reorders (seen_all xs.now)).items) }
+    ensures { IfOk result
+        (λ v. seen_all v.items ≡ (ordered_list (N.normalizer by.now).reorders (seen_all xs.now)).items) }
 {
     let mut ordered = Vec::new(alloc);
     let mut run = Vec::new(alloc);
@@ -96,7 +100,9 @@ fn push_with_joiners(
     rest: &[PlainItem],
     out: &mut Vec<PlainItem>,
 ) -> Result<(), AllocError>
-    ensures { OnOk result (seen_all out.new.items ≡ seen_all out.old.items ++ with_joiners_shown (seen before) (seen x ∷ seen_all rest.now)) }
+    ensures { OnOk result
+        (seen_all out.new.items
+        ≡ seen_all out.old.items ++ with_joiners_shown (seen before) (seen x ∷ seen_all rest.now)) }
 {
     let mut before = before;
     let mut x = x;

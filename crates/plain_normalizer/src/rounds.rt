@@ -48,7 +48,9 @@ fn composed_if_wanted<N: Normalizing>(
     by: &N,
     xs: Vec<PlainItem>,
 ) -> Result<Vec<PlainItem>, AllocError>
-    ensures { IfOk result (λ v. seen_all v.items ≡ (composed_if (is_composing (N.normalizer by.now).mode) (N.normalizer by.now) (seen_all xs.items)).items) }
+    ensures { IfOk result
+        (λ v. seen_all v.items
+        ≡ (composed_if (is_composing (N.normalizer by.now).mode) (N.normalizer by.now) (seen_all xs.items)).items) }
 {
     if !is_composing(by.mode()) {
         return Ok(xs);
@@ -65,7 +67,8 @@ fn arranged_marks<N: Normalizing>(
     has_later_mark: bool,
     xs: &[PlainItem],
 ) -> Result<Vec<PlainItem>, AllocError>
-    ensures { IfOk result (λ v. seen_all v.items ≡ (arranged_marks has_later_mark (N.normalizer by.now) (seen_all xs.now)).items) }
+    ensures { IfOk result
+        (λ v. seen_all v.items ≡ (arranged_marks has_later_mark (N.normalizer by.now) (seen_all xs.now)).items) }
 {
     if !has_later_mark {
         let list = joiners_shown(alloc, xs)?;

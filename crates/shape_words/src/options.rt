@@ -55,7 +55,9 @@ fn refusal(kind: ErrorKind) -> RunFault
 }
 
 fn read_options(alloc: Global, matches: &ArgMatches<'_>) -> Result<CommandLine, RunFault>
-    ensures ok { IfOk result (λ o. settings_of (first_value (found_of matches.now)) (feature_values (found_of matches.now)) ≡ Ok (settings_in o)) }
+    ensures ok { IfOk result
+        (λ o. settings_of (first_value (found_of matches.now)) (feature_values (found_of matches.now))
+        ≡ Ok (settings_in o)) }
     ensures refused { IfErr result (λ e. e ≢ RunFault.OutOfMemory
         → settings_of (first_value (found_of matches.now)) (feature_values (found_of matches.now)) ≡ Err e) }
 {
@@ -106,7 +108,8 @@ fn read_script(matches: &ArgMatches<'_>) -> Result<Option<Script>, RunFault>
 
 fn read_features(alloc: Global, matches: &ArgMatches<'_>) -> Result<Vec<Feature>, RunFault>
     ensures ok { IfOk result (λ v. features_in (feature_values (found_of matches.now)) ≡ Ok v.items) }
-    ensures refused { IfErr result (λ e. e ≢ RunFault.OutOfMemory → features_in (feature_values (found_of matches.now)) ≡ Err e) }
+    ensures refused { IfErr result
+        (λ e. e ≢ RunFault.OutOfMemory → features_in (feature_values (found_of matches.now)) ≡ Err e) }
 {
     match matches.get_strs("features") {
         Some(values) => read_values(alloc, values),

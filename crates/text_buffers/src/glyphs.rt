@@ -92,7 +92,10 @@ impl GlyphBuffer {
         flags: SerializeFlags,
     ) -> Result<String, AllocError>
         requires { asks_font flags ≡ true → HasGlyphNumbers (all_glyphs self.now) }
-        ensures { IfOk result (λ text. string_bytes text ≡ printed_text (N.name_of names.now) (N.extents_of names.now) flags (all_glyphs self.now) self.now.positions) }
+        ensures { IfOk result
+            (λ text. string_bytes text
+            ≡ printed_text (N.name_of names.now) (N.extents_of names.now) flags
+            (all_glyphs self.now) self.now.positions) }
     {
         serialize(
             alloc,

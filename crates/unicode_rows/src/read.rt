@@ -16,7 +16,9 @@ pub fn read_rows<const N: usize, R: Row<N>>(
     ensures read { IfOk result (λ v. v.items ≡ map R.of_numbers rows.now) }
     ensures sound { OnOk result (row_fault R.is_in_range R.high R.low None (map R.of_numbers rows.now) ≡ None) }
     ensures rising { IfOk result (λ v. is_rising R.high R.low v.items ≡ true) }
-    ensures refused { IfErr result (λ e. e ≢ TablesFault.OutOfMemory → row_fault R.is_in_range R.high R.low None (map R.of_numbers rows.now) ≡ Some e) }
+    ensures refused { IfErr result
+        (λ e. e ≢ TablesFault.OutOfMemory →
+        row_fault R.is_in_range R.high R.low None (map R.of_numbers rows.now) ≡ Some e) }
     ensures row_by_row { result ≢ Err TablesFault.SplitDepth }
 {
     let mut records = Vec::new(alloc);

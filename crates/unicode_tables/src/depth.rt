@@ -18,7 +18,8 @@ const SYLLABLE_SPLITS: u32 = 2;
 /// Whether each chain of first parts ends within eight splits.
 pub(crate) fn all_chains_end(splits: &[Split]) -> bool
     requires { is_rising (λ _. 0) (λ (r : Split). r.whole) splits.now ≡ true }
-    ensures { MatchBool result (EndWithin (splits_of splits.now) MAX_SPLITS) (HasDeepChain (splits_of splits.now) MAX_SPLITS) }
+    ensures { MatchBool result (EndWithin (splits_of splits.now) MAX_SPLITS)
+        (HasDeepChain (splits_of splits.now) MAX_SPLITS) }
 {
     rows_end(splits) && leading_consonants_end(splits)
 }
@@ -34,7 +35,8 @@ fn rows_end(splits: &[Split]) -> bool
 
 fn leading_consonants_end(splits: &[Split]) -> bool
     requires { is_rising (λ _. 0) (λ (r : Split). r.whole) splits.now ≡ true }
-    ensures { MatchBool result (AllAmong L_BASE L_COUNT (ends_within (splits_of splits.now) 6)) (SomeAmong L_BASE L_COUNT (λ l. ends_within (splits_of splits.now) 6 l ≡ false)) }
+    ensures { MatchBool result (AllAmong L_BASE L_COUNT (ends_within (splits_of splits.now) 6))
+        (SomeAmong L_BASE L_COUNT (λ l. ends_within (splits_of splits.now) 6 l ≡ false)) }
 {
     for leading in L_BASE..L_BASE + L_COUNT {
         if !chain_ends(

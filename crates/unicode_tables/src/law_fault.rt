@@ -90,7 +90,9 @@ impl UnicodeTables {
     }
 
     fn all_pairs_pass(&self) -> bool
-        ensures { result ≡ list_all (λ (p : Pair). whole_is_equivalent self.now p.first p.second (pair_of self.now p.first p.second)) self.now.pairs }
+        ensures { result ≡ list_all
+            (λ (p : Pair). whole_is_equivalent self.now p.first p.second
+            (pair_of self.now p.first p.second)) self.now.pairs }
     {
         self.pairs()
             .iter()
@@ -129,7 +131,8 @@ impl UnicodeTables {
     fn same_for_classes(&self, zs: &[char], xs: &[char], ys: &[char]) -> bool
         requires first { length xs.now ≤ 18 }
         requires second { length ys.now ≤ 18 }
-        ensures { result ≡ list_all (λ z. same_beside_starters (class_of self.now) xs.now ys.now (class_of self.now z)) zs.now }
+        ensures { result ≡ list_all
+            (λ z. same_beside_starters (class_of self.now) xs.now ys.now (class_of self.now z)) zs.now }
     {
         zs.iter()
             .all(|z| self.same_beside_starters(xs, ys, self.class(*z)))
@@ -204,7 +207,8 @@ fn marks_pass(classes: &[CharacterClass]) -> bool
 /// Whether the second part of each row, as its character splits, doesn't split.
 fn rows_stay(splits: &[Split]) -> bool
     requires { is_rising (λ _. 0) (λ (r : Split). r.whole) splits.now ≡ true }
-    ensures { result ≡ list_all (λ (r : Split). second_stays (splits_of splits.now) (splits_of splits.now r.whole)) splits.now }
+    ensures { result ≡ list_all
+        (λ (r : Split). second_stays (splits_of splits.now) (splits_of splits.now r.whole)) splits.now }
 {
     splits.iter().all(|row| second_stays(splits, row.whole))
 }
@@ -224,7 +228,8 @@ fn second_stays(splits: &[Split], u: char) -> bool
 fn stay_whole(splits: &[Split], base: u32, count: u32) -> bool
     requires rising { is_rising (λ _. 0) (λ (r : Split). r.whole) splits.now ≡ true }
     requires below { base + count ≤ 0xD800 }
-    ensures { MatchBool result (AllAmong base count (λ c. is_none (splits_of splits.now c))) (SomeAmong base count (λ c. is_none (splits_of splits.now c) ≡ false)) }
+    ensures { MatchBool result (AllAmong base count (λ c. is_none (splits_of splits.now c)))
+        (SomeAmong base count (λ c. is_none (splits_of splits.now c) ≡ false)) }
 {
     for code in base..base + count {
         if split(splits, below_surrogates(code)).is_some() {

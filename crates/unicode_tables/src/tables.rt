@@ -53,7 +53,9 @@ impl UnicodeTables {
         ensures shallow { OnOk result (EndWithin (split_of (tables_of rows.now)) MAX_SPLITS) }
 
         // The first fault of a row comes before chains that are too deep.
-        ensures refused { IfErr result (λ e. e ≢ TablesFault.OutOfMemory → e ≢ TablesFault.SplitDepth → first_row_fault (tables_of rows.now) ≡ Some e) }
+        ensures refused { IfErr result
+            (λ e. e ≢ TablesFault.OutOfMemory → e ≢ TablesFault.SplitDepth →
+            first_row_fault (tables_of rows.now) ≡ Some e) }
         ensures deep { result ≡ Err TablesFault.SplitDepth → HasDeepChain (split_of (tables_of rows.now)) MAX_SPLITS }
         ensures deep_last { result ≡ Err TablesFault.SplitDepth → first_row_fault (tables_of rows.now) ≡ None }
     {

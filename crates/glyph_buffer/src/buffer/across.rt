@@ -25,9 +25,11 @@ impl hb_buffer_t {
         requires within { end ≤ length self.old.behind }
         ensures merged { self.new ≡ with_output_merged start end self.old }
         ensures items { items_of self.new ≡ items_of self.old }
-        ensures clusters { clusters (all_glyphs self.new) ≡ merged_at self.old.level start end (clusters (all_glyphs self.old)) }
+        ensures clusters { clusters (all_glyphs self.new)
+            ≡ merged_at self.old.level start end (clusters (all_glyphs self.old)) }
         ensures numbers { BringsNone (clusters (all_glyphs self.old)) (clusters (all_glyphs self.new)) }
-        ensures flags { flags_of (all_glyphs self.new) ≡ flags_output_merged_at self.old.level start end (all_glyphs self.old) }
+        ensures flags { flags_of (all_glyphs self.new)
+            ≡ flags_output_merged_at self.old.level start end (all_glyphs self.old) }
     {
         match self.cluster_level {
             BufferClusterLevel::Characters => {}
@@ -41,7 +43,8 @@ impl hb_buffer_t {
         requires open { self.old.is_open ≡ true }
         requires ordered { start ≤ end }
         requires within { end ≤ length self.old.behind }
-        ensures { self.new ≡ with_glyphs (glyphs_merged (stretch start end (clusters (all_glyphs self.old))) (all_glyphs self.old)) self.old }
+        ensures { self.new ≡ with_glyphs
+            (glyphs_merged (stretch start end (clusters (all_glyphs self.old))) (all_glyphs self.old)) self.old }
     {
         self.order.settle(&self.out_info, &self.info);
         let known = self.order.known;
@@ -60,7 +63,8 @@ impl hb_buffer_t {
         ensures marked { self.new ≡ marked_across 3 start end self.old }
         ensures items { items_of self.new ≡ items_of self.old }
         ensures clusters { clusters (all_glyphs self.new) ≡ clusters (all_glyphs self.old) }
-        ensures flags { flags_of (all_glyphs self.new) ≡ flags_marked 3 (start_or start) (index_in_all (end_or end self.old) self.old) (all_glyphs self.old) }
+        ensures flags { flags_of (all_glyphs self.new)
+            ≡ flags_marked 3 (start_or start) (index_in_all (end_or end self.old) self.old) (all_glyphs self.old) }
     {
         if !self.have_output {
             return self.unsafe_to_break(start, end);
@@ -82,7 +86,9 @@ impl hb_buffer_t {
         ensures marked { self.new ≡ concat_marked_across start end self.old }
         ensures items { items_of self.new ≡ items_of self.old }
         ensures clusters { clusters (all_glyphs self.new) ≡ clusters (all_glyphs self.old) }
-        ensures flags { flags_of (all_glyphs self.new) ≡ (if asks_concat self.old then flags_flagged 2 (start_or start) (index_in_all (end_or end self.old) self.old) (all_glyphs self.old) else flags_of (all_glyphs self.old)) }
+        ensures flags { flags_of (all_glyphs self.new)
+            ≡ (if asks_concat self.old then flags_flagged 2 (start_or start)
+            (index_in_all (end_or end self.old) self.old) (all_glyphs self.old) else flags_of (all_glyphs self.old)) }
     {
         if !self.have_output {
             return self.unsafe_to_concat(start, end);
@@ -102,7 +108,8 @@ impl hb_buffer_t {
         ensures marked { self.new ≡ with_marked flags start (index_in_all end self.old) self.old }
         ensures items { items_of self.new ≡ items_of self.old }
         ensures clusters { clusters (all_glyphs self.new) ≡ clusters (all_glyphs self.old) }
-        ensures flags { flags_of (all_glyphs self.new) ≡ flags_marked flags start (index_in_all end self.old) (all_glyphs self.old) }
+        ensures flags { flags_of (all_glyphs self.new)
+            ≡ flags_marked flags start (index_in_all end self.old) (all_glyphs self.old) }
     {
         let input = &mut self.info[self.idx..end];
         let any = mark_across(&mut self.out_info[start..], input, flags);
@@ -118,7 +125,8 @@ impl hb_buffer_t {
         ensures marked { self.new ≡ with_flagged flags start (index_in_all end self.old) self.old }
         ensures items { items_of self.new ≡ items_of self.old }
         ensures clusters { clusters (all_glyphs self.new) ≡ clusters (all_glyphs self.old) }
-        ensures flags { flags_of (all_glyphs self.new) ≡ flags_flagged flags start (index_in_all end self.old) (all_glyphs self.old) }
+        ensures flags { flags_of (all_glyphs self.new)
+            ≡ flags_flagged flags start (index_in_all end self.old) (all_glyphs self.old) }
     {
         flag_all(&mut self.out_info[start..], flags);
         flag_all(&mut self.info[self.idx..end], flags);

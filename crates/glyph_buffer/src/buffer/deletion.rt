@@ -19,15 +19,21 @@ impl hb_buffer_t {
     pub fn delete_glyph(&mut self)
         requires open { self.old.is_open ≡ true }
         requires there { 0 < length self.old.ahead }
-        ensures deleted { (g : Glyph) (back : List Glyph) → self.old.ahead ≡ g ∷ back → self.new ≡ with_deleted g back self.old }
+        ensures deleted { (g : Glyph) (back : List Glyph) → self.old.ahead ≡ g ∷ back →
+            self.new ≡ with_deleted g back self.old }
         ensures open { self.new.is_open ≡ true }
         ensures read { self.new.read ≡ self.old.read + 1 }
         ensures behind { length self.new.behind ≡ length self.old.behind }
         ensures ahead { length self.new.ahead + 1 ≡ length self.old.ahead }
         ensures items { items_of self.new ≡ strip self.old.behind ++ drop 1 (strip self.old.ahead) }
-        ensures clusters { (g : Glyph) (back : List Glyph) → self.old.ahead ≡ g ∷ back → clusters (all_glyphs self.new) ≡ deleted self.old.level (clusters self.old.behind) g.cluster (clusters back) }
+        ensures clusters { (g : Glyph) (back : List Glyph) → self.old.ahead ≡ g ∷ back →
+            clusters (all_glyphs self.new)
+            ≡ deleted self.old.level (clusters self.old.behind) g.cluster (clusters back) }
         ensures numbers { BringsNone (clusters (all_glyphs self.old)) (clusters (all_glyphs self.new)) }
-        ensures flags { (g : Glyph) (back : List Glyph) → self.old.ahead ≡ g ∷ back → flags_of (all_glyphs self.new) ≡ together (flags_deleted self.old.level (clusters self.old.behind) g.cluster (clusters back) (flags_of self.old.behind) (glyph_flags g) (flags_of back)) }
+        ensures flags { (g : Glyph) (back : List Glyph) → self.old.ahead ≡ g ∷ back →
+            flags_of (all_glyphs self.new)
+            ≡ together (flags_deleted self.old.level (clusters self.old.behind) g.cluster (clusters back)
+            (flags_of self.old.behind) (glyph_flags g) (flags_of back)) }
     {
         self.order.settle(&self.out_info, &self.info);
         let in_order = self.order.known.is_known();

@@ -54,7 +54,8 @@ impl hb_buffer_t {
         requires callable { F.IsAlwaysCallable group }
         requires closed { self.now.is_open ≡ false }
         requires within { start < length (all_glyphs self.now) }
-        ensures { (joins : Glyph → Glyph → Bool) → Decides F.Fn group joins → result ≡ start + group_length joins (drop start (all_glyphs self.now)) }
+        ensures { (joins : Glyph → Glyph → Bool) → Decides F.Fn group joins →
+            result ≡ start + group_length joins (drop start (all_glyphs self.now)) }
     {
         groups::group_end(&self.info, start, group)
     }
@@ -68,13 +69,23 @@ impl hb_buffer_t {
     )
         requires callable { F.IsAlwaysCallable group }
         requires closed { self.old.is_open ≡ false }
-        ensures turned { (joins : Glyph → Glyph → Bool) → Decides F.Fn group joins → self.new ≡ with_groups_turned merge joins self.old }
-        ensures plain { (joins : Glyph → Glyph → Bool) → Decides F.Fn group joins → merge ≡ false → all_glyphs self.new ≡ groups_turned joins (all_glyphs self.old) }
-        ensures items { (q : Item → Item → Bool) → Decides F.Fn group (λ g h. q (item_of g) (item_of h)) → items_of self.new ≡ groups_turned q (items_of self.old) }
-        ensures positions { (q : Item → Item → Bool) → Decides F.Fn group (λ g h. q (item_of g) (item_of h)) → self.new.positions ≡ positions_turned q (items_of self.old) self.old.positions }
-        ensures clusters { (q : Item → Item → Bool) → Decides F.Fn group (λ g h. q (item_of g) (item_of h)) → clusters (all_glyphs self.new) ≡ clusters_turned merge self.old.level q (items_of self.old) (clusters (all_glyphs self.old)) }
-        ensures numbers { (joins : Glyph → Glyph → Bool) → Decides F.Fn group joins → BringsNone (clusters (all_glyphs self.old)) (clusters (all_glyphs self.new)) }
-        ensures flags { (q : Item → Item → Bool) → Decides F.Fn group (λ g h. q (item_of g) (item_of h)) → flags_of (all_glyphs self.new) ≡ flags_turned merge self.old.level q (items_of self.old) (clusters (all_glyphs self.old)) (flags_of (all_glyphs self.old)) }
+        ensures turned { (joins : Glyph → Glyph → Bool) → Decides F.Fn group joins →
+            self.new ≡ with_groups_turned merge joins self.old }
+        ensures plain { (joins : Glyph → Glyph → Bool) → Decides F.Fn group joins → merge ≡ false →
+            all_glyphs self.new ≡ groups_turned joins (all_glyphs self.old) }
+        ensures items { (q : Item → Item → Bool) → Decides F.Fn group (λ g h. q (item_of g) (item_of h)) →
+            items_of self.new ≡ groups_turned q (items_of self.old) }
+        ensures positions { (q : Item → Item → Bool) → Decides F.Fn group (λ g h. q (item_of g) (item_of h)) →
+            self.new.positions ≡ positions_turned q (items_of self.old) self.old.positions }
+        ensures clusters { (q : Item → Item → Bool) → Decides F.Fn group (λ g h. q (item_of g) (item_of h)) →
+            clusters (all_glyphs self.new)
+            ≡ clusters_turned merge self.old.level q (items_of self.old) (clusters (all_glyphs self.old)) }
+        ensures numbers { (joins : Glyph → Glyph → Bool) → Decides F.Fn group joins →
+            BringsNone (clusters (all_glyphs self.old)) (clusters (all_glyphs self.new)) }
+        ensures flags { (q : Item → Item → Bool) → Decides F.Fn group (λ g h. q (item_of g) (item_of h)) →
+            flags_of (all_glyphs self.new)
+            ≡ flags_turned merge self.old.level q (items_of self.old) (clusters (all_glyphs self.old))
+            (flags_of (all_glyphs self.old)) }
         ensures closed { self.new.is_open ≡ false }
         ensures count { length (all_glyphs self.new) ≡ length (all_glyphs self.old) }
     {
@@ -98,12 +109,21 @@ impl hb_buffer_t {
     pub fn delete_glyphs_inplace<F: Fn(&hb_glyph_info_t) -> bool>(&mut self, filter: F)
         requires callable { F.IsAlwaysCallable filter }
         requires closed { self.old.is_open ≡ false }
-        ensures deleted { (goes : Glyph → Bool) → Tells F.Fn filter goes → self.new ≡ with_picked_deleted goes self.old }
-        ensures items { (q : Item → Bool) → Tells F.Fn filter (λ g. q (item_of g)) → items_of self.new ≡ items_kept q (items_of self.old) }
-        ensures positions { (q : Item → Bool) → Tells F.Fn filter (λ g. q (item_of g)) → self.new.positions ≡ positions_kept q (items_of self.old) self.old.positions }
-        ensures clusters { (q : Item → Bool) → Tells F.Fn filter (λ g. q (item_of g)) → clusters (all_glyphs self.new) ≡ clusters_kept self.old.level q (items_of self.old) (clusters (all_glyphs self.old)) }
-        ensures numbers { (goes : Glyph → Bool) → Tells F.Fn filter goes → BringsNone (clusters (all_glyphs self.old)) (clusters (all_glyphs self.new)) }
-        ensures flags { (q : Item → Bool) → Tells F.Fn filter (λ g. q (item_of g)) → flags_of (all_glyphs self.new) ≡ flags_kept self.old.level q (items_of self.old) (clusters (all_glyphs self.old)) (flags_of (all_glyphs self.old)) }
+        ensures deleted { (goes : Glyph → Bool) → Tells F.Fn filter goes →
+            self.new ≡ with_picked_deleted goes self.old }
+        ensures items { (q : Item → Bool) → Tells F.Fn filter (λ g. q (item_of g)) →
+            items_of self.new ≡ items_kept q (items_of self.old) }
+        ensures positions { (q : Item → Bool) → Tells F.Fn filter (λ g. q (item_of g)) →
+            self.new.positions ≡ positions_kept q (items_of self.old) self.old.positions }
+        ensures clusters { (q : Item → Bool) → Tells F.Fn filter (λ g. q (item_of g)) →
+            clusters (all_glyphs self.new)
+            ≡ clusters_kept self.old.level q (items_of self.old) (clusters (all_glyphs self.old)) }
+        ensures numbers { (goes : Glyph → Bool) → Tells F.Fn filter goes →
+            BringsNone (clusters (all_glyphs self.old)) (clusters (all_glyphs self.new)) }
+        ensures flags { (q : Item → Bool) → Tells F.Fn filter (λ g. q (item_of g)) →
+            flags_of (all_glyphs self.new)
+            ≡ flags_kept self.old.level q (items_of self.old) (clusters (all_glyphs self.old))
+            (flags_of (all_glyphs self.old)) }
         ensures closed { self.new.is_open ≡ false }
         ensures cursor { self.new.read ≡ min self.old.read (length (all_glyphs self.new)) }
         ensures few { length (all_glyphs self.new) ≤ length (all_glyphs self.old) }

@@ -22,7 +22,9 @@ impl hb_buffer_t {
         ensures marked { self.new ≡ marked_range 3 start end self.old }
         ensures items { items_of self.new ≡ items_of self.old }
         ensures clusters { clusters (all_glyphs self.new) ≡ clusters (all_glyphs self.old) }
-        ensures flags { flags_of (all_glyphs self.new) ≡ flags_marked 3 (index_in_all (start_or start) self.old) (index_in_all (end_or end self.old) self.old) (all_glyphs self.old) }
+        ensures flags { flags_of (all_glyphs self.new)
+            ≡ flags_marked 3 (index_in_all (start_or start) self.old) (index_in_all (end_or end self.old) self.old)
+            (all_glyphs self.old) }
     {
         let count = self.info.len();
         self.mark_range(
@@ -40,7 +42,9 @@ impl hb_buffer_t {
         ensures marked { self.new ≡ concat_marked start end self.old }
         ensures items { items_of self.new ≡ items_of self.old }
         ensures clusters { clusters (all_glyphs self.new) ≡ clusters (all_glyphs self.old) }
-        ensures flags { flags_of (all_glyphs self.new) ≡ (if asks_concat self.old then flags_flagged 2 (index_in_all (start_or start) self.old) (index_in_all (end_or end self.old) self.old) (all_glyphs self.old) else flags_of (all_glyphs self.old)) }
+        ensures flags { flags_of (all_glyphs self.new)
+            ≡ (if asks_concat self.old then flags_flagged 2 (index_in_all (start_or start) self.old)
+            (index_in_all (end_or end self.old) self.old) (all_glyphs self.old) else flags_of (all_glyphs self.old)) }
     {
         if self.asks_concat() {
             let count = self.info.len();
@@ -57,7 +61,11 @@ impl hb_buffer_t {
         ensures marked { self.new ≡ tatweel_marked start end self.old }
         ensures items { items_of self.new ≡ items_of self.old }
         ensures clusters { clusters (all_glyphs self.new) ≡ clusters (all_glyphs self.old) }
-        ensures flags { flags_of (all_glyphs self.new) ≡ (if asks_tatweel self.old then flags_marked 4 (index_in_all (start_or start) self.old) (index_in_all (end_or end self.old) self.old) (all_glyphs self.old) else flags_marked 3 (index_in_all (start_or start) self.old) (index_in_all (end_or end self.old) self.old) (all_glyphs self.old)) }
+        ensures flags { flags_of (all_glyphs self.new)
+            ≡ (if asks_tatweel self.old then flags_marked 4 (index_in_all (start_or start) self.old)
+            (index_in_all (end_or end self.old) self.old) (all_glyphs self.old) else flags_marked 3
+            (index_in_all (start_or start) self.old) (index_in_all (end_or end self.old) self.old)
+            (all_glyphs self.old)) }
     {
         if self
             .flags
@@ -85,10 +93,12 @@ impl hb_buffer_t {
         requires ordered { start ≤ end }
         requires within { end ≤ self.old.read + length self.old.ahead }
         requires unread { self.old.is_open ≡ true → self.old.read ≤ start }
-        ensures marked { self.new ≡ with_marked flags (index_in_all start self.old) (index_in_all end self.old) self.old }
+        ensures marked { self.new
+            ≡ with_marked flags (index_in_all start self.old) (index_in_all end self.old) self.old }
         ensures items { items_of self.new ≡ items_of self.old }
         ensures clusters { clusters (all_glyphs self.new) ≡ clusters (all_glyphs self.old) }
-        ensures flags { flags_of (all_glyphs self.new) ≡ flags_marked flags (index_in_all start self.old) (index_in_all end self.old) (all_glyphs self.old) }
+        ensures flags { flags_of (all_glyphs self.new)
+            ≡ flags_marked flags (index_in_all start self.old) (index_in_all end self.old) (all_glyphs self.old) }
     {
         let any = mark_within(&mut self.info, start, end, flags);
         self.scratch_flags = telling_flags(any, self.scratch_flags);
@@ -99,10 +109,12 @@ impl hb_buffer_t {
         requires ordered { start ≤ end }
         requires within { end ≤ self.old.read + length self.old.ahead }
         requires unread { self.old.is_open ≡ true → self.old.read ≤ start }
-        ensures marked { self.new ≡ with_flagged flags (index_in_all start self.old) (index_in_all end self.old) self.old }
+        ensures marked { self.new
+            ≡ with_flagged flags (index_in_all start self.old) (index_in_all end self.old) self.old }
         ensures items { items_of self.new ≡ items_of self.old }
         ensures clusters { clusters (all_glyphs self.new) ≡ clusters (all_glyphs self.old) }
-        ensures flags { flags_of (all_glyphs self.new) ≡ flags_flagged flags (index_in_all start self.old) (index_in_all end self.old) (all_glyphs self.old) }
+        ensures flags { flags_of (all_glyphs self.new)
+            ≡ flags_flagged flags (index_in_all start self.old) (index_in_all end self.old) (all_glyphs self.old) }
     {
         flag_within(&mut self.info, start, end, flags);
         self.scratch_flags = telling_flags(start < end, self.scratch_flags);

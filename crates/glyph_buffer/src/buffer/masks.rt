@@ -30,9 +30,11 @@ impl hb_buffer_t {
         cluster_end: u32,
     )
         ensures set { self.new ≡ with_set_masks value mask cluster_start cluster_end self.old }
-        ensures items { items_of self.new ≡ items_set value mask cluster_start cluster_end (clusters (all_glyphs self.old)) (items_of self.old) }
+        ensures items { items_of self.new
+            ≡ items_set value mask cluster_start cluster_end (clusters (all_glyphs self.old)) (items_of self.old) }
         ensures clusters { clusters (all_glyphs self.new) ≡ clusters (all_glyphs self.old) }
-        ensures flags { flags_of (all_glyphs self.new) ≡ map (flags_set value mask cluster_start cluster_end) (all_glyphs self.old) }
+        ensures flags { flags_of (all_glyphs self.new)
+            ≡ map (flags_set value mask cluster_start cluster_end) (all_glyphs self.old) }
     {
         set_masks(&mut self.info, value, mask, cluster_start, cluster_end);
         set_masks(&mut self.out_info, value, mask, cluster_start, cluster_end);

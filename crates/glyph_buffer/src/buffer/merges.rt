@@ -25,9 +25,13 @@ impl hb_buffer_t {
         requires unread { self.old.is_open ≡ true → self.old.read ≤ start }
         ensures merged { self.new ≡ with_merged (index_in_all start self.old) (index_in_all end self.old) self.old }
         ensures items { items_of self.new ≡ items_of self.old }
-        ensures clusters { clusters (all_glyphs self.new) ≡ merged_at self.old.level (index_in_all start self.old) (index_in_all end self.old) (clusters (all_glyphs self.old)) }
+        ensures clusters { clusters (all_glyphs self.new)
+            ≡ merged_at self.old.level (index_in_all start self.old) (index_in_all end self.old)
+            (clusters (all_glyphs self.old)) }
         ensures numbers { BringsNone (clusters (all_glyphs self.old)) (clusters (all_glyphs self.new)) }
-        ensures flags { flags_of (all_glyphs self.new) ≡ flags_merged_at self.old.level (index_in_all start self.old) (index_in_all end self.old) (all_glyphs self.old) }
+        ensures flags { flags_of (all_glyphs self.new)
+            ≡ flags_merged_at self.old.level (index_in_all start self.old) (index_in_all end self.old)
+            (all_glyphs self.old) }
     {
         let from = self.first_of_input();
         self.order.settle(&self.out_info, &self.info);

@@ -44,7 +44,8 @@ impl hb_buffer_t {
         requires there { 0 < length self.old.ahead }
         ensures skipped { self.new ≡ with_skipped self.old }
         ensures items { items_of self.new ≡ strip self.old.behind ++ drop 1 (strip self.old.ahead) }
-        ensures clusters { clusters (all_glyphs self.new) ≡ clusters self.old.behind ++ drop 1 (clusters self.old.ahead) }
+        ensures clusters { clusters (all_glyphs self.new)
+            ≡ clusters self.old.behind ++ drop 1 (clusters self.old.ahead) }
         ensures numbers { BringsNone (clusters (all_glyphs self.old)) (clusters (all_glyphs self.new)) }
         ensures flags { flags_of (all_glyphs self.new) ≡ flags_of self.old.behind ++ drop 1 (flags_of self.old.ahead) }
     {
@@ -81,7 +82,8 @@ impl hb_buffer_t {
     fn move_back(&mut self, i: usize) -> Result<bool, AllocError>
         requires open { self.old.is_open ≡ true }
         requires there { i ≤ length self.old.behind }
-        ensures held { IfOk result (λ b. b ≡ nat_le (length self.old.ahead + (length self.old.behind - i)) self.old.max_len) }
+        ensures held { IfOk result
+            (λ b. b ≡ nat_le (length self.old.ahead + (length self.old.behind - i)) self.old.max_len) }
         ensures moved { result ≡ Ok true → self.new ≡ moved_to i self.old }
         ensures kept { all_glyphs self.new ≡ all_glyphs self.old }
         ensures full { result ≡ Ok false → self.new ≡ refused self.old }

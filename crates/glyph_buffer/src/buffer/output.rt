@@ -19,10 +19,14 @@ impl hb_buffer_t {
         requires { self.old.is_open ≡ true }
         ensures held { IfOk result (λ b. b ≡ fits_copies 1 self.old) }
         ensures put { result ≡ Ok true → self.new ≡ with_copy glyph_index self.old }
-        ensures items { result ≡ Ok true → items_of self.new ≡ items_replaced (length self.old.behind) 0 (glyph_index ∷ []) (items_of self.old) }
-        ensures clusters { result ≡ Ok true → clusters (all_glyphs self.new) ≡ replaced (length self.old.behind) 0 1 (clusters (all_glyphs self.old)) }
-        ensures numbers { result ≡ Ok true → BringsNone (clusters (all_glyphs self.old)) (clusters (all_glyphs self.new)) }
-        ensures flags { result ≡ Ok true → flags_of (all_glyphs self.new) ≡ replaced (length self.old.behind) 0 1 (flags_of (all_glyphs self.old)) }
+        ensures items { result ≡ Ok true →
+            items_of self.new ≡ items_replaced (length self.old.behind) 0 (glyph_index ∷ []) (items_of self.old) }
+        ensures clusters { result ≡ Ok true →
+            clusters (all_glyphs self.new) ≡ replaced (length self.old.behind) 0 1 (clusters (all_glyphs self.old)) }
+        ensures numbers { result ≡ Ok true →
+            BringsNone (clusters (all_glyphs self.old)) (clusters (all_glyphs self.new)) }
+        ensures flags { result ≡ Ok true →
+            flags_of (all_glyphs self.new) ≡ replaced (length self.old.behind) 0 1 (flags_of (all_glyphs self.old)) }
         ensures full { result ≡ Ok false → self.new ≡ refused self.old }
         ensures err { OnErr result (self.new ≡ self.old) }
     {
@@ -42,9 +46,13 @@ impl hb_buffer_t {
         requires { self.old.is_open ≡ true }
         ensures held { IfOk result (λ b. b ≡ has_output_room 1 self.old) }
         ensures put { result ≡ Ok true → self.new ≡ with_put glyph_info self.old }
-        ensures items { result ≡ Ok true → items_of self.new ≡ strip self.old.behind ++ item_of glyph_info ∷ strip self.old.ahead }
-        ensures clusters { result ≡ Ok true → clusters (all_glyphs self.new) ≡ clusters self.old.behind ++ glyph_info.cluster ∷ clusters self.old.ahead }
-        ensures flags { result ≡ Ok true → flags_of (all_glyphs self.new) ≡ flags_of self.old.behind ++ glyph_flags glyph_info ∷ flags_of self.old.ahead }
+        ensures items { result ≡ Ok true →
+            items_of self.new ≡ strip self.old.behind ++ item_of glyph_info ∷ strip self.old.ahead }
+        ensures clusters { result ≡ Ok true →
+            clusters (all_glyphs self.new) ≡ clusters self.old.behind ++ glyph_info.cluster ∷ clusters self.old.ahead }
+        ensures flags { result ≡ Ok true →
+            flags_of (all_glyphs self.new)
+            ≡ flags_of self.old.behind ++ glyph_flags glyph_info ∷ flags_of self.old.ahead }
         ensures full { result ≡ Ok false → self.new ≡ refused self.old }
         ensures err { OnErr result (self.new ≡ self.old) }
     {
@@ -69,7 +77,8 @@ impl hb_buffer_t {
         requires there { 0 < length self.old.ahead }
         ensures held { IfOk result (λ b. b ≡ has_output_room 1 self.old) }
         ensures replaced { result ≡ Ok true → self.new ≡ with_renumbered glyph_index self.old }
-        ensures items { result ≡ Ok true → items_of self.new ≡ items_replaced (length self.old.behind) 1 (glyph_index ∷ []) (items_of self.old) }
+        ensures items { result ≡ Ok true →
+            items_of self.new ≡ items_replaced (length self.old.behind) 1 (glyph_index ∷ []) (items_of self.old) }
         ensures full { result ≡ Ok false → self.new ≡ refused self.old }
         ensures err { OnErr result (self.new ≡ self.old) }
         ensures clusters { clusters (all_glyphs self.new) ≡ clusters (all_glyphs self.old) }

@@ -31,10 +31,18 @@ impl hb_buffer_t {
         requires given { num_out ≡ length glyph_data.now }
         ensures held { IfOk result (λ b. b ≡ fits_copies num_out self.old) }
         ensures replaced { result ≡ Ok true → self.new ≡ with_replaced num_in glyph_data.now self.old }
-        ensures items { result ≡ Ok true → items_of self.new ≡ items_replaced (length self.old.behind) num_in glyph_data.now (items_of self.old) }
-        ensures clusters { result ≡ Ok true → clusters (all_glyphs self.new) ≡ replaced_at self.old.level (length self.old.behind) num_in num_out (clusters (all_glyphs self.old)) }
-        ensures numbers { result ≡ Ok true → BringsNone (clusters (all_glyphs self.old)) (clusters (all_glyphs self.new)) }
-        ensures flags { result ≡ Ok true → flags_of (all_glyphs self.new) ≡ replaced (length self.old.behind) num_in num_out (flags_merged_at self.old.level (length self.old.behind) (length self.old.behind + num_in) (all_glyphs self.old)) }
+        ensures items { result ≡ Ok true →
+            items_of self.new ≡ items_replaced (length self.old.behind) num_in glyph_data.now (items_of self.old) }
+        ensures clusters { result ≡ Ok true →
+            clusters (all_glyphs self.new)
+            ≡ replaced_at self.old.level (length self.old.behind) num_in num_out (clusters (all_glyphs self.old)) }
+        ensures numbers { result ≡ Ok true →
+            BringsNone (clusters (all_glyphs self.old)) (clusters (all_glyphs self.new)) }
+        ensures flags { result ≡ Ok true →
+            flags_of (all_glyphs self.new)
+            ≡ replaced (length self.old.behind) num_in num_out
+            (flags_merged_at self.old.level (length self.old.behind) (length self.old.behind + num_in)
+            (all_glyphs self.old)) }
         ensures full { result ≡ Ok false → self.new ≡ refused self.old }
         ensures err { OnErr result (self.new ≡ self.old) }
     {

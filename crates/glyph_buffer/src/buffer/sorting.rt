@@ -28,11 +28,20 @@ impl hb_buffer_t {
         requires closed { self.old.is_open ≡ false }
         requires ordered { start ≤ end }
         requires within { end ≤ length (all_glyphs self.old) }
-        ensures sorted { (k : Glyph → ℕ) → Gives F.Fn key k → OnOk result (self.new ≡ with_range_sorted start end k self.old) }
-        ensures items { (k : Item → ℕ) → Gives F.Fn key (λ g. k (item_of g)) → OnOk result (items_of self.new ≡ take start (items_of self.old) ++ key_order k (slice_range (items_of self.old) start end) ++ drop end (items_of self.old)) }
-        ensures clusters { (k : Item → ℕ) → Gives F.Fn key (λ g. k (item_of g)) → OnOk result (clusters (all_glyphs self.new) ≡ clusters_sorted self.old.level start end k (items_of self.old) (clusters (all_glyphs self.old))) }
-        ensures numbers { (k : Glyph → ℕ) → Gives F.Fn key k → OnOk result (BringsNone (clusters (all_glyphs self.old)) (clusters (all_glyphs self.new))) }
-        ensures flags { (k : Glyph → ℕ) → Gives F.Fn key k → OnOk result (flags_of (all_glyphs self.new) ≡ flags_sorted self.old.level start end k (all_glyphs self.old)) }
+        ensures sorted { (k : Glyph → ℕ) → Gives F.Fn key k →
+            OnOk result (self.new ≡ with_range_sorted start end k self.old) }
+        ensures items { (k : Item → ℕ) → Gives F.Fn key (λ g. k (item_of g)) →
+            OnOk result (items_of self.new
+            ≡ take start (items_of self.old) ++ key_order k (slice_range (items_of self.old) start end)
+            ++ drop end (items_of self.old)) }
+        ensures clusters { (k : Item → ℕ) → Gives F.Fn key (λ g. k (item_of g)) →
+            OnOk result (clusters (all_glyphs self.new)
+            ≡ clusters_sorted self.old.level start end k (items_of self.old) (clusters (all_glyphs self.old))) }
+        ensures numbers { (k : Glyph → ℕ) → Gives F.Fn key k →
+            OnOk result (BringsNone (clusters (all_glyphs self.old)) (clusters (all_glyphs self.new))) }
+        ensures flags { (k : Glyph → ℕ) → Gives F.Fn key k →
+            OnOk result (flags_of (all_glyphs self.new)
+            ≡ flags_sorted self.old.level start end k (all_glyphs self.old)) }
         ensures closed { self.new.is_open ≡ false }
         ensures count { length (all_glyphs self.new) ≡ length (all_glyphs self.old) }
         ensures err { OnErr result (self.new ≡ self.old) }

@@ -75,8 +75,10 @@ impl hb_buffer_t {
         requires { self.old.is_open ≡ false }
         ensures held { IfOk result (λ b. b ≡ has_room 1 self.old) }
         ensures added { result ≡ Ok true → self.new ≡ with_added (added_glyph codepoint cluster ∷ []) self.old }
-        ensures items { result ≡ Ok true → items_of self.new ≡ items_of self.old ++ item_of (added_glyph codepoint 0) ∷ [] }
-        ensures clusters { result ≡ Ok true → clusters (all_glyphs self.new) ≡ clusters (all_glyphs self.old) ++ cluster ∷ [] }
+        ensures items { result ≡ Ok true →
+            items_of self.new ≡ items_of self.old ++ item_of (added_glyph codepoint 0) ∷ [] }
+        ensures clusters { result ≡ Ok true →
+            clusters (all_glyphs self.new) ≡ clusters (all_glyphs self.old) ++ cluster ∷ [] }
         ensures flags { result ≡ Ok true → flags_of (all_glyphs self.new) ≡ flags_of (all_glyphs self.old) ++ 0 ∷ [] }
         ensures full { result ≡ Ok false → self.new ≡ self.old }
         ensures err { OnErr result (self.new ≡ self.old) }
@@ -99,8 +101,10 @@ impl hb_buffer_t {
         ensures held { IfOk result (λ b. b ≡ nat_le n self.old.max_len) }
         ensures set { result ≡ Ok true → self.new ≡ with_len n self.old }
         ensures items { result ≡ Ok true → items_of self.new ≡ of_length n (item_of zero_glyph) (items_of self.old) }
-        ensures clusters { result ≡ Ok true → clusters (all_glyphs self.new) ≡ of_length n 0 (clusters (all_glyphs self.old)) }
-        ensures flags { result ≡ Ok true → flags_of (all_glyphs self.new) ≡ of_length n 0 (flags_of (all_glyphs self.old)) }
+        ensures clusters { result ≡ Ok true →
+            clusters (all_glyphs self.new) ≡ of_length n 0 (clusters (all_glyphs self.old)) }
+        ensures flags { result ≡ Ok true →
+            flags_of (all_glyphs self.new) ≡ of_length n 0 (flags_of (all_glyphs self.old)) }
         ensures full { result ≡ Ok false → self.new ≡ refused self.old }
         ensures err { OnErr result (self.new ≡ self.old) }
     {
@@ -122,8 +126,10 @@ impl hb_buffer_t {
         ensures held { IfOk result (λ b. b ≡ fits_text text.now self.old) }
         ensures added { result ≡ Ok true → self.new ≡ with_added (added_text text.now) self.old }
         ensures items { result ≡ Ok true → items_of self.new ≡ items_of self.old ++ text_items text.now }
-        ensures clusters { result ≡ Ok true → clusters (all_glyphs self.new) ≡ clusters (all_glyphs self.old) ++ offsets_from 0 (chars text.now) }
-        ensures flags { result ≡ Ok true → flags_of (all_glyphs self.new) ≡ flags_of (all_glyphs self.old) ++ replicate (length (chars text.now)) 0 }
+        ensures clusters { result ≡ Ok true →
+            clusters (all_glyphs self.new) ≡ clusters (all_glyphs self.old) ++ offsets_from 0 (chars text.now) }
+        ensures flags { result ≡ Ok true →
+            flags_of (all_glyphs self.new) ≡ flags_of (all_glyphs self.old) ++ replicate (length (chars text.now)) 0 }
         ensures full { result ≡ Ok false → self.new ≡ self.old }
         ensures err { OnErr result (self.new ≡ self.old) }
     {
@@ -196,7 +202,8 @@ fn append_text(
     requires fit { IsTrue (offsets_fit 0 (chars text.now)) }
     requires even { vec_len positions.old ≡ vec_len glyphs.old }
     requires small { vec_len glyphs.old + count < 2 ^ 64 }
-    ensures ok { OnOk result (IsAppended (added_text text.now) glyphs.old.items positions.old.items glyphs.new.items positions.new.items) }
+    ensures ok { OnOk result
+        (IsAppended (added_text text.now) glyphs.old.items positions.old.items glyphs.new.items positions.new.items) }
     ensures glyphs_err { OnErr result (glyphs.new.items ≡ glyphs.old.items) }
     ensures places_err { OnErr result (positions.new.items ≡ positions.old.items) }
 {

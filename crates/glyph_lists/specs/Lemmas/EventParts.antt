@@ -323,8 +323,8 @@ origins_are_parts asks level (e ∷ es) os mono plain o =
 even_after : (asks : Asks) (p : Origin) (os : List Origin) → IsEven p (spread_after asks (Some p) os)
 even_after asks p [] = tt
 even_after asks p (o ∷ os) = (
-    λ e. same e,
-    even_after asks (record { cluster = o.cluster; flags = spread_flags (Some p) o.cluster (settled asks (run_flags o.cluster (o ∷ os))) }) os
+  λ e. same e,
+  even_after asks (record { cluster = o.cluster; flags = spread_flags (Some p) o.cluster (settled asks (run_flags o.cluster (o ∷ os))) }) os,
 )
   where
     same : p.cluster ≡ o.cluster → p.flags ≡ spread_flags (Some p) o.cluster (settled asks (run_flags o.cluster (o ∷ os)))

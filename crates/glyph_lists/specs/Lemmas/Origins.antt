@@ -99,7 +99,6 @@ numbers_end p o (q ∷ qs) = rw (← all_of_cluster p (q ∷ qs)) (by_test (list
     by_test true later = numbers_alike o.cluster o.flags (q ∷ qs)
     by_test false later = ap (λ ns. q.cluster ∷ ns) later
 
-
 numbers_alone : (level : BufferClusterLevel) (before : Option ℕ) (front : List Origin) (o : Origin) (back : List Origin) → numbers (alone_deleted level before front o back) ≡ deleted_alone level before (numbers front) o.cluster (numbers back)
 numbers_alone level (Some p) front o back = by_test (nat_lt o.cluster p)
   where

@@ -46,9 +46,11 @@ fn keep_glyph(
     requires within { at < length glyphs.old }
     requires placed { length positions.old ≡ length glyphs.old }
     requires few { walk.kept ≤ at }
-    ensures glyphs { take (walk.kept + 1) glyphs.new ≡ settled walk.due (take walk.kept glyphs.old) ++ take 1 (drop at glyphs.old) }
+    ensures glyphs { take (walk.kept + 1) glyphs.new
+        ≡ settled walk.due (take walk.kept glyphs.old) ++ take 1 (drop at glyphs.old) }
     ensures ahead { drop (at + 1) glyphs.new ≡ drop (at + 1) glyphs.old }
-    ensures positions { take (walk.kept + 1) positions.new ≡ take walk.kept positions.old ++ take 1 (drop at positions.old) }
+    ensures positions { take (walk.kept + 1) positions.new
+        ≡ take walk.kept positions.old ++ take 1 (drop at positions.old) }
     ensures positions_ahead { drop (at + 1) positions.new ≡ drop (at + 1) positions.old }
     ensures walk { result ≡ record { kept = walk.kept + 1; due = None; marked = walk.marked } }
 {
@@ -100,7 +102,9 @@ fn delete_behind(glyphs: &mut [hb_glyph_info_t], at: usize, walk: Walk, in_order
     requires some { 0 < walk.kept }
     requires within { at < length glyphs.old }
     requires sound { IsWalk in_order at walk glyphs.old }
-    ensures deletes { (level : Level) → Deletes level (settled walk.due (take walk.kept glyphs.old)) (drop at glyphs.old) (settled result.due (take result.kept glyphs.new)) (drop (at + 1) glyphs.new) false }
+    ensures deletes { (level : Level) →
+        Deletes level (settled walk.due (take walk.kept glyphs.old)) (drop at glyphs.old)
+        (settled result.due (take result.kept glyphs.new)) (drop (at + 1) glyphs.new) false }
     ensures due { IsDue in_order result.due (take result.kept glyphs.new) }
     ensures kept { result.kept ≡ walk.kept }
     ensures marked { result.marked ≡ walk.marked }
@@ -133,7 +137,8 @@ pub(super) fn delete_glyph(
 ) -> Walk
     requires within { at < length glyphs.old }
     requires sound { IsWalk in_order at walk glyphs.old }
-    ensures passed { (ps : List Position) (g : Glyph) (back : List Glyph) → drop at glyphs.old ≡ g ∷ back → passed_at (at + 1) result glyphs.new ps ≡ without_glyph level (passed_at at walk glyphs.old ps) g back }
+    ensures passed { (ps : List Position) (g : Glyph) (back : List Glyph) → drop at glyphs.old ≡ g ∷ back →
+        passed_at (at + 1) result glyphs.new ps ≡ without_glyph level (passed_at at walk glyphs.old ps) g back }
     ensures sound { IsWalk in_order (at + 1) result glyphs.new }
 {
     if walk.kept == 0 {
@@ -161,7 +166,9 @@ pub(super) fn pass_glyph<F: Fn(&hb_glyph_info_t) -> bool>(
     requires within { at < length glyphs.old }
     requires placed { length positions.old ≡ length glyphs.old }
     requires sound { IsWalk in_order at walk glyphs.old }
-    ensures passed { (goes : Glyph → Bool) → Tells F.Fn filter.now goes → passed_at (at + 1) result glyphs.new positions.new ≡ first_passed level goes (passed_at at walk glyphs.old positions.old) }
+    ensures passed { (goes : Glyph → Bool) → Tells F.Fn filter.now goes →
+        passed_at (at + 1) result glyphs.new positions.new
+        ≡ first_passed level goes (passed_at at walk glyphs.old positions.old) }
     ensures sound { IsWalk in_order (at + 1) result glyphs.new }
 {
     if filter(&glyphs[at]) {

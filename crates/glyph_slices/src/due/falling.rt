@@ -48,7 +48,8 @@ pub(super) fn merge_falling(
     requires some { start < end }
     requires within { end ≤ length glyphs.old }
     requires due { IsDueBefore start due glyphs.old }
-    ensures merged { carried result glyphs.new ≡ glyphs_merged (stretch start end (clusters (carried due glyphs.old))) (carried due glyphs.old) }
+    ensures merged { carried result glyphs.new
+        ≡ glyphs_merged (stretch start end (clusters (carried due glyphs.old))) (carried due glyphs.old) }
     ensures due { IsDueBefore end result glyphs.new }
     ensures round { IsRound start end result }
 {
