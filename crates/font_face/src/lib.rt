@@ -3,8 +3,6 @@
 
 pub mod face;
 pub mod parts;
-#[cfg(test)]
-mod tests;
 
 pub use face::{Face, Face as hb_font_t};
 pub use parts::FaceParts;

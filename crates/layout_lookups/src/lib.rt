@@ -4,5 +4,3 @@
 mod indices;
 pub mod positioning;
 pub mod substitution;
-#[cfg(test)]
-mod tests;

@@ -6,6 +6,4 @@ mod fits;
 pub mod mark;
 pub mod pair;
 pub mod single;
-#[cfg(test)]
-mod tests;
 pub mod value;

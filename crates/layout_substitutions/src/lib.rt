@@ -4,5 +4,3 @@
 pub mod reverse;
 pub mod sequence;
 pub mod single;
-#[cfg(test)]
-mod tests;
