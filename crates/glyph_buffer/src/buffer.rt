@@ -20,8 +20,6 @@ mod segment;
 mod settings;
 mod sorting;
 mod storage;
-#[cfg(test)]
-mod tests;
 
 use arrayvec::ArrayVec;
 use buffer_lists::order::{ClusterOrder, KnownOrder};

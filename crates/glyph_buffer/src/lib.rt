@@ -3,5 +3,3 @@
 
 pub mod buffer;
 pub mod laws;
-#[cfg(test)]
-mod tests;

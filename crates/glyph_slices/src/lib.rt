@@ -8,5 +8,3 @@ pub mod laws;
 pub mod merges;
 pub mod reversal;
 pub mod sorting;
-#[cfg(test)]
-mod tests;

@@ -1,16 +1,20 @@
 //! What callers rely on of the layer's plain types: `==` holds exactly between a value and itself, and the numbers of
 //! constants that clauses cite by name.
 ghost use Rattle.std.specs.Prelude.{◌≡◌, ◌≢◌, MatchBool, [], ◌∷◌};
+ghost use Rattle.std.specs.Bool.{Decides};
 ghost use Rattle.shaping_text.specs.declared.direction.Direction.TheVariants.{Invalid};
+ghost use Rattle.shaping_text.specs.Language.{language_text};
 
 use feature_text::feature::Feature;
 use glyph_types::cause::ShapeCause;
 use glyph_types::flags::{GlyphPropsFlags, SerializeFlags, UnicodeProps};
 use glyph_types::info::hb_glyph_info_t;
 use glyph_types::level::BufferClusterLevel;
-use glyph_types::names::GlyphId;
+use glyph_types::names::{GlyphId, hb_glyph_extents_t};
+use glyph_types::position::GlyphPosition;
 use shaping_text::constants::BufferFlags;
 use shaping_text::direction::Direction;
+use shaping_text::language::Language;
 use shaping_text::script::Script;
 use shaping_text::tag::Tag;
 use unicode_rows::fault::TablesFault;
@@ -57,6 +61,25 @@ pub fn infos_are_equal(left: &hb_glyph_info_t, right: &hb_glyph_info_t) -> bool
 
 pub fn glyph_ids_are_equal(left: GlyphId, right: GlyphId) -> bool
     ensures { MatchBool result (left ≡ right) (left ≢ right) }
+{
+    left == right
+}
+
+pub fn positions_are_equal(left: &GlyphPosition, right: &GlyphPosition) -> bool
+    ensures { Decides result (left.now ≡ right.now) }
+{
+    left == right
+}
+
+pub fn extents_are_equal(left: &hb_glyph_extents_t, right: &hb_glyph_extents_t) -> bool
+    ensures { Decides result (left.now ≡ right.now) }
+{
+    left == right
+}
+
+/// Languages are equal where their tags are.
+pub fn languages_are_equal(left: &Language, right: &Language) -> bool
+    ensures { Decides result (language_text left.now ≡ language_text right.now) }
 {
     left == right
 }

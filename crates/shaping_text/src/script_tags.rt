@@ -25,7 +25,8 @@ pub fn tags_from_script_and_language<L: LanguageTags>(
     (script_tags(script), language_tags)
 }
 
-fn script_tags(script: Option<Script>) -> ArrayVec<Tag, 3>
+/// The OpenType tags of a script, those of newer shaping models first; none where the text has no script.
+pub fn script_tags(script: Option<Script>) -> ArrayVec<Tag, 3>
     ensures { result.items ≡ wanted_tags script }
 {
     let mut tags = ArrayVec::new();

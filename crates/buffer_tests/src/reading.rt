@@ -1,4 +1,4 @@
-use crate::buffer::hb_buffer_t;
+use glyph_buffer::buffer::hb_buffer_t;
 use glyph_types::info::hb_glyph_info_t;
 use glyph_types::position::GlyphPosition;
 use std::process::Abort;

@@ -1,4 +1,4 @@
-use crate::buffer::hb_buffer_t;
+use glyph_buffer::buffer::hb_buffer_t;
 use glyph_types::info::hb_glyph_info_t;
 use glyph_types::level::BufferClusterLevel;
 use shaping_text::constants::BufferFlags;
@@ -288,5 +288,43 @@ fn lends_whole_lists(rt: HostRuntime) -> Result<(), Fail> {
     }
     assert!(rt; buffer.sync()?);
     holds(&rt, buffer.info_slice(), &[(9, 4, 1)]);
+    Ok(())
+}
+
+// More glyphs than 16 bits count: no call is refused for want of memory from some size on.
+#[test]
+fn grows_past_two_bytes(rt: HostRuntime) -> Result<(), Fail> {
+    const COUNT: usize = 70_000;
+    let mut text = String::new(rt.alloc());
+    for _ in 0..COUNT {
+        text.push('a')?;
+    }
+    let mut buffer = hb_buffer_t::new(rt.alloc());
+    assert!(rt; buffer.push_str(&text)?);
+    assert!(rt; buffer.push_str("bc")?);
+    assert!(rt; buffer.add('d', 7)?);
+    assert_eq!(rt; buffer.len(), COUNT + 3);
+    assert!(rt; buffer.set_len(COUNT + 10)?);
+    assert_eq!(rt; buffer.len(), COUNT + 10);
+    assert!(rt; buffer.clear_output()?);
+    assert!(rt; COUNT <= buffer.len() - buffer.idx());
+    assert!(rt; buffer.next_glyphs(COUNT)?);
+    assert!(rt; buffer.idx() < buffer.len());
+    assert!(rt; buffer.next_glyph()?);
+    assert!(rt; buffer.output_glyph(4)?);
+    assert!(rt; buffer.output_info(hb_glyph_info_t::default())?);
+    assert!(rt; buffer.idx() < buffer.len());
+    assert!(rt; buffer.replace_glyph(5)?);
+    assert!(rt; 2 <= buffer.len() - buffer.idx());
+    assert!(rt; buffer.replace_glyphs(2, 3, &[6, 7, 8])?);
+    assert_eq!(rt; buffer.out_len(), COUNT + 7);
+    assert!(rt; buffer.move_to(0)?);
+    assert!(rt; buffer.sync()?);
+    buffer.reset_clusters();
+    let count = buffer.len();
+    assert_eq!(rt; count, COUNT + 13);
+    buffer.sort(rt.alloc(), 0, count, |glyph| glyph.glyph_id)?;
+    assert_eq!(rt; buffer.info_slice()[0].glyph_id, 0);
+    assert_eq!(rt; buffer.info_slice()[count - 1].glyph_id, 'b' as u32);
     Ok(())
 }
