@@ -2,9 +2,10 @@ ghost use Rattle.std.specs.Prelude.{◌≡◌};
 
 mod no_order;
 
-use glyph_slices::deletion::{delete_within, recast_end, set_cluster};
+use glyph_clusters::deletion::{recast_end, set_cluster};
+use glyph_clusters::ranges::merge_range;
+use glyph_slices::deletion::delete_within;
 use glyph_slices::groups::{group_end, next_cluster, next_grapheme, next_syllable};
-use glyph_slices::merges::merge_range;
 use glyph_slices::reversal::reverse_groups;
 use glyph_slices::sorting::sort;
 use glyph_types::flags::UnicodeProps;

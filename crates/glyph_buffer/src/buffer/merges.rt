@@ -3,13 +3,13 @@ ghost use Rattle.glyph_lists.specs.Items.{clusters, flags_of};
 ghost use Rattle.glyph_lists.specs.Merges.{merged_at};
 ghost use Rattle.glyph_lists.specs.Order.{BringsNone};
 ghost use Rattle.glyph_lists.specs.Glyphs.{flags_merged_at};
-ghost use Rattle.glyph_slices.specs.Deleting.{recast};
+ghost use Rattle.glyph_clusters.specs.Deleting.{recast};
 ghost use Rattle.glyph_buffer.specs.Sides.{all_glyphs, items_of};
 ghost use Rattle.glyph_buffer.specs.Merging.{index_in_all, telling_flags, with_merged};
 
 use super::hb_buffer_t;
 use buffer_lists::merges::merge_input;
-use glyph_slices::deletion::set_cluster;
+use glyph_clusters::deletion::set_cluster;
 use glyph_types::info::{hb_glyph_info_t, hb_mask_t};
 use shaping_text::constants::{HB_BUFFER_SCRATCH_FLAG_HAS_GLYPH_FLAGS, hb_buffer_scratch_flags_t};
 
