@@ -1,0 +1,3 @@
+pub mod StageSteps
+pub mod Listed
+pub mod Sorted
