@@ -1,2 +1,3 @@
 pub mod Grouping
 pub mod Threading
+pub mod Bits

@@ -1,4 +1,14 @@
-ghost use Rattle.map_features.specs.Laws.{LookupsRise, TagsRise};
+ghost use Rattle.map_features.specs.Laws.{LookupsRise, OwnBitsAreApart, OwnBitsAreFree, TagsRise};
+
+/// Bits of a feature's own are no glyph flags, and not the global bit.
+pub fn own_bits_are_free()
+    ensures { OwnBitsAreFree }
+{}
+
+/// Two features that have bits of their own share none.
+pub fn own_bits_are_apart()
+    ensures { OwnBitsAreApart }
+{}
 
 /// The tags of merged requests rise strictly.
 #[tactic(auto, using(crate::specs::Rising::tags_rise))]

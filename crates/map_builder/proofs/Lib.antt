@@ -1,0 +1,4 @@
+pub mod StageSteps
+pub mod Listed
+pub mod Sorted
+pub mod Compiling

@@ -1,0 +1,4 @@
+pub mod Chosen
+pub mod Features
+pub mod Lookups
+pub mod Compiled

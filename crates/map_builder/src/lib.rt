@@ -1,0 +1,8 @@
+// What was asked of a font's features, compiled: the bits that stand for each feature, and the stages of lookups.
+#![tactic(auto)]
+
+pub mod builder;
+mod chosen;
+pub mod features;
+pub mod map;
+pub mod stages;
