@@ -2,3 +2,4 @@ pub mod Fault
 pub mod Cell
 pub mod Rows
 pub mod Objects
+pub mod Parts

@@ -59,7 +59,8 @@ impl<A: Cell, B: Cell> Cell for (A, B) {
     }
 }
 
-fn integer(value: &Value) -> Result<i128, JsonFault>
+/// An integer that fits 64 bits, signed or not.
+pub(crate) fn integer(value: &Value) -> Result<i128, JsonFault>
     ensures { result ≡ integer (view value.now) }
 {
     match value.as_number() {

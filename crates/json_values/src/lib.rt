@@ -4,6 +4,7 @@
 pub mod cell;
 pub mod fault;
 pub mod keys;
+pub mod parts;
 pub mod rows;
 #[cfg(test)]
 mod tests;
