@@ -1,0 +1,27 @@
+-- Lists of values as their items.
+use Rattle.std.proofs.Common.{◌≡◌, ◌≢◌, suc, ◌<◌, List, [], ◌∷◌, length, drop, get_or, Ok, Err, ap, arith, refl}
+use Rattle.serde_json.specs.declared.value.Value.{Value}
+use Rattle.serde_json.specs.View.{view, items_view}
+use Rattle.json_values.specs.declared.fault.JsonFault.TheVariants.{WrongShape}
+use Rattle.json_rows.specs.Lists.{item_count}
+use Rattle.json_rows.specs.Row.{no_more, first_in}
+
+pub none_left : (vs : List Value) → length vs ≡ 0 → no_more (items_view vs) ≡ Ok tt
+none_left [] h = refl
+none_left (v ∷ vs) h = absurd (omega (arith, h))
+
+pub some_left : (vs : List Value) → length vs ≢ 0 → no_more (items_view vs) ≡ Err WrongShape
+some_left [] h = absurd (h refl)
+some_left (v ∷ vs) h = refl
+
+pub first_of_some : (vs : List Value) (d : Value) → length vs ≢ 0 → first_in (items_view vs) ≡ Ok (view (get_or vs 0 d), items_view (drop 1 vs))
+first_of_some [] d h = absurd (h refl)
+first_of_some (v ∷ vs) d h = refl
+
+pub first_of_none : (vs : List Value) → length vs ≡ 0 → first_in (items_view vs) ≡ Err WrongShape
+first_of_none [] h = refl
+first_of_none (v ∷ vs) h = absurd (omega (arith, h))
+
+pub count_is_length : (vs : List Value) → item_count (items_view vs) ≡ length vs
+count_is_length [] = refl
+count_is_length (v ∷ vs) = ap suc (count_is_length vs)
