@@ -1,9 +1,9 @@
 use Rattle.std.proofs.Common.{take}
 use Rattle.std.specs.Result.{result_map_both}
 use Rattle.serde_json.specs.View.{items_view}
-use Rattle.json_rows.specs.Lists.{parts_of}
-use Rattle.json_rows.proofs.Means.{Means}
-use Rattle.json_rows.proofs.lists.read_list.Given as goal
+use Rattle.face_json.specs.Lists.{parts_of}
+use Rattle.face_json.proofs.Means.{Means}
+use Rattle.face_json.proofs.lists.read_list.Given as goal
 
 -- the parts so far
 abbrev pub invariant-loop-value : goal.invariant-loop-value

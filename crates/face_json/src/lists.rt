@@ -2,7 +2,7 @@
 ghost use Rattle.std.specs.Prelude.{◌≡◌, ◌≢◌, IfOk, IfErr, Ok, Err};
 ghost use Rattle.std.specs.Result.{result_map_both};
 ghost use Rattle.serde_json.specs.View.{items_view};
-ghost use Rattle.json_rows.specs.Lists.{behind_all, parts_of, part_list, rows_in_turn};
+ghost use Rattle.face_json.specs.Lists.{behind_all, parts_of, part_list, rows_in_turn};
 
 use crate::objects::array;
 use crate::value::Part;

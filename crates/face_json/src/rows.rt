@@ -4,8 +4,8 @@ ghost use Rattle.serde_json.specs.Data.{Items};
 ghost use Rattle.serde_json.specs.View.{view, items_view};
 ghost use Rattle.json_values.specs.declared.fault.JsonFault.{JsonFault};
 ghost use Rattle.json_values.specs.Cell.{and_then, signed_word};
-ghost use Rattle.json_rows.specs.Lists.{array_of, number_below};
-ghost use Rattle.json_rows.specs.Row.{no_more, only, first_and_rest, first_in, row_of};
+ghost use Rattle.face_json.specs.Lists.{array_of, number_below};
+ghost use Rattle.face_json.specs.Row.{no_more, only, first_and_rest, first_in, row_of};
 
 use crate::objects::array;
 use crate::value::Part;

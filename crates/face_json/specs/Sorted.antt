@@ -7,7 +7,7 @@ use Rattle.json_values.specs.declared.fault.JsonFault.TheVariants.{OutOfOrder}
 use Rattle.json_values.specs.Cell.{and_then}
 use Rattle.json_values.specs.Rows.{behind}
 use Rattle.sorted_rows.specs.Keys.{is_above, is_rising}
-use Rattle.json_rows.specs.Lists.{part_list}
+use Rattle.face_json.specs.Lists.{part_list}
 
 -- a list of rows whose keys rise strictly: the fault of the first faulty row, of which the order comes last
 abbrev pub rows_by_key : {R K : Type 0} → (K → K → Ordering) → (R → K) → (Data → Result R JsonFault) → Option K → Items → Result (List R) JsonFault

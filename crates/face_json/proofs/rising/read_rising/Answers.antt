@@ -1,9 +1,9 @@
 use Rattle.std.proofs.Common.{◌≡◌, None, Ok, arith}
 use Rattle.std.proofs.lemmas.Grind.{common_steps}
 use Rattle.serde_json.specs.View.{items_view}
-use Rattle.json_rows.specs.Sorted.{rows_by_key}
-use Rattle.json_rows.proofs.RisingKeys.{rows_rise}
-use Rattle.json_rows.proofs.rising.read_rising.Goals as goal
+use Rattle.face_json.specs.Sorted.{rows_by_key}
+use Rattle.face_json.proofs.RisingKeys.{rows_rise}
+use Rattle.face_json.proofs.rising.read_rising.Goals as goal
 
 -- the rows are those of the list, and rise as those do
 pub returns-clause-rising : goal.returns-clause-rising

@@ -10,7 +10,7 @@ use Rattle.serde_json.specs.declared.value.Value.{Value}
 use Rattle.json_values.specs.declared.fault.JsonFault.{JsonFault}
 use Rattle.json_values.specs.declared.fault.JsonFault.TheVariants.{NotJson, WrongShape, FloatNumber, UnknownName, OutOfOrder, OutOfRange, SplitDepth, OutOfMemory}
 use Rattle.json_values.specs.Cell.{rank_of, first_fault, both}
-use Rattle.json_rows.specs.Lists.{in_front, behind_all, parts_of}
+use Rattle.face_json.specs.Lists.{in_front, behind_all, parts_of}
 
 abbrev pub Means : {A : Type 0} → Result A JsonFault → Result A JsonFault → Type 0
 Means meant (Ok a) = meant ≡ Ok a

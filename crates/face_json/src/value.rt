@@ -2,7 +2,7 @@ ghost use Rattle.std.specs.Prelude.{◌≡◌, ◌≢◌, ℕ, IfOk, IfErr, Ok, 
 ghost use Rattle.serde_json.specs.Data.{Data};
 ghost use Rattle.serde_json.specs.View.{view};
 ghost use Rattle.json_values.specs.declared.fault.JsonFault.{JsonFault};
-ghost use Rattle.json_rows.specs.Lists.{or_null};
+ghost use Rattle.face_json.specs.Lists.{or_null};
 
 use json_values::fault::JsonFault;
 use serde_json::Value;

@@ -1,6 +1,6 @@
 //! Numbers.
 ghost use Rattle.json_values.specs.Cell.{signed_word, character};
-ghost use Rattle.json_rows.specs.Lists.{number_below};
+ghost use Rattle.face_json.specs.Lists.{number_below};
 
 use crate::value::Part;
 use json_values::cell::Cell;

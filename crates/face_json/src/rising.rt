@@ -2,7 +2,7 @@
 ghost use Rattle.std.specs.Prelude.{◌≡◌, ◌≢◌, IfOk, IfErr, Ok, Err, None, true};
 ghost use Rattle.serde_json.specs.View.{items_view};
 ghost use Rattle.sorted_rows.specs.Keys.{is_rising};
-ghost use Rattle.json_rows.specs.Sorted.{rows_by_key, sorted_part};
+ghost use Rattle.face_json.specs.Sorted.{rows_by_key, sorted_part};
 
 use crate::lists::read_list;
 use crate::objects::array;

@@ -1,8 +1,8 @@
 use Rattle.std.proofs.Common.{◌≡◌, None, drop}
 use Rattle.serde_json.specs.View.{items_view}
 use Rattle.json_values.specs.Rows.{behind}
-use Rattle.json_rows.specs.Sorted.{rows_by_key}
-use Rattle.json_rows.proofs.rising.read_rising.Given as goal
+use Rattle.face_json.specs.Sorted.{rows_by_key}
+use Rattle.face_json.proofs.rising.read_rising.Given as goal
 
 -- the rows so far, and those of what is left
 abbrev pub invariant-loop-value : goal.invariant-loop-value

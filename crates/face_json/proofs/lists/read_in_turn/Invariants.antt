@@ -1,8 +1,8 @@
 use Rattle.std.proofs.Common.{◌≡◌, drop}
 use Rattle.serde_json.specs.View.{items_view}
-use Rattle.json_rows.specs.Lists.{rows_in_turn}
+use Rattle.face_json.specs.Lists.{rows_in_turn}
 use Rattle.json_values.specs.Rows.{behind}
-use Rattle.json_rows.proofs.lists.read_in_turn.Given as goal
+use Rattle.face_json.proofs.lists.read_in_turn.Given as goal
 
 -- the rows so far, and those of what is left
 abbrev pub invariant-loop-value : goal.invariant-loop-value

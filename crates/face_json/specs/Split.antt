@@ -3,8 +3,8 @@ use Rattle.std.proofs.Common.{◌≡◌, ◌≢◌, suc, ◌<◌, List, [], ◌�
 use Rattle.serde_json.specs.declared.value.Value.{Value}
 use Rattle.serde_json.specs.View.{view, items_view}
 use Rattle.json_values.specs.declared.fault.JsonFault.TheVariants.{WrongShape}
-use Rattle.json_rows.specs.Lists.{item_count}
-use Rattle.json_rows.specs.Row.{no_more, first_in}
+use Rattle.face_json.specs.Lists.{item_count}
+use Rattle.face_json.specs.Row.{no_more, first_in}
 
 pub none_left : (vs : List Value) → length vs ≡ 0 → no_more (items_view vs) ≡ Ok tt
 none_left [] h = refl

@@ -3,8 +3,8 @@ ghost use Rattle.std.specs.Prelude.{◌≡◌, ◌≢◌, IfOk, IfErr, Ok, Err, 
 ghost use Rattle.serde_json.specs.Find.{get};
 ghost use Rattle.serde_json.specs.View.{view, items_view};
 ghost use Rattle.json_values.specs.Objects.{read_if_there};
-ghost use Rattle.json_rows.specs.Lists.{array_of, array_at, rows_at, rows_in_turn, parts_of, count_at, is_object};
-ghost use Rattle.json_rows.specs.Sorted.{rows_by_key};
+ghost use Rattle.face_json.specs.Lists.{array_of, array_at, rows_at, rows_in_turn, parts_of, count_at, is_object};
+ghost use Rattle.face_json.specs.Sorted.{rows_by_key};
 
 use crate::lists::{read_in_turn, read_list};
 use crate::value::Part;

@@ -1,7 +1,7 @@
 use Rattle.std.proofs.Common.{◌<◌, length, arith}
 use Rattle.std.specs.Result.{result_map_both}
-use Rattle.json_rows.proofs.Means.{parts_step}
-use Rattle.json_rows.proofs.lists.read_list.Goals as goal
+use Rattle.face_json.proofs.Means.{parts_step}
+use Rattle.face_json.proofs.lists.read_list.Goals as goal
 
 -- one part more
 pub loop-value-preserved : goal.loop-value-preserved

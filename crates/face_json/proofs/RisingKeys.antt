@@ -7,7 +7,7 @@ use Rattle.json_values.specs.declared.fault.JsonFault.TheVariants.{OutOfOrder}
 use Rattle.json_values.specs.Cell.{and_then}
 use Rattle.json_values.specs.Rows.{behind, ok_cons}
 use Rattle.sorted_rows.specs.Keys.{is_above, is_rising}
-use Rattle.json_rows.specs.Sorted.{rows_by_key}
+use Rattle.face_json.specs.Sorted.{rows_by_key}
 
 module _ {R K : Type 0} (order : K → K → Ordering) (key : R → K) where
   -- with a row in front that is above the key before it

@@ -4,7 +4,7 @@ use Rattle.serde_json.specs.Data.{Data, Items, no_items, item}
 use Rattle.json_values.specs.declared.fault.JsonFault.{JsonFault}
 use Rattle.json_values.specs.declared.fault.JsonFault.TheVariants.{WrongShape}
 use Rattle.json_values.specs.Cell.{and_then, both}
-use Rattle.json_rows.specs.Lists.{array_of}
+use Rattle.face_json.specs.Lists.{array_of}
 
 -- the row ends
 abbrev pub no_more : Items → Result ⊤ JsonFault

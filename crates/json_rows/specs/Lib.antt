@@ -1,4 +1,0 @@
-pub mod Lists
-pub mod Row
-pub mod Sorted
-pub mod Split
