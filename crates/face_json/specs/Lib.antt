@@ -6,3 +6,5 @@ pub mod Tags
 pub mod Glyphs
 pub mod Scripts
 pub mod Contexts
+pub mod Substitutions
+pub mod SubstitutionTable

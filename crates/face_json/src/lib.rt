@@ -10,5 +10,7 @@ mod objects;
 mod rising;
 mod rows;
 mod scripts;
+mod substitution_table;
+mod substitutions;
 mod tags;
 mod value;

@@ -5,7 +5,9 @@ ghost use Rattle.serde_json.specs.View.{view, items_view};
 ghost use Rattle.json_values.specs.Objects.{read_if_there};
 ghost use Rattle.face_json.specs.Lists.{array_of, array_at, rows_at, rows_in_turn, parts_of, count_at, is_object};
 ghost use Rattle.face_json.specs.Sorted.{rows_by_key};
+ghost use Rattle.face_json.specs.Glyphs.{glyph_limit, subtables_of};
 
+use crate::glyphs::GLYPH_LIMIT;
 use crate::lists::{read_in_turn, read_list};
 use crate::value::Part;
 use crate::rising::read_by_key;
@@ -123,4 +125,13 @@ pub fn count_at(value: &Value, key: &str) -> usize
         Some(values) => values.len(),
         None => 0,
     }
+}
+
+/// The subtables of a lookup, whose glyphs are numbers of 16 bits.
+pub fn subtables<P: Part>(alloc: Global, value: &Value) -> Result<Array<P>, JsonFault>
+    ensures ok { IfOk result (λ v. subtables_of (P.part glyph_limit) (view value.now) ≡ Ok v) }
+    ensures refused { IfErr result (λ e. e ≢ JsonFault.OutOfMemory
+        → subtables_of (P.part glyph_limit) (view value.now) ≡ Err e) }
+{
+    read_in_turn_at(alloc, value, "subtables", GLYPH_LIMIT)
 }
