@@ -1,5 +1,5 @@
 -- What a font says of characters and glyphs (OpenType, tables cmap, hmtx, vmtx, VORG, post, GDEF).
-use Rattle.std.specs.Prelude.{ℕ, ℤ, ◌==◌, ◌&&◌, Bool, false, List, Option, find, option_map, slice_get, string_bytes, unwrap_or}
+use Rattle.std.specs.Prelude.{ℕ, ℤ, ◌==◌, ◌&&◌, Bool, false, List, Option, find, option_map, slice_get, unwrap_or}
 use Rattle.std.specs.Option.{option_map_or}
 use Rattle.sorted_rows.specs.Keys.{row_of}
 use Rattle.layout_common.specs.Rows.{value_of}
@@ -33,7 +33,7 @@ abbrev pub origin_of : ℕ → FaceParts → ℤ
 origin_of glyph font = unwrap_or (value_of glyph font.origins) font.ascender
 
 abbrev pub name_of : ℕ → FaceParts → Option (List ℕ)
-name_of glyph font = option_map (λ r. string_bytes r.name) (row_of (λ r. r.glyph) glyph font.names)
+name_of glyph font = option_map (λ r. r.name) (row_of (λ r. r.glyph) glyph font.names)
 
 -- the class of a glyph, 0 where the font gives no classes
 abbrev pub glyph_class : ℕ → Option ClassDefinition → ℕ

@@ -7,5 +7,5 @@ use Rattle.font_face.specs.declared.parts.FaceParts.{FaceParts}
 -- features, lookups, sets of marks, records of pairs and anchors are there, in both layout tables
 abbrev pub indices_fit : FaceParts → Bool
 indices_fit font =
-    option_map_or (λ t. substitution_fits (length font.gdef.sets.items) t) font.gsub true
-    && option_map_or (λ t. positioning_fits (length font.gdef.sets.items) t) font.gpos true
+    option_map_or (λ t. substitution_fits (length font.gdef.sets) t) font.gsub true
+    && option_map_or (λ t. positioning_fits (length font.gdef.sets) t) font.gpos true

@@ -1,3 +1,4 @@
 pub mod Glyphs
 pub mod Indices
+pub mod Names
 pub mod VariationSearch

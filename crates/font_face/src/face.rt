@@ -138,7 +138,7 @@ impl Face {
         ensures { option_copied result ≡ name_of glyph self.now }
     {
         match self.parts.names.get(glyph) {
-            Some(row) => Some(row.name.as_str()),
+            Some(row) => Some(row.name()),
             None => None,
         }
     }
@@ -169,7 +169,7 @@ impl Face {
 
     /// Whether the set of marks of an index has a glyph; a set that isn't there has none.
     pub fn is_in_mark_set(&self, set: u16, glyph: u16) -> bool
-        ensures { result ≡ has_mark set glyph self.now.gdef.sets.items }
+        ensures { result ≡ has_mark set glyph self.now.gdef.sets }
     {
         match self.parts.gdef.sets.get(usize::from(set)) {
             Some(marks) => marks.contains(glyph),

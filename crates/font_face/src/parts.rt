@@ -1,16 +1,18 @@
 //! A font as its keys give it. Lengths are in font units.
-ghost use Rattle.std.specs.Prelude.{◌≡◌, true};
+ghost use Rattle.std.specs.Prelude.{◌≡◌, true, string_bytes};
 ghost use Rattle.std.specs.Option.{option_map_or, option_copied};
 ghost use Rattle.layout_lookups.specs.Indices.{substitution_fits, positioning_fits};
 ghost use Rattle.font_face.specs.Indices.{indices_fit};
 
 use glyph_types::names::hb_glyph_extents_t;
+use layout_common::array::Array;
 use layout_common::class_definition::ClassDefinition;
 use layout_common::coverage::Coverage;
 use layout_common::glyph_row::GlyphRow;
 use layout_lookups::positioning::PositioningTable;
 use layout_lookups::substitution::SubstitutionTable;
 use sorted_rows::{Keyed, SortedRows};
+use std::marker::Model;
 
 /// A character and its glyph.
 #[derive(Clone, Copy, Debug)]
@@ -50,8 +52,33 @@ impl Keyed for VariationRow {
 /// A glyph and its name.
 #[derive(Debug, Drop)]
 pub struct NameRow {
-    pub glyph: u16,
-    pub name: String,
+    glyph: u16,
+    name: String,
+}
+
+impl Model for NameRow {
+    ghost use Rattle.std.specs.Prelude.{string_bytes};
+    ghost use Rattle.font_face.specs.Names.{GlyphName};
+
+    ghost Value = { GlyphName };
+
+    ghost view = { λ r. record { glyph = r.glyph; name = string_bytes r.name } };
+}
+
+impl NameRow {
+    /// Of a glyph and its name.
+    pub fn new(glyph: u16, name: String) -> NameRow
+        ensures { result ≡ record { glyph = glyph; name = string_bytes name } }
+    {
+        NameRow { glyph, name }
+    }
+
+    /// The name of the glyph.
+    pub fn name(&self) -> &str
+        ensures { result.now ≡ self.now.name }
+    {
+        self.name.as_str()
+    }
 }
 
 impl Keyed for NameRow {
@@ -72,7 +99,7 @@ pub struct GlyphDefinition {
     /// The mark attachment classes.
     pub attach: ClassDefinition,
     /// The sets of marks, in the order of their indices.
-    pub sets: Vec<Coverage>,
+    pub sets: Array<Coverage>,
 }
 
 /// A font: a field for each key of its format.

@@ -1,4 +1,5 @@
 pub mod Classes
 pub mod Coverage
+pub mod CoverageOrder
 pub mod CoverageSearch
 pub mod Rows

@@ -1,10 +1,10 @@
 //! Sets of glyphs.
 ghost use Rattle.std.specs.Prelude.{◌≡◌, ℕ};
-ghost use Rattle.layout_common.specs.Coverage.{is_covered};
+ghost use Rattle.layout_common.specs.Coverage.{is_covered, in_order};
 
 use std::marker::Model;
 
-/// A set of glyphs (OpenType, chapter 2, coverage table): the order in which they were listed is not kept.
+/// A set of glyphs (OpenType, chapter 2, coverage table), in the order of their numbers.
 #[derive(Debug, Drop)]
 pub struct Coverage {
     glyphs: Vec<u16>,
@@ -25,7 +25,8 @@ impl Model for Coverage {
 impl Coverage {
     /// The set of the listed glyphs, which may stand in any order and more than once.
     pub fn new(glyphs: Vec<u16>) -> Coverage
-        ensures { (g : ℕ) → is_covered g result ≡ is_covered g glyphs.items }
+        ensures order { result ≡ in_order glyphs.items }
+        ensures members { (g : ℕ) → is_covered g result ≡ is_covered g glyphs.items }
     {
         let mut glyphs = glyphs;
         glyphs.sort_unstable();

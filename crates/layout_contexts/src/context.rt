@@ -1,3 +1,4 @@
+use layout_common::array::Array;
 use layout_common::class_definition::ClassDefinition;
 use layout_common::coverage::Coverage;
 
@@ -15,13 +16,13 @@ pub struct SequenceLookupRecord {
 #[derive(Debug, Drop)]
 pub struct SequenceRule<I> {
     /// What stands before the input, the nearest item first.
-    pub backtrack: Vec<I>,
+    pub backtrack: Array<I>,
     /// The input sequence with its first glyph.
-    pub input: Vec<I>,
+    pub input: Array<I>,
     /// What stands after the input, the nearest item first.
-    pub lookahead: Vec<I>,
+    pub lookahead: Array<I>,
     /// The lookups, in the order in which they are applied.
-    pub records: Vec<SequenceLookupRecord>,
+    pub records: Array<SequenceLookupRecord>,
 }
 
 /// Rules by classes (format 2): `first` covers the first glyph of the input.
@@ -32,16 +33,16 @@ pub struct ClassRules {
     pub input: ClassDefinition,
     pub lookahead: ClassDefinition,
     /// The rules, in the order in which they are tried.
-    pub rules: Vec<SequenceRule<u16>>,
+    pub rules: Array<SequenceRule<u16>>,
 }
 
 /// A contextual or chained contextual subtable in one of its formats; its rules stand in the order in which they are tried.
 #[derive(Debug, Drop)]
 pub enum ContextSubtable {
     /// Items are glyphs (format 1).
-    Glyphs(Vec<SequenceRule<u16>>),
+    Glyphs(Array<SequenceRule<u16>>),
     /// Items are classes (format 2).
     Classes(ClassRules),
     /// Items are sets of glyphs (format 3).
-    Coverage(Vec<SequenceRule<Coverage>>),
+    Coverage(Array<SequenceRule<Coverage>>),
 }

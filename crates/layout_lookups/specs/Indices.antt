@@ -23,18 +23,18 @@ pair_classes_fit (Pairs.Classes pairs) = pairs_fit pairs
 -- each class of a subtable has its record, or its anchor
 abbrev pub positioning_classes_fit : PositioningSubtables → Bool
 positioning_classes_fit (Single subtables) = true
-positioning_classes_fit (Pair subtables) = list_all (λ s. pair_classes_fit s) subtables.items
+positioning_classes_fit (Pair subtables) = list_all (λ s. pair_classes_fit s) subtables
 positioning_classes_fit (Cursive subtables) = true
-positioning_classes_fit (MarkToBase subtables) = list_all (λ s. marks_fit_bases s.marks s.bases) subtables.items
-positioning_classes_fit (MarkToLigature subtables) = list_all (λ s. marks_fit_ligatures s.marks s.ligatures) subtables.items
-positioning_classes_fit (MarkToMark subtables) = list_all (λ s. marks_fit_bases s.marks s.bases) subtables.items
+positioning_classes_fit (MarkToBase subtables) = list_all (λ s. marks_fit_bases s.marks s.bases) subtables
+positioning_classes_fit (MarkToLigature subtables) = list_all (λ s. marks_fit_ligatures s.marks s.ligatures) subtables
+positioning_classes_fit (MarkToMark subtables) = list_all (λ s. marks_fit_bases s.marks s.bases) subtables
 positioning_classes_fit (Context subtables) = true
 positioning_classes_fit (ChainContext subtables) = true
 
 -- features, lookups and sets of marks are there
 abbrev pub substitution_fits : ℕ → SubstitutionTable → Bool
 substitution_fits sets table =
-    indices_fit (length table.lookups.items) table.inner && list_all (λ l. set_fits sets l.mark_filtering_set) table.lookups.items
+    indices_fit (length table.lookups) table.inner && list_all (λ l. set_fits sets l.mark_filtering_set) table.lookups
 
 abbrev pub positioning_lookup_fits : ℕ → PositioningLookup → Bool
 positioning_lookup_fits sets lookup = set_fits sets lookup.mark_filtering_set && positioning_classes_fit lookup.subtables
@@ -42,5 +42,5 @@ positioning_lookup_fits sets lookup = set_fits sets lookup.mark_filtering_set &&
 -- features, lookups, sets of marks, records and anchors are there
 abbrev pub positioning_fits : ℕ → PositioningTable → Bool
 positioning_fits sets table =
-    indices_fit (length table.lookups.items) table.inner
-    && list_all (λ l. positioning_lookup_fits sets l) table.lookups.items
+    indices_fit (length table.lookups) table.inner
+    && list_all (λ l. positioning_lookup_fits sets l) table.lookups

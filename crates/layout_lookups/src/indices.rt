@@ -15,7 +15,7 @@ impl SubstitutionTable {
         ensures { result ≡ substitution_fits set_count self.now }
     {
         self.inner.indices_fit(self.lookups.len())
-            && substitution_lookups_fit(set_count, &self.lookups)
+            && substitution_lookups_fit(set_count, self.lookups.as_slice())
     }
 }
 
@@ -25,7 +25,7 @@ impl PositioningTable {
         ensures { result ≡ positioning_fits set_count self.now }
     {
         self.inner.indices_fit(self.lookups.len())
-            && positioning_lookups_fit(set_count, &self.lookups)
+            && positioning_lookups_fit(set_count, self.lookups.as_slice())
     }
 }
 
@@ -64,10 +64,10 @@ fn classes_fit(subtables: &PositioningSubtables) -> bool
     ensures { result ≡ positioning_classes_fit subtables.now }
 {
     match subtables {
-        PositioningSubtables::Pair(subtables) => pairs_fit(subtables),
-        PositioningSubtables::MarkToBase(subtables) => bases_fit(subtables),
-        PositioningSubtables::MarkToMark(subtables) => bases_fit(subtables),
-        PositioningSubtables::MarkToLigature(subtables) => ligatures_fit(subtables),
+        PositioningSubtables::Pair(subtables) => pairs_fit(subtables.as_slice()),
+        PositioningSubtables::MarkToBase(subtables) => bases_fit(subtables.as_slice()),
+        PositioningSubtables::MarkToMark(subtables) => bases_fit(subtables.as_slice()),
+        PositioningSubtables::MarkToLigature(subtables) => ligatures_fit(subtables.as_slice()),
         PositioningSubtables::Single(_)
         | PositioningSubtables::Cursive(_)
         | PositioningSubtables::Context(_)

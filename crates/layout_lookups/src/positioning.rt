@@ -4,6 +4,7 @@ ghost use Rattle.std.specs.Option.{option_copied};
 ghost use Rattle.layout_lookups.specs.Lookups.{props_of};
 
 use crate::substitution::lookup_props;
+use layout_common::array::Array;
 use layout_contexts::context::ContextSubtable;
 use layout_font::table::LayoutTable;
 use layout_positions::cursive::CursivePos;
@@ -14,14 +15,14 @@ use layout_positions::single::SinglePos;
 /// The subtables of a positioning lookup, which are of one type, in the order in which they are tried.
 #[derive(Debug, Drop)]
 pub enum PositioningSubtables {
-    Single(Vec<SinglePos>),
-    Pair(Vec<PairPos>),
-    Cursive(Vec<CursivePos>),
-    MarkToBase(Vec<MarkBasePos>),
-    MarkToLigature(Vec<MarkLigPos>),
-    MarkToMark(Vec<MarkBasePos>),
-    Context(Vec<ContextSubtable>),
-    ChainContext(Vec<ContextSubtable>),
+    Single(Array<SinglePos>),
+    Pair(Array<PairPos>),
+    Cursive(Array<CursivePos>),
+    MarkToBase(Array<MarkBasePos>),
+    MarkToLigature(Array<MarkLigPos>),
+    MarkToMark(Array<MarkBasePos>),
+    Context(Array<ContextSubtable>),
+    ChainContext(Array<ContextSubtable>),
 }
 
 /// A lookup of glyph positioning: the first of its subtables that acts at a glyph is the one that acts there.
@@ -57,13 +58,13 @@ pub struct PositioningTable {
     /// Scripts, language systems and features.
     pub inner: LayoutTable,
     /// The lookups, in the order of their indices.
-    pub lookups: Vec<PositioningLookup>,
+    pub lookups: Array<PositioningLookup>,
 }
 
 impl PositioningTable {
     /// The lookup of an index.
     pub fn get_lookup(&self, index: u16) -> Option<&PositioningLookup>
-        ensures { option_copied result ≡ slice_get self.now.lookups.items index }
+        ensures { option_copied result ≡ slice_get self.now.lookups index }
     {
         self.lookups.get(usize::from(index))
     }

@@ -5,6 +5,7 @@ ghost use Rattle.std.specs.Prelude.{slice_get};
 ghost use Rattle.layout_lookups.specs.Lookups.{props_of, is_reverse};
 
 use layout_common::flags::USE_MARK_FILTERING_SET;
+use layout_common::array::Array;
 use layout_contexts::context::ContextSubtable;
 use layout_font::ligature::LigatureSubst;
 use layout_font::table::LayoutTable;
@@ -15,13 +16,13 @@ use layout_substitutions::single::SingleSubst;
 /// The subtables of a substitution lookup, which are of one type, in the order in which they are tried.
 #[derive(Debug, Drop)]
 pub enum SubstitutionSubtables {
-    Single(Vec<SingleSubst>),
-    Multiple(Vec<MultipleSubst>),
-    Alternate(Vec<AlternateSubst>),
-    Ligature(Vec<LigatureSubst>),
-    Context(Vec<ContextSubtable>),
-    ChainContext(Vec<ContextSubtable>),
-    ReverseChainSingle(Vec<ReverseChainSubst>),
+    Single(Array<SingleSubst>),
+    Multiple(Array<MultipleSubst>),
+    Alternate(Array<AlternateSubst>),
+    Ligature(Array<LigatureSubst>),
+    Context(Array<ContextSubtable>),
+    ChainContext(Array<ContextSubtable>),
+    ReverseChainSingle(Array<ReverseChainSubst>),
 }
 
 /// A lookup of glyph substitution: the first of its subtables that acts at a glyph is the one that acts there.
@@ -66,13 +67,13 @@ pub struct SubstitutionTable {
     /// Scripts, language systems and features.
     pub inner: LayoutTable,
     /// The lookups, in the order of their indices.
-    pub lookups: Vec<SubstLookup>,
+    pub lookups: Array<SubstLookup>,
 }
 
 impl SubstitutionTable {
     /// The lookup of an index.
     pub fn get_lookup(&self, index: u16) -> Option<&SubstLookup>
-        ensures { option_copied result ≡ slice_get self.now.lookups.items index }
+        ensures { option_copied result ≡ slice_get self.now.lookups index }
     {
         self.lookups.get(usize::from(index))
     }

@@ -11,15 +11,15 @@ abbrev pub anchor_at : List (Option Anchor) → ℕ → Option Anchor
 anchor_at anchors class = option_and_then (λ anchor. anchor) (slice_get anchors class)
 
 abbrev pub base_anchor : ℕ → ℕ → List BaseRow → Option Anchor
-base_anchor glyph class bases = option_and_then (λ r. anchor_at r.anchors.items class) (row_of (λ r. r.glyph) glyph bases)
+base_anchor glyph class bases = option_and_then (λ r. anchor_at r.anchors class) (row_of (λ r. r.glyph) glyph bases)
 
 -- the anchor of a component
 abbrev pub component_at : List ComponentRecord → ℕ → ℕ → Option Anchor
-component_at components component class = option_and_then (λ r. anchor_at r.anchors.items class) (slice_get components component)
+component_at components component class = option_and_then (λ r. anchor_at r.anchors class) (slice_get components component)
 
 abbrev pub component_anchor : ℕ → ℕ → ℕ → List LigatureRow → Option Anchor
 component_anchor glyph component class ligatures =
-    option_and_then (λ r. component_at r.components.items component class) (row_of (λ r. r.glyph) glyph ligatures)
+    option_and_then (λ r. component_at r.components component class) (row_of (λ r. r.glyph) glyph ligatures)
 
 abbrev pub component_count : ℕ → List LigatureRow → Option ℕ
-component_count glyph ligatures = option_map (λ r. length r.components.items) (row_of (λ r. r.glyph) glyph ligatures)
+component_count glyph ligatures = option_map (λ r. length r.components) (row_of (λ r. r.glyph) glyph ligatures)

@@ -16,9 +16,9 @@ glyph_pair_values first second rows = option_map (λ r. r.values) (row_of_glyphs
 
 -- the record of two classes
 abbrev pub record_at : List Class1Record → ℕ → ℕ → Option PairValues
-record_at records class1 class2 = option_and_then (λ r. slice_get r.class2_records.items class2) (slice_get records class1)
+record_at records class1 class2 = option_and_then (λ r. slice_get r.class2_records class2) (slice_get records class1)
 
 -- the first glyph is covered, and the classes of both have a record
 abbrev pub class_pair_values : ℕ → ℕ → ClassPairs → Option PairValues
 class_pair_values first second pairs =
-    if is_covered first pairs.coverage then record_at pairs.records.items (class_of first pairs.class_def1) (class_of second pairs.class_def2) else None
+    if is_covered first pairs.coverage then record_at pairs.records (class_of first pairs.class_def1) (class_of second pairs.class_def2) else None

@@ -28,7 +28,7 @@ impl MarkLigPos {
         self.ligatures
             .as_slice()
             .iter()
-            .all(|ligature| components_fit(count, &ligature.components))
+            .all(|ligature| components_fit(count, ligature.components.as_slice()))
     }
 }
 
@@ -39,7 +39,7 @@ impl ClassPairs {
     {
         let first_count = class_count(self.class_def1.rows.as_slice());
         let second_count = class_count(self.class_def2.rows.as_slice());
-        first_count <= self.records.len() && records_fit(second_count, &self.records)
+        first_count <= self.records.len() && records_fit(second_count, self.records.as_slice())
     }
 }
 

@@ -3,6 +3,7 @@ ghost use Rattle.layout_common.specs.Rows.{value_of};
 ghost use Rattle.layout_positions.specs.Marks.{anchor_at, base_anchor, component_anchor, component_at, component_count};
 
 use crate::value::Anchor;
+use layout_common::array::Array;
 use layout_common::glyph_row::{GlyphRow, find_value};
 use sorted_rows::{Keyed, SortedRows};
 
@@ -17,7 +18,7 @@ pub struct MarkRecord {
 #[derive(Debug, Drop)]
 pub struct BaseRow {
     pub glyph: u16,
-    pub anchors: Vec<Option<Anchor>>,
+    pub anchors: Array<Option<Anchor>>,
 }
 
 impl Keyed for BaseRow {
@@ -33,14 +34,14 @@ impl Keyed for BaseRow {
 /// A component of a ligature, with an anchor for each class of marks, from class 0 on.
 #[derive(Debug, Drop)]
 pub struct ComponentRecord {
-    pub anchors: Vec<Option<Anchor>>,
+    pub anchors: Array<Option<Anchor>>,
 }
 
 /// A ligature with the anchors of each of its components, from the first component on.
 #[derive(Debug, Drop)]
 pub struct LigatureRow {
     pub glyph: u16,
-    pub components: Vec<ComponentRecord>,
+    pub components: Array<ComponentRecord>,
 }
 
 impl Keyed for LigatureRow {
@@ -76,7 +77,7 @@ impl MarkBasePos {
         ensures { result ≡ base_anchor glyph class self.now.bases }
     {
         match self.bases.get(glyph) {
-            Some(row) => anchor_at(&row.anchors, class),
+            Some(row) => anchor_at(row.anchors.as_slice(), class),
             None => None,
         }
     }
@@ -116,7 +117,7 @@ impl MarkLigPos {
         ensures { result ≡ component_anchor glyph component class self.now.ligatures }
     {
         match self.ligatures.get(glyph) {
-            Some(row) => component_at(&row.components, component, class),
+            Some(row) => component_at(row.components.as_slice(), component, class),
             None => None,
         }
     }
@@ -126,7 +127,7 @@ fn component_at(components: &[ComponentRecord], component: usize, class: u16) ->
     ensures { result ≡ component_at components.now component class }
 {
     match components.get(component) {
-        Some(record) => anchor_at(&record.anchors, class),
+        Some(record) => anchor_at(record.anchors.as_slice(), class),
         None => None,
     }
 }

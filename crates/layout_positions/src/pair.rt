@@ -2,6 +2,7 @@ ghost use Rattle.std.specs.Prelude.{◌≡◌};
 ghost use Rattle.layout_positions.specs.Pairs.{glyph_pair_values, class_pair_values, record_at};
 
 use crate::value::ValueRecord;
+use layout_common::array::Array;
 use layout_common::class_definition::ClassDefinition;
 use layout_common::coverage::Coverage;
 use sorted_rows::{Keyed, SortedRows};
@@ -54,7 +55,7 @@ impl GlyphPairs {
 /// The adjustments of a first glyph's class, by the class of the second glyph, from class 0 on.
 #[derive(Debug, Drop)]
 pub struct Class1Record {
-    pub class2_records: Vec<PairValues>,
+    pub class2_records: Array<PairValues>,
 }
 
 /// Pair adjustment by classes (GPOS lookup type 2, format 2).
@@ -65,7 +66,7 @@ pub struct ClassPairs {
     pub class_def1: ClassDefinition,
     pub class_def2: ClassDefinition,
     /// The adjustments, by the class of the first glyph, from class 0 on.
-    pub records: Vec<Class1Record>,
+    pub records: Array<Class1Record>,
 }
 
 impl ClassPairs {
@@ -78,7 +79,7 @@ impl ClassPairs {
         }
         let class1 = self.class_def1.class_of(first);
         let class2 = self.class_def2.class_of(second);
-        record_at(&self.records, class1, class2)
+        record_at(self.records.as_slice(), class1, class2)
     }
 }
 

@@ -5,4 +5,4 @@ use Rattle.layout_substitutions.specs.declared.sequence.SequenceRow.{SequenceRow
 
 -- the sequence, or the alternates, of a glyph
 abbrev pub glyphs_of : ℕ → List SequenceRow → Option (List ℕ)
-glyphs_of glyph rows = option_map (λ r. r.glyphs.items) (row_of (λ r. r.glyph) glyph rows)
+glyphs_of glyph rows = option_map (λ r. r.glyphs) (row_of (λ r. r.glyph) glyph rows)

@@ -1,6 +1,7 @@
 ghost use Rattle.std.specs.Prelude.{◌≡◌};
 ghost use Rattle.layout_common.specs.Rows.{value_of};
 
+use layout_common::array::Array;
 use layout_common::coverage::Coverage;
 use layout_common::glyph_row::{GlyphRow, find_value};
 use sorted_rows::SortedRows;
@@ -9,9 +10,9 @@ use sorted_rows::SortedRows;
 #[derive(Debug, Drop)]
 pub struct ReverseChainSubst {
     /// The sets of glyphs before, the nearest first.
-    pub backtrack: Vec<Coverage>,
+    pub backtrack: Array<Coverage>,
     /// The sets of glyphs after, the nearest first.
-    pub lookahead: Vec<Coverage>,
+    pub lookahead: Array<Coverage>,
     /// The glyphs that it covers, each with its substitute.
     pub rows: SortedRows<GlyphRow<u16>>,
 }

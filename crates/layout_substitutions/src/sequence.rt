@@ -2,13 +2,14 @@ ghost use Rattle.std.specs.Prelude.{◌≡◌};
 ghost use Rattle.std.specs.Option.{option_copied};
 ghost use Rattle.layout_substitutions.specs.Substitutions.{glyphs_of};
 
+use layout_common::array::Array;
 use sorted_rows::{Keyed, SortedRows};
 
 /// A glyph with the glyphs of its sequence, or its alternates.
 #[derive(Debug, Drop)]
 pub struct SequenceRow {
     pub glyph: u16,
-    pub glyphs: Vec<u16>,
+    pub glyphs: Array<u16>,
 }
 
 impl Keyed for SequenceRow {
@@ -60,7 +61,7 @@ fn find_glyphs(rows: &SortedRows<SequenceRow>, glyph: u16) -> Option<&[u16]>
     ensures { option_copied result ≡ glyphs_of glyph rows.entry.now }
 {
     match rows.get(glyph) {
-        Some(row) => Some(&row.glyphs),
+        Some(row) => Some(row.glyphs.as_slice()),
         None => None,
     }
 }

@@ -1,0 +1,2 @@
+mod Means
+mod RisingKeys

@@ -1,0 +1,23 @@
+-- Rows whose keys rise strictly.
+use Rattle.std.specs.Prelude.{if◌then◌else◌, List, [], ◌∷◌, Option, Some, None, Result, Ok, Err}
+use Rattle.std.specs.declared.cmp.Ordering.{Ordering}
+use Rattle.serde_json.specs.Data.{Data, Items, no_items, item}
+use Rattle.json_values.specs.declared.fault.JsonFault.{JsonFault}
+use Rattle.json_values.specs.declared.fault.JsonFault.TheVariants.{OutOfOrder}
+use Rattle.json_values.specs.Cell.{and_then}
+use Rattle.json_values.specs.Rows.{behind}
+use Rattle.sorted_rows.specs.Keys.{is_above, is_rising}
+use Rattle.face_json.specs.Lists.{part_list}
+
+-- a list of rows whose keys rise strictly: the fault of the first faulty row, of which the order comes last
+abbrev pub rows_by_key : {R K : Type 0} → (K → K → Ordering) → (R → K) → (Data → Result R JsonFault) → Option K → Items → Result (List R) JsonFault
+rows_by_key order key read before no_items = Ok []
+rows_by_key order key read before (item d ds) =
+    and_then (read d) (λ r. if is_above order before (key r) then behind (r ∷ []) (rows_by_key order key read (Some (key r)) ds) else Err OutOfOrder)
+
+abbrev pub if_rising : {R K : Type 0} → (K → K → Ordering) → (R → K) → List R → Result (List R) JsonFault
+if_rising order key rows = if is_rising order key None rows then Ok rows else Err OutOfOrder
+
+-- such a list inside a row
+abbrev pub sorted_part : {R K : Type 0} → (K → K → Ordering) → (R → K) → (Data → Result R JsonFault) → Data → Result (List R) JsonFault
+sorted_part order key read d = and_then (part_list read d) (if_rising order key)
