@@ -9,7 +9,6 @@ use Rattle.json_values.specs.declared.fault.JsonFault.TheVariants.{WrongShape, U
 use Rattle.json_values.specs.Cell.{and_then}
 use Rattle.face_json.specs.Lists.{number_below, is_object, part_list, rows_at, rows_in_turn}
 use Rattle.face_json.specs.Row.{row_of_two, row_of_three, row_of_four}
-use Rattle.layout_common.specs.Coverage.{in_order}
 use Rattle.layout_common.specs.declared.class_definition.ClassDefinition.{ClassDefinition}
 use Rattle.layout_contexts.specs.declared.context.SequenceLookupRecord.{SequenceLookupRecord}
 use Rattle.layout_contexts.specs.declared.context.SequenceRule.{SequenceRule}
@@ -18,7 +17,7 @@ use Rattle.layout_contexts.specs.declared.context.ContextSubtable.{ContextSubtab
 use Rattle.layout_contexts.specs.declared.context.ContextSubtable.TheVariants as Rules
 use Rattle.face_json.specs.declared.contexts.ContextFormat.{ContextFormat}
 use Rattle.face_json.specs.declared.contexts.ContextFormat.TheVariants.{Glyphs, Classes, Coverage}
-use Rattle.face_json.specs.Glyphs.{coverage, class_definition}
+use Rattle.face_json.specs.Glyphs.{coverage, coverage_at, class_definition}
 
 -- an index into the input sequence, and the lookup to apply there
 abbrev pub lookup_record : ℕ → Data → Result SequenceLookupRecord JsonFault
@@ -60,9 +59,9 @@ class_maps limit (Some d) = row_of_three (class_definition limit) (class_definit
 abbrev pub class_rules : ℕ → Data → Result ClassRules JsonFault
 class_rules limit d =
     and_then (class_maps limit (get (codes "classes") d)) (λ maps.
-    and_then (rows_at (codes "first") (rows_in_turn (number_below limit)) d) (λ first.
+    and_then (coverage_at limit (codes "first") d) (λ first.
     and_then (rules limit (number_below limit) d) (λ by_class.
-    Ok (record { first = in_order first; backtrack = maps.0; input = maps.1.0; lookahead = maps.1.1.0; rules = by_class }))))
+    Ok (record { first = first; backtrack = maps.0; input = maps.1.0; lookahead = maps.1.1.0; rules = by_class }))))
 
 abbrev pub rules_in : ContextFormat → ℕ → Data → Result ContextSubtable JsonFault
 rules_in Glyphs limit d = and_then (rules limit (number_below limit) d) (λ rs. Ok (Rules.Glyphs rs))

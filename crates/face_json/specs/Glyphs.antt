@@ -31,6 +31,10 @@ glyph_row_list rest d = sorted_part nat_cmp (λ r. r.glyph) (glyph_row rest) d
 abbrev pub coverage : ℕ → Data → Result (List ℕ) JsonFault
 coverage limit d = and_then (part_list (number_below limit) d) (λ glyphs. Ok (in_order glyphs))
 
+-- the set of the glyphs that a key lists in turn
+abbrev pub coverage_at : ℕ → List ℕ → Data → Result (List ℕ) JsonFault
+coverage_at limit key d = and_then (rows_at key (rows_in_turn (number_below limit)) d) (λ glyphs. Ok (in_order glyphs))
+
 -- rows of a glyph and its class, which is below the limit
 abbrev pub classes_in : ℕ → Items → Result ClassDefinition JsonFault
 classes_in limit ds = and_then (glyph_rows (only (number_below limit)) ds) (λ rows. Ok (record { rows = rows }))

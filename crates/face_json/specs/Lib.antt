@@ -8,3 +8,9 @@ pub mod Scripts
 pub mod Contexts
 pub mod Substitutions
 pub mod SubstitutionTable
+pub mod Lengths
+pub mod Positions
+pub mod Marks
+pub mod PositionTable
+pub mod FontRows
+pub mod Face

@@ -10,8 +10,7 @@ use Rattle.face_json.specs.Lists.{array_of, number_below, or_null, part_list, ro
 use Rattle.face_json.specs.Row.{first_and_rest, no_more, only, row_of_two, row_of_four}
 use Rattle.face_json.specs.Sorted.{rows_by_key}
 use Rattle.face_json.specs.Lengths.{items_at, least_length}
-use Rattle.face_json.specs.Glyphs.{glyph_rows, classes_in}
-use Rattle.layout_common.specs.Coverage.{in_order}
+use Rattle.face_json.specs.Glyphs.{glyph_rows, coverage_at, classes_in}
 use Rattle.layout_positions.specs.declared.value.Anchor.{Anchor}
 use Rattle.layout_positions.specs.declared.value.ValueRecord.{ValueRecord}
 use Rattle.layout_positions.specs.declared.single.SinglePos.{SinglePos}
@@ -64,11 +63,11 @@ class1_record d = and_then (part_list pair_values d) (λ rs. Ok (record { class2
 -- pairs by classes: a first class has a row of records, a second class a record in each row
 abbrev pub class_pairs : ℕ → Data → Result ClassPairs JsonFault
 class_pairs limit d =
-    and_then (rows_at (codes "first") (rows_in_turn (number_below limit)) d) (λ first.
+    and_then (coverage_at limit (codes "first") d) (λ first.
     and_then (rows_at (codes "class1") (classes_in (count_at (codes "records") d)) d) (λ class1.
     and_then (rows_at (codes "class2") (classes_in (least_length limit (items_at (codes "records") d))) d) (λ class2.
     and_then (rows_at (codes "records") (rows_in_turn class1_record) d) (λ records.
-    Ok (record { coverage = in_order first; class_def1 = class1; class_def2 = class2; records = records })))))
+    Ok (record { coverage = first; class_def1 = class1; class_def2 = class2; records = records })))))
 
 -- an object has pairs by classes, a list has pairs of glyphs
 abbrev pub pair_pos : ℕ → Data → Result PairPos JsonFault

@@ -4,13 +4,12 @@ ghost use Rattle.serde_json.specs.Find.{get};
 ghost use Rattle.serde_json.specs.View.{view};
 ghost use Rattle.face_json.specs.Contexts.{lookup_record, rule, context, format_in, format_of, rules_in, class_rules, class_maps, no_classes};
 
+use crate::glyphs::read_coverage_at;
 use crate::objects::{object, read_in_turn_at};
 use crate::rows::read_row;
 use crate::value::Part;
 use json_values::fault::JsonFault;
-use layout_common::array::Array;
 use layout_common::class_definition::ClassDefinition;
-use layout_common::coverage::Coverage;
 use layout_contexts::context::{ClassRules, ContextSubtable, SequenceLookupRecord, SequenceRule};
 use serde_json::Value;
 use sorted_rows::SortedRows;
@@ -102,10 +101,10 @@ fn read_class_rules(alloc: Global, value: &Value, limit: usize) -> Result<ClassR
         → class_rules limit (view value.now) ≡ Err e) }
 {
     let (backtrack, (input, (lookahead, ()))) = read_class_maps(alloc, value, limit)?;
-    let first: Array<u16> = read_in_turn_at(alloc, value, "first", limit)?;
+    let first = read_coverage_at(alloc, value, "first", limit)?;
     let rules = read_in_turn_at(alloc, value, "rules", limit)?;
     Ok(ClassRules {
-        first: Coverage::new(first.into_vec()),
+        first,
         backtrack,
         input,
         lookahead,

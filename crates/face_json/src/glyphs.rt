@@ -1,9 +1,10 @@
 //! Rows of glyphs, sets and classes of glyphs.
 ghost use Rattle.std.specs.Prelude.{◌≡◌, ◌≢◌, IfOk, IfErr, Ok, Err};
-ghost use Rattle.serde_json.specs.View.{items_view};
-ghost use Rattle.face_json.specs.Glyphs.{glyph_row, coverage, class_definition, classes_in};
+ghost use Rattle.serde_json.specs.View.{view, items_view};
+ghost use Rattle.face_json.specs.Lists.{rows_at};
+ghost use Rattle.face_json.specs.Glyphs.{glyph_row, coverage, coverage_at, class_definition, classes_in};
 
-use crate::objects::array;
+use crate::objects::{array, array_at, read_in_turn_at};
 use crate::rising::read_by_key;
 use crate::rows::{Parts, split_row};
 use crate::value::Part;
@@ -61,4 +62,33 @@ pub fn read_classes(
 {
     let rows = read_by_key(alloc, values, limit)?;
     Ok(ClassDefinition { rows })
+}
+
+/// The classes of a key.
+pub fn read_classes_at(
+    alloc: Global,
+    value: &Value,
+    key: &str,
+    limit: usize,
+) -> Result<ClassDefinition, JsonFault>
+    ensures ok { IfOk result (λ c. rows_at key.now (classes_in limit) (view value.now) ≡ Ok c) }
+    ensures refused { IfErr result (λ e. e ≢ JsonFault.OutOfMemory
+        → rows_at key.now (classes_in limit) (view value.now) ≡ Err e) }
+{
+    read_classes(alloc, array_at(value, key)?, limit)
+}
+
+/// The set of glyphs of a key.
+pub fn read_coverage_at(
+    alloc: Global,
+    value: &Value,
+    key: &str,
+    limit: usize,
+) -> Result<Coverage, JsonFault>
+    ensures ok { IfOk result (λ c. coverage_at limit key.now (view value.now) ≡ Ok c) }
+    ensures refused { IfErr result (λ e. e ≢ JsonFault.OutOfMemory
+        → coverage_at limit key.now (view value.now) ≡ Err e) }
+{
+    let glyphs: Array<u16> = read_in_turn_at(alloc, value, key, limit)?;
+    Ok(Coverage::new(glyphs.into_vec()))
 }

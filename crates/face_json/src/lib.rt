@@ -2,11 +2,17 @@
 #![tactic(auto)]
 
 mod contexts;
+mod face;
 mod features;
+mod font_rows;
 mod glyphs;
+mod lengths;
 mod lists;
+mod marks;
 mod numbers;
 mod objects;
+mod position_table;
+mod positions;
 mod rising;
 mod rows;
 mod scripts;
@@ -14,3 +20,5 @@ mod substitution_table;
 mod substitutions;
 mod tags;
 mod value;
+
+pub use face::read_face;

@@ -5,15 +5,13 @@ ghost use Rattle.serde_json.specs.View.{view};
 ghost use Rattle.face_json.specs.Row.{only};
 ghost use Rattle.face_json.specs.Positions.{anchor, value_record, single_pos, pair_values, pair_row, class1_record, class_pairs, pair_pos, entry_exit, cursive_pos};
 
-use crate::glyphs::read_classes;
+use crate::glyphs::{read_classes_at, read_coverage_at};
 use crate::lengths::{items_at, least_length};
-use crate::objects::{array, array_at, count_at, read_in_turn_at};
+use crate::objects::{array, count_at, read_in_turn_at};
 use crate::rising::read_by_key;
 use crate::rows::{Parts, read_only, read_row};
 use crate::value::Part;
 use json_values::fault::JsonFault;
-use layout_common::array::Array;
-use layout_common::coverage::Coverage;
 use layout_positions::cursive::{CursivePos, EntryExit};
 use layout_positions::pair::{Class1Record, ClassPairs, GlyphPairs, PairPos, PairRow, PairValues};
 use layout_positions::single::SinglePos;
@@ -114,13 +112,14 @@ fn read_class_pairs(alloc: Global, value: &Value, limit: usize) -> Result<ClassP
     ensures refused { IfErr result (λ e. e ≢ JsonFault.OutOfMemory
         → class_pairs limit (view value.now) ≡ Err e) }
 {
-    let first: Array<u16> = read_in_turn_at(alloc, value, "first", limit)?;
-    let class_def1 = read_classes(alloc, array_at(value, "class1")?, count_at(value, "records"))?;
+    let class1_count = count_at(value, "records");
     let class2_count = least_length(limit, items_at(value, "records"));
-    let class_def2 = read_classes(alloc, array_at(value, "class2")?, class2_count)?;
+    let coverage = read_coverage_at(alloc, value, "first", limit)?;
+    let class_def1 = read_classes_at(alloc, value, "class1", class1_count)?;
+    let class_def2 = read_classes_at(alloc, value, "class2", class2_count)?;
     let records = read_in_turn_at(alloc, value, "records", limit)?;
     Ok(ClassPairs {
-        coverage: Coverage::new(first.into_vec()),
+        coverage,
         class_def1,
         class_def2,
         records,

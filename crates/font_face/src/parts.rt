@@ -127,12 +127,13 @@ pub struct FaceParts {
 
 impl FaceParts {
     /// Whether each index and each class is below the length of the list that it points into: features, lookups and sets of
-    /// marks, records of pairs and anchors.
+    /// marks, records of pairs and anchors; and whether there are at most 65,535 sets, since 65535 names none.
     pub fn indices_fit(&self) -> bool
         ensures { result ≡ indices_fit self.now }
     {
         let set_count = self.gdef.sets.len();
-        substitution_fits(set_count, self.gsub.as_ref())
+        set_count <= usize::from(u16::MAX)
+            && substitution_fits(set_count, self.gsub.as_ref())
             && positioning_fits(set_count, self.gpos.as_ref())
     }
 }

@@ -1,0 +1,73 @@
+-- A font, key by key in the order of the format.
+use Rattle.std.specs.Prelude.{ℕ, pos, nat_le, if◌then◌else◌, List, [], codes, length, Option, Some, None, Result, Ok, Err}
+use Rattle.std.specs.Ordering.{nat_cmp}
+use Rattle.serde_json.specs.Data.{Data}
+use Rattle.serde_json.specs.Find.{get}
+use Rattle.json_values.specs.declared.fault.JsonFault.{JsonFault}
+use Rattle.json_values.specs.declared.fault.JsonFault.TheVariants.{OutOfRange}
+use Rattle.json_values.specs.Cell.{and_then, word, signed_word}
+use Rattle.json_values.specs.Objects.{read_or, read_if_there}
+use Rattle.layout_common.specs.declared.class_definition.ClassDefinition.{ClassDefinition}
+use Rattle.font_face.specs.declared.parts.GlyphDefinition.{GlyphDefinition}
+use Rattle.font_face.specs.declared.parts.FaceParts.{FaceParts}
+use Rattle.font_face.specs.Indices.{indices_fit, set_limit}
+use Rattle.face_json.specs.Lists.{number_below, is_object, rows_at, rows_in_turn}
+use Rattle.face_json.specs.Row.{only}
+use Rattle.face_json.specs.Sorted.{rows_by_key}
+use Rattle.face_json.specs.Glyphs.{glyph_limit, glyph_rows, coverage, classes_in, class_definition}
+use Rattle.face_json.specs.Contexts.{no_classes}
+use Rattle.face_json.specs.Positions.{pair_order}
+use Rattle.face_json.specs.SubstitutionTable.{substitution_table}
+use Rattle.face_json.specs.PositionTable.{positioning_table}
+use Rattle.face_json.specs.FontRows.{character_row, variation_row, extents, name_row}
+
+-- ---- the key `gdef`
+
+abbrev pub few_sets : List (List ℕ) → Result (List (List ℕ)) JsonFault
+few_sets sets = if nat_le (length sets) set_limit then Ok sets else Err OutOfRange
+
+-- glyph classes, where there are such, attachment classes, and sets of marks
+abbrev pub glyph_definition : Data → Result GlyphDefinition JsonFault
+glyph_definition d =
+    and_then (is_object d) (λ _.
+    and_then (read_if_there (class_definition glyph_limit) (get (codes "classes") d)) (λ classes.
+    and_then (rows_at (codes "attach") (classes_in glyph_limit) d) (λ attach.
+    and_then (and_then (rows_at (codes "sets") (rows_in_turn (coverage glyph_limit)) d) few_sets) (λ sets.
+    Ok (record { classes = classes; attach = attach; sets = sets })))))
+
+abbrev pub no_definition : GlyphDefinition
+no_definition = record { classes = None; attach = no_classes; sets = [] }
+
+abbrev pub glyph_definition_in : Option Data → Result GlyphDefinition JsonFault
+glyph_definition_in None = Ok no_definition
+glyph_definition_in (Some d) = glyph_definition d
+
+-- ---- the font
+
+-- the keys of a font in the order in which their faults come
+abbrev pub face_keys : Data → Result FaceParts JsonFault
+face_keys d =
+    and_then (read_or 0 word (get (codes "upem") d)) (λ upem.
+    and_then (read_or (pos 0) signed_word (get (codes "ascender") d)) (λ ascender.
+    and_then (rows_at (codes "cmap") (rows_by_key nat_cmp (λ r. r.character) (character_row glyph_limit) None) d) (λ cmap.
+    and_then (rows_at (codes "variants") (rows_by_key pair_order (λ r. (r.character, r.selector)) (variation_row glyph_limit) None) d) (λ variants.
+    and_then (rows_at (codes "h") (glyph_rows (only (number_below glyph_limit))) d) (λ widths.
+    and_then (rows_at (codes "v") (glyph_rows (only (number_below glyph_limit))) d) (λ heights.
+    and_then (rows_at (codes "origins") (glyph_rows (only signed_word)) d) (λ origins.
+    and_then (rows_at (codes "extents") (glyph_rows extents) d) (λ boxes.
+    and_then (rows_at (codes "names") (rows_by_key nat_cmp (λ r. r.glyph) (name_row glyph_limit) None) d) (λ names.
+    and_then (glyph_definition_in (get (codes "gdef") d)) (λ gdef.
+    and_then (read_if_there (substitution_table (length gdef.sets)) (get (codes "gsub") d)) (λ gsub.
+    and_then (read_if_there (positioning_table (length gdef.sets)) (get (codes "gpos") d)) (λ gpos.
+    Ok (record {
+      upem = upem; ascender = ascender; cmap = cmap; variants = variants; h = widths; v = heights;
+      origins = origins; extents = boxes; names = names; gdef = gdef; gsub = gsub; gpos = gpos
+    })))))))))))))
+
+-- that indices stay within their lists was held against each row that has one
+abbrev pub with_indices : FaceParts → Result FaceParts JsonFault
+with_indices font = if indices_fit font then Ok font else Err OutOfRange
+
+-- the font of a JSON value
+abbrev pub face_of : Data → Result FaceParts JsonFault
+face_of d = and_then (is_object d) (λ _. and_then (face_keys d) with_indices)

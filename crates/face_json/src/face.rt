@@ -1,0 +1,117 @@
+//! A font.
+ghost use Rattle.std.specs.Prelude.{◌≡◌, ◌≢◌, ℕ, IfOk, IfErr, Ok, Err, codes};
+ghost use Rattle.serde_json.specs.Find.{get};
+ghost use Rattle.serde_json.specs.View.{view};
+ghost use Rattle.face_json.specs.Face.{few_sets, glyph_definition, glyph_definition_in, no_definition, face_keys, face_of};
+
+use crate::glyphs::{GLYPH_LIMIT, read_classes_at};
+use crate::objects::{object, read_by_key_at, read_in_turn_at, read_optional_at};
+use crate::value::Part;
+use font_face::Face;
+use font_face::parts::{FaceParts, GlyphDefinition};
+use json_values::fault::JsonFault;
+use json_values::keys::read_key;
+use layout_common::array::Array;
+use layout_common::class_definition::ClassDefinition;
+use layout_common::coverage::Coverage;
+use serde_json::Value;
+use sorted_rows::SortedRows;
+use std::alloc::Global;
+
+/// Reads a font. Keys that are not of the format are passed over. Of several faults it gives the first by the order of the
+/// format's keys, then of their rows; of one row's faults a wrong shape, then a float, a range, the order of rows.
+pub fn read_face(alloc: Global, value: &Value) -> Result<Face, JsonFault>
+    ensures ok { IfOk result (λ f. face_of (view value.now) ≡ Ok f) }
+    ensures refused { IfErr result (λ e. e ≢ JsonFault.OutOfMemory
+        → face_of (view value.now) ≡ Err e) }
+{
+    object(value)?;
+    let parts = read_face_parts(alloc, value)?;
+    if !parts.indices_fit() {
+        return Err(JsonFault::OutOfRange);
+    }
+    Ok(Face::new(parts))
+}
+
+fn read_face_parts(alloc: Global, value: &Value) -> Result<FaceParts, JsonFault>
+    ensures ok { IfOk result (λ p. face_keys (view value.now) ≡ Ok p) }
+    ensures refused { IfErr result (λ e. e ≢ JsonFault.OutOfMemory
+        → face_keys (view value.now) ≡ Err e) }
+{
+    let upem = read_key(value, "upem", 0u16)?;
+    let ascender = read_key(value, "ascender", 0i16)?;
+    let cmap = read_by_key_at(alloc, value, "cmap", GLYPH_LIMIT)?;
+    let variants = read_by_key_at(alloc, value, "variants", GLYPH_LIMIT)?;
+    let h = read_by_key_at(alloc, value, "h", GLYPH_LIMIT)?;
+    let v = read_by_key_at(alloc, value, "v", GLYPH_LIMIT)?;
+    let origins = read_by_key_at(alloc, value, "origins", GLYPH_LIMIT)?;
+    let extents = read_by_key_at(alloc, value, "extents", GLYPH_LIMIT)?;
+    let names = read_by_key_at(alloc, value, "names", GLYPH_LIMIT)?;
+    let gdef = read_definition_at(alloc, value)?;
+    let set_count = gdef.sets.len();
+    let gsub = read_optional_at(alloc, value, "gsub", set_count)?;
+    let gpos = read_optional_at(alloc, value, "gpos", set_count)?;
+    Ok(FaceParts {
+        upem,
+        ascender,
+        cmap,
+        variants,
+        h,
+        v,
+        origins,
+        extents,
+        names,
+        gdef,
+        gsub,
+        gpos,
+    })
+}
+
+fn read_definition_at(alloc: Global, value: &Value) -> Result<GlyphDefinition, JsonFault>
+    ensures ok { IfOk result (λ g. glyph_definition_in (get (codes "gdef") (view value.now)) ≡ Ok g) }
+    ensures refused { IfErr result (λ e. e ≢ JsonFault.OutOfMemory
+        → glyph_definition_in (get (codes "gdef") (view value.now)) ≡ Err e) }
+{
+    match value.get("gdef") {
+        Some(value) => read_definition(alloc, value),
+        None => Ok(no_definition(alloc)),
+    }
+}
+
+fn read_definition(alloc: Global, value: &Value) -> Result<GlyphDefinition, JsonFault>
+    ensures ok { IfOk result (λ g. glyph_definition (view value.now) ≡ Ok g) }
+    ensures refused { IfErr result (λ e. e ≢ JsonFault.OutOfMemory
+        → glyph_definition (view value.now) ≡ Err e) }
+{
+    object(value)?;
+    let classes = read_optional_at(alloc, value, "classes", GLYPH_LIMIT)?;
+    let attach = read_classes_at(alloc, value, "attach", GLYPH_LIMIT)?;
+    let sets = few_sets(read_in_turn_at(alloc, value, "sets", GLYPH_LIMIT)?)?;
+    Ok(GlyphDefinition {
+        classes,
+        attach,
+        sets,
+    })
+}
+
+fn few_sets(sets: Array<Coverage>) -> Result<Array<Coverage>, JsonFault>
+    ensures { result ≡ few_sets sets }
+{
+    if sets.len() <= usize::from(u16::MAX) {
+        Ok(sets)
+    } else {
+        Err(JsonFault::OutOfRange)
+    }
+}
+
+fn no_definition(alloc: Global) -> GlyphDefinition
+    ensures { result ≡ no_definition }
+{
+    GlyphDefinition {
+        classes: None,
+        attach: ClassDefinition {
+            rows: SortedRows::new(Vec::new(alloc)),
+        },
+        sets: Array::new(Vec::new(alloc)),
+    }
+}
