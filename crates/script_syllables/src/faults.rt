@@ -1,13 +1,12 @@
 //! The first fault of machines' rows.
 ghost use Rattle.std.specs.Prelude.{◌≡◌, ◌&&◌, nat_lt};
 ghost use Rattle.script_syllables.specs.Machines.{accepts_fault, is_accept_in_range, is_step_in_range, machine_fault, machines_fault, steps_fault};
-ghost use Rattle.unicode_rows.specs.Keys.{follows};
 
 use crate::machine::{Accept, Step, SyllableMachine, SyllableMachines};
 use script_constants::hb_ot_script_shaper_t::{
     self, INDIC_SHAPER, KHMER_SHAPER, MYANMAR_SHAPER, UNIVERSAL_SHAPER,
 };
-use unicode_rows::{Keyed, TablesFault};
+use unicode_rows::{TablesFault, follows};
 
 /// The first fault of all machines.
 pub(crate) fn machines_fault(machines: &SyllableMachines) -> Option<TablesFault>
@@ -71,15 +70,4 @@ fn is_accept_in_range(
     ensures { result ≡ is_accept_in_range shaper machine.now accept }
 {
     accept.state < machine.states && shaper.has_kind(accept.kind)
-}
-
-fn follows<R: Keyed>(before: Option<R>, row: R) -> bool
-    ensures { result ≡ follows R.high R.low before row }
-{
-    match before {
-        None => true,
-        Some(before) => {
-            before.high() < row.high() || (before.high() == row.high() && before.low() < row.low())
-        }
-    }
 }

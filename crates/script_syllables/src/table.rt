@@ -3,6 +3,7 @@ ghost use Rattle.std.specs.Prelude.{◌≡◌, ◌<◌, ◌≤◌, IfOk, IfErr, 
 ghost use Rattle.std.specs.Option.{option_and_then};
 ghost use Rattle.script_syllables.specs.Fronts.{longest_front};
 ghost use Rattle.script_syllables.specs.Machines.{machine_of, machines_fault};
+ghost use Rattle.script_syllables.specs.Sound.{AreRising};
 
 use crate::faults::machines_fault;
 use crate::machine::SyllableMachines;
@@ -44,6 +45,14 @@ impl SyllableTable {
             None => Ok(SyllableTable { machines }),
             Some(fault) => Err(fault),
         }
+    }
+
+    /// The table of machines whose rows rise by their keys; that states and kinds are known has been seen to.
+    pub fn of_machines(machines: SyllableMachines) -> SyllableTable
+        requires { AreRising machines }
+        ensures { result ≡ machines }
+    {
+        SyllableTable { machines }
     }
 
     fn front(&self, shaper: hb_ot_script_shaper_t, categories: &[u8]) -> Option<Front>

@@ -13,7 +13,7 @@ mod tests;
 pub use fault::TablesFault;
 pub use keyed::{Keyed, Row};
 pub use ranges::CharacterRanges;
-pub use read::read_rows;
+pub use read::{follows, read_rows};
 pub use rows::{
     CharacterClass, CharacterRange, Counterpart, IndicRow, JoiningRow, Pair, Split, ThaiRow,
     UnicodeRows, UniversalRow,

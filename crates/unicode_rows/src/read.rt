@@ -36,7 +36,8 @@ pub fn read_rows<const N: usize, R: Row<N>>(
     Ok(records)
 }
 
-fn follows<R: Keyed>(before: Option<R>, row: R) -> bool
+/// Whether a row is the first, or its key is above that of the row before.
+pub fn follows<R: Keyed>(before: Option<R>, row: R) -> bool
     ensures { result ≡ follows R.high R.low before row }
 {
     match before {

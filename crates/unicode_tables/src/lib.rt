@@ -7,6 +7,7 @@ mod expansion;
 pub mod hangul;
 pub mod law_fault;
 pub mod laws;
+pub mod records;
 pub mod tables;
 #[cfg(test)]
 mod tests;
@@ -14,5 +15,6 @@ mod tests;
 pub use character::CharTablesExt;
 pub use hangul::{compose_hangul, decompose_hangul, hangul_pairs_are_splits};
 pub use law_fault::LawFault;
+pub use records::UnicodeRecords;
 pub use tables::{UnicodeTables, compose, decompose};
 pub use unicode_rows::{TablesFault, UnicodeRows};

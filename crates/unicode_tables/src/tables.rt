@@ -3,10 +3,12 @@ ghost use Rattle.std.specs.Prelude.{◌≡◌, ◌≢◌, ◌<◌, true, Bool, S
 ghost use Rattle.unicode_rows.specs.Keys.{is_rising};
 ghost use Rattle.unicode_rows.specs.Ranges.{is_in_ranges};
 ghost use Rattle.unicode_tables.specs.Expansion.{EndWithin, HasDeepChain, ends_within};
+ghost use Rattle.unicode_tables.specs.Records.{AreRising, tables_of_records};
 ghost use Rattle.unicode_tables.specs.Tables.{tables_of, first_row_fault, split_of, splits_of, pair_of, class_of, counterpart_in, joining_of, indic_of, universal_of, thai_of};
 
 use crate::depth::{MAX_SPLITS, all_chains_end, split};
 use crate::hangul::compose_hangul;
+use crate::records::UnicodeRecords;
 use std::alloc::Global;
 use std::marker::Model;
 use unicode_rows::{
@@ -59,22 +61,46 @@ impl UnicodeTables {
         ensures deep { result ≡ Err TablesFault.SplitDepth → HasDeepChain (split_of (tables_of rows.now)) MAX_SPLITS }
         ensures deep_last { result ≡ Err TablesFault.SplitDepth → first_row_fault (tables_of rows.now) ≡ None }
     {
-        let tables = UnicodeTables {
+        let records = UnicodeRecords {
             splits: read_rows(alloc, &rows.splits)?,
             pairs: read_rows(alloc, &rows.pairs)?,
             classes: read_rows(alloc, &rows.classes)?,
             mirrored: read_rows(alloc, &rows.mirrored)?,
             vertical: read_rows(alloc, &rows.vertical)?,
-            pictographic: CharacterRanges::new(alloc, read_rows(alloc, &rows.pictographic)?)?,
+            pictographic: read_rows(alloc, &rows.pictographic)?,
             joining: read_rows(alloc, &rows.joining)?,
             indic: read_rows(alloc, &rows.indic)?,
             universal: read_rows(alloc, &rows.universal)?,
             thai: read_rows(alloc, &rows.thai)?,
         };
-        if !all_chains_end(&tables.splits) {
+        UnicodeTables::of_records(alloc, records)
+    }
+
+    /// The tables of records whose keys rise, or `SplitDepth` where a chain of first parts, by the rule for Hangul and
+    /// the table of splits, has more than eight splits.
+    pub fn of_records(alloc: Global, records: UnicodeRecords) -> Result<UnicodeTables, TablesFault>
+        requires { AreRising records }
+        ensures tables { IfOk result (λ t. t ≡ tables_of_records records) }
+        ensures shallow { OnOk result (EndWithin (split_of (tables_of_records records)) MAX_SPLITS) }
+        ensures refused { IfErr result (λ e. e ≢ TablesFault.OutOfMemory → e ≡ TablesFault.SplitDepth) }
+        ensures deep { result ≡ Err TablesFault.SplitDepth
+            → HasDeepChain (split_of (tables_of_records records)) MAX_SPLITS }
+    {
+        if !all_chains_end(&records.splits) {
             return Err(TablesFault::SplitDepth);
         }
-        Ok(tables)
+        Ok(UnicodeTables {
+            splits: records.splits,
+            pairs: records.pairs,
+            classes: records.classes,
+            mirrored: records.mirrored,
+            vertical: records.vertical,
+            pictographic: CharacterRanges::new(alloc, records.pictographic)?,
+            joining: records.joining,
+            indic: records.indic,
+            universal: records.universal,
+            thai: records.thai,
+        })
     }
 
     /// The joining type of a character: U L R D ALAPH DALATH_RISH T, from 0.

@@ -1,0 +1,5 @@
+pub mod Rows
+pub mod Unicode
+pub mod Deep
+pub mod Syllables
+pub mod Languages
