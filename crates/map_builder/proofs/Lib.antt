@@ -2,3 +2,4 @@ pub mod StageSteps
 pub mod Listed
 pub mod Sorted
 pub mod Compiling
+pub mod Flagless

@@ -1,4 +1,7 @@
-ghost use Rattle.std.specs.Prelude.{◌≡◌, ◌<◌, ◌≤◌, length, slice_get};
+ghost use Rattle.std.specs.Prelude.{◌≡◌, ◌<◌, ◌≤◌, None, true, length, slice_get};
+ghost use Rattle.std.specs.Int.RustNames.{bit_and};
+ghost use Rattle.std.specs.Ordering.{nat_cmp};
+ghost use Rattle.sorted_rows.specs.Keys.{is_rising};
 ghost use Rattle.std.specs.Option.{option_and_then, option_copied, option_map, option_map_or};
 ghost use Rattle.map_features.specs.Tables.{for_table};
 ghost use Rattle.map_builder.specs.Compiled.{feature_at, lookups_of_stage, stage_end, stage_start};
@@ -69,6 +72,7 @@ pub struct hb_ot_map_t {
 
 impl Model for hb_ot_map_t {
     ghost use Rattle.std.specs.Prelude.{◌≡◌, None, true};
+    ghost use Rattle.std.specs.Int.RustNames.{bit_and};
     ghost use Rattle.std.specs.Ordering.{nat_cmp};
     ghost use Rattle.sorted_rows.specs.Keys.{is_rising};
     ghost use Rattle.map_builder.specs.Compiled.{OtMapValue};
@@ -81,7 +85,7 @@ impl Model for hb_ot_map_t {
       tables = record { gsub = m.gsub; gpos = m.gpos };
     } };
 
-    ghost invariant = { λ m. is_rising nat_cmp (λ f. f.tag.0) None m.features.items ≡ true };
+    ghost invariant = { λ m. (is_rising nat_cmp (λ f. f.tag.0) None m.features.items ≡ true) × (bit_and m.global_mask 7 ≡ 0) };
 }
 
 impl hb_ot_map_t {
@@ -108,11 +112,20 @@ impl hb_ot_map_t {
         self.table(table).chosen_script
     }
 
-    /// The mask that every glyph starts with.
+    /// The mask that every glyph starts with; it has no glyph flag.
     pub fn get_global_mask(&self) -> u32
-        ensures { result ≡ self.now.global_mask }
+        ensures value { result ≡ self.now.global_mask }
+        ensures flagless { bit_and result 7 ≡ 0 }
     {
         self.global_mask
+    }
+
+    /// The features that have bits, by rising tags.
+    pub fn features(&self) -> &[feature_map_t]
+        ensures value { result.now ≡ self.now.features }
+        ensures rising { is_rising nat_cmp (λ f. f.tag.0) None result.now ≡ true }
+    {
+        &self.features
     }
 
     #[tactic(auto, using(sorted_rows::specs::Searched::row_of_number))]

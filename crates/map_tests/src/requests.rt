@@ -1,0 +1,257 @@
+//! Requests that are merged, the bits that features get, and lookups that several features run.
+use map_features::kept::kept_fields;
+use map_features::lookup::lookup_map_t;
+use map_features::merge::{merged_lookups, merged_requests};
+use map_features::per_table::PerTable;
+use map_features::request::FeatureRequest;
+use shaping_text::tag::Tag;
+use std::test::Fail;
+
+/// Tag, flags, value, stage of substitution.
+type Asked = (&'static [u8; 4], u32, u32, usize);
+
+/// Tag, lowest bit, mask, mask of value 1, stage of substitution.
+type Kept = (&'static [u8; 4], u32, u32, u32, usize);
+
+const CASES: [(&[Asked], &[Kept], u32); 12] = [
+    (
+        &[(b"vert", 3, 256, 0)],
+        &[(b"vert", 4, 0xff0, 0x10, 0)],
+        0x80000000,
+    ),
+    (
+        &[(b"x   ", 65, 2, 0), (b"liga", 3, 0, 0), (b"x   ", 0, 1, 1)],
+        &[(b"x   ", 4, 0x30, 0x10, 0)],
+        0x80000020,
+    ),
+    (
+        &[(b"bbbb", 67, 1, 0), (b"bbbb", 0, 3, 1), (b"aaaa", 3, 1, 1)],
+        &[
+            (b"aaaa", 31, 0x80000000, 0x80000000, 1),
+            (b"bbbb", 4, 0x30, 0x10, 0),
+        ],
+        0x80000010,
+    ),
+    (
+        &[
+            (b"kern", 2, 2, 0),
+            (b"mark", 1, 1, 0),
+            (b"kern", 1, 255, 1),
+            (b"kern", 0, 0, 1),
+            (b"kern", 0, 1, 1),
+            (b"mark", 32, 2, 1),
+        ],
+        &[
+            (b"kern", 4, 0xff0, 0x10, 0),
+            (b"mark", 12, 0x3000, 0x1000, 0),
+        ],
+        0x80001ff0,
+    ),
+    (
+        &[
+            (b"vert", 1, 1, 0),
+            (b"kern", 2, 2, 0),
+            (b"kern", 81, 3, 1),
+            (b"vert", 0, 0, 1),
+            (b"vert", 16, 1, 1),
+            (b"vert", 18, 255, 1),
+        ],
+        &[(b"kern", 4, 0x30, 0x10, 0), (b"vert", 6, 0x3fc0, 0x40, 0)],
+        0x80000070,
+    ),
+    (
+        &[(b"vert", 0, 256, 0), (b"vert", 37, 3, 1)],
+        &[(b"vert", 4, 0x30, 0x10, 0)],
+        0x80000030,
+    ),
+    (
+        &[
+            (b"vert", 1, 0, 0),
+            (b"vert", 0, 3, 0),
+            (b"mark", 17, 255, 0),
+        ],
+        &[
+            (b"mark", 4, 0xff0, 0x10, 0),
+            (b"vert", 12, 0x3000, 0x1000, 0),
+        ],
+        0x80000ff0,
+    ),
+    (
+        &[
+            (b"liga", 0, 256, 0),
+            (b"liga", 9, u32::MAX, 0),
+            (b"liga", 8, u32::MAX, 0),
+        ],
+        &[(b"liga", 4, 0xff0, 0x10, 0)],
+        0x80000ff0,
+    ),
+    (
+        &[
+            (b"kern", 1, 5, 0),
+            (b"kern", 1, 3, 0),
+            (b"x   ", 49, 1, 1),
+            (b"aaaa", 0, 1, 1),
+        ],
+        &[
+            (b"aaaa", 4, 0x10, 0x10, 1),
+            (b"kern", 5, 0x60, 0x20, 0),
+            (b"x   ", 31, 0x80000000, 0x80000000, 1),
+        ],
+        0x80000060,
+    ),
+    (
+        &[
+            (b"vert", 3, 1, 0),
+            (b"kern", 51, 1, 0),
+            (b"vert", 3, 2, 0),
+            (b"vert", 33, 1, 0),
+            (b"vert", 20, 2, 0),
+            (b"kern", 0, 256, 1),
+        ],
+        &[
+            (b"kern", 4, 0xff0, 0x10, 0),
+            (b"vert", 12, 0x3000, 0x1000, 0),
+        ],
+        0x80001010,
+    ),
+    (
+        &[
+            (b"mark", 4, 1, 0),
+            (b"mark", 0, 0, 0),
+            (b"mark", 42, 1, 0),
+            (b"mark", 1, 5, 0),
+        ],
+        &[(b"mark", 4, 0x70, 0x10, 0)],
+        0x80000050,
+    ),
+    (
+        &[
+            (b"vert", 0, 1, 0),
+            (b"liga", 17, 0, 0),
+            (b"vert", 11, 3, 0),
+            (b"vert", 3, 1, 0),
+            (b"t000", 1, 127, 0),
+            (b"t001", 1, 255, 0),
+            (b"t002", 1, 127, 0),
+            (b"t003", 1, 255, 0),
+            (b"t000", 2, 1, 0),
+            (b"t001", 2, 1, 0),
+            (b"t002", 2, 1, 0),
+            (b"t003", 2, 1, 0),
+            (b"t004", 2, 1, 0),
+            (b"t005", 2, 1, 0),
+            (b"t006", 2, 1, 0),
+            (b"t007", 2, 1, 0),
+            (b"t008", 2, 1, 0),
+            (b"t009", 2, 1, 0),
+            (b"t010", 2, 1, 0),
+            (b"t011", 2, 1, 0),
+            (b"t012", 2, 1, 0),
+            (b"t013", 2, 1, 0),
+            (b"t014", 2, 1, 0),
+            (b"t015", 2, 1, 0),
+            (b"t016", 2, 1, 0),
+            (b"t017", 2, 1, 0),
+            (b"t018", 2, 1, 0),
+            (b"t019", 2, 1, 0),
+            (b"t020", 2, 1, 0),
+            (b"t021", 2, 1, 0),
+            (b"t022", 2, 1, 0),
+            (b"t023", 2, 1, 0),
+            (b"t024", 2, 1, 0),
+            (b"t025", 2, 1, 0),
+        ],
+        &[
+            (b"t000", 4, 0x7f0, 0x10, 0),
+            (b"t001", 11, 0x7f800, 0x800, 0),
+            (b"t002", 19, 0x3f80000, 0x80000, 0),
+            (b"t004", 26, 0x4000000, 0x4000000, 0),
+            (b"t005", 27, 0x8000000, 0x8000000, 0),
+            (b"t006", 28, 0x10000000, 0x10000000, 0),
+            (b"t007", 29, 0x20000000, 0x20000000, 0),
+            (b"vert", 31, 0x80000000, 0x80000000, 0),
+        ],
+        0x83fffff0,
+    ),
+];
+
+fn request((tag, flags, value, stage): Asked) -> FeatureRequest {
+    FeatureRequest {
+        tag: Tag::from_bytes(tag),
+        flags,
+        value,
+        stage: PerTable {
+            gsub: stage,
+            gpos: 0,
+        },
+    }
+}
+
+#[tactic(auto, using(map_features::specs::Rising::requests_rise))]
+#[test]
+fn requests_are_merged_and_get_bits(rt: HostRuntime) -> Result<(), Fail> {
+    for (asked, wanted, global) in CASES {
+        let mut requests = Vec::new(rt.alloc());
+        for one in asked {
+            requests.push(request(*one))?;
+        }
+        let merged = merged_requests(rt.alloc(), &requests)?;
+        let kept = kept_fields(rt.alloc(), &merged)?;
+        assert_eq!(rt; kept.len(), wanted.len());
+        let mut mask = 1 << 31;
+        for (kept, (tag, shift, bits, one, stage)) in kept.iter().zip(wanted) {
+            assert_eq!(rt; kept.request.tag, Tag::from_bytes(tag));
+            assert_eq!(rt; kept.field.shift, *shift);
+            assert_eq!(rt; kept.field.mask, *bits);
+            assert_eq!(rt; kept.field.one_mask, *one);
+            assert_eq!(rt; kept.request.stage.gsub, *stage);
+            mask |= kept.field.default_mask;
+        }
+        assert_eq!(rt; mask, global);
+    }
+    Ok(())
+}
+
+#[test]
+fn flags_are_those_of_the_first(rt: HostRuntime) -> Result<(), Fail> {
+    let asked = [
+        request((b"liga", 4 + 32, 1, 0)),
+        request((b"liga", 1 + 2 + 8 + 64, 1, 1)),
+    ];
+    let merged = merged_requests(rt.alloc(), &asked)?;
+    for request in &merged {
+        assert!(rt; request.is_global && request.has_fallback && request.random);
+        assert!(rt; !request.auto_zwnj && request.auto_zwj && !request.per_syllable);
+    }
+    assert_eq!(rt; merged.len(), 1);
+    Ok(())
+}
+
+fn lookup(index: u16, mask: u32, auto_zwnj: bool, random: bool) -> lookup_map_t {
+    lookup_map_t {
+        index,
+        mask,
+        auto_zwnj,
+        auto_zwj: true,
+        random,
+        per_syllable: false,
+    }
+}
+
+#[test]
+fn one_lookup_stands_once(rt: HostRuntime) -> Result<(), Fail> {
+    let uses = [
+        lookup(3, 16, true, false),
+        lookup(1, 32, true, true),
+        lookup(9, 64, true, true),
+        lookup(3, 64, false, true),
+        lookup(1, 1 << 31, true, false),
+    ];
+    let wanted = [
+        lookup(1, (1 << 31) + 32, true, true),
+        lookup(3, 80, false, false),
+    ];
+    let merged = merged_lookups(rt.alloc(), 9, &uses)?;
+    assert_eq!(rt; merged.as_slice(), wanted.as_slice());
+    Ok(())
+}
