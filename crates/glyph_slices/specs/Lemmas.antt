@@ -8,3 +8,9 @@ pub mod SortedItems
 pub mod SortedNumbers
 pub mod Stretches
 pub mod Turned
+pub mod KeyOrder
+pub mod Picked
+pub mod DeletedEvents
+pub mod ReversedEvents
+pub mod SortedEvents
+pub mod OrderSpans

@@ -12,4 +12,5 @@ pub mod Flags
 pub mod Places
 pub mod NoNewNumbers
 pub mod DeletedFlags
+pub mod Events
 pub mod Lemmas

@@ -82,11 +82,15 @@ marked_cut true Characters start end gs =
     let none : end - start - 0 ≡ end - start = omega arith in
     ap tells_apart (ap (take (end - start)) (drop-map f start gs) ∙ ap (λ n. take n (clusters (drop start gs))) (sym none))
 
--- a group was merged and turned round in its place
-pub group_placed : (merge : Bool) (level : BufferClusterLevel) (start end : ℕ) (gs mid new : List Glyph) (ps positions : List Position) (before marked : Bool) → start ≤ end → end ≤ length gs → length ps ≡ length gs
-    → mid ≡ merged_if merge level start end gs → marked ≡ is_marked_if merge level start end (clusters gs) → new ≡ part_turned start end mid → positions ≡ part_turned start end ps
-    → turning_at end new positions (before || marked) ≡ first_turned merge level (end - start) (turning_at start gs ps before)
-group_placed merge level start end gs mid new ps positions before marked le within long m k n p =
+merged_length : (merge : Bool) (level : BufferClusterLevel) (start end : ℕ) (gs : List Glyph) → start ≤ end → length (merged_if merge level start end gs) ≡ length gs
+merged_length false level start end gs le = refl
+merged_length true level start end gs le = length_merged_at level start end gs le
+
+-- a group was merged and turned round in its place: the glyphs up to its end in reversed order, and those behind it
+pub placed_glyphs : (merge : Bool) (level : BufferClusterLevel) (start end : ℕ) (gs mid new : List Glyph) → start ≤ end → end ≤ length gs → mid ≡ merged_if merge level start end gs → new ≡ part_turned start end mid
+    → (reverse (take end new) ≡ take (end - start) (merged_if merge level 0 (end - start) (drop start gs)) ++ beside_if merge level (stretch 0 (end - start) (clusters (drop start gs))) (reverse (take start gs)))
+    × (drop end new ≡ drop (end - start) (merged_if merge level 0 (end - start) (drop start gs)))
+placed_glyphs merge level start end gs mid new le within m n =
     let range = stretch 0 (end - start) (clusters (drop start gs)) in
     let front = beside_if merge level range (take start gs) in
     let ahead = merged_if merge level 0 (end - start) (drop start gs) in
@@ -98,14 +102,20 @@ group_placed merge level start end gs mid new ps positions before marked le with
     let one : reverse (take end new) ≡ take (end - start) ahead ++ beside_if merge level range (reverse (take start gs)) =
     ap (λ ys. reverse (take end ys)) n ∙ part_before start end mid le wide ∙ ap (λ ys. take (end - start) ys ++ reverse (take start mid)) rest ∙ ap (λ ys. take (end - start) ahead ++ reverse ys) first ∙ ap (λ ys. take (end - start) ahead ++ ys) (beside_turned merge level range (take start gs)) in
     let two : drop end new ≡ drop (end - start) ahead = ap (drop end) n ∙ part_behind start end mid le wide ∙ ap (drop (end - start)) rest in
+    (one, two)
+
+-- and its positions beside it
+pub group_placed : (merge : Bool) (level : BufferClusterLevel) (start end : ℕ) (gs mid new : List Glyph) (ps positions : List Position) (before marked : Bool) → start ≤ end → end ≤ length gs → length ps ≡ length gs
+    → mid ≡ merged_if merge level start end gs → marked ≡ is_marked_if merge level start end (clusters gs) → new ≡ part_turned start end mid → positions ≡ part_turned start end ps
+    → turning_at end new positions (before || marked) ≡ first_turned merge level (end - start) (turning_at start gs ps before)
+group_placed merge level start end gs mid new ps positions before marked le within long m k n p =
+    let moved = placed_glyphs merge level start end gs mid new le within m n in
+    let one = moved.0 in
+    let two = moved.1 in
     let three : reverse (take end positions) ≡ take (end - start) (drop start ps) ++ reverse (take start ps) = ap (λ ys. reverse (take end ys)) p ∙ part_before start end ps le (omega arith) in
     let four : drop end positions ≡ drop (end - start) (drop start ps) = ap (drop end) p ∙ part_behind start end ps le (omega arith) in
     let five : marked ≡ is_marked_if merge level 0 (end - start) (clusters (drop start gs)) = k ∙ marked_cut merge level start end gs in
     rw (one, two, three, four, five) refl
-  where
-    merged_length : (t : Bool) (l : BufferClusterLevel) (i j : ℕ) (hs : List Glyph) → i ≤ j → length (merged_if t l i j hs) ≡ length hs
-    merged_length false l i j hs h = refl
-    merged_length true l i j hs h = length_merged_at l i j hs h
 
 all_one : (c : ℕ) (ns : List ℕ) → reverse (map (λ (n : ℕ). c) ns) ≡ map (λ (n : ℕ). c) ns
 all_one c ns = sym (map-reverse (λ (n : ℕ). c) ns) ∙ alike c (reverse ns) ns (length-reverse ns)
