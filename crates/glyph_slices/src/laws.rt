@@ -39,13 +39,11 @@ pub fn groups_are_events()
 {}
 
 /// A sort of a range is one event.
-#[tactic(auto, using(crate::specs::Lemmas::SortedEvents::sort_is_event))]
 pub fn sort_is_event()
     ensures { SortIsEvent }
 {}
 
 /// None of these events puts glyphs in another order without a merge, but a reversal of groups that does not merge them.
-#[tactic(auto, using(crate::specs::Lemmas::OrderSpans::events_are_plain))]
 pub fn events_are_plain()
     ensures { EventsArePlain }
 {}
