@@ -2,9 +2,10 @@ ghost use Rattle.std.specs.Prelude.{◌≡◌, ◌<◌, ◌++◌, true, false, l
 ghost use Rattle.glyph_types.specs.declared.level.BufferClusterLevel.{BufferClusterLevel as Level};
 ghost use Rattle.glyph_lists.specs.Items.{clusters};
 ghost use Rattle.glyph_lists.specs.Order.{IsOrdered};
-ghost use Rattle.glyph_slices.specs.DeletionWalk.{Deletes};
+ghost use Rattle.glyph_clusters.specs.Deleting.{Deletes};
 
-use glyph_slices::deletion::{delete_at_front, last_cluster, next_has, recast_end};
+use glyph_clusters::deletion::{delete_at_front, next_has, recast_end};
+use glyph_clusters::runs::last_cluster;
 use glyph_types::info::hb_glyph_info_t;
 use glyph_types::level::BufferClusterLevel;
 

@@ -4,8 +4,8 @@ ghost use Rattle.glyph_lists.specs.Parts.{stretch};
 ghost use Rattle.glyph_lists.specs.Order.{IsOrdered};
 ghost use Rattle.glyph_lists.specs.Glyphs.{beside_merged, glyphs_merged, glyphs_merged_at, is_marked_at};
 
+use glyph_clusters::ranges::merge_range;
 use glyph_clusters::runs::{merge_after, merge_beside, merge_within};
-use glyph_slices::merges::merge_range;
 use glyph_types::info::hb_glyph_info_t;
 use glyph_types::level::BufferClusterLevel;
 

@@ -13,7 +13,7 @@ use Rattle.glyph_lists.specs.Glyphs.{glyphs_merged_at}
 use Rattle.glyph_lists.specs.Origins.{Origin, origin_of, origins, cast, end_cast, alone_deleted, one_deleted, first_deleted}
 use Rattle.glyph_lists.specs.Events.{Delete}
 use Rattle.glyph_lists.specs.Lemmas.Origins.{numbers_origins, origins_of_merged_at}
-use Rattle.glyph_slices.specs.Deleting.{Left, recast, end_recast_from, end_recast, glyphs_deleted_alone, glyphs_deleted}
+use Rattle.glyph_clusters.specs.Deleting.{Left, recast, end_recast_from, end_recast, glyphs_deleted_alone, glyphs_deleted}
 use Rattle.glyph_buffer.specs.Sides.{Sides, all_glyphs, origins_of, origins_by}
 use Rattle.glyph_buffer.specs.Grouping.{with_deleted}
 

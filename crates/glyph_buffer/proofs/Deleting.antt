@@ -6,10 +6,9 @@ use Rattle.glyph_types.specs.declared.info.hb_glyph_info_t.{hb_glyph_info_t as G
 use Rattle.glyph_types.specs.declared.level.BufferClusterLevel.{BufferClusterLevel as Level}
 use Rattle.glyph_lists.specs.Items.{clusters, item_of, strip}
 use Rattle.glyph_lists.specs.Deletions.{deleted}
-use Rattle.glyph_slices.specs.Deleted.{items_deleted}
-use Rattle.glyph_slices.specs.OneDeleted.{left_clusters, order_deleted}
-use Rattle.glyph_slices.specs.Deleting.{glyphs_deleted}
-use Rattle.glyph_slices.specs.DeletionWalk.{Deletes}
+use Rattle.glyph_clusters.specs.Deleted.{items_deleted}
+use Rattle.glyph_clusters.specs.OneDeleted.{left_clusters, order_deleted}
+use Rattle.glyph_clusters.specs.Deleting.{glyphs_deleted, Deletes}
 use Rattle.glyph_buffer.specs.declared.buffer.hb_buffer_t.TheInside.{Inside}
 use Rattle.buffer_lists.specs.declared.order.ClusterOrder.{ClusterOrder}
 use Rattle.buffer_lists.specs.declared.order.KnownOrder.{KnownOrder}

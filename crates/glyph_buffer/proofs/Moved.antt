@@ -18,7 +18,7 @@ use Rattle.glyph_buffer.proofs.Kept.{map-reverse}
 use Rattle.glyph_buffer.proofs.Ordered.{known_ahead, known_back}
 use Rattle.glyph_lists.specs.Origins.{origin_of, origins, arranged, picked}
 use Rattle.glyph_lists.specs.Events.{Arrange}
-use Rattle.glyph_lists.specs.Lists.{take_next}
+use Rattle.glyph_lists.specs.Lists.{take_next, take_one}
 use Rattle.std.proofs.lemmas.Option.{slice_get_read}
 
 -- no glyph goes where the cursor moves
@@ -68,7 +68,7 @@ picked_reversed all zero xs le long = refl
 picked_reversed all (suc n) [] le long = absurd (omega arith)
 picked_reversed all (suc n) (x ∷ xs) le long =
     let more : suc n ≡ n + 1 = omega arith in
-    let front : take (suc n) all ≡ take n all ++ get_or all n x ∷ [] = ap (λ k. take k all) more ∙ take_next all n x (omega arith) in
+    let front : take (suc n) all ≡ take n all ++ get_or all n x ∷ [] = ap (λ k. take k all) more ∙ take_next all n ∙ ap (λ ys. take n all ++ ys) (take_one all n x (omega arith)) in
     let there : slice_get all n ≡ Some (get_or all n x) = slice_get_read all (length all) n (get_or all n x) refl (omega arith) refl in
     let turned : reverse (take (suc n) all) ≡ get_or all n x ∷ reverse (take n all) = ap reverse front ∙ reverse-append (take n all) (get_or all n x ∷ []) in
     rw (there, turned) (ap (λ ys. get_or all n x ∷ ys) (picked_reversed all n xs (omega arith) (omega arith)))

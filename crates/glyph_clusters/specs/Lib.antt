@@ -1,0 +1,4 @@
+pub mod Merging
+pub mod Deleting
+pub mod Deleted
+pub mod OneDeleted

@@ -1,6 +1,8 @@
-// Merges of clusters and glyph flags, over slices of glyphs.
+// Merges of clusters, glyph flags and the deletion of one glyph, over slices of glyphs.
 #![tactic(auto)]
 
+pub mod deletion;
 pub mod marks;
 pub mod merges;
+pub mod ranges;
 pub mod runs;

@@ -85,8 +85,9 @@ fn first_cluster(glyphs: &[hb_glyph_info_t]) -> u32
     glyphs[0].cluster
 }
 
+/// The cluster of the last glyph.
 #[tactic(auto, using(crate::proofs::Joined::last_cluster_is))]
-fn last_cluster(glyphs: &[hb_glyph_info_t]) -> u32
+pub fn last_cluster(glyphs: &[hb_glyph_info_t]) -> u32
     requires { 0 < length glyphs.now }
     ensures { last_of (clusters glyphs.now) ≡ Some result }
 {

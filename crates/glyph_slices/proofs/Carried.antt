@@ -15,8 +15,8 @@ use Rattle.glyph_types.specs.declared.level.BufferClusterLevel.{BufferClusterLev
 use Rattle.glyph_types.specs.declared.level.BufferClusterLevel.TheVariants.{MonotoneGraphemes, MonotoneCharacters, Characters}
 use Rattle.glyph_lists.specs.Levels.{IsMonotone}
 use Rattle.std.specs.List.{list_all}
-use Rattle.glyph_slices.specs.Merging.{direction_merged}
-use Rattle.glyph_slices.specs.Deleting.{IsEndRun}
+use Rattle.glyph_clusters.specs.Merging.{direction_merged}
+use Rattle.glyph_clusters.specs.Deleting.{IsEndRun}
 use Rattle.glyph_lists.specs.Lemmas.Ends.{from_first}
 use Rattle.glyph_lists.specs.Lemmas.Glyphs.{without_flags_again, cut_out, stretch_is, cluster_in_cluster}
 use Rattle.glyph_lists.specs.Lemmas.Merges.{least_number_is, chain_left, chain_right, chain_across}

@@ -14,10 +14,10 @@ use Rattle.glyph_lists.specs.Lemmas.Parts.{Stands, stands_self}
 use Rattle.glyph_lists.specs.Lemmas.Ends.{to_last}
 use Rattle.glyph_lists.specs.Lemmas.Merges.{chain_left, chain_across}
 use Rattle.glyph_lists.specs.Lemmas.Deletions.{last_is}
-use Rattle.glyph_slices.specs.Deleting.{recast, end_recast_from, end_recast}
-use Rattle.glyph_slices.specs.Deleted.{recast_cluster}
+use Rattle.glyph_clusters.specs.Deleting.{recast, end_recast_from, end_recast}
+use Rattle.glyph_clusters.specs.Deleted.{recast_cluster}
 use Rattle.glyph_slices.specs.DeletionWalk.{IsDue, settled}
-use Rattle.glyph_slices.specs.OneDeleted.{has_last}
+use Rattle.glyph_clusters.specs.OneDeleted.{has_last}
 use Rattle.glyph_slices.proofs.Walking.{last_recast}
 
 equal_test : (m n : ℕ) → m ≡ n → (m == n) ≡ true

@@ -1,4 +1,3 @@
-pub mod Ends
 pub mod Carried
 pub mod CarriedTurned
 pub mod Meant

@@ -1,24 +1,19 @@
 -- A walk of deletions passes one glyph.
 use Rattle.std.proofs.Common.{ℕ, suc, ◌≡◌, ◌≤◌, ◌<◌, ◌+◌, ◌-◌, ◌||◌, Bool, true, false, if◌then◌else◌, List, [], ◌∷◌, ◌++◌, Option, Some, None, length, take, drop, get_or, arith, refl, ap, sym, subst, ◌∙◌, append_assoc}
-use Rattle.std.proofs.lemmas.List.{drop_more, map-append, take-append-drop, drop-drop, length-take-le}
-use Rattle.std.proofs.Math.Seq.{drop-append-add}
+use Rattle.std.proofs.lemmas.List.{drop_more, map-append, take-append-drop, drop-drop}
 use Rattle.glyph_types.specs.declared.info.hb_glyph_info_t.{hb_glyph_info_t as Glyph}
 use Rattle.glyph_types.specs.declared.level.BufferClusterLevel.{BufferClusterLevel as Level}
 use Rattle.glyph_lists.specs.Items.{Position, clusters}
 use Rattle.glyph_lists.specs.Order.{IsOrdered}
 use Rattle.glyph_slices.specs.declared.deletion.walk.Walk.{Walk}
-use Rattle.glyph_slices.specs.OneDeleted.{left_clusters, ordered_deleted}
-use Rattle.glyph_slices.specs.DeletionWalk.{Deletes, IsDue, IsWalk, Passed, all_passed, many_passed, settled, passed_at, passed_of, first_passed, with_glyph, without_glyph}
+use Rattle.glyph_clusters.specs.OneDeleted.{left_clusters, ordered_deleted}
+use Rattle.glyph_clusters.specs.Deleting.{Deletes}
+use Rattle.glyph_slices.specs.DeletionWalk.{IsDue, IsWalk, Passed, all_passed, many_passed, settled, passed_at, passed_of, first_passed, with_glyph, without_glyph}
 use Rattle.glyph_slices.specs.Lemmas.Neighbours.{no_glyph}
 
 pub or_false : (b : Bool) → (b || false) ≡ b
 or_false true = refl
 or_false false = refl
-
-pub behind_front : (at : ℕ) (gs ys : List Glyph) → at ≤ length gs → drop (at + 1) (take at gs ++ ys) ≡ drop 1 ys
-behind_front at gs ys le =
-    let long : length (take at gs) ≡ at = length-take-le at gs le in
-    ap (λ n. drop (n + 1) (take at gs ++ ys)) (sym long) ∙ drop-append-add (take at gs) ys 1
 
 pub passed_without : (level : Level) (at : ℕ) (w v : Walk) (gs new : List Glyph) (ps : List Position) (g : Glyph) (back : List Glyph) (m : Bool)
     → Deletes level (settled w.due (take w.kept gs)) (drop at gs) (settled v.due (take v.kept new)) (drop (at + 1) new) m → v.kept ≡ w.kept → v.marked ≡ (w.marked || m) → drop at gs ≡ g ∷ back
@@ -101,12 +96,6 @@ walk_kept in_order at w v gs new lt is front back sound = rw is (record { few = 
         ∙ ap (λ ns. ns ++ clusters (drop 1 (drop at gs))) (map-append f before (take 1 (drop at gs))) ∙ append_assoc (clusters before) (clusters (take 1 (drop at gs))) (clusters (drop 1 (drop at gs)))
         ∙ ap (λ ns. clusters before ++ ns) (sym (map-append f (take 1 (drop at gs)) (drop 1 (drop at gs))) ∙ ap clusters (take-append-drop 1 (drop at gs))) in
         subst IsOrdered (sym all) (sound.known sure)
-
--- the rest of a list, from a place on
-pub rest_deletes : (level : Level) (at : ℕ) (gs front rest new : List Glyph) (m : Bool) → at ≤ length gs → front ≡ take at gs → rest ≡ drop at gs → Deletes level [] rest [] (drop 1 new) m → Deletes level [] (drop at gs) [] (drop (at + 1) (front ++ new)) m
-rest_deletes level at gs front rest new m le f r gone =
-    let behind : drop (at + 1) (front ++ new) ≡ drop 1 new = ap (λ hs. drop (at + 1) (hs ++ new)) f ∙ behind_front at gs new le in
-    subst (λ (hs : List Glyph). Deletes level [] (drop at gs) [] hs m) (sym behind) (subst (λ (hs : List Glyph). Deletes level [] hs [] (drop 1 new) m) r gone)
 
 -- one glyph was passed, and the others are still to be
 pub passes_on : (level : Level) (goes : Glyph → Bool) (at : ℕ) (w v : Walk) (gs new : List Glyph) (ps positions : List Position) (whole : Passed) → at < length gs → length new ≡ length gs

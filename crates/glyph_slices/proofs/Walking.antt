@@ -1,23 +1,19 @@
 -- Steps of a walk of deletions.
 use borrow.Rule.Slice.PartMut.{put_mid}
-use Rattle.std.proofs.Common.{ℕ, ◌≡◌, ◌≢◌, ◌≤◌, ◌<◌, ◌+◌, ◌-◌, ◌==◌, Bool, true, false, if◌then◌else◌, List, [], ◌∷◌, ◌++◌, Option, Some, None, length, map, take, drop, get_or, set, arith, refl, ap, sym, ◌∙◌}
+use Rattle.std.proofs.Common.{ℕ, ◌≡◌, ◌≤◌, ◌<◌, ◌+◌, ◌-◌, ◌==◌, true, false, if◌then◌else◌, List, [], ◌∷◌, ◌++◌, Option, Some, None, length, map, take, drop, get_or, set, arith, refl, ap, sym, ◌∙◌}
 use Rattle.std.proofs.lemmas.Grind.{common_steps}
-use Rattle.std.proofs.lemmas.List.{drop_more, drop_all, drop-drop, length-take-le, length-map, take_more_set, drop-set-lt}
+use Rattle.std.proofs.lemmas.List.{drop_more, drop-drop, length-take-le, length-map, take_more_set, drop-set-lt}
 use Rattle.std.proofs.Math.Seq.{take-append_seam, drop-append-add}
 use Rattle.std.specs.List.{list_all}
 use Rattle.glyph_types.specs.declared.info.hb_glyph_info_t.{hb_glyph_info_t as Glyph}
-use Rattle.glyph_types.specs.declared.level.BufferClusterLevel.{BufferClusterLevel}
-use Rattle.glyph_types.specs.declared.level.BufferClusterLevel.TheVariants.{MonotoneGraphemes, MonotoneCharacters, Characters}
 use Rattle.glyph_lists.specs.Items.{clusters}
-use Rattle.glyph_lists.specs.Parts.{first_of, last_of, is_number}
+use Rattle.glyph_lists.specs.Parts.{last_of}
 use Rattle.glyph_lists.specs.Deletions.{end_renumbered}
 use Rattle.glyph_lists.specs.Lemmas.Drawn.{last_more}
-use Rattle.glyph_lists.specs.Glyphs.{glyphs_merged_at, is_marked_at}
-use Rattle.glyph_lists.specs.Lemmas.Glyphs.{length_merged_at}
-use Rattle.glyph_slices.specs.Deleting.{end_recast}
-use Rattle.glyph_slices.specs.Deleted.{end_clusters, end_length}
-use Rattle.glyph_slices.specs.DeletionWalk.{Deletes, settled}
-use Rattle.glyph_slices.specs.OneDeleted.{deletes_as, has_last}
+use Rattle.glyph_clusters.specs.Deleting.{end_recast}
+use Rattle.glyph_clusters.specs.Deleted.{end_clusters, end_length}
+use Rattle.glyph_slices.specs.DeletionWalk.{settled}
+use Rattle.glyph_clusters.specs.OneDeleted.{has_last}
 
 pub settled_put : (kept : ℕ) (g : Glyph) (gs range : List Glyph) → range ≡ end_recast g (take kept gs) → put_mid 0 kept gs range ≡ end_recast g (take kept gs) ++ drop kept gs
 settled_put kept g gs range e = rw e refl
@@ -52,42 +48,6 @@ keep_front due k at gs mid new le lt m e =
 
 pub keep_ahead : (due : Option Glyph) (k at : ℕ) (gs mid new : List Glyph) → k ≤ at → at < length gs → mid ≡ settled due (take k gs) ++ drop k gs → drop (at + 1) new ≡ drop (at + 1) mid → drop (at + 1) new ≡ drop (at + 1) gs
 keep_ahead due k at gs mid new le lt m e = e ∙ settled_back due k (at + 1) gs mid (omega arith) (omega arith) m
-
-none_apart : (level : BufferClusterLevel) (n : ℕ) → false ≡ is_marked_at level 0 2 (n ∷ [])
-none_apart MonotoneGraphemes n = refl
-none_apart MonotoneCharacters n = refl
-none_apart Characters n = let same : (n == n) ≡ true = grind (arith, common_steps) in rw same refl
-
-lone : (level : BufferClusterLevel) (g : Glyph) → drop 1 (glyphs_merged_at level 0 2 (g ∷ [])) ≡ []
-lone level g = drop_all 1 (glyphs_merged_at level 0 2 (g ∷ [])) (omega (arith, length_merged_at level 0 2 (g ∷ []) (omega arith)))
-
--- one glyph alone
-pub first_alone : (level : BufferClusterLevel) (ahead : List Glyph) → length ahead < 2 → Deletes level [] ahead [] (drop 1 ahead) false
-first_alone level [] lt = record { front_is = λ g back e. cc; back_is = λ g back e. cc; marked_is = λ g back e. cc }
-first_alone level (g ∷ []) lt = deletes_as level [] (g ∷ []) g [] [] [] false refl (ap (λ (hs : List Glyph). record { front = []; back = hs }) (lone level g)) (none_apart level g.cluster)
-first_alone level (g ∷ h ∷ hs) lt = absurd (omega arith)
-
--- the next is of its cluster
-pub first_same : (level : BufferClusterLevel) (ahead : List Glyph) (d : Glyph) → 2 ≤ length ahead → (get_or ahead 0 d).cluster ≡ (get_or ahead 1 d).cluster → Deletes level [] ahead [] (drop 1 ahead) false
-first_same level [] d le same = absurd (omega arith)
-first_same level (x ∷ []) d le same = absurd (omega arith)
-first_same level (x ∷ y ∷ ys) d le same =
-    let equal : (y.cluster == x.cluster) ≡ true = grind (arith, common_steps, same) in
-    deletes_as level [] (x ∷ y ∷ ys) x (y ∷ ys) [] (y ∷ ys) false refl (rw equal refl) (rw equal refl)
-
-pub first_other : (level : BufferClusterLevel) (ahead new : List Glyph) (marked : Bool) (d : Glyph) → 2 ≤ length ahead → (get_or ahead 0 d).cluster ≢ (get_or ahead 1 d).cluster → new ≡ glyphs_merged_at level 0 2 ahead → marked ≡ is_marked_at level 0 2 (clusters ahead)
-    → Deletes level [] ahead [] (drop 1 new) marked
-first_other level [] new marked d le other n m = absurd (omega arith)
-first_other level (x ∷ []) new marked d le other n m = absurd (omega arith)
-first_other level (x ∷ y ∷ ys) new marked d le other n m =
-    let apart : (y.cluster == x.cluster) ≡ false = grind (arith, common_steps, other) in
-    deletes_as level [] (x ∷ y ∷ ys) x (y ∷ ys) [] (drop 1 new) marked refl (rw apart (ap (λ (hs : List Glyph). record { front = []; back = drop 1 hs }) (sym n))) (rw apart m)
-
-pub next_is : (gs : List Glyph) (at c : ℕ) (d : Glyph) → at < length gs → ((get_or gs at d).cluster == c) ≡ is_number (first_of (clusters (drop at gs))) c
-next_is gs at c d lt = rw (drop_more gs at d lt) refl
-
-pub next_none : (gs : List Glyph) (at c : ℕ) → length gs ≤ at → false ≡ is_number (first_of (clusters (drop at gs))) c
-next_none gs at c le = let none : drop at gs ≡ [] = drop_all at gs le in rw none refl
 
 -- the last number of a list whose last run took another
 last_renumbered : (p n : ℕ) (ns : List ℕ) → last_of ns ≡ Some p → last_of (end_renumbered p n ns) ≡ Some n

@@ -13,11 +13,11 @@ use Rattle.glyph_lists.specs.Glyphs.{in_cluster}
 use Rattle.glyph_lists.specs.Merges.{merged}
 use Rattle.glyph_lists.specs.Deletions.{end_renumbered}
 use Rattle.glyph_lists.specs.Lemmas.Glyphs.{flags_in_cluster, flags_of_outside}
-use Rattle.glyph_slices.specs.Deleting.{recast, end_recast_from, end_recast, glyphs_deleted_alone, glyphs_deleted}
-use Rattle.glyph_slices.specs.Deleted.{all_of}
+use Rattle.glyph_clusters.specs.Deleting.{recast, end_recast_from, end_recast, glyphs_deleted_alone, glyphs_deleted}
+use Rattle.glyph_clusters.specs.Deleted.{all_of}
 use Rattle.glyph_slices.specs.Facts.{numbers_deleted_alone, numbers_deleted}
 use Rattle.glyph_slices.specs.Flags.{flags_where_same, next_marked, flags_deleted}
-use Rattle.glyph_slices.specs.OneDeleted.{has_last}
+use Rattle.glyph_clusters.specs.OneDeleted.{has_last}
 
 -- a glyph in the cluster that f gives for its own
 abbrev pub cast : (ℕ → ℕ) → Glyph → Glyph

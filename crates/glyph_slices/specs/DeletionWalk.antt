@@ -8,7 +8,7 @@ use Rattle.glyph_lists.specs.Items.{Position, clusters}
 use Rattle.glyph_lists.specs.Order.{IsOrdered}
 use Rattle.glyph_lists.specs.Lemmas.Numbers.{Has}
 use Rattle.glyph_slices.specs.declared.deletion.walk.Walk.{Walk}
-use Rattle.glyph_slices.specs.Deleting.{end_recast, glyphs_deleted, deletion_marks}
+use Rattle.glyph_clusters.specs.Deleting.{end_recast, glyphs_deleted, deletion_marks}
 
 -- each answer that a test of a glyph may give is that of p
 abbrev pub Tells : {F : Type 0} → Shared F (Bor hb_glyph_info_t × Unit {0}) Bool → F → (hb_glyph_info_t → Bool) → Type 0
@@ -71,9 +71,3 @@ pub record IsWalk (in_order : Bool) (at : ℕ) (w : Walk) (gs : List hb_glyph_in
   pub few : w.kept ≤ at
   pub due : IsDue in_order w.due (take w.kept gs)
   pub known : in_order ≡ true → IsOrdered (clusters (settled w.due (take w.kept gs)) ++ clusters (drop at gs))
-
--- the first of some glyphs goes from behind others: what is left before it and behind it, and whether one was marked
-pub record Deletes (level : BufferClusterLevel) (front ahead new_front new_back : List hb_glyph_info_t) (marked : Bool) : Type 0 where
-  pub front_is : (g : hb_glyph_info_t) (back : List hb_glyph_info_t) → ahead ≡ g ∷ back → new_front ≡ (glyphs_deleted level front g back).front
-  pub back_is : (g : hb_glyph_info_t) (back : List hb_glyph_info_t) → ahead ≡ g ∷ back → new_back ≡ (glyphs_deleted level front g back).back
-  pub marked_is : (g : hb_glyph_info_t) (back : List hb_glyph_info_t) → ahead ≡ g ∷ back → marked ≡ deletion_marks level (clusters front) g.cluster (clusters back)

@@ -7,7 +7,7 @@ use Rattle.glyph_lists.specs.Items.{Position, strip, clusters}
 use Rattle.glyph_lists.specs.Order.{BringsNone}
 use Rattle.glyph_lists.specs.Deletions.{deleted}
 use Rattle.glyph_slices.specs.Turning.{groups, groups_turned, turned}
-use Rattle.glyph_slices.specs.Deleting.{glyphs_deleted}
+use Rattle.glyph_clusters.specs.Deleting.{glyphs_deleted}
 use Rattle.glyph_slices.specs.DeletionWalk.{all_passed}
 use Rattle.glyph_slices.specs.Facts.{numbers_deleted}
 use Rattle.glyph_slices.specs.Sorting.{is_seam, places_by_key, range_sorted}

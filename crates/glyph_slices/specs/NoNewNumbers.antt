@@ -15,8 +15,8 @@ use Rattle.glyph_lists.specs.Lemmas.Glyphs.{clusters_merged_at, length_merged_at
 use Rattle.glyph_lists.specs.Lemmas.Merges.{merged_at_brings}
 use Rattle.glyph_lists.specs.Lemmas.Numbers.{Has, has_here, has_more, has_cases, has_left, has_right, has_either, has_take, has_drop}
 use Rattle.glyph_slices.specs.declared.sorting.Keyed.{Keyed}
-use Rattle.glyph_slices.specs.Deleting.{glyphs_deleted}
-use Rattle.glyph_slices.specs.Deleted.{clusters_deleted}
+use Rattle.glyph_clusters.specs.Deleting.{glyphs_deleted}
+use Rattle.glyph_clusters.specs.Deleted.{clusters_deleted}
 use Rattle.glyph_slices.specs.DeletionWalk.{Passed, with_glyph, without_glyph, passed_of, first_passed, many_passed, all_passed}
 use Rattle.glyph_slices.specs.Groups.{group_length}
 use Rattle.glyph_slices.specs.Places.{places_within, range_length}

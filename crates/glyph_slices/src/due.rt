@@ -10,7 +10,7 @@ ghost use Rattle.glyph_slices.specs.Due.{IsWithin, MayBeDue, MayBeRound, meant};
 mod falling;
 
 use self::falling::{Stretch, carry_out, ends_lower, merge_falling};
-use crate::merges::merge_at;
+use glyph_clusters::ranges::merge_at;
 use glyph_types::info::hb_glyph_info_t;
 use glyph_types::level::BufferClusterLevel;
 

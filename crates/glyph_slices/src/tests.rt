@@ -2,11 +2,12 @@ ghost use Rattle.std.specs.Prelude.{◌≡◌};
 
 mod no_order;
 
-use crate::deletion::{delete_within, recast_end, set_cluster};
+use crate::deletion::delete_within;
 use crate::groups::{group_end, next_cluster, next_grapheme, next_syllable};
-use crate::merges::merge_range;
 use crate::reversal::reverse_groups;
 use crate::sorting::sort;
+use glyph_clusters::deletion::{recast_end, set_cluster};
+use glyph_clusters::ranges::merge_range;
 use glyph_types::flags::UnicodeProps;
 use glyph_types::info::hb_glyph_info_t;
 use glyph_types::level::BufferClusterLevel;

@@ -8,8 +8,8 @@ use Rattle.glyph_lists.specs.Parts.{first_of, last_of, is_number}
 use Rattle.glyph_lists.specs.Glyphs.{glyphs_merged_at}
 use Rattle.glyph_lists.specs.Deletions.{end_renumbered, deleted_alone}
 use Rattle.glyph_lists.specs.Lemmas.Glyphs.{clusters_merged_at}
-use Rattle.glyph_slices.specs.Deleting.{end_recast, glyphs_deleted_alone, glyphs_deleted}
-use Rattle.glyph_slices.specs.Deleted.{end_clusters, items_deleted}
+use Rattle.glyph_clusters.specs.Deleting.{end_recast, glyphs_deleted_alone, glyphs_deleted}
+use Rattle.glyph_clusters.specs.Deleted.{end_clusters, items_deleted}
 use Rattle.glyph_slices.specs.DeletionWalk.{Passed, with_glyph, without_glyph, many_passed, all_passed}
 use Rattle.glyph_slices.specs.Laws.{DeletesNumbers}
 use Rattle.glyph_slices.specs.Facts.{items_kept, positions_kept, numbers_deleted_alone, numbers_deleted, numbers_kept, clusters_kept}

@@ -4,8 +4,8 @@ use Rattle.std.proofs.lemmas.List.{map-append}
 use Rattle.glyph_types.specs.declared.info.hb_glyph_info_t.{hb_glyph_info_t as Glyph}
 use Rattle.glyph_types.specs.declared.level.BufferClusterLevel.{BufferClusterLevel as Level}
 use Rattle.glyph_lists.specs.Items.{Item, Position, item_of, strip, clusters, flags_of, glyph_flags}
-use Rattle.glyph_slices.specs.Deleting.{glyphs_deleted}
-use Rattle.glyph_slices.specs.Deleted.{items_deleted}
+use Rattle.glyph_clusters.specs.Deleting.{glyphs_deleted}
+use Rattle.glyph_clusters.specs.Deleted.{items_deleted}
 use Rattle.glyph_slices.specs.DeletionWalk.{Passed, with_glyph, without_glyph, many_passed, all_passed}
 use Rattle.glyph_slices.specs.Facts.{numbers_deleted}
 use Rattle.glyph_slices.specs.Flags.{flags_deleted, flags_behind, flags_kept}

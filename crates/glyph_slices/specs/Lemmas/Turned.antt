@@ -14,7 +14,7 @@ use Rattle.glyph_lists.specs.Merges.{least_number, merged}
 use Rattle.glyph_lists.specs.Order.{IsOrdered}
 use Rattle.glyph_lists.specs.Levels.{IsMonotone}
 use Rattle.glyph_lists.specs.Lemmas.Merges.{map_alike}
-use Rattle.glyph_slices.specs.Merging.{order_merged}
+use Rattle.glyph_clusters.specs.Merging.{order_merged}
 use Rattle.glyph_lists.specs.Glyphs.{in_cluster, glyphs_merged_at, beside_merged, glyphs_merged, tells_apart}
 use Rattle.glyph_lists.specs.Lemmas.Glyphs.{merged_at_beyond, stretch_is, length_beside, length_merged_at, clusters_merged, cut_out}
 use Rattle.glyph_slices.specs.Groups.{group_length}

@@ -4,10 +4,11 @@ ghost use Rattle.glyph_types.specs.declared.level.BufferClusterLevel.{BufferClus
 ghost use Rattle.glyph_lists.specs.Items.{Position, clusters};
 ghost use Rattle.glyph_lists.specs.Parts.{first_of, last_of, is_number};
 ghost use Rattle.glyph_lists.specs.Order.{IsOrdered};
-ghost use Rattle.glyph_slices.specs.Deleting.{Left, deletion_marks, end_recast, glyphs_deleted};
-ghost use Rattle.glyph_slices.specs.DeletionWalk.{Deletes, IsDue, IsWalk, Tells, first_passed, passed_at, settled, without_glyph};
+ghost use Rattle.glyph_clusters.specs.Deleting.{Deletes, Left, deletion_marks, end_recast, glyphs_deleted};
+ghost use Rattle.glyph_slices.specs.DeletionWalk.{IsDue, IsWalk, Tells, first_passed, passed_at, settled, without_glyph};
 
-use super::{delete_at_front, last_cluster, next_has, recast_end};
+use glyph_clusters::deletion::{delete_at_front, next_has, recast_end};
+use glyph_clusters::runs::last_cluster;
 use glyph_types::info::hb_glyph_info_t;
 use glyph_types::level::BufferClusterLevel;
 use glyph_types::position::GlyphPosition;

@@ -5,7 +5,7 @@ ghost use Rattle.glyph_lists.specs.Order.{IsFalling, IsOrdered};
 ghost use Rattle.glyph_lists.specs.Glyphs.{glyphs_merged, in_cluster};
 ghost use Rattle.glyph_slices.specs.Falling.{IsDueBefore, IsRound, carried};
 
-use crate::deletion::end_run;
+use glyph_clusters::deletion::end_run;
 use glyph_clusters::merges::{glyph_in_cluster, least_cluster};
 use glyph_types::info::hb_glyph_info_t;
 

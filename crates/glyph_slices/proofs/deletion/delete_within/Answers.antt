@@ -1,12 +1,6 @@
-use Rattle.std.proofs.Common.{arith, ap, subst, sym, List, ◌∙◌, ◌≤◌, length}
-use Rattle.glyph_types.specs.declared.info.hb_glyph_info_t.{hb_glyph_info_t as Glyph}
-use Rattle.glyph_lists.specs.Items.{clusters, flags_of, item_of, strip}
-use Rattle.glyph_lists.specs.Order.{BringsNone}
-use Rattle.glyph_slices.specs.NoNewNumbers.{deleting_brings_none}
+use Rattle.std.proofs.Common.{arith, ap, ◌∙◌, ◌≤◌, length}
 use Rattle.glyph_slices.specs.DeletionWalk.{Passed}
 use Rattle.glyph_slices.proofs.Walking.{settled_front}
-use Rattle.glyph_slices.specs.Lemmas.Kept.{items_all, places_all, clusters_all}
-use Rattle.glyph_slices.specs.Lemmas.KeptFlags.{flags_all}
 use Rattle.glyph_slices.proofs.Passing.{passes_on, passes_begin, passes_end}
 use Rattle.glyph_slices.proofs.deletion.delete_within.Goals as goal
 

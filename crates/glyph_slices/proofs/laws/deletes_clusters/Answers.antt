@@ -1,4 +1,4 @@
-use Rattle.glyph_slices.specs.Deleted.{clusters_deleted}
+use Rattle.glyph_clusters.specs.Deleted.{clusters_deleted}
 use Rattle.glyph_slices.proofs.laws.deletes_clusters.Goals as goal
 
 pub returns : goal.returns

@@ -1,17 +1,13 @@
-use Rattle.std.proofs.Common.{◌≡◌, ◌+◌, ◌-◌, Bool, arith, ap, subst, sym, List, length, reverse, ◌∙◌}
+use Rattle.std.proofs.Common.{◌≡◌, ◌+◌, Bool, arith, ap, subst, sym, List, length, reverse, ◌∙◌}
 use Rattle.glyph_types.specs.declared.info.hb_glyph_info_t.{hb_glyph_info_t as Glyph}
-use Rattle.glyph_lists.specs.Items.{clusters, flags_of, item_of, strip}
-use Rattle.glyph_lists.specs.Order.{BringsNone, IsOrdered}
-use Rattle.glyph_slices.specs.NoNewNumbers.{turning_brings_none}
+use Rattle.glyph_lists.specs.Items.{clusters}
+use Rattle.glyph_lists.specs.Order.{IsOrdered}
 use Rattle.glyph_slices.specs.Groups.{group_length}
 use Rattle.glyph_slices.specs.Turning.{Turning, turned}
 use Rattle.glyph_slices.specs.Lemmas.Turned.{Rest, rest_begins, rest_goes_on, rest_ends}
 use Rattle.glyph_slices.specs.Due.{meant}
 use Rattle.glyph_slices.proofs.Meant.{ahead_as_meant, due_within}
 use Rattle.glyph_slices.proofs.Meant.{meant_long}
-use Rattle.glyph_slices.specs.Lemmas.GroupsTurned.{turned_plain}
-use Rattle.glyph_slices.specs.Lemmas.Regrouped.{items_turned, places_beside, clusters_beside}
-use Rattle.glyph_slices.specs.Lemmas.RegroupedFlags.{flags_beside}
 use Rattle.glyph_slices.proofs.reversal.reverse_groups.Goals as goal
 use Rattle.glyph_slices.proofs.reversal.reverse_groups.Goals.{then-merge, else-merge}
 

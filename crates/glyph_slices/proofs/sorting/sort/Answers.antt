@@ -1,17 +1,12 @@
 use Rattle.std.specs.Prelude.{slice_range}
 use Rattle.std.specs.List.{All}
-use Rattle.std.proofs.Common.{ℕ, ◌≡◌, ◌<◌, ◌-◌, List, length, map, take, drop, arith, sym, ap, subst, ◌∙◌}
+use Rattle.std.proofs.Common.{ℕ, ◌≡◌, ◌<◌, ◌-◌, length, map, sym, ap, subst, ◌∙◌}
 use Rattle.std.proofs.lemmas.List.Elements.{All-same}
-use Rattle.glyph_types.specs.declared.info.hb_glyph_info_t.{hb_glyph_info_t as Glyph}
 use Rattle.glyph_slices.specs.declared.sorting.Keyed.{Keyed}
-use Rattle.glyph_slices.specs.Sorting.{glyph_at, range_merged}
-use Rattle.glyph_slices.proofs.Spans.{put_same, same_put, merged_is, sorted_is, sort_marks}
-use Rattle.glyph_lists.specs.Items.{item_of, strip, clusters, flags_of}
-use Rattle.glyph_lists.specs.Order.{BringsNone, IsInOrder}
-use Rattle.glyph_slices.specs.NoNewNumbers.{sorting_brings_none}
+use Rattle.glyph_slices.specs.Sorting.{glyph_at}
+use Rattle.glyph_slices.proofs.Spans.{put_same, sorted_is, sort_marks}
+use Rattle.glyph_lists.specs.Order.{IsInOrder}
 use Rattle.glyph_slices.specs.Places.{all_in_order, range_length}
-use Rattle.glyph_slices.specs.Lemmas.SortedNumbers.{sorted_clusters, sorted_flags}
-use Rattle.glyph_slices.specs.Lemmas.SortedItems.{items_sorted}
 use Rattle.glyph_slices.proofs.sorting.sort.Goals as goal
 
 pub returns-clause-sorted : goal.returns-clause-sorted

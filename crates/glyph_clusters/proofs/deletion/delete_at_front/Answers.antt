@@ -1,6 +1,6 @@
 use Rattle.std.proofs.Common.{arith}
-use Rattle.glyph_slices.proofs.Passing.{rest_deletes}
-use Rattle.glyph_slices.proofs.deletion.delete_at_front.Goals as goal
+use Rattle.glyph_clusters.proofs.FirstDeleted.{rest_deletes}
+use Rattle.glyph_clusters.proofs.deletion.delete_at_front.Goals as goal
 
 pub returns-clause-deletes : goal.returns-clause-deletes
 returns-clause-deletes c =

@@ -4,8 +4,8 @@ ghost use Rattle.glyph_lists.specs.Order.{IsInOrder, IsOrdered};
 ghost use Rattle.glyph_lists.specs.Levels.{IsMonotone};
 ghost use Rattle.glyph_lists.specs.Glyphs.{glyphs_merged_at, is_marked_at};
 
-use glyph_clusters::marks::mark_within;
-use glyph_clusters::runs::merge_within;
+use crate::marks::mark_within;
+use crate::runs::merge_within;
 use glyph_types::info::{UNSAFE_TO_BREAK, UNSAFE_TO_CONCAT, hb_glyph_info_t};
 use glyph_types::level::BufferClusterLevel;
 
@@ -32,7 +32,8 @@ pub fn merge_range(
     merge_at(glyphs, level, start, end, in_order)
 }
 
-pub(crate) fn merge_at(
+/// Merges them, where clusters are known to stand in order only as far as a level merges.
+pub fn merge_at(
     glyphs: &mut [hb_glyph_info_t],
     level: BufferClusterLevel,
     start: usize,

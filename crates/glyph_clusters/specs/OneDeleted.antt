@@ -12,9 +12,8 @@ use Rattle.glyph_lists.specs.Order.{IsInOrder, IsOrdered}
 use Rattle.glyph_lists.specs.Levels.{IsMonotone}
 use Rattle.glyph_lists.specs.Lemmas.Deletions.{deletion_is_event, last_is, no_last}
 use Rattle.glyph_lists.specs.Lemmas.Parts.{event_keeps_order}
-use Rattle.glyph_slices.specs.Deleted.{clusters_deleted}
-use Rattle.glyph_slices.specs.Deleting.{Left, end_recast, glyphs_deleted, deletion_marks}
-use Rattle.glyph_slices.specs.DeletionWalk.{Deletes}
+use Rattle.glyph_clusters.specs.Deleted.{clusters_deleted}
+use Rattle.glyph_clusters.specs.Deleting.{Left, end_recast, glyphs_deleted, deletion_marks, Deletes}
 
 pub has_last : (ns : List ℕ) → 0 < length ns → (p : ℕ) × (last_of ns ≡ Some p)
 has_last [] lt = absurd (omega arith)

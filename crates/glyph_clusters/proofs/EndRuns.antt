@@ -1,23 +1,13 @@
 -- The run at the end of a list.
-use Rattle.std.proofs.Common.{ℕ, suc, zero, ◌≡◌, ◌≢◌, ◌≤◌, ◌<◌, ◌+◌, ◌-◌, ◌==◌, ◌&&◌, true, false, List, [], ◌∷◌, ◌++◌, Some, slice_get, length, map, take, drop, get_or, arith, refl, ap, sym, ◌∙◌}
+use Rattle.std.proofs.Common.{ℕ, suc, zero, ◌≡◌, ◌≢◌, ◌≤◌, ◌<◌, ◌+◌, ◌-◌, ◌==◌, ◌&&◌, true, false, List, [], ◌∷◌, ◌++◌, Some, length, map, take, drop, get_or, arith, refl, ap, sym, ◌∙◌}
 use Rattle.std.specs.List.{list_all}
 use borrow.Rule.Slice.PartMut.{put_mid}
 use Rattle.std.proofs.lemmas.Grind.{common_steps}
-use Rattle.std.proofs.lemmas.List.{drop_more, drop_all, take_all, length-drop, length-map, append-nil}
+use Rattle.std.proofs.lemmas.List.{drop_more, drop_all, take_all, length-drop, append-nil}
 use Rattle.glyph_types.specs.declared.info.hb_glyph_info_t.{hb_glyph_info_t as Glyph}
 use Rattle.glyph_lists.specs.Items.{clusters}
 use Rattle.glyph_lists.specs.Parts.{last_of}
-use Rattle.glyph_slices.specs.Deleting.{recast, end_recast_from, end_recast, IsEndRun}
-
-got_cluster : (gs : List Glyph) (i : ℕ) (d : Glyph) → i < length gs → slice_get (clusters gs) i ≡ Some (get_or gs i d).cluster
-got_cluster [] i d lt = absurd (omega arith)
-got_cluster (g ∷ gs) zero d lt = refl
-got_cluster (g ∷ gs) (suc i) d lt = got_cluster gs i d (omega arith)
-
-pub last_cluster_is : (gs : List Glyph) (d : Glyph) → 0 < length gs → last_of (clusters gs) ≡ Some (get_or gs (length gs - 1) d).cluster
-last_cluster_is gs d lt =
-    let cluster_of : Glyph → ℕ = λ g. g.cluster in
-    ap (λ n. slice_get (clusters gs) (n - 1)) (length-map gs cluster_of) ∙ got_cluster gs (length gs - 1) d (omega arith)
+use Rattle.glyph_clusters.specs.Deleting.{recast, end_recast_from, end_recast, IsEndRun}
 
 one_fails : (p i : ℕ) (gs : List Glyph) (d : Glyph) → i < length gs → (get_or gs i d).cluster ≢ p → list_all (λ (k : Glyph). k.cluster == p) gs ≡ false
 one_fails p i [] d lt ne = absurd (omega arith)

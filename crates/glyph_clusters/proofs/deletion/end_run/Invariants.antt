@@ -1,7 +1,7 @@
 use Rattle.std.proofs.Common.{◌≡◌, ◌≤◌, ◌==◌, true, length, drop}
 use Rattle.std.specs.List.{list_all}
 use Rattle.glyph_types.specs.declared.info.hb_glyph_info_t.{hb_glyph_info_t as Glyph}
-use Rattle.glyph_slices.proofs.deletion.end_run.Given as goal
+use Rattle.glyph_clusters.proofs.deletion.end_run.Given as goal
 
 -- from `at` on all glyphs are of the cluster
 abbrev pub invariant-loop-at : goal.invariant-loop-at

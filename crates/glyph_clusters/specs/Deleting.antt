@@ -54,3 +54,9 @@ marks_alone level None n back = is_marked_at level 0 2 (n ∷ back)
 -- whether the deletion of a glyph of cluster n marks one by a merge
 abbrev pub deletion_marks : BufferClusterLevel → List ℕ → ℕ → List ℕ → Bool
 deletion_marks level front n back = if is_number (last_of front) n || is_number (first_of back) n then false else marks_alone level (last_of front) n back
+
+-- the first of some glyphs goes from behind others: what is left before it and behind it, and whether one was marked
+pub record Deletes (level : BufferClusterLevel) (front ahead new_front new_back : List hb_glyph_info_t) (marked : Bool) : Type 0 where
+  pub front_is : (g : hb_glyph_info_t) (back : List hb_glyph_info_t) → ahead ≡ g ∷ back → new_front ≡ (glyphs_deleted level front g back).front
+  pub back_is : (g : hb_glyph_info_t) (back : List hb_glyph_info_t) → ahead ≡ g ∷ back → new_back ≡ (glyphs_deleted level front g back).back
+  pub marked_is : (g : hb_glyph_info_t) (back : List hb_glyph_info_t) → ahead ≡ g ∷ back → marked ≡ deletion_marks level (clusters front) g.cluster (clusters back)

@@ -12,7 +12,7 @@ use Rattle.glyph_lists.specs.Parts.{first_of, last_of, is_number}
 use Rattle.glyph_lists.specs.Glyphs.{glyphs_merged_at}
 use Rattle.glyph_lists.specs.Deletions.{end_renumbered, deleted_alone, deleted}
 use Rattle.glyph_lists.specs.Lemmas.Glyphs.{clusters_merged_at, strip_merged_at}
-use Rattle.glyph_slices.specs.Deleting.{recast, end_recast_from, end_recast_if, end_recast, glyphs_deleted_alone, glyphs_deleted}
+use Rattle.glyph_clusters.specs.Deleting.{recast, end_recast_from, end_recast_if, end_recast, glyphs_deleted_alone, glyphs_deleted}
 
 pub recast_cluster : (c mask : ℕ) (h : Glyph) → (recast c mask h).cluster ≡ c
 recast_cluster c mask h = by_test (h.cluster == c) refl
