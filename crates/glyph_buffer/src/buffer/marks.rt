@@ -1,9 +1,8 @@
-ghost use Rattle.std.specs.Prelude.{◌≡◌, ◌+◌, ◌-◌, ◌≤◌, ◌<◌, if◌then◌else◌, true, length};
-ghost use Rattle.glyph_lists.specs.Items.{clusters, flags_of};
-ghost use Rattle.glyph_lists.specs.Glyphs.{flags_flagged, flags_marked};
-ghost use Rattle.glyph_buffer.specs.Sides.{all_glyphs, items_of};
+ghost use Rattle.std.specs.Prelude.{◌≡◌, ◌+◌, ◌-◌, ◌≤◌, ◌<◌, if◌then◌else◌, true, length, ◌∷◌, []};
+ghost use Rattle.glyph_buffer.specs.Sides.{items_of, origins_of, origins_by};
 ghost use Rattle.glyph_buffer.specs.Merging.{index_in_all};
-ghost use Rattle.glyph_buffer.specs.Marking.{asks_concat, asks_tatweel, concat_marked, end_or, marked_range, start_or, tatweel_marked, with_flagged, with_marked};
+ghost use Rattle.glyph_buffer.specs.Marking.{asks_concat, concat_marked, end_or, marked_range, start_or, tatweel_marked, with_flagged, with_marked, start_in_all, end_in_all};
+ghost use Rattle.glyph_lists.specs.Events.{Break, Concat, Tatweel};
 
 use super::hb_buffer_t;
 use super::merges::telling_flags;
@@ -15,16 +14,15 @@ use shaping_text::constants::BufferFlags;
 impl hb_buffer_t {
     /// Marks the glyphs of a range of the input that are outside its least cluster as unsafe to break and to concat. Where
     /// they are not told, the range begins at 0 and ends at the length of the input.
+    #[tactic(auto, using(crate::proofs::MarkedOrigins::broken_items, crate::proofs::MarkedOrigins::broken_origins))]
     pub fn unsafe_to_break(&mut self, start: Option<usize>, end: Option<usize>)
         requires ordered { start_or start ≤ end_or end self.old }
         requires within { end_or end self.old ≤ self.old.read + length self.old.ahead }
         requires unread { self.old.is_open ≡ true → self.old.read ≤ start_or start }
         ensures marked { self.new ≡ marked_range 3 start end self.old }
         ensures items { items_of self.new ≡ items_of self.old }
-        ensures clusters { clusters (all_glyphs self.new) ≡ clusters (all_glyphs self.old) }
-        ensures flags { flags_of (all_glyphs self.new)
-            ≡ flags_marked 3 (index_in_all (start_or start) self.old) (index_in_all (end_or end self.old) self.old)
-            (all_glyphs self.old) }
+        ensures origins { origins_of self.new
+            ≡ origins_by (Break (start_in_all start self.old) (end_in_all end self.old) ∷ []) self.old }
     {
         let count = self.info.len();
         self.mark_range(
@@ -35,16 +33,15 @@ impl hb_buffer_t {
     }
 
     /// Marks the glyphs of a range of the input as unsafe to concat, where that is asked for.
+    #[tactic(auto, using(crate::proofs::MarkedOrigins::concat_items, crate::proofs::MarkedOrigins::concat_origins))]
     pub fn unsafe_to_concat(&mut self, start: Option<usize>, end: Option<usize>)
         requires ordered { start_or start ≤ end_or end self.old }
         requires within { end_or end self.old ≤ self.old.read + length self.old.ahead }
         requires unread { self.old.is_open ≡ true → self.old.read ≤ start_or start }
         ensures marked { self.new ≡ concat_marked start end self.old }
         ensures items { items_of self.new ≡ items_of self.old }
-        ensures clusters { clusters (all_glyphs self.new) ≡ clusters (all_glyphs self.old) }
-        ensures flags { flags_of (all_glyphs self.new)
-            ≡ (if asks_concat self.old then flags_flagged 2 (index_in_all (start_or start) self.old)
-            (index_in_all (end_or end self.old) self.old) (all_glyphs self.old) else flags_of (all_glyphs self.old)) }
+        ensures origins { origins_of self.new
+            ≡ origins_by (Concat (start_in_all start self.old) (end_in_all end self.old) ∷ []) self.old }
     {
         if self.asks_concat() {
             let count = self.info.len();
@@ -54,18 +51,15 @@ impl hb_buffer_t {
 
     /// Marks the glyphs of a range of the input that are outside its least cluster: a tatweel may stand in front of them,
     /// where that is asked for; else they are unsafe to break.
+    #[tactic(auto, using(crate::proofs::MarkedOrigins::tatweel_items, crate::proofs::MarkedOrigins::tatweel_origins))]
     pub fn safe_to_insert_tatweel(&mut self, start: Option<usize>, end: Option<usize>)
         requires ordered { start_or start ≤ end_or end self.old }
         requires within { end_or end self.old ≤ self.old.read + length self.old.ahead }
         requires unread { self.old.is_open ≡ true → self.old.read ≤ start_or start }
         ensures marked { self.new ≡ tatweel_marked start end self.old }
         ensures items { items_of self.new ≡ items_of self.old }
-        ensures clusters { clusters (all_glyphs self.new) ≡ clusters (all_glyphs self.old) }
-        ensures flags { flags_of (all_glyphs self.new)
-            ≡ (if asks_tatweel self.old then flags_marked 4 (index_in_all (start_or start) self.old)
-            (index_in_all (end_or end self.old) self.old) (all_glyphs self.old) else flags_marked 3
-            (index_in_all (start_or start) self.old) (index_in_all (end_or end self.old) self.old)
-            (all_glyphs self.old)) }
+        ensures origins { origins_of self.new
+            ≡ origins_by (Tatweel (start_in_all start self.old) (end_in_all end self.old) ∷ []) self.old }
     {
         if self
             .flags
@@ -95,10 +89,6 @@ impl hb_buffer_t {
         requires unread { self.old.is_open ≡ true → self.old.read ≤ start }
         ensures marked { self.new
             ≡ with_marked flags (index_in_all start self.old) (index_in_all end self.old) self.old }
-        ensures items { items_of self.new ≡ items_of self.old }
-        ensures clusters { clusters (all_glyphs self.new) ≡ clusters (all_glyphs self.old) }
-        ensures flags { flags_of (all_glyphs self.new)
-            ≡ flags_marked flags (index_in_all start self.old) (index_in_all end self.old) (all_glyphs self.old) }
     {
         let any = mark_within(&mut self.info, start, end, flags);
         self.scratch_flags = telling_flags(any, self.scratch_flags);
@@ -111,10 +101,6 @@ impl hb_buffer_t {
         requires unread { self.old.is_open ≡ true → self.old.read ≤ start }
         ensures marked { self.new
             ≡ with_flagged flags (index_in_all start self.old) (index_in_all end self.old) self.old }
-        ensures items { items_of self.new ≡ items_of self.old }
-        ensures clusters { clusters (all_glyphs self.new) ≡ clusters (all_glyphs self.old) }
-        ensures flags { flags_of (all_glyphs self.new)
-            ≡ flags_flagged flags (index_in_all start self.old) (index_in_all end self.old) (all_glyphs self.old) }
     {
         flag_within(&mut self.info, start, end, flags);
         self.scratch_flags = telling_flags(start < end, self.scratch_flags);
