@@ -11,13 +11,13 @@ abbrev pub order_of : List ℕ → List ℕ
 order_of keys = key_order (λ i. slice_index_or keys i 0) (range_with_len 0 (length keys))
 
 -- so many indices, the last first
-abbrev pub backwards : ℕ → List ℕ
-backwards n = reverse (range_with_len 0 n)
+abbrev pub indices_reversed : ℕ → List ℕ
+indices_reversed n = reverse (range_with_len 0 n)
 
 -- so many glyphs from an index on are reversed; where that is asked for they merge first
 abbrev pub group_event : Bool → ℕ → ℕ → Event
-group_event true at n = Move InList at (backwards n)
-group_event false at n = Arrange at (backwards n)
+group_event true at n = Move InList at (indices_reversed n)
+group_event false at n = Arrange at (indices_reversed n)
 
 -- groups of given lengths from an index on, one after another
 abbrev pub group_events : Bool → ℕ → List ℕ → List Event

@@ -1,11 +1,8 @@
 pub mod GroupsTurned
 pub mod Kept
-pub mod KeptFlags
 pub mod Neighbours
 pub mod Regrouped
-pub mod RegroupedFlags
 pub mod SortedItems
-pub mod SortedNumbers
 pub mod Stretches
 pub mod Turned
 pub mod KeyOrder

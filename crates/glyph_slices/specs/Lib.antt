@@ -7,10 +7,6 @@ pub mod Sorting
 pub mod Due
 pub mod Laws
 pub mod Facts
-pub mod SortedFacts
-pub mod Flags
 pub mod Places
-pub mod NoNewNumbers
-pub mod DeletedFlags
 pub mod Events
 pub mod Lemmas

@@ -14,48 +14,48 @@ use Rattle.glyph_lists.specs.Events.{Reverse, origins_after_event, origins_after
 use Rattle.glyph_lists.specs.Steps.{origins_after_both}
 use Rattle.glyph_lists.specs.Lemmas.Glyphs.{length_merged_at}
 use Rattle.glyph_lists.specs.Lemmas.Origins.{origins_of_merged_at, slice_seen}
-use Rattle.glyph_slices.specs.Events.{backwards, group_event, group_events, groups_reversed}
+use Rattle.glyph_slices.specs.Events.{indices_reversed, group_event, group_events, groups_reversed}
 use Rattle.glyph_slices.specs.Facts.{group_lengths}
 use Rattle.glyph_slices.specs.Groups.{group_length}
-use Rattle.glyph_slices.specs.Turning.{part_turned, merged_if, beside_if, all_turned, turned}
+use Rattle.glyph_slices.specs.Turning.{range_reversed, merged_if, beside_if, all_turned, turned}
 use Rattle.glyph_slices.specs.Lemmas.Picked.{AreAt, arranged_as, are_all, are_reversed}
 use Rattle.glyph_slices.specs.Lemmas.Regrouped.{of_items, few_ahead, lengths_ahead}
 use Rattle.glyph_slices.specs.Lemmas.Stretches.{joined_within}
 use Rattle.glyph_slices.specs.Lemmas.Turned.{map-reverse, placed_glyphs, all_idle}
 
-length_backwards : (n : ℕ) → length (backwards n) ≡ n
-length_backwards n = length-reverse (range_with_len 0 n) ∙ length-range_with_len 0 n
+pub length_reversed_indices : (n : ℕ) → length (indices_reversed n) ≡ n
+length_reversed_indices n = length-reverse (range_with_len 0 n) ∙ length-range_with_len 0 n
 
 -- a stretch that is reversed stands in the order of its indices, the last first
-part_arranged : {X : Type 0} (start n : ℕ) (xs : List X) → start + n ≤ length xs → part_turned start (start + n) xs ≡ arranged start (backwards n) xs
-part_arranged start n xs le =
+pub range_arranged : {X : Type 0} (start n : ℕ) (xs : List X) → start + n ≤ length xs → range_reversed start (start + n) xs ≡ arranged start (indices_reversed n) xs
+range_arranged start n xs le =
     let range = take n (drop start xs) in
     let less : start + n - start ≡ n = omega arith in
     let long : length range ≡ n = length-take-le n (drop start xs) (omega (arith, length-drop start xs)) in
-    let many = length_backwards n in
+    let many = length_reversed_indices n in
     let whole : AreAt range (range_with_len 0 n) range = subst (λ k. AreAt range (range_with_len 0 k) range) long (are_all [] range) in
-    let there : AreAt (take (length (backwards n)) (drop start xs)) (backwards n) (reverse range) = subst (λ k. AreAt (take k (drop start xs)) (backwards n) (reverse range)) (sym many) (are_reversed range (range_with_len 0 n) range whole) in
+    let there : AreAt (take (length (indices_reversed n)) (drop start xs)) (indices_reversed n) (reverse range) = subst (λ k. AreAt (take k (drop start xs)) (indices_reversed n) (reverse range)) (sym many) (are_reversed range (range_with_len 0 n) range whole) in
     ap (λ k. take start xs ++ reverse (take k (drop start xs)) ++ drop (start + n) xs) less ∙ ap (λ k. take start xs ++ reverse range ++ drop (start + k) xs) (sym many)
-    ∙ sym (arranged_as start (backwards n) (reverse range) xs there (omega (arith, many, le)))
+    ∙ sym (arranged_as start (indices_reversed n) (reverse range) xs there (omega (arith, many, le)))
 
-part_seen : {X Y : Type 0} (v : X → Y) (start end : ℕ) (xs : List X) → map v (part_turned start end xs) ≡ part_turned start end (map v xs)
-part_seen v start end xs =
+range_seen : {X Y : Type 0} (v : X → Y) (start end : ℕ) (xs : List X) → map v (range_reversed start end xs) ≡ range_reversed start end (map v xs)
+range_seen v start end xs =
     let range = slice_range xs start end in
     let seen = reverse (slice_range (map v xs) start end) in
     map-append v (take start xs ++ reverse range) (drop end xs)
     ∙ ap (λ ys. ys ++ map v (drop end xs)) (map-append v (take start xs) (reverse range) ∙ ap (λ ys. map v (take start xs) ++ ys) (map-reverse v range ∙ ap reverse (slice_seen v start end xs)) ∙ ap (λ ys. ys ++ seen) (sym (take-map v start xs)))
     ∙ ap (λ ys. take start (map v xs) ++ seen ++ ys) (sym (drop-map v end xs))
 
-part_origins : (start n : ℕ) (gs : List Glyph) → start + n ≤ length gs → origins (part_turned start (start + n) gs) ≡ arranged start (backwards n) (origins gs)
-part_origins start n gs le = part_seen origin_of start (start + n) gs ∙ part_arranged start n (origins gs) (omega (arith, le, length-map gs origin_of))
+pub range_origins : (start n : ℕ) (gs : List Glyph) → start + n ≤ length gs → origins (range_reversed start (start + n) gs) ≡ arranged start (indices_reversed n) (origins gs)
+range_origins start n gs le = range_seen origin_of start (start + n) gs ∙ range_arranged start n (origins gs) (omega (arith, le, length-map gs origin_of))
 
 -- a group that was merged where that is asked for, and reversed in its place
-group_origins : (asks : Asks) (merge : Bool) (level : Level) (start n : ℕ) (gs : List Glyph) → start + n ≤ length gs → origins (part_turned start (start + n) (merged_if merge level start (start + n) gs)) ≡ origins_after_event asks level (origins gs) (group_event merge start n)
-group_origins asks false level start n gs le = part_origins start n gs le
+group_origins : (asks : Asks) (merge : Bool) (level : Level) (start n : ℕ) (gs : List Glyph) → start + n ≤ length gs → origins (range_reversed start (start + n) (merged_if merge level start (start + n) gs)) ≡ origins_after_event asks level (origins gs) (group_event merge start n)
+group_origins asks false level start n gs le = range_origins start n gs le
 group_origins asks true level start n gs le =
     let mid = glyphs_merged_at level start (start + n) gs in
-    part_origins start n mid (omega (arith, le, length_merged_at level start (start + n) gs (omega arith)))
-    ∙ ap (arranged start (backwards n)) (origins_of_merged_at level start (start + n) gs (omega arith) ∙ ap (λ k. merged_as (manner InList level) start (start + k) (origins gs)) (sym (length_backwards n)))
+    range_origins start n mid (omega (arith, le, length_merged_at level start (start + n) gs (omega arith)))
+    ∙ ap (arranged start (indices_reversed n)) (origins_of_merged_at level start (start + n) gs (omega arith) ∙ ap (λ k. merged_as (manner InList level) start (start + k) (origins gs)) (sym (length_reversed_indices n)))
 
 groups_many : (n : ℕ) (asks : Asks) (merge : Bool) (level : Level) (q : Item → Item → Bool) (start : ℕ) (gs found ahead : List Glyph) (ps pa : List Position) (m : Bool) → found ≡ reverse (take start gs) → ahead ≡ drop start gs → length ahead ≤ n
     → origins (all_turned merge level (of_items q) n (record { glyphs = found; positions = ps; ahead = ahead; positions_ahead = pa; is_marked = m })).glyphs ≡ reverse (origins_after asks level (group_events merge start (group_lengths q (strip ahead))) (origins gs))
@@ -65,7 +65,7 @@ groups_many n asks merge level q start gs found [] ps pa m f a le =
 groups_many zero asks merge level q start gs found (x ∷ xs) ps pa m f a le = absurd (omega arith)
 groups_many (suc n) asks merge level q start gs found (x ∷ xs) ps pa m f a le =
     let k = group_length (of_items q) (x ∷ xs) in
-    let new = part_turned start (start + k) (merged_if merge level start (start + k) gs) in
+    let new = range_reversed start (start + k) (merged_if merge level start (start + k) gs) in
     let back = drop k (merged_if merge level 0 k (x ∷ xs)) in
     let front = take k (merged_if merge level 0 k (x ∷ xs)) ++ beside_if merge level (stretch 0 k (clusters (x ∷ xs))) found in
     let less : start + k - start ≡ k = omega arith in

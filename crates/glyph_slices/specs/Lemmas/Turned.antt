@@ -18,9 +18,9 @@ use Rattle.glyph_clusters.specs.Merging.{order_merged}
 use Rattle.glyph_lists.specs.Glyphs.{in_cluster, glyphs_merged_at, beside_merged, glyphs_merged, tells_apart}
 use Rattle.glyph_lists.specs.Lemmas.Glyphs.{merged_at_beyond, stretch_is, length_beside, length_merged_at, clusters_merged, cut_out}
 use Rattle.glyph_slices.specs.Groups.{group_length}
-use Rattle.glyph_slices.specs.Turning.{Turning, part_turned, merged_if, is_marked_if, beside_if, first_turned, group_turned, turning_at, all_turned, turned}
+use Rattle.glyph_slices.specs.Turning.{Turning, range_reversed, merged_if, is_marked_if, beside_if, first_turned, group_turned, turning_at, all_turned, turned}
 
-pub turned_put : {X : Type 0} (start end : ℕ) (xs range : List X) → start ≤ end → range ≡ reverse (slice_range xs start end) → put_mid start (end - start) xs range ≡ part_turned start end xs
+pub turned_put : {X : Type 0} (start end : ℕ) (xs range : List X) → start ≤ end → range ≡ reverse (slice_range xs start end) → put_mid start (end - start) xs range ≡ range_reversed start end xs
 turned_put start end xs range le e =
     let there : start + (end - start) ≡ end = omega arith in
     let behind : drop (end - start) (drop start xs) ≡ drop end xs = drop-drop (end - start) start xs ∙ ap (λ n. drop n xs) there in
@@ -30,14 +30,14 @@ pub part_front : {X : Type 0} (start end : ℕ) (xs : List X) → start ≤ end 
 part_front start end xs le within =
     omega (arith, length-append (take start xs) (reverse (slice_range xs start end)), length-take-le start xs (omega arith), length-reverse (slice_range xs start end), length-take-le (end - start) (drop start xs) (omega (arith, length-drop start xs)))
 
-part_before : {X : Type 0} (start end : ℕ) (xs : List X) → start ≤ end → end ≤ length xs → reverse (take end (part_turned start end xs)) ≡ take (end - start) (drop start xs) ++ reverse (take start xs)
+part_before : {X : Type 0} (start end : ℕ) (xs : List X) → start ≤ end → end ≤ length xs → reverse (take end (range_reversed start end xs)) ≡ take (end - start) (drop start xs) ++ reverse (take start xs)
 part_before start end xs le within =
     let front = take start xs ++ reverse (slice_range xs start end) in
     let long : length front ≡ end = part_front start end xs le within in
     let cut : take end (front ++ drop end xs) ≡ front = ap (λ n. take n (front ++ drop end xs)) (sym long) ∙ take-append_seam front (drop end xs) in
     ap reverse cut ∙ reverse-append (take start xs) (reverse (slice_range xs start end)) ∙ ap (λ ys. ys ++ reverse (take start xs)) (reverse-reverse (slice_range xs start end))
 
-pub part_behind : {X : Type 0} (start end : ℕ) (xs : List X) → start ≤ end → end ≤ length xs → drop end (part_turned start end xs) ≡ drop (end - start) (drop start xs)
+pub part_behind : {X : Type 0} (start end : ℕ) (xs : List X) → start ≤ end → end ≤ length xs → drop end (range_reversed start end xs) ≡ drop (end - start) (drop start xs)
 part_behind start end xs le within =
     let front = take start xs ++ reverse (slice_range xs start end) in
     let long : length front ≡ end = part_front start end xs le within in
@@ -87,7 +87,7 @@ merged_length false level start end gs le = refl
 merged_length true level start end gs le = length_merged_at level start end gs le
 
 -- a group was merged and turned round in its place: the glyphs up to its end in reversed order, and those behind it
-pub placed_glyphs : (merge : Bool) (level : BufferClusterLevel) (start end : ℕ) (gs mid new : List Glyph) → start ≤ end → end ≤ length gs → mid ≡ merged_if merge level start end gs → new ≡ part_turned start end mid
+pub placed_glyphs : (merge : Bool) (level : BufferClusterLevel) (start end : ℕ) (gs mid new : List Glyph) → start ≤ end → end ≤ length gs → mid ≡ merged_if merge level start end gs → new ≡ range_reversed start end mid
     → (reverse (take end new) ≡ take (end - start) (merged_if merge level 0 (end - start) (drop start gs)) ++ beside_if merge level (stretch 0 (end - start) (clusters (drop start gs))) (reverse (take start gs)))
     × (drop end new ≡ drop (end - start) (merged_if merge level 0 (end - start) (drop start gs)))
 placed_glyphs merge level start end gs mid new le within m n =
@@ -106,7 +106,7 @@ placed_glyphs merge level start end gs mid new le within m n =
 
 -- and its positions beside it
 pub group_placed : (merge : Bool) (level : BufferClusterLevel) (start end : ℕ) (gs mid new : List Glyph) (ps positions : List Position) (before marked : Bool) → start ≤ end → end ≤ length gs → length ps ≡ length gs
-    → mid ≡ merged_if merge level start end gs → marked ≡ is_marked_if merge level start end (clusters gs) → new ≡ part_turned start end mid → positions ≡ part_turned start end ps
+    → mid ≡ merged_if merge level start end gs → marked ≡ is_marked_if merge level start end (clusters gs) → new ≡ range_reversed start end mid → positions ≡ range_reversed start end ps
     → turning_at end new positions (before || marked) ≡ first_turned merge level (end - start) (turning_at start gs ps before)
 group_placed merge level start end gs mid new ps positions before marked le within long m k n p =
     let moved = placed_glyphs merge level start end gs mid new le within m n in
@@ -141,7 +141,7 @@ merged_stretch MonotoneGraphemes start end gs mono le = in_range start end gs
 merged_stretch MonotoneCharacters start end gs mono le = in_range start end gs
 
 -- turned round, they leave the clusters as they are
-pub clusters_part : (level : BufferClusterLevel) (start end : ℕ) (gs mid : List Glyph) → IsMonotone level → start ≤ end → mid ≡ glyphs_merged_at level start end gs → clusters (part_turned start end mid) ≡ clusters mid
+pub clusters_part : (level : BufferClusterLevel) (start end : ℕ) (gs mid : List Glyph) → IsMonotone level → start ≤ end → mid ≡ glyphs_merged_at level start end gs → clusters (range_reversed start end mid) ≡ clusters mid
 clusters_part level start end gs mid mono le m =
     let f : Glyph → ℕ = λ g. g.cluster in
     let range = slice_range mid start end in
@@ -150,7 +150,7 @@ clusters_part level start end gs mid mono le m =
     map-append f (take start mid ++ reverse range) (drop end mid) ∙ ap (λ ns. ns ++ clusters (drop end mid)) (map-append f (take start mid) (reverse range) ∙ ap (λ ns. clusters (take start mid) ++ ns) turned ∙ sym (map-append f (take start mid) range)) ∙ sym (map-append f (take start mid ++ range) (drop end mid)) ∙ ap clusters (cut_out start end mid le)
 
 -- and so the order
-pub group_ordered : (merge : Bool) (level : BufferClusterLevel) (start end : ℕ) (gs mid new : List Glyph) → start ≤ end → mid ≡ merged_if merge level start end gs → new ≡ part_turned start end mid
+pub group_ordered : (merge : Bool) (level : BufferClusterLevel) (start end : ℕ) (gs mid new : List Glyph) → start ≤ end → mid ≡ merged_if merge level start end gs → new ≡ range_reversed start end mid
     → merge ≡ true → IsMonotone level → IsOrdered (clusters gs) → IsOrdered (clusters new)
 group_ordered false level start end gs mid new le m n asked mono o = cc
 group_ordered true level start end gs mid new le m n asked mono o =
