@@ -11,3 +11,4 @@ pub mod DeletedEvents
 pub mod ReversedEvents
 pub mod SortedEvents
 pub mod OrderSpans
+pub mod Flags

@@ -9,4 +9,5 @@ pub mod Laws
 pub mod Facts
 pub mod Places
 pub mod Events
+pub mod Flags
 pub mod Lemmas
