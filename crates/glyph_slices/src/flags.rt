@@ -1,5 +1,6 @@
-ghost use Rattle.std.specs.Prelude.{◌≡◌, ◌<◌, length};
-ghost use Rattle.glyph_lists.specs.Items.{strip};
+ghost use Rattle.std.specs.Prelude.{◌≡◌, ◌<◌, fold, length};
+ghost use Rattle.std.specs.Int.RustNames.{bit_or};
+ghost use Rattle.glyph_lists.specs.Items.{flags_of, strip};
 ghost use Rattle.glyph_lists.specs.Origins.{concat_settled, origins, origins_spread, run_flags, settled, tatweel_settled};
 ghost use Rattle.glyph_slices.specs.Flags.{asks_of, cluster_flags, glyph_flagged};
 
@@ -54,10 +55,17 @@ fn flags_of_cluster(
 fn flags_of_run(glyphs: &[hb_glyph_info_t], cluster: u32) -> hb_mask_t
     ensures { result ≡ run_flags cluster (origins glyphs.now) }
 {
-    let run = &glyphs[..front_of_cluster(glyphs, cluster)];
-    run.iter()
-        .rev()
-        .fold(0, |flags, glyph| (glyph.mask & DEFINED) | flags)
+    flags_of_any(&glyphs[..front_of_cluster(glyphs, cluster)])
+}
+
+/// The flags that one of the glyphs has.
+fn flags_of_any(glyphs: &[hb_glyph_info_t]) -> hb_mask_t
+    ensures { result ≡ fold bit_or 0 (flags_of glyphs.now) }
+{
+    glyphs
+        .iter()
+        .map(|glyph| glyph.mask & DEFINED)
+        .fold(0, |flags, own| flags | own)
 }
 
 fn settled(flags: hb_mask_t, asked: AskedFlags) -> hb_mask_t
