@@ -1,6 +1,6 @@
 -- What requests for glyph flags do to items, and to where glyphs come from.
-use Rattle.std.proofs.Common.{ℕ, ◌≡◌, ◌≤◌, ◌<◌, true, false, if◌then◌else◌, length, refl, ap, ◌∙◌, arith, [], ◌∷◌}
-use Rattle.std.specs.Prelude.{Option}
+use Rattle.std.proofs.Common.{ℕ, ◌≡◌, ◌≤◌, ◌<◌, ◌+◌, true, false, if◌then◌else◌, [], ◌∷◌, length, refl, ap, ◌∙◌, arith}
+use Rattle.std.specs.Prelude.{Option, unwrap_or}
 use Rattle.glyph_lists.specs.Origins.{origins, origins_marked, origins_flagged}
 use Rattle.glyph_lists.specs.Events.{Break, Concat, Tatweel, concat_marked as origins_concat, tatweel_marked as origins_tatweel}
 use Rattle.glyph_lists.specs.Lemmas.Origins.{origins_of_marked, origins_of_flagged}
@@ -20,6 +20,10 @@ input_ordered start end s le = omega arith
 
 across_ordered : (start end : Option ℕ) (s : Sides) → start_or start ≤ length s.behind → s.read ≤ end_or end s → start_or start ≤ end_in_all end s
 across_ordered start end s begins unread = omega arith
+
+-- the ends of a range, told or not
+pub range_told : {X : Type 0} (f : ℕ → ℕ → X) (start end : Option ℕ) (s : Sides) (i j count : ℕ) → i ≡ start_or start → count ≡ s.read + length s.ahead → j ≡ unwrap_or end count → f i j ≡ f (start_or start) (end_or end s)
+range_told f start end s i j count from long to = ap (λ k. f k j) from ∙ ap (f (start_or start)) (to ∙ ap (unwrap_or end) long)
 
 -- ---- `unsafe_to_break`
 

@@ -2,7 +2,7 @@
 use Rattle.std.specs.Global.{Vec}
 use Rattle.std.specs.Prelude.{slice_range}
 use Rattle.std.proofs.Common.{ℕ, ◌≡◌, ◌≤◌, ◌+◌, ◌-◌, ◌++◌, true, false, List, length, map, take, drop, reverse, refl, ap, sym, subst, arith, append_assoc, ◌∙◌, get_or, zero, suc, slice_get, Some, [], ◌∷◌}
-use Rattle.std.proofs.lemmas.List.{map-append, take-map, drop-map, take-append-drop, take-append-le, drop-append-le, length-drop, length-take-le, length-map, drop-drop, reverse-append, take_all}
+use Rattle.std.proofs.lemmas.List.{map-append, take-map, drop-map, take-append-drop, take-append-le, drop-append-le, length-drop, length-take-le, length-map, drop-drop, reverse-append, take_all, get_or_default}
 use Rattle.std.proofs.Math.Seq.{take-append-add, drop-append-add}
 use Rattle.glyph_types.specs.declared.info.hb_glyph_info_t.{hb_glyph_info_t}
 use Rattle.glyph_types.specs.declared.position.GlyphPosition.{GlyphPosition}
@@ -69,7 +69,7 @@ picked_reversed all (suc n) [] le long = absurd (omega arith)
 picked_reversed all (suc n) (x ∷ xs) le long =
     let more : suc n ≡ n + 1 = omega arith in
     let front : take (suc n) all ≡ take n all ++ get_or all n x ∷ [] = ap (λ k. take k all) more ∙ take_next all n ∙ ap (λ ys. take n all ++ ys) (take_one all n x (omega arith)) in
-    let there : slice_get all n ≡ Some (get_or all n x) = slice_get_read all (length all) n (get_or all n x) refl (omega arith) refl in
+    let there : slice_get all n ≡ Some (get_or all n x) = slice_get_read all (length all) n (get_or all n x) refl (omega arith) (get_or_default all n x (get_or all n x) (omega arith)) in
     let turned : reverse (take (suc n) all) ≡ get_or all n x ∷ reverse (take n all) = ap reverse front ∙ reverse-append (take n all) (get_or all n x ∷ []) in
     rw (there, turned) (ap (λ ys. get_or all n x ∷ ys) (picked_reversed all n xs (omega arith) (omega arith)))
 
@@ -83,9 +83,10 @@ range_arranged start end xs ordered within =
     let n = end - start in
     let rest = drop start xs in
     let left = length-drop start xs in
-    let few : n ≤ length (take n rest) = (let long = length-take-le n rest (omega (arith, left)) in omega (arith, long)) in
+    let long : length (take n rest) ≡ n = length-take-le n rest (omega (arith, left)) in
+    let few : n ≤ length (take n rest) = omega (arith, long) in
     let last : drop n rest ≡ drop end xs = (let there : start + n ≡ end = omega arith in drop-drop n start xs ∙ ap (λ k. drop k xs) there) in
-    let whole : take n (take n rest) ≡ take n rest = take_all n (take n rest) (length-take-le n rest (omega (arith, left))) in
+    let whole : take n (take n rest) ≡ take n rest = take_all n (take n rest) (omega (arith, long)) in
     let order : picked (take (length (indices_reversed n)) rest) (indices_reversed n) rest ≡ reverse (take n rest) ++ drop end xs =
     ap (λ k. picked (take k rest) (indices_reversed n) rest) (length_reversed n) ∙ picked_reversed (take n rest) n rest few (omega (arith, left)) ∙ ap (λ ys. reverse ys ++ drop n rest) whole ∙ ap (λ ys. reverse (take n rest) ++ ys) last in
     append_assoc (take start xs) (reverse (take n rest)) (drop end xs) ∙ ap (λ ys. take start xs ++ ys) (sym order)

@@ -52,7 +52,6 @@ impl hb_buffer_t {
     /// Marks the glyphs from `start` of the output, over its end, up to before `end` of the input that are outside the least
     /// cluster among them as unsafe to break and to concat; with no output open, those of the list, as `unsafe_to_break`.
     /// Where they are not told, the range begins at 0 and ends at the length of the input.
-    #[tactic(auto, using(crate::proofs::MarkedOrigins::broken_items_across, crate::proofs::MarkedOrigins::broken_across))]
     pub fn unsafe_to_break_from_outbuffer(&mut self, start: Option<usize>, end: Option<usize>)
         requires begins { start_or start ≤ length self.old.behind }
         requires unread { self.old.read ≤ end_or end self.old }
@@ -75,7 +74,6 @@ impl hb_buffer_t {
 
     /// Marks the glyphs from `start` of the output, over its end, up to before `end` of the input as unsafe to concat, where
     /// that is asked for; with no output open, those of the list.
-    #[tactic(auto, using(crate::proofs::MarkedOrigins::concat_items_across, crate::proofs::MarkedOrigins::concat_across))]
     pub fn unsafe_to_concat_from_outbuffer(&mut self, start: Option<usize>, end: Option<usize>)
         requires begins { start_or start ≤ length self.old.behind }
         requires unread { self.old.read ≤ end_or end self.old }

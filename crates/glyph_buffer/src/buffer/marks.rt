@@ -14,7 +14,6 @@ use shaping_text::constants::BufferFlags;
 impl hb_buffer_t {
     /// Marks the glyphs of a range of the input that are outside its least cluster as unsafe to break and to concat. Where
     /// they are not told, the range begins at 0 and ends at the length of the input.
-    #[tactic(auto, using(crate::proofs::MarkedOrigins::broken_items, crate::proofs::MarkedOrigins::broken_origins))]
     pub fn unsafe_to_break(&mut self, start: Option<usize>, end: Option<usize>)
         requires ordered { start_or start ≤ end_or end self.old }
         requires within { end_or end self.old ≤ self.old.read + length self.old.ahead }
@@ -33,7 +32,6 @@ impl hb_buffer_t {
     }
 
     /// Marks the glyphs of a range of the input as unsafe to concat, where that is asked for.
-    #[tactic(auto, using(crate::proofs::MarkedOrigins::concat_items, crate::proofs::MarkedOrigins::concat_origins))]
     pub fn unsafe_to_concat(&mut self, start: Option<usize>, end: Option<usize>)
         requires ordered { start_or start ≤ end_or end self.old }
         requires within { end_or end self.old ≤ self.old.read + length self.old.ahead }
@@ -51,7 +49,6 @@ impl hb_buffer_t {
 
     /// Marks the glyphs of a range of the input that are outside its least cluster: a tatweel may stand in front of them,
     /// where that is asked for; else they are unsafe to break.
-    #[tactic(auto, using(crate::proofs::MarkedOrigins::tatweel_items, crate::proofs::MarkedOrigins::tatweel_origins))]
     pub fn safe_to_insert_tatweel(&mut self, start: Option<usize>, end: Option<usize>)
         requires ordered { start_or start ≤ end_or end self.old }
         requires within { end_or end self.old ≤ self.old.read + length self.old.ahead }

@@ -11,7 +11,6 @@ use Rattle.glyph_buffer.proofs.Ordered.{known_ordered, known_ahead, known_back, 
 use Rattle.glyph_buffer.proofs.Slices.{all_put, rest_is}
 use Rattle.glyph_buffer.proofs.buffer.hb_buffer_t.delete_glyph.Goals as goal
 use Rattle.glyph_buffer.proofs.DeletedOrigins.{deleted_origins}
-use Rattle.glyph_lists.specs.Origins.{origins}
 
 pub delete_first-marked-requires-clause-known : goal.delete_first-marked-requires-clause-known
 delete_first-marked-requires-clause-known c e =

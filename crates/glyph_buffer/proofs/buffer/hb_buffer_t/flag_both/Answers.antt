@@ -33,8 +33,10 @@ returns c =
     let some = c.any_within-any.ensures ∙ ap (λ n. nat_lt c.args.start (n + (c.args.end - b.idx))) (first_of (search rules, grind (arith, common_steps))) in
     let ahead = ap (drop b.idx) info ∙ drop_at (take b.idx b.info.items) (map f (slice_range b.info.items b.idx c.args.end) ++ drop (c.args.end - b.idx) (drop b.idx b.info.items)) b.idx (length-take-le b.idx b.info.items c.self.invariant.cursor)
     ∙ ap (λ gs. map f (slice_range b.info.items b.idx c.args.end) ++ gs) (drop_on b.info.items b.idx c.args.end begins) in
-    flagged_across_view b (with_items b.info (put_mid b.idx (c.args.end - b.idx) c.deref_mut-2.result.now c.flag_all-2.new.glyphs)) (with_items b.out_info (put_mid c.args.start (length c.deref_mut.result.now - c.args.start) c.deref_mut.result.now c.flag_all.new.glyphs)) b.order c.args.flags c.args.start c.args.end _ open_now there begins out ahead (c.telling_flags-self-inside.ensures ∙ ap (λ any. telling_flags any b.scratch_flags) some)
-    ∙ ap (λ (s : Sides). with_flagged c.args.flags c.args.start (index_in_all c.args.end s) s) c.self.view_is
+    record {
+      marked = flagged_across_view b (with_items b.info (put_mid b.idx (c.args.end - b.idx) c.deref_mut-2.result.now c.flag_all-2.new.glyphs)) (with_items b.out_info (put_mid c.args.start (length c.deref_mut.result.now - c.args.start) c.deref_mut.result.now c.flag_all.new.glyphs)) b.order c.args.flags c.args.start c.args.end _ open_now there begins out ahead (c.telling_flags-self-inside.ensures ∙ ap (λ any. telling_flags any b.scratch_flags) some)
+          ∙ ap (λ (s : Sides). with_flagged c.args.flags c.args.start (index_in_all c.args.end s) s) c.self.view_is;
+    }
 
 pub invariant_of-self : goal.invariant_of-self
 invariant_of-self c =

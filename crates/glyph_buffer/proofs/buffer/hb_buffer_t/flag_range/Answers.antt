@@ -19,9 +19,11 @@ returns c =
     let unread : b.have_output ≡ true → b.idx ≤ c.args.start = rw (← c.self.view_is) at c.requires.unread in
     let before = start_within b c.self.invariant.cursor in
     let begins = start_before b c.args.start unread in
-    flagged_view b (with_items b.info c.flag_within.new.glyphs) b.order c.args.flags (start_of b) c.args.start c.args.end _ c.self.invariant.cursor c.requires.ordered unread refl
-    (ap (drop (start_of b)) info ∙ flagged_rest c.args.flags c.args.start c.args.end (start_of b) b.info.items before begins c.requires.ordered) c.telling_flags-self-inside.ensures
-    ∙ ap (λ (s : Sides). with_flagged c.args.flags (index_in_all c.args.start s) (index_in_all c.args.end s) s) c.self.view_is
+    record {
+      marked = flagged_view b (with_items b.info c.flag_within.new.glyphs) b.order c.args.flags (start_of b) c.args.start c.args.end _ c.self.invariant.cursor c.requires.ordered unread refl
+          (ap (drop (start_of b)) info ∙ flagged_rest c.args.flags c.args.start c.args.end (start_of b) b.info.items before begins c.requires.ordered) c.telling_flags-self-inside.ensures
+          ∙ ap (λ (s : Sides). with_flagged c.args.flags (index_in_all c.args.start s) (index_in_all c.args.end s) s) c.self.view_is;
+    }
 
 pub invariant_of-self : goal.invariant_of-self
 invariant_of-self c =

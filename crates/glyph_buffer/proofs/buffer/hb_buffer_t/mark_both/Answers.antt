@@ -35,8 +35,10 @@ returns c =
     let marks = rw (c.deref_mut.ensures.value, c.deref_mut-2.ensures.value, take_rest b.out_info.items c.args.start) at c.mark_across-any.ensures.any in
     let ahead = ap (drop b.idx) info ∙ drop_at (take b.idx b.info.items) (map f (slice_range b.info.items b.idx c.args.end) ++ drop (c.args.end - b.idx) (drop b.idx b.info.items)) b.idx (length-take-le b.idx b.info.items c.self.invariant.cursor)
     ∙ ap (λ gs. map f (slice_range b.info.items b.idx c.args.end) ++ gs) (drop_on b.info.items b.idx c.args.end begins) in
-    marked_across_view b (with_items b.info (put_mid b.idx (c.args.end - b.idx) c.deref_mut.result.now c.mark_across-any.new.ahead)) (with_items b.out_info (put_mid c.args.start (length c.deref_mut-2.result.now - c.args.start) c.deref_mut-2.result.now c.mark_across-any.new.behind)) b.order c.args.flags c.args.start c.args.end _ open_now there begins out ahead (c.telling_flags-self-inside.ensures ∙ ap (λ any. telling_flags any b.scratch_flags) marks)
-    ∙ ap (λ (s : Sides). with_marked c.args.flags c.args.start (index_in_all c.args.end s) s) c.self.view_is
+    record {
+      marked = marked_across_view b (with_items b.info (put_mid b.idx (c.args.end - b.idx) c.deref_mut.result.now c.mark_across-any.new.ahead)) (with_items b.out_info (put_mid c.args.start (length c.deref_mut-2.result.now - c.args.start) c.deref_mut-2.result.now c.mark_across-any.new.behind)) b.order c.args.flags c.args.start c.args.end _ open_now there begins out ahead (c.telling_flags-self-inside.ensures ∙ ap (λ any. telling_flags any b.scratch_flags) marks)
+          ∙ ap (λ (s : Sides). with_marked c.args.flags c.args.start (index_in_all c.args.end s) s) c.self.view_is;
+    }
 
 pub invariant_of-self : goal.invariant_of-self
 invariant_of-self c =

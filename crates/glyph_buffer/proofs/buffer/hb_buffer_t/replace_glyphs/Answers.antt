@@ -4,7 +4,7 @@ use Rattle.std.proofs.Common.{true, ◌≡◌, ◌+◌, ◌-◌, rules, arith, r
 use Rattle.std.proofs.lemmas.Grind.{common_steps}
 use Rattle.std.proofs.lemmas.List.{drop-drop, length-drop, take_rest}
 use Rattle.glyph_lists.specs.Items.{clusters}
-use Rattle.glyph_lists.specs.Parts.{replaced, stretch}
+use Rattle.glyph_lists.specs.Parts.{stretch}
 use Rattle.glyph_lists.specs.Glyphs.{beside_merged}
 use Rattle.glyph_lists.specs.Lemmas.Glyphs.{length_beside, length_merged_at}
 use Rattle.glyph_buffer.specs.Sides.{items_of, origins_of, origins_by}
@@ -14,7 +14,6 @@ use Rattle.glyph_buffer.proofs.Replaced.{replaced_within, room_is, replaced_view
 use Rattle.glyph_buffer.proofs.Slices.{all_put, rest_is}
 use Rattle.glyph_buffer.proofs.buffer.hb_buffer_t.replace_glyphs.Goals as goal
 use Rattle.glyph_buffer.proofs.MergedOrigins.{replaced_origins}
-use Rattle.glyph_lists.specs.Origins.{origins}
 use Rattle.glyph_lists.specs.Events.{Replace}
 
 pub returns-clause-replaced : goal.returns-clause-replaced

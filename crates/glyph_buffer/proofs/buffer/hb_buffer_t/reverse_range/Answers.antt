@@ -3,7 +3,6 @@ use Rattle.glyph_buffer.specs.Sides.{items_of, origins_of}
 use Rattle.glyph_buffer.specs.Moving.{with_range_reversed}
 use Rattle.glyph_buffer.proofs.Moved.{range_view, range_items, range_origins}
 use Rattle.glyph_buffer.proofs.buffer.hb_buffer_t.reverse_range.Goals as goal
-use Rattle.glyph_lists.specs.Origins.{origins}
 
 pub returns-clause-turned : goal.returns-clause-turned
 returns-clause-turned c =

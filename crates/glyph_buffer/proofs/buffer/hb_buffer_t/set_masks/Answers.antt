@@ -8,7 +8,6 @@ use Rattle.glyph_buffer.specs.Masks.{with_set_masks}
 use Rattle.glyph_buffer.proofs.Masked.{mapped_view, clusters_set, set_items, set_origins, kept_origins}
 use Rattle.glyph_buffer.proofs.Slices.{all_put}
 use Rattle.glyph_buffer.proofs.buffer.hb_buffer_t.set_masks.Goals as goal
-use Rattle.glyph_lists.specs.Origins.{origins}
 
 pub returns-clause-set : goal.returns-clause-set
 returns-clause-set c =
