@@ -7,18 +7,18 @@ use Rattle.std.proofs.Math.Seq.{take-append-add, take-append_seam, drop-append-a
 use Rattle.glyph_types.specs.declared.info.hb_glyph_info_t.{hb_glyph_info_t}
 use Rattle.glyph_types.specs.declared.level.BufferClusterLevel.TheVariants.{MonotoneGraphemes, MonotoneCharacters, Characters}
 use Rattle.glyph_types.specs.declared.level.BufferClusterLevel.{BufferClusterLevel}
-use Rattle.glyph_lists.specs.Items.{strip, clusters, flags_of}
+use Rattle.glyph_lists.specs.Items.{strip, clusters}
 use Rattle.glyph_lists.specs.Parts.{stretch}
-use Rattle.glyph_lists.specs.Merges.{least_number, merged, merged_at}
+use Rattle.glyph_lists.specs.Merges.{least_number, merged}
 use Rattle.glyph_lists.specs.Glyphs.{flagged, glyphs_flagged, glyphs_marked, glyphs_merged, in_cluster, marked_outside, tells_apart}
-use Rattle.glyph_lists.specs.Lemmas.Glyphs.{clusters_merged, flags_of_merged, stretch_is, strip_merged}
+use Rattle.glyph_lists.specs.Lemmas.Glyphs.{clusters_merged, stretch_is, strip_merged}
 use Rattle.glyph_buffer.specs.declared.buffer.hb_buffer_t.TheInside.{Inside}
 use Rattle.buffer_lists.specs.declared.order.ClusterOrder.{ClusterOrder}
 use Rattle.buffer_lists.specs.declared.order.KnownOrder.{KnownOrder}
 use Rattle.glyph_buffer.specs.Inside.{sides_of}
 use Rattle.buffer_lists.specs.Known.{HasOrder}
 use Rattle.glyph_buffer.specs.Sides.{Sides, all_glyphs, items_of}
-use Rattle.glyph_buffer.specs.Merging.{flags_output_merged_at, output_merged_at, index_in_all, telling_flags, with_glyphs, with_output_merged}
+use Rattle.glyph_buffer.specs.Merging.{output_merged_at, index_in_all, telling_flags, with_glyphs, with_output_merged}
 use Rattle.glyph_buffer.specs.Marking.{with_marked, with_flagged}
 use Rattle.glyph_buffer.proofs.Ordered.{known_ahead, order_merged_at}
 
@@ -136,7 +136,7 @@ order_output_merged o start end out info new_out new_info from le within output 
     subst (HasOrder o) (sym (clusters_merged (stretch start end (clusters (out ++ ahead))) (out ++ ahead)) ∙ ap clusters (both_merged out ahead start end le within)
     ∙ ap (λ gs. clusters (gs ++ glyphs_merged (stretch start end (clusters out)) ahead)) (sym output) ∙ ap (λ gs. clusters (new_out ++ gs)) (sym input) ∙ map-append cluster_of new_out (drop from new_info)) after
 
-all_output_merged : (start end : ℕ) (s : Sides) → all_glyphs (with_output_merged start end s) ≡ output_merged_at s.level start end (all_glyphs s)
+pub all_output_merged : (start end : ℕ) (s : Sides) → all_glyphs (with_output_merged start end s) ≡ output_merged_at s.level start end (all_glyphs s)
 all_output_merged start end s = take-append-drop (length s.behind) (output_merged_at s.level start end (all_glyphs s))
 
 strip_output_merged : (level : BufferClusterLevel) (start end : ℕ) (gs : List hb_glyph_info_t) → strip (output_merged_at level start end gs) ≡ strip gs
@@ -144,24 +144,8 @@ strip_output_merged MonotoneGraphemes start end gs = strip_merged (stretch start
 strip_output_merged MonotoneCharacters start end gs = strip_merged (stretch start end (clusters gs)) gs
 strip_output_merged Characters start end gs = refl
 
-clusters_output_merged : (level : BufferClusterLevel) (start end : ℕ) (gs : List hb_glyph_info_t) → clusters (output_merged_at level start end gs) ≡ merged_at level start end (clusters gs)
-clusters_output_merged MonotoneGraphemes start end gs = clusters_merged (stretch start end (clusters gs)) gs
-clusters_output_merged MonotoneCharacters start end gs = clusters_merged (stretch start end (clusters gs)) gs
-clusters_output_merged Characters start end gs = refl
-
-flags_output_merged : (level : BufferClusterLevel) (start end : ℕ) (gs : List hb_glyph_info_t) → flags_of (output_merged_at level start end gs) ≡ flags_output_merged_at level start end gs
-flags_output_merged MonotoneGraphemes start end gs = flags_of_merged (stretch start end (clusters gs)) gs
-flags_output_merged MonotoneCharacters start end gs = flags_of_merged (stretch start end (clusters gs)) gs
-flags_output_merged Characters start end gs = refl
-
 pub output_items : (start end : ℕ) (s : Sides) → items_of (with_output_merged start end s) ≡ items_of s
 output_items start end s = ap strip (all_output_merged start end s) ∙ strip_output_merged s.level start end (all_glyphs s)
-
-pub output_clusters : (start end : ℕ) (s : Sides) → clusters (all_glyphs (with_output_merged start end s)) ≡ merged_at s.level start end (clusters (all_glyphs s))
-output_clusters start end s = ap clusters (all_output_merged start end s) ∙ clusters_output_merged s.level start end (all_glyphs s)
-
-pub output_flags : (start end : ℕ) (s : Sides) → flags_of (all_glyphs (with_output_merged start end s)) ≡ flags_output_merged_at s.level start end (all_glyphs s)
-output_flags start end s = ap flags_of (all_output_merged start end s) ∙ flags_output_merged s.level start end (all_glyphs s)
 
 -- where nothing is merged
 pub same_glyphs : (s : Sides) → with_glyphs (all_glyphs s) s ≡ s

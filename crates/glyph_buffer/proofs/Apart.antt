@@ -1,26 +1,24 @@
 -- What calls on one glyph, and those that add some, do to items, clusters and flags.
-use Rattle.std.proofs.Common.{ℕ, ◌≡◌, ◌<◌, ◌+◌, ◌++◌, true, List, [], ◌∷◌, length, get_or, map, take, drop, replicate, refl, ap, sym, arith, ◌∙◌, append_assoc}
+use Rattle.std.proofs.Common.{ℕ, ◌≡◌, ◌<◌, ◌+◌, ◌++◌, true, List, [], ◌∷◌, length, get_or, map, take, drop, refl, ap, sym, arith, ◌∙◌, append_assoc}
 use Rattle.std.proofs.lemmas.List.{map-append, drop-drop, drop-map}
 use Rattle.std.proofs.Math.Seq.{take-append_seam, drop-append_seam, drop-append-add}
 use Rattle.std.specs.Global.{Vec}
 use Rattle.std.specs.Char.{len_utf8}
 use Rattle.std.specs.Str.{chars}
 use Rattle.glyph_types.specs.declared.info.hb_glyph_info_t.{hb_glyph_info_t}
-use Rattle.glyph_lists.specs.Items.{item_of, strip, clusters, glyph_flags, flags_of}
-use Rattle.glyph_lists.specs.Parts.{first_of, last_of, or, replaced}
+use Rattle.glyph_lists.specs.Items.{item_of, strip}
+use Rattle.glyph_lists.specs.Parts.{first_of, last_of, or}
 use Rattle.glyph_lists.specs.Lists.{take_one}
 use Rattle.glyph_lists.specs.Replacements.{copied, glyph_numbered, glyphs_replaced, items_replaced}
-use Rattle.glyph_lists.specs.Lemmas.Replacements.{strip_replaced, clusters_replaced, flags_of_replaced}
+use Rattle.glyph_lists.specs.Lemmas.Replacements.{strip_replaced}
 use Rattle.glyph_buffer.specs.declared.buffer.hb_buffer_t.TheInside.{Inside}
 use Rattle.buffer_lists.specs.declared.order.ClusterOrder.{ClusterOrder}
 use Rattle.glyph_buffer.specs.Inside.{sides_of}
-use Rattle.glyph_buffer.specs.Sides.{Sides, all_glyphs, items_of, with_added}
+use Rattle.glyph_buffer.specs.Sides.{Sides, all_glyphs, items_of, with_added, origins_of}
 use Rattle.glyph_buffer.specs.Merging.{with_copy, with_put, with_renumbered, with_skipped}
-use Rattle.glyph_buffer.specs.Text.{added_glyph, added_from, added_text, offsets_from, text_items}
+use Rattle.glyph_buffer.specs.Text.{added_glyph, added_from, added_text, offsets_from, text_items, unflagged_origin, text_origins}
 use Rattle.glyph_buffer.proofs.Replaced.{all_copied}
-
-abbrev cluster_of : hb_glyph_info_t → ℕ
-cluster_of g = g.cluster
+use Rattle.glyph_lists.specs.Origins.{origin_of, origins}
 
 -- a copy behind the cursor
 pub copied_view : (b : Inside) (out : Vec hb_glyph_info_t) (order : ClusterOrder) (n : ℕ) → b.have_output ≡ true → out.items ≡ b.out_info.items ++ copied glyph_numbered (or (first_of (drop b.idx b.info.items)) (last_of b.out_info.items)) (n ∷ [])
@@ -29,12 +27,6 @@ copied_view b out order n h e = rw (h, e) refl
 
 pub copy_items : (n : ℕ) (s : Sides) → items_of (with_copy n s) ≡ items_replaced (length s.behind) 0 (n ∷ []) (items_of s)
 copy_items n s = ap strip (all_copied 0 (n ∷ []) s) ∙ strip_replaced (length s.behind) 0 (n ∷ []) (all_glyphs s)
-
-pub copy_clusters : (n : ℕ) (s : Sides) → clusters (all_glyphs (with_copy n s)) ≡ replaced (length s.behind) 0 1 (clusters (all_glyphs s))
-copy_clusters n s = ap clusters (all_copied 0 (n ∷ []) s) ∙ clusters_replaced (length s.behind) 0 (n ∷ []) (all_glyphs s)
-
-pub copy_flags : (n : ℕ) (s : Sides) → flags_of (all_glyphs (with_copy n s)) ≡ replaced (length s.behind) 0 1 (flags_of (all_glyphs s))
-copy_flags n s = ap flags_of (all_copied 0 (n ∷ []) s) ∙ flags_of_replaced (length s.behind) 0 (n ∷ []) (all_glyphs s)
 
 -- a glyph under another number
 renumbered_all : (n : ℕ) (behind ahead : List hb_glyph_info_t) → 0 < length ahead → (behind ++ map (λ (g : hb_glyph_info_t). glyph_numbered g n) (take 1 ahead)) ++ drop 1 ahead ≡ glyphs_replaced (length behind) 1 (n ∷ []) (behind ++ ahead)
@@ -52,14 +44,11 @@ renumbered_items n s lt = ap strip (renumbered_all n s.behind s.ahead lt) ∙ st
 put_seen : {Y : Type 0} (v : hb_glyph_info_t → Y) (g : hb_glyph_info_t) (behind ahead : List hb_glyph_info_t) → map v ((behind ++ g ∷ []) ++ ahead) ≡ map v behind ++ v g ∷ map v ahead
 put_seen v g behind ahead = ap (map v) (append_assoc behind (g ∷ []) ahead) ∙ map-append v behind (g ∷ ahead)
 
+pub put_origins : (g : hb_glyph_info_t) (s : Sides) → origins_of (with_put g s) ≡ origins s.behind ++ origin_of g ∷ origins s.ahead
+put_origins g s = put_seen origin_of g s.behind s.ahead
+
 pub put_items : (g : hb_glyph_info_t) (s : Sides) → items_of (with_put g s) ≡ strip s.behind ++ item_of g ∷ strip s.ahead
 put_items g s = put_seen item_of g s.behind s.ahead
-
-pub put_clusters : (g : hb_glyph_info_t) (s : Sides) → clusters (all_glyphs (with_put g s)) ≡ clusters s.behind ++ g.cluster ∷ clusters s.ahead
-put_clusters g s = put_seen cluster_of g s.behind s.ahead
-
-pub put_flags : (g : hb_glyph_info_t) (s : Sides) → flags_of (all_glyphs (with_put g s)) ≡ flags_of s.behind ++ glyph_flags g ∷ flags_of s.ahead
-put_flags g s = put_seen glyph_flags g s.behind s.ahead
 
 -- the glyph at the cursor gone
 skipped_seen : {Y : Type 0} (v : hb_glyph_info_t → Y) (behind ahead : List hb_glyph_info_t) → map v (behind ++ drop 1 ahead) ≡ map v behind ++ drop 1 (map v ahead)
@@ -71,43 +60,27 @@ skipped_view b h = rw (h, ← drop-drop 1 b.idx b.info.items) refl
 pub skipped_items : (s : Sides) → items_of (with_skipped s) ≡ strip s.behind ++ drop 1 (strip s.ahead)
 skipped_items s = skipped_seen item_of s.behind s.ahead
 
-pub skipped_clusters : (s : Sides) → clusters (all_glyphs (with_skipped s)) ≡ clusters s.behind ++ drop 1 (clusters s.ahead)
-skipped_clusters s = skipped_seen cluster_of s.behind s.ahead
-
-pub skipped_flags : (s : Sides) → flags_of (all_glyphs (with_skipped s)) ≡ flags_of s.behind ++ drop 1 (flags_of s.ahead)
-skipped_flags s = skipped_seen glyph_flags s.behind s.ahead
-
 -- glyphs at the end
 added_seen : {Y : Type 0} (v : hb_glyph_info_t → Y) (gs : List hb_glyph_info_t) (s : Sides) → map v (all_glyphs (with_added gs s)) ≡ map v (all_glyphs s) ++ map v gs
 added_seen v gs s = ap (map v) (sym (append_assoc s.behind s.ahead gs)) ∙ map-append v (all_glyphs s) gs
 
+pub added_origins : (c k : ℕ) (s : Sides) → origins_of (with_added (added_glyph c k ∷ []) s) ≡ origins_of s ++ unflagged_origin k ∷ []
+added_origins c k s = added_seen origin_of (added_glyph c k ∷ []) s
+
 pub added_items : (c k : ℕ) (s : Sides) → items_of (with_added (added_glyph c k ∷ []) s) ≡ items_of s ++ item_of (added_glyph c 0) ∷ []
 added_items c k s = added_seen item_of (added_glyph c k ∷ []) s
-
-pub added_clusters : (c k : ℕ) (s : Sides) → clusters (all_glyphs (with_added (added_glyph c k ∷ []) s)) ≡ clusters (all_glyphs s) ++ k ∷ []
-added_clusters c k s = added_seen cluster_of (added_glyph c k ∷ []) s
-
-pub added_flags : (c k : ℕ) (s : Sides) → flags_of (all_glyphs (with_added (added_glyph c k ∷ []) s)) ≡ flags_of (all_glyphs s) ++ 0 ∷ []
-added_flags c k s = added_seen glyph_flags (added_glyph c k ∷ []) s
 
 -- the characters of a text at the end
 items_from : (at : ℕ) (cs : List ℕ) → strip (added_from at cs) ≡ map (λ c. item_of (added_glyph c 0)) cs
 items_from at [] = refl
 items_from at (c ∷ cs) = ap (λ xs. item_of (added_glyph c 0) ∷ xs) (items_from (at + len_utf8 c) cs)
 
-clusters_from : (at : ℕ) (cs : List ℕ) → clusters (added_from at cs) ≡ offsets_from at cs
-clusters_from at [] = refl
-clusters_from at (c ∷ cs) = ap (λ ns. at ∷ ns) (clusters_from (at + len_utf8 c) cs)
-
-flags_from : (at : ℕ) (cs : List ℕ) → flags_of (added_from at cs) ≡ replicate (length cs) 0
-flags_from at [] = refl
-flags_from at (c ∷ cs) = ap (λ ks. 0 ∷ ks) (flags_from (at + len_utf8 c) cs)
-
 pub text_added_items : (text : List ℕ) (s : Sides) → items_of (with_added (added_text text) s) ≡ items_of s ++ text_items text
 text_added_items text s = added_seen item_of (added_text text) s ∙ ap (λ xs. items_of s ++ xs) (items_from 0 (chars text))
 
-pub text_added_clusters : (text : List ℕ) (s : Sides) → clusters (all_glyphs (with_added (added_text text) s)) ≡ clusters (all_glyphs s) ++ offsets_from 0 (chars text)
-text_added_clusters text s = added_seen cluster_of (added_text text) s ∙ ap (λ ns. clusters (all_glyphs s) ++ ns) (clusters_from 0 (chars text))
+origins_from : (at : ℕ) (cs : List ℕ) → origins (added_from at cs) ≡ map unflagged_origin (offsets_from at cs)
+origins_from at [] = refl
+origins_from at (c ∷ cs) = ap (λ os. unflagged_origin at ∷ os) (origins_from (at + len_utf8 c) cs)
 
-pub text_added_flags : (text : List ℕ) (s : Sides) → flags_of (all_glyphs (with_added (added_text text) s)) ≡ flags_of (all_glyphs s) ++ replicate (length (chars text)) 0
-text_added_flags text s = added_seen glyph_flags (added_text text) s ∙ ap (λ ks. flags_of (all_glyphs s) ++ ks) (flags_from 0 (chars text))
+pub text_added_origins : (text : List ℕ) (s : Sides) → origins_of (with_added (added_text text) s) ≡ origins_of s ++ text_origins text
+text_added_origins text s = added_seen origin_of (added_text text) s ∙ ap (λ os. origins_of s ++ os) (origins_from 0 (chars text))

@@ -1,16 +1,21 @@
 -- Glyphs in clusters from a number on.
 use Rattle.std.proofs.Common.{ℕ, zero, suc, ◌≡◌, ◌≤◌, ◌<◌, ◌+◌, min, false, List, [], ◌∷◌, ◌++◌, length, map, take, drop, get_or, set, arith, refl, ap, sym, ◌∙◌}
-use Rattle.std.specs.Prelude.{bit_and}
 use Rattle.std.specs.Global.{Vec}
 use Rattle.std.proofs.lemmas.List.{take-append-drop, length-take-le}
 use Rattle.glyph_types.specs.declared.info.hb_glyph_info_t.{hb_glyph_info_t}
-use Rattle.glyph_lists.specs.Items.{strip, clusters, flags_of}
+use Rattle.glyph_lists.specs.Items.{strip, clusters, glyph_flags}
 use Rattle.glyph_lists.specs.Order.{AllFrom, IsRising}
 use Rattle.glyph_buffer.specs.declared.buffer.hb_buffer_t.TheInside.{Inside}
 use Rattle.buffer_lists.specs.declared.order.ClusterOrder.{ClusterOrder}
 use Rattle.glyph_buffer.specs.Inside.{sides_of}
-use Rattle.glyph_buffer.specs.Sides.{Sides, all_glyphs, items_of}
-use Rattle.glyph_buffer.specs.Settings.{counted_from, glyphs_counted, most_cluster, with_counted}
+use Rattle.glyph_buffer.specs.Sides.{Sides, all_glyphs, items_of, origins_of}
+use Rattle.glyph_buffer.specs.Settings.{glyphs_counted, origins_counted, most_cluster, with_counted}
+use Rattle.glyph_lists.specs.Origins.{origins}
+
+-- so many clusters from a number on
+abbrev pub counted_from : ℕ → List hb_glyph_info_t → List ℕ
+counted_from n [] = []
+counted_from n (g ∷ gs) = min n most_cluster ∷ counted_from (n + 1) gs
 
 -- one glyph more is numbered
 counted_at : (n i : ℕ) (xs : List hb_glyph_info_t) (d : hb_glyph_info_t) → i < length xs
@@ -55,11 +60,12 @@ all_counted s = take-append-drop (length s.behind) (glyphs_counted 0 (all_glyphs
 pub counted_items : (s : Sides) → items_of (with_counted s) ≡ items_of s
 counted_items s = ap strip (all_counted s) ∙ seen_counted _ (λ g c. refl) 0 (all_glyphs s)
 
-pub counted_clusters : (s : Sides) → clusters (all_glyphs (with_counted s)) ≡ counted_from 0 (all_glyphs s)
-counted_clusters s = ap clusters (all_counted s) ∙ clusters_counted 0 (all_glyphs s)
+counted_each : (n : ℕ) (gs : List hb_glyph_info_t) → origins (glyphs_counted n gs) ≡ origins_counted n (origins gs)
+counted_each n [] = refl
+counted_each n (g ∷ gs) = ap (λ os. record { cluster = min n most_cluster; flags = glyph_flags g } ∷ os) (counted_each (n + 1) gs)
 
-pub counted_flags : (s : Sides) → flags_of (all_glyphs (with_counted s)) ≡ flags_of (all_glyphs s)
-counted_flags s = ap flags_of (all_counted s) ∙ seen_counted (λ (g : hb_glyph_info_t). bit_and g.mask 7) (λ g c. refl) 0 (all_glyphs s)
+pub counted_origins : (s : Sides) → origins_of (with_counted s) ≡ origins_counted 0 (origins_of s)
+counted_origins s = ap origins (all_counted s) ∙ counted_each 0 (all_glyphs s)
 
 all_least : (m n : ℕ) (gs : List hb_glyph_info_t) → m ≤ min n most_cluster → AllFrom (λ x y. x ≤ y) m (counted_from n gs)
 all_least m n [] le = tt

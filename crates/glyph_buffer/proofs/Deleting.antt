@@ -1,15 +1,12 @@
 -- The glyph at the cursor was deleted.
 use Rattle.std.specs.Global.{Vec}
-use Rattle.std.proofs.Common.{ℕ, ◌≡◌, ◌+◌, Bool, true, false, List, ◌∷◌, ◌++◌, drop, refl, ap, sym, subst, ◌∙◌}
+use Rattle.std.proofs.Common.{ℕ, ◌≡◌, ◌+◌, Bool, true, false, List, ◌∷◌, ◌++◌, drop, refl, ap, sym, subst, ◌∙◌, get_or, arith, ◌<◌, [], length}
 use Rattle.std.proofs.lemmas.List.{map-append}
 use Rattle.glyph_types.specs.declared.info.hb_glyph_info_t.{hb_glyph_info_t as Glyph}
 use Rattle.glyph_types.specs.declared.level.BufferClusterLevel.{BufferClusterLevel as Level}
-use Rattle.glyph_lists.specs.Items.{clusters, flags_of, glyph_flags, item_of, strip}
+use Rattle.glyph_lists.specs.Items.{clusters, item_of, strip}
 use Rattle.glyph_lists.specs.Deletions.{deleted}
-use Rattle.glyph_clusters.specs.Deleted.{clusters_deleted, items_deleted}
-use Rattle.glyph_slices.specs.Facts.{together}
-use Rattle.glyph_slices.specs.Flags.{flags_deleted}
-use Rattle.glyph_slices.specs.DeletedFlags.{front_flags, back_flags}
+use Rattle.glyph_clusters.specs.Deleted.{items_deleted}
 use Rattle.glyph_clusters.specs.OneDeleted.{left_clusters, order_deleted}
 use Rattle.glyph_clusters.specs.Deleting.{glyphs_deleted, Deletes}
 use Rattle.glyph_buffer.specs.declared.buffer.hb_buffer_t.TheInside.{Inside}
@@ -20,7 +17,8 @@ use Rattle.glyph_buffer.specs.Grouping.{with_deleted}
 use Rattle.glyph_buffer.specs.Inside.{sides_of}
 use Rattle.buffer_lists.specs.Known.{HasOrder}
 use Rattle.glyph_buffer.specs.Merging.{telling_flags}
-use Rattle.glyph_buffer.specs.Sides.{Sides, all_glyphs, items_of}
+use Rattle.glyph_buffer.specs.Sides.{Sides, items_of}
+use Rattle.glyph_buffer.specs.Moving.{zero_glyph}
 
 known_deleted : (o : KnownOrder) (level : Level) (front : List ℕ) (n : ℕ) (back : List ℕ) → HasOrder o (front ++ n ∷ back) → HasOrder o (deleted level front n back)
 known_deleted Unknown level front n back h = tt
@@ -52,15 +50,7 @@ left_items g back s e =
     let both = items_deleted s.level s.behind g back in
     map-append item_of left.front left.back ∙ ap (λ xs. xs ++ strip left.back) both.0 ∙ ap (λ xs. strip s.behind ++ xs) (both.1 ∙ ap (λ hs. drop 1 (strip hs)) (sym e))
 
-pub left_numbers : (g : Glyph) (back : List Glyph) (s : Sides) → clusters (all_glyphs (with_deleted g back s)) ≡ deleted s.level (clusters s.behind) g.cluster (clusters back)
-left_numbers g back s =
-    let left = glyphs_deleted s.level s.behind g back in
-    let cluster_of : Glyph → ℕ = λ h. h.cluster in
-    map-append cluster_of left.front left.back ∙ clusters_deleted s.level s.behind g back
-
-pub left_flags : (g : Glyph) (back : List Glyph) (s : Sides)
-    → flags_of (all_glyphs (with_deleted g back s)) ≡ together (flags_deleted s.level (clusters s.behind) g.cluster (clusters back) (flags_of s.behind) (glyph_flags g) (flags_of back))
-left_flags g back s =
-    let left = glyphs_deleted s.level s.behind g back in
-    let flags = flags_deleted s.level (clusters s.behind) g.cluster (clusters back) (flags_of s.behind) (glyph_flags g) (flags_of back) in
-    map-append glyph_flags left.front left.back ∙ ap (λ fs. fs ++ flags_of left.back) (front_flags s.level s.behind g back) ∙ ap (λ fs. flags.front ++ fs) (back_flags s.level s.behind g back)
+-- the first of some glyphs, and the others
+pub first_is : (gs : List Glyph) → 0 < length gs → gs ≡ get_or gs 0 zero_glyph ∷ drop 1 gs
+first_is [] some = absurd (omega arith)
+first_is (g ∷ gs) some = refl

@@ -1,10 +1,9 @@
 -- Glyphs that only change positions.
-use Rattle.std.specs.Prelude.{bit_and}
 use Rattle.std.proofs.Common.{ℕ, zero, suc, ◌≡◌, ◌+◌, ◌++◌, arith, true, false, List, [], ◌∷◌, map, take, drop, reverse, refl, ap, sym, ◌∙◌, append_assoc}
 use Rattle.std.proofs.lemmas.Grind.{reverse_onto}
 use Rattle.std.proofs.lemmas.List.{map-append, take-append-drop, drop-drop}
 use Rattle.glyph_types.specs.declared.info.hb_glyph_info_t.{hb_glyph_info_t}
-use Rattle.glyph_lists.specs.Items.{item_of, strip, clusters}
+use Rattle.glyph_lists.specs.Items.{item_of, strip}
 use Rattle.std.specs.Global.{Vec}
 use Rattle.glyph_types.specs.declared.position.GlyphPosition.{GlyphPosition}
 use Rattle.glyph_buffer.specs.declared.buffer.hb_buffer_t.TheInside.{Inside}
@@ -12,7 +11,8 @@ use Rattle.glyph_lists.specs.Replacements.{glyph_numbered}
 use Rattle.glyph_buffer.specs.Merging.{with_renumbered}
 use Rattle.buffer_lists.specs.declared.order.ClusterOrder.{ClusterOrder}
 use Rattle.glyph_buffer.specs.Inside.{sides_of}
-use Rattle.glyph_buffer.specs.Sides.{Sides, all_glyphs, items_of, flags_of, moved_on, reversed}
+use Rattle.glyph_buffer.specs.Sides.{Sides, all_glyphs, items_of, moved_on, reversed, origins_of}
+use Rattle.glyph_lists.specs.Origins.{origin_of}
 
 -- glyphs that go behind the cursor stay in the list
 pub moved_all : (n : ℕ) (s : Sides) → all_glyphs (moved_on n s) ≡ all_glyphs s
@@ -28,12 +28,6 @@ map-reverse f (x ∷ xs) = rw (reverse_onto xs x [], map-append, map-reverse f x
 pub reversed_items : (s : Sides) → items_of (reversed s) ≡ reverse (items_of s)
 reversed_items s = ap strip (all_reversed s) ∙ map-reverse item_of (all_glyphs s)
 
-pub reversed_clusters : (s : Sides) → clusters (all_glyphs (reversed s)) ≡ reverse (clusters (all_glyphs s))
-reversed_clusters s = ap clusters (all_reversed s) ∙ map-reverse (λ (g : hb_glyph_info_t). g.cluster) (all_glyphs s)
-
-pub reversed_flags : (s : Sides) → flags_of (all_glyphs (reversed s)) ≡ reverse (flags_of (all_glyphs s))
-reversed_flags s = ap flags_of (all_reversed s) ∙ map-reverse (λ (g : hb_glyph_info_t). bit_and g.mask 7) (all_glyphs s)
-
 -- both vectors turned round
 pub turned_view : (b : Inside) (info : Vec hb_glyph_info_t) (positions : Vec GlyphPosition) → b.have_output ≡ false → info.items ≡ reverse b.info.items → positions.items ≡ reverse b.pos.items
     → sides_of (record b { info = info; pos = positions }) ≡ reversed (sides_of b)
@@ -46,11 +40,8 @@ renumbered_seen v same n behind [] = ap (map v) (append_assoc behind [] [])
 renumbered_seen v same n behind (g ∷ gs) =
     ap (map v) (append_assoc behind (glyph_numbered g n ∷ []) gs) ∙ map-append v behind (glyph_numbered g n ∷ gs) ∙ ap (λ y. map v behind ++ y ∷ map v gs) (same g n) ∙ sym (map-append v behind (g ∷ gs))
 
-pub renumbered_clusters : (n : ℕ) (s : Sides) → clusters (all_glyphs (with_renumbered n s)) ≡ clusters (all_glyphs s)
-renumbered_clusters n s = renumbered_seen (λ (g : hb_glyph_info_t). g.cluster) (λ g m. refl) n s.behind s.ahead
-
-pub renumbered_flags : (n : ℕ) (s : Sides) → flags_of (all_glyphs (with_renumbered n s)) ≡ flags_of (all_glyphs s)
-renumbered_flags n s = renumbered_seen (λ (g : hb_glyph_info_t). bit_and g.mask 7) (λ g m. refl) n s.behind s.ahead
+pub renumbered_origins : (n : ℕ) (s : Sides) → origins_of (with_renumbered n s) ≡ origins_of s
+renumbered_origins n s = renumbered_seen origin_of (λ g m. refl) n s.behind s.ahead
 
 no_take : (m : ℕ) (none : List hb_glyph_info_t) → none ≡ [] → take m none ≡ none
 no_take zero none e = sym e

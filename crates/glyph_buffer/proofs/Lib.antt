@@ -21,3 +21,7 @@ pub mod Brings
 pub mod Grouped
 pub mod Slices
 pub mod Walked
+pub mod MergedOrigins
+pub mod MarkedOrigins
+pub mod DeletedOrigins
+pub mod Spread

@@ -6,10 +6,10 @@ use Rattle.std.proofs.lemmas.Grind.{common_steps}
 use Rattle.std.proofs.lemmas.List.{take-append-drop, length-take-le, length-map, drop_at}
 use Rattle.std.proofs.Math.Seq.{take-append_seam, drop-append_seam}
 use Rattle.glyph_types.specs.declared.info.hb_glyph_info_t.{hb_glyph_info_t}
-use Rattle.glyph_lists.specs.Items.{strip, clusters, flags_of}
+use Rattle.glyph_lists.specs.Items.{strip, clusters}
 use Rattle.glyph_lists.specs.Parts.{stretch}
-use Rattle.glyph_lists.specs.Glyphs.{glyphs_marked, glyphs_flagged, flags_marked, flags_flagged, tells_apart}
-use Rattle.glyph_lists.specs.Lemmas.Glyphs.{marked_beyond, flagged_beyond, stretch_beyond, strip_marked, strip_flagged, clusters_marked, clusters_flagged, flags_of_marked, flags_of_flagged}
+use Rattle.glyph_lists.specs.Glyphs.{glyphs_marked, glyphs_flagged, tells_apart}
+use Rattle.glyph_lists.specs.Lemmas.Glyphs.{marked_beyond, flagged_beyond, stretch_beyond, strip_marked, strip_flagged, clusters_marked, clusters_flagged}
 use Rattle.glyph_buffer.specs.declared.buffer.hb_buffer_t.TheInside.{Inside}
 use Rattle.buffer_lists.specs.declared.order.ClusterOrder.{ClusterOrder}
 use Rattle.glyph_buffer.specs.Inside.{sides_of, start_of}
@@ -130,10 +130,10 @@ flagged_length bits start end gs le =
     let v : hb_glyph_info_t → ℕ = λ g. g.cluster in
     sym (length-map (glyphs_flagged bits start end gs) v) ∙ ap length (clusters_flagged bits start end gs le) ∙ length-map gs v
 
-all_marked : (bits from to : ℕ) (s : Sides) → all_glyphs (with_marked bits from to s) ≡ glyphs_marked bits from to (all_glyphs s)
+pub all_marked : (bits from to : ℕ) (s : Sides) → all_glyphs (with_marked bits from to s) ≡ glyphs_marked bits from to (all_glyphs s)
 all_marked bits from to s = take-append-drop (length s.behind) (glyphs_marked bits from to (all_glyphs s))
 
-all_flagged : (bits from to : ℕ) (s : Sides) → all_glyphs (with_flagged bits from to s) ≡ glyphs_flagged bits from to (all_glyphs s)
+pub all_flagged : (bits from to : ℕ) (s : Sides) → all_glyphs (with_flagged bits from to s) ≡ glyphs_flagged bits from to (all_glyphs s)
 all_flagged bits from to s = take-append-drop (length s.behind) (glyphs_flagged bits from to (all_glyphs s))
 
 pub places_order : (start end : ℕ) (s : Sides) → start ≤ end → index_in_all start s ≤ index_in_all end s
@@ -142,17 +142,5 @@ places_order start end s le = omega arith
 pub marked_items : (bits from to : ℕ) (s : Sides) → bits < 8 → from ≤ to → items_of (with_marked bits from to s) ≡ items_of s
 marked_items bits from to s lt le = ap strip (all_marked bits from to s) ∙ strip_marked bits from to (all_glyphs s) lt le
 
-pub marked_clusters : (bits from to : ℕ) (s : Sides) → from ≤ to → clusters (all_glyphs (with_marked bits from to s)) ≡ clusters (all_glyphs s)
-marked_clusters bits from to s le = ap clusters (all_marked bits from to s) ∙ clusters_marked bits from to (all_glyphs s) le
-
-pub marked_flags : (bits from to : ℕ) (s : Sides) → bits < 8 → flags_of (all_glyphs (with_marked bits from to s)) ≡ flags_marked bits from to (all_glyphs s)
-marked_flags bits from to s lt = ap flags_of (all_marked bits from to s) ∙ flags_of_marked bits from to (all_glyphs s) lt
-
 pub flagged_items : (bits from to : ℕ) (s : Sides) → bits < 8 → from ≤ to → items_of (with_flagged bits from to s) ≡ items_of s
 flagged_items bits from to s lt le = ap strip (all_flagged bits from to s) ∙ strip_flagged bits from to (all_glyphs s) lt le
-
-pub flagged_clusters : (bits from to : ℕ) (s : Sides) → from ≤ to → clusters (all_glyphs (with_flagged bits from to s)) ≡ clusters (all_glyphs s)
-flagged_clusters bits from to s le = ap clusters (all_flagged bits from to s) ∙ clusters_flagged bits from to (all_glyphs s) le
-
-pub flagged_flags : (bits from to : ℕ) (s : Sides) → bits < 8 → flags_of (all_glyphs (with_flagged bits from to s)) ≡ flags_flagged bits from to (all_glyphs s)
-flagged_flags bits from to s lt = ap flags_of (all_flagged bits from to s) ∙ flags_of_flagged bits from to (all_glyphs s) lt

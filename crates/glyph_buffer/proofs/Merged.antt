@@ -5,11 +5,10 @@ use Rattle.std.proofs.lemmas.List.{take-append-drop, length-take-le, take_at, dr
 use Rattle.glyph_types.specs.declared.info.hb_glyph_info_t.{hb_glyph_info_t}
 use Rattle.glyph_types.specs.declared.level.BufferClusterLevel.{BufferClusterLevel}
 use Rattle.glyph_types.specs.declared.level.BufferClusterLevel.TheVariants.{MonotoneGraphemes, MonotoneCharacters, Characters}
-use Rattle.glyph_lists.specs.Items.{strip, clusters, flags_of}
+use Rattle.glyph_lists.specs.Items.{strip, clusters}
 use Rattle.glyph_lists.specs.Parts.{stretch}
-use Rattle.glyph_lists.specs.Merges.{merged_at}
-use Rattle.glyph_lists.specs.Glyphs.{glyphs_merged_at, beside_merged, flags_merged_at, is_marked_at, tells_apart}
-use Rattle.glyph_lists.specs.Lemmas.Glyphs.{merged_at_beyond, length_beside, stretch_beyond, strip_merged_at, clusters_merged_at, flags_of_merged_at}
+use Rattle.glyph_lists.specs.Glyphs.{glyphs_merged_at, beside_merged, is_marked_at, tells_apart}
+use Rattle.glyph_lists.specs.Lemmas.Glyphs.{merged_at_beyond, length_beside, stretch_beyond, strip_merged_at}
 use Rattle.glyph_buffer.specs.declared.buffer.hb_buffer_t.TheInside.{Inside}
 use Rattle.buffer_lists.specs.declared.order.ClusterOrder.{ClusterOrder}
 use Rattle.glyph_buffer.specs.Inside.{sides_of, start_of}
@@ -76,9 +75,3 @@ places_order start end s le = omega arith
 
 pub merged_items : (start end : ℕ) (s : Sides) → start ≤ end → items_of (with_merged (index_in_all start s) (index_in_all end s) s) ≡ items_of s
 merged_items start end s le = ap strip (all_merged (index_in_all start s) (index_in_all end s) s) ∙ strip_merged_at s.level (index_in_all start s) (index_in_all end s) (all_glyphs s) (places_order start end s le)
-
-pub merged_clusters : (start end : ℕ) (s : Sides) → start ≤ end → clusters (all_glyphs (with_merged (index_in_all start s) (index_in_all end s) s)) ≡ merged_at s.level (index_in_all start s) (index_in_all end s) (clusters (all_glyphs s))
-merged_clusters start end s le = ap clusters (all_merged (index_in_all start s) (index_in_all end s) s) ∙ clusters_merged_at s.level (index_in_all start s) (index_in_all end s) (all_glyphs s) (places_order start end s le)
-
-pub merged_flags : (start end : ℕ) (s : Sides) → flags_of (all_glyphs (with_merged (index_in_all start s) (index_in_all end s) s)) ≡ flags_merged_at s.level (index_in_all start s) (index_in_all end s) (all_glyphs s)
-merged_flags start end s = ap flags_of (all_merged (index_in_all start s) (index_in_all end s) s) ∙ flags_of_merged_at s.level (index_in_all start s) (index_in_all end s) (all_glyphs s)

@@ -6,13 +6,12 @@ use Rattle.std.proofs.lemmas.Bool.Decides.{nat_tests}
 use Rattle.std.proofs.lemmas.List.{append-nil, length-map, drop-drop, length-take-le, length-append}
 use Rattle.std.proofs.Math.Seq.{take-append_seam, drop-append_seam, drop-append-add}
 use Rattle.glyph_types.specs.declared.info.hb_glyph_info_t.{hb_glyph_info_t}
-use Rattle.glyph_lists.specs.Items.{strip, clusters, flags_of}
-use Rattle.glyph_lists.specs.Parts.{first_of, last_of, or, replaced, stretch}
-use Rattle.glyph_lists.specs.Merges.{replaced_at}
-use Rattle.glyph_lists.specs.Glyphs.{glyphs_merged_at, beside_merged, flags_merged_at, is_marked_at}
+use Rattle.glyph_lists.specs.Items.{strip, clusters}
+use Rattle.glyph_lists.specs.Parts.{first_of, last_of, or, stretch}
+use Rattle.glyph_lists.specs.Glyphs.{glyphs_merged_at, beside_merged, is_marked_at}
 use Rattle.glyph_lists.specs.Replacements.{copied, glyph_numbered, glyphs_replaced, items_replaced}
-use Rattle.glyph_lists.specs.Lemmas.Glyphs.{strip_merged_at, clusters_merged_at, flags_of_merged_at, length_merged_at}
-use Rattle.glyph_lists.specs.Lemmas.Replacements.{strip_replaced, clusters_replaced, flags_of_replaced}
+use Rattle.glyph_lists.specs.Lemmas.Glyphs.{strip_merged_at, length_merged_at}
+use Rattle.glyph_lists.specs.Lemmas.Replacements.{strip_replaced}
 use Rattle.glyph_buffer.specs.declared.buffer.hb_buffer_t.TheInside.{Inside}
 use Rattle.buffer_lists.specs.declared.order.ClusterOrder.{ClusterOrder}
 use Rattle.glyph_buffer.specs.Inside.{sides_of}
@@ -52,19 +51,6 @@ replaced_items taken numbers s =
     let gs = glyphs_merged_at s.level (length s.behind) (length s.behind + taken) (all_glyphs s) in
     ap strip (all_replaced taken numbers s) ∙ strip_replaced (length s.behind) taken numbers gs
     ∙ ap (items_replaced (length s.behind) taken numbers) (strip_merged_at s.level (length s.behind) (length s.behind + taken) (all_glyphs s) (omega arith))
-
-pub replaced_clusters : (taken : ℕ) (numbers : List ℕ) (s : Sides) → clusters (all_glyphs (with_replaced taken numbers s)) ≡ replaced_at s.level (length s.behind) taken (length numbers) (clusters (all_glyphs s))
-replaced_clusters taken numbers s =
-    let gs = glyphs_merged_at s.level (length s.behind) (length s.behind + taken) (all_glyphs s) in
-    ap clusters (all_replaced taken numbers s) ∙ clusters_replaced (length s.behind) taken numbers gs
-    ∙ ap (replaced (length s.behind) taken (length numbers)) (clusters_merged_at s.level (length s.behind) (length s.behind + taken) (all_glyphs s) (omega arith))
-
-pub replaced_flags : (taken : ℕ) (numbers : List ℕ) (s : Sides)
-    → flags_of (all_glyphs (with_replaced taken numbers s)) ≡ replaced (length s.behind) taken (length numbers) (flags_merged_at s.level (length s.behind) (length s.behind + taken) (all_glyphs s))
-replaced_flags taken numbers s =
-    let gs = glyphs_merged_at s.level (length s.behind) (length s.behind + taken) (all_glyphs s) in
-    ap flags_of (all_replaced taken numbers s) ∙ flags_of_replaced (length s.behind) taken numbers gs
-    ∙ ap (replaced (length s.behind) taken (length numbers)) (flags_of_merged_at s.level (length s.behind) (length s.behind + taken) (all_glyphs s))
 
 length_copied : (o : Option hb_glyph_info_t) (numbers : List ℕ) → length (copied glyph_numbered o numbers) ≤ length numbers
 length_copied None numbers = omega arith

@@ -1,5 +1,5 @@
 -- A list that was cut or filled, seen without clusters, or as clusters or flags alone.
-use Rattle.std.specs.Prelude.{bit_and, replicate}
+use Rattle.std.specs.Prelude.{replicate}
 use Rattle.std.proofs.Common.{ℕ, zero, suc, ◌≡◌, ◌-◌, ◌++◌, List, ◌∷◌, length, map, take, false, refl, ap, sym, ◌∙◌, min}
 use Rattle.std.proofs.lemmas.List.{map-append, take-map, take-append-drop, length-map}
 use Rattle.std.specs.Global.{Vec}
@@ -8,9 +8,11 @@ use Rattle.glyph_buffer.specs.declared.buffer.hb_buffer_t.TheInside.{Inside}
 use Rattle.buffer_lists.specs.declared.order.ClusterOrder.{ClusterOrder}
 use Rattle.glyph_buffer.specs.Inside.{sides_of}
 use Rattle.glyph_types.specs.declared.info.hb_glyph_info_t.{hb_glyph_info_t}
-use Rattle.glyph_lists.specs.Items.{item_of, strip, clusters, flags_of}
+use Rattle.glyph_lists.specs.Items.{item_of, strip}
 use Rattle.glyph_buffer.specs.Moving.{of_length, with_len, zero_glyph}
-use Rattle.glyph_buffer.specs.Sides.{Sides, all_glyphs, items_of, zero_position}
+use Rattle.glyph_buffer.specs.Sides.{Sides, all_glyphs, items_of, zero_position, origins_of}
+use Rattle.glyph_buffer.specs.Text.{unflagged_origin}
+use Rattle.glyph_lists.specs.Origins.{origin_of, origins}
 
 map_copies : {X Y : Type 0} (v : X → Y) (n : ℕ) (x : X) → map v (replicate n x) ≡ replicate n (v x)
 map_copies v zero x = refl
@@ -27,11 +29,8 @@ all_of_len n s = take-append-drop (min s.read n) (of_length n zero_glyph (all_gl
 pub len_items : (n : ℕ) (s : Sides) → items_of (with_len n s) ≡ of_length n (item_of zero_glyph) (items_of s)
 len_items n s = ap strip (all_of_len n s) ∙ seen item_of n zero_glyph (all_glyphs s)
 
-pub len_clusters : (n : ℕ) (s : Sides) → clusters (all_glyphs (with_len n s)) ≡ of_length n 0 (clusters (all_glyphs s))
-len_clusters n s = ap clusters (all_of_len n s) ∙ seen (λ (g : hb_glyph_info_t). g.cluster) n zero_glyph (all_glyphs s)
-
-pub len_flags : (n : ℕ) (s : Sides) → flags_of (all_glyphs (with_len n s)) ≡ of_length n 0 (flags_of (all_glyphs s))
-len_flags n s = ap flags_of (all_of_len n s) ∙ seen (λ (g : hb_glyph_info_t). bit_and g.mask 7) n zero_glyph (all_glyphs s)
+pub len_origins : (n : ℕ) (s : Sides) → origins_of (with_len n s) ≡ of_length n (unflagged_origin 0) (origins_of s)
+len_origins n s = ap origins (all_of_len n s) ∙ seen origin_of n zero_glyph (all_glyphs s)
 
 pub resized_view : (b : Inside) (info : Vec hb_glyph_info_t) (positions : Vec GlyphPosition) (order : ClusterOrder) (idx n : ℕ) → b.have_output ≡ false → info.items ≡ of_length n zero_glyph b.info.items → positions.items ≡ of_length n zero_position b.pos.items → idx ≡ min b.idx n
     → sides_of (record b { info = info; pos = positions; idx = idx; order = order }) ≡ with_len n (sides_of b)

@@ -4,9 +4,9 @@ use Rattle.std.specs.Int.RustNames.{bit_or}
 use Rattle.glyph_types.specs.declared.info.hb_glyph_info_t.{hb_glyph_info_t}
 use Rattle.glyph_types.specs.declared.level.BufferClusterLevel.{BufferClusterLevel}
 use Rattle.glyph_types.specs.declared.level.BufferClusterLevel.TheVariants.{MonotoneGraphemes, MonotoneCharacters, Characters}
-use Rattle.glyph_lists.specs.Items.{clusters, flags_of}
+use Rattle.glyph_lists.specs.Items.{clusters}
 use Rattle.glyph_lists.specs.Parts.{first_of, last_of, or, stretch}
-use Rattle.glyph_lists.specs.Glyphs.{flags_merged, glyphs_merged, glyphs_merged_at, is_marked_at}
+use Rattle.glyph_lists.specs.Glyphs.{glyphs_merged, glyphs_merged_at, is_marked_at}
 use Rattle.glyph_lists.specs.Replacements.{copied, glyph_numbered}
 use Rattle.glyph_buffer.specs.Sides.{Sides, all_glyphs, has_output_room}
 
@@ -31,12 +31,6 @@ abbrev pub output_merged_at : BufferClusterLevel → ℕ → ℕ → List hb_gly
 output_merged_at MonotoneGraphemes from to gs = glyphs_merged (stretch from to (clusters gs)) gs
 output_merged_at MonotoneCharacters from to gs = glyphs_merged (stretch from to (clusters gs)) gs
 output_merged_at Characters from to gs = gs
-
--- the glyph flags after it
-abbrev pub flags_output_merged_at : BufferClusterLevel → ℕ → ℕ → List hb_glyph_info_t → List ℕ
-flags_output_merged_at MonotoneGraphemes from to gs = flags_merged (stretch from to (clusters gs)) gs
-flags_output_merged_at MonotoneCharacters from to gs = flags_merged (stretch from to (clusters gs)) gs
-flags_output_merged_at Characters from to gs = flags_of gs
 
 -- the positions of the output from `from` up to before `to` merge
 abbrev pub with_output_merged : ℕ → ℕ → Sides → Sides

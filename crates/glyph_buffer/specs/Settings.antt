@@ -1,6 +1,7 @@
 -- Limits, ligature numbers and the text around.
 use Rattle.std.specs.Prelude.{ℕ, ℤ, pos, ◌+◌, ◌*◌, nat_le, nat_lt, max, if◌then◌else◌, List, [], ◌∷◌, length, min, Option}
 use Rattle.glyph_types.specs.declared.info.hb_glyph_info_t.{hb_glyph_info_t}
+use Rattle.glyph_lists.specs.Origins.{Origin}
 use Rattle.shaping_text.specs.declared.language.Language.{Language}
 use Rattle.glyph_buffer.specs.Merging.{with_glyphs}
 use Rattle.glyph_buffer.specs.Sides.{Sides, all_glyphs}
@@ -52,15 +53,15 @@ with_post_context cs s = record s { post_context = cs }
 abbrev pub most_cluster : ℕ
 most_cluster = 0xFFFF_FFFF
 
--- so many clusters from a number on, each one more than the one before, while there is a greater one
-abbrev pub counted_from : ℕ → List hb_glyph_info_t → List ℕ
-counted_from n [] = []
-counted_from n (g ∷ gs) = min n most_cluster ∷ counted_from (n + 1) gs
-
--- glyphs in these clusters
+-- glyphs in clusters from a number on, each one more than the one before, while there is a greater one
 abbrev pub glyphs_counted : ℕ → List hb_glyph_info_t → List hb_glyph_info_t
 glyphs_counted n [] = []
 glyphs_counted n (g ∷ gs) = record g { cluster = min n most_cluster } ∷ glyphs_counted (n + 1) gs
+
+-- origins in such clusters
+abbrev pub origins_counted : ℕ → List Origin → List Origin
+origins_counted n [] = []
+origins_counted n (o ∷ os) = record o { cluster = min n most_cluster } ∷ origins_counted (n + 1) os
 
 -- all glyphs in clusters from 0 on
 abbrev pub with_counted : Sides → Sides

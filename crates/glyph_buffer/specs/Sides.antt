@@ -5,7 +5,8 @@ use Rattle.glyph_types.specs.declared.level.BufferClusterLevel.{BufferClusterLev
 use Rattle.glyph_types.specs.declared.level.BufferClusterLevel.TheVariants.{MonotoneGraphemes}
 pub use Rattle.glyph_lists.specs.Items.{flags_of}
 use Rattle.glyph_lists.specs.Items.{Item, Position, strip}
-use Rattle.glyph_lists.specs.Origins.{origins, Asks}
+use Rattle.glyph_lists.specs.Origins.{Origin, origins, Asks}
+use Rattle.glyph_lists.specs.Events.{Event, origins_after}
 use Rattle.glyph_lists.specs.Readings.{View, Run}
 use Rattle.shaping_text.specs.declared.constants.BufferFlags.{BufferFlags}
 use Rattle.shaping_text.specs.declared.direction.Direction.{Direction}
@@ -62,9 +63,17 @@ view_of s = record { items = items_of s; positions = s.positions; lig_id = s.lig
 abbrev pub asks_of : Sides → Asks
 asks_of s = record { concat = bit_and s.flags.0 64 == 64; tatweel = bit_and s.flags.0 128 == 128 }
 
+-- where the glyphs come from
+abbrev pub origins_of : Sides → List Origin
+origins_of s = origins (all_glyphs s)
+
+-- where they come from after events
+abbrev pub origins_by : List Event → Sides → List Origin
+origins_by es s = origins_after (asks_of s) s.level es (origins_of s)
+
 -- a buffer as the stages of shaping know it
 abbrev pub run_of : Sides → Run
-run_of s = record { view = view_of s; origins = origins (all_glyphs s); level = s.level; asks = asks_of s }
+run_of s = record { view = view_of s; origins = origins_of s; level = s.level; asks = asks_of s }
 
 -- what is set for a text, and no stage of shaping changes
 pub record Settings : Type 0 where

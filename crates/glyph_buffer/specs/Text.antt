@@ -4,6 +4,7 @@ use Rattle.std.specs.Char.{len_utf8}
 use Rattle.std.specs.Str.{chars}
 use Rattle.glyph_types.specs.declared.info.hb_glyph_info_t.{hb_glyph_info_t}
 use Rattle.glyph_lists.specs.Items.{Item, item_of}
+use Rattle.glyph_lists.specs.Origins.{Origin}
 use Rattle.glyph_buffer.specs.Sides.{Sides, has_room}
 
 -- a character that was just added
@@ -39,6 +40,14 @@ text_items text = map (λ c. item_of (added_glyph c 0)) (chars text)
 abbrev pub offsets_from : ℕ → List ℕ → List ℕ
 offsets_from at [] = []
 offsets_from at (c ∷ cs) = at ∷ offsets_from (at + len_utf8 c) cs
+
+-- a glyph of a cluster without flags
+abbrev pub unflagged_origin : ℕ → Origin
+unflagged_origin n = record { cluster = n; flags = 0 }
+
+-- where the characters of a text come from: each from the byte where it begins
+abbrev pub text_origins : List ℕ → List Origin
+text_origins text = map unflagged_origin (offsets_from 0 (chars text))
 
 -- whether each character from a byte on begins at a byte that 32 bits can tell
 abbrev pub offsets_fit : ℕ → List ℕ → Bool

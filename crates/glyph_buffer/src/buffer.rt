@@ -5,6 +5,7 @@ mod across;
 mod context;
 mod cursor;
 mod deletion;
+mod flags;
 mod groups;
 mod lending;
 mod limits;

@@ -9,9 +9,8 @@ use Rattle.glyph_lists.specs.Glyphs.{glyphs_merged_at, is_marked_at}
 use Rattle.glyph_lists.specs.Replacements.{copied, glyph_numbered}
 use Rattle.glyph_lists.specs.Lemmas.Glyphs.{strip_merged_at}
 use Rattle.glyph_lists.specs.Events.{Replace, Concat}
-use Rattle.glyph_buffer.specs.Sides.{Sides, all_glyphs, items_of}
+use Rattle.glyph_buffer.specs.Sides.{Sides, all_glyphs, items_of, origins_of, origins_by}
 use Rattle.glyph_buffer.specs.Merging.{with_merged, with_replaced}
-use Rattle.glyph_buffer.specs.Followed.{replaced_origins}
 use Rattle.layout_font.specs.Layout.{LigatureTable}
 use Rattle.layout_rules.specs.Actions.{Cut, whole}
 use Rattle.layout_gsub.specs.Ligatures.{with_number, ligature_cut, ligated, ligature_rule, attempted, is_component, mismatch}
@@ -74,13 +73,13 @@ ligated_read n k s lt some le =
     }
 
 -- all that a ligature does
-pub ligature_acted : (n k : ℕ) (s : Sides) → 0 < length s.ahead → 0 < n → n ≤ length s.ahead → k ≤ 65535 → IsActed (ligature_cut n k (cut_of s)) (Replace (length (cut_of s).front) n 1 ∷ []) s (with_replaced n (k ∷ []) s)
-ligature_acted n k s lt some le small =
+pub ligature_acted : (n k : ℕ) (s : Sides) → 0 < length s.ahead → 0 < n → n ≤ length s.ahead → k ≤ 65535 → origins_of (with_replaced n (k ∷ []) s) ≡ origins_by (Replace (length s.behind) n 1 ∷ []) s → IsActed (ligature_cut n k (cut_of s)) (Replace (length (cut_of s).front) n 1 ∷ []) s (with_replaced n (k ∷ []) s)
+ligature_acted n k s lt some le small followed =
     let new = with_replaced n (k ∷ []) s in
     let front : length (cut_of s).front ≡ length s.behind = length-map s.behind item_of in
     record {
       cut_is = ligated_cut n k s lt;
-      happened = rw front (replaced_origins n (k ∷ []) s);
+      happened = rw front followed;
       still = telling_still (is_marked_at s.level (length s.behind) (length s.behind + n) (clusters (all_glyphs s))) s;
       counts = ligated_read n k s lt some le;
       numbers = λ e. ap are_glyphs (sides_stripped new ∙ ap whole (ligated_cut n k s lt)) ∙ glyphs_replaced n k (strip s.behind) (strip s.ahead) small (ap are_glyphs (sym (sides_stripped s)) ∙ e);
@@ -122,9 +121,10 @@ ligature_passes mask l s new k e p =
     let P : Option ℕ → Type 0 = λ o. Does (attempted o (ligated (1 + length l.components) l.glyph (cut_of s)) (cut_of s)) false s new in
     subst P e (refl, rw front p)
 
-pub ligature_does : (mask : ℕ) (l : LigatureTable) (s new : Sides) → 0 < length s.ahead → None ≡ mismatch mask 0 l.components (drop 1 (strip s.ahead)) → l.glyph ≤ 65535 → new ≡ with_replaced (1 + length l.components) (l.glyph ∷ []) s → Does (ligature_rule mask l (cut_of s)) true s new
-ligature_does mask l s new lt e small is =
+pub ligature_does : (mask : ℕ) (l : LigatureTable) (s new : Sides) → 0 < length s.ahead → None ≡ mismatch mask 0 l.components (drop 1 (strip s.ahead)) → l.glyph ≤ 65535 → new ≡ with_replaced (1 + length l.components) (l.glyph ∷ []) s
+    → origins_of new ≡ origins_by (Replace (length s.behind) (1 + length l.components) 1 ∷ []) s → Does (ligature_rule mask l (cut_of s)) true s new
+ligature_does mask l s new lt e small is followed =
     let n = 1 + length l.components in
     let P : Option ℕ → Type 0 = λ o. Does (attempted o (ligated n l.glyph (cut_of s)) (cut_of s)) true s new in
     let R : Sides → Type 0 = λ t. IsActed (ligature_cut n l.glyph (cut_of s)) (Replace (length (cut_of s).front) n 1 ∷ []) s t in
-    subst P e (refl, subst R (sym is) (ligature_acted n l.glyph s lt (omega arith) (ligature_fits mask l.components s.ahead lt e) small))
+    subst P e (refl, subst R (sym is) (ligature_acted n l.glyph s lt (omega arith) (ligature_fits mask l.components s.ahead lt e) small (ap origins_of (sym is) ∙ followed)))

@@ -3,9 +3,8 @@ use Rattle.std.specs.Prelude.{ℕ, ◌≡◌, ◌≤◌, ◌<◌, ◌+◌, Bool,
 use Rattle.std.specs.List.{list_all}
 use Rattle.shaping_text.specs.declared.direction.Direction.{Direction}
 use Rattle.glyph_lists.specs.Items.{Item, Position, strip}
-use Rattle.glyph_lists.specs.Origins.{origins}
-use Rattle.glyph_lists.specs.Events.{Event, origins_after}
-use Rattle.glyph_buffer.specs.Sides.{Sides, Settings, settings_of, all_glyphs, items_of, asks_of, told_of}
+use Rattle.glyph_lists.specs.Events.{Event}
+use Rattle.glyph_buffer.specs.Sides.{Sides, Settings, settings_of, items_of, origins_of, origins_by, told_of}
 use Rattle.layout_rules.specs.Actions.{Cut, Outcome, Passes, Acts, Refuses}
 
 -- the buffer's list without clusters, cut at the cursor; each lookup draws alternates from 1
@@ -35,7 +34,7 @@ IsStill old new = frame_of new ≡ frame_of old
 
 -- so much happened to where a buffer's glyphs come from
 abbrev pub Happened : List Event → Sides → Sides → Type 0
-Happened events old new = origins (all_glyphs new) ≡ origins_after (asks_of old) old.level events (origins (all_glyphs old))
+Happened events old new = origins_of new ≡ origins_by events old
 
 -- glyphs were read, and no more than were read went behind the cursor
 pub record IsRead (old new : Sides) : Type 0 where

@@ -7,13 +7,12 @@ use Rattle.shaping_text.specs.Direction.{opposite, is_backward}
 use Rattle.glyph_types.specs.declared.info.hb_glyph_info_t.{hb_glyph_info_t}
 use Rattle.font_json.specs.Keys.{FontKeys}
 use Rattle.glyph_lists.specs.Items.{Item, item_of, strip}
-use Rattle.glyph_lists.specs.Origins.{origins, without_marks}
+use Rattle.glyph_lists.specs.Origins.{origin_of, origins, without_marks}
 use Rattle.glyph_lists.specs.Events.{Reverse, Reset}
 use Rattle.glyph_lists.specs.Readings.{Reading, Run, Stage, Follows, with_events, always, and_then, read_of}
 use Rattle.glyph_lists.specs.Steps.{follows_then, follows_events}
 use Rattle.glyph_buffer.specs.Sides.{Sides, all_glyphs, items_of, view_of, run_of, reversed, zero_position, zero_positions}
 use Rattle.glyph_buffer.specs.Masks.{with_masks, glyph_masked, item_masked}
-use Rattle.glyph_buffer.specs.FollowedCalls.{reversed_origins}
 use Rattle.layout_map.specs.Map.{OtMap}
 use Rattle.layout_rules.specs.Buffers.{are_glyphs}
 use Rattle.layout_rules.specs.Ready.{IsReady, IsDone}
@@ -31,7 +30,7 @@ reversed_follows : (s : Sides) → Follows (Ok (with_events (Reverse ∷ []) (re
 reversed_follows s =
     let items : items_of (reversed s) ≡ reverse (items_of s) = ap strip (all_reversed s) ∙ map-reverse item_of (all_glyphs s) in
     let view : view_of (reversed s) ≡ reversed_view (view_of s) = ap (λ xs. record (reversed_view (view_of s)) { items = xs }) items in
-    follows_events (Reverse ∷ []) (reversed_view (view_of s)) (run_of s) (run_of (reversed s)) view (reversed_origins s) refl refl
+    follows_events (Reverse ∷ []) (reversed_view (view_of s)) (run_of s) (run_of (reversed s)) view (ap origins (all_reversed s) ∙ map-reverse origin_of (all_glyphs s)) refl refl
 
 -- ---- the stages
 

@@ -1,12 +1,12 @@
-ghost use Rattle.std.specs.Prelude.{◌≡◌, ◌+◌, ◌-◌, ◌≤◌, ◌<◌, if◌then◌else◌, nat_lt, true, length};
-ghost use Rattle.glyph_lists.specs.Items.{clusters, flags_of};
+ghost use Rattle.std.specs.Prelude.{◌≡◌, ◌+◌, ◌-◌, ◌≤◌, ◌<◌, if◌then◌else◌, nat_lt, true, length, ◌∷◌, []};
+ghost use Rattle.glyph_lists.specs.Items.{clusters};
 ghost use Rattle.glyph_lists.specs.Parts.{stretch};
-ghost use Rattle.glyph_lists.specs.Merges.{merged_at};
-ghost use Rattle.glyph_lists.specs.Order.{BringsNone};
-ghost use Rattle.glyph_lists.specs.Glyphs.{flags_flagged, flags_marked, glyphs_merged};
-ghost use Rattle.glyph_buffer.specs.Sides.{all_glyphs, items_of};
-ghost use Rattle.glyph_buffer.specs.Merging.{flags_output_merged_at, index_in_all, with_glyphs, with_output_merged};
-ghost use Rattle.glyph_buffer.specs.Marking.{asks_concat, concat_marked_across, end_or, marked_across, start_or, with_flagged, with_marked};
+ghost use Rattle.glyph_lists.specs.Glyphs.{glyphs_merged};
+ghost use Rattle.glyph_buffer.specs.Sides.{all_glyphs, items_of, origins_of, origins_by};
+ghost use Rattle.glyph_buffer.specs.Merging.{index_in_all, with_glyphs, with_output_merged};
+ghost use Rattle.glyph_buffer.specs.Marking.{asks_concat, concat_marked_across, end_or, marked_across, start_or, with_flagged, with_marked, end_in_all};
+ghost use Rattle.glyph_lists.specs.Levels.{InOutput};
+ghost use Rattle.glyph_lists.specs.Events.{Merge, Break, Concat};
 
 use super::hb_buffer_t;
 use super::merges::telling_flags;
@@ -25,11 +25,7 @@ impl hb_buffer_t {
         requires within { end ≤ length self.old.behind }
         ensures merged { self.new ≡ with_output_merged start end self.old }
         ensures items { items_of self.new ≡ items_of self.old }
-        ensures clusters { clusters (all_glyphs self.new)
-            ≡ merged_at self.old.level start end (clusters (all_glyphs self.old)) }
-        ensures numbers { BringsNone (clusters (all_glyphs self.old)) (clusters (all_glyphs self.new)) }
-        ensures flags { flags_of (all_glyphs self.new)
-            ≡ flags_output_merged_at self.old.level start end (all_glyphs self.old) }
+        ensures origins { origins_of self.new ≡ origins_by (Merge InOutput start end ∷ []) self.old }
     {
         match self.cluster_level {
             BufferClusterLevel::Characters => {}
@@ -62,9 +58,8 @@ impl hb_buffer_t {
         requires within { end_or end self.old ≤ self.old.read + length self.old.ahead }
         ensures marked { self.new ≡ marked_across 3 start end self.old }
         ensures items { items_of self.new ≡ items_of self.old }
-        ensures clusters { clusters (all_glyphs self.new) ≡ clusters (all_glyphs self.old) }
-        ensures flags { flags_of (all_glyphs self.new)
-            ≡ flags_marked 3 (start_or start) (index_in_all (end_or end self.old) self.old) (all_glyphs self.old) }
+        ensures origins { origins_of self.new
+            ≡ origins_by (Break (start_or start) (end_in_all end self.old) ∷ []) self.old }
     {
         if !self.have_output {
             return self.unsafe_to_break(start, end);
@@ -85,10 +80,8 @@ impl hb_buffer_t {
         requires within { end_or end self.old ≤ self.old.read + length self.old.ahead }
         ensures marked { self.new ≡ concat_marked_across start end self.old }
         ensures items { items_of self.new ≡ items_of self.old }
-        ensures clusters { clusters (all_glyphs self.new) ≡ clusters (all_glyphs self.old) }
-        ensures flags { flags_of (all_glyphs self.new)
-            ≡ (if asks_concat self.old then flags_flagged 2 (start_or start)
-            (index_in_all (end_or end self.old) self.old) (all_glyphs self.old) else flags_of (all_glyphs self.old)) }
+        ensures origins { origins_of self.new
+            ≡ origins_by (Concat (start_or start) (end_in_all end self.old) ∷ []) self.old }
     {
         if !self.have_output {
             return self.unsafe_to_concat(start, end);
@@ -106,10 +99,6 @@ impl hb_buffer_t {
         requires unread { self.old.read ≤ end }
         requires within { end ≤ self.old.read + length self.old.ahead }
         ensures marked { self.new ≡ with_marked flags start (index_in_all end self.old) self.old }
-        ensures items { items_of self.new ≡ items_of self.old }
-        ensures clusters { clusters (all_glyphs self.new) ≡ clusters (all_glyphs self.old) }
-        ensures flags { flags_of (all_glyphs self.new)
-            ≡ flags_marked flags start (index_in_all end self.old) (all_glyphs self.old) }
     {
         let input = &mut self.info[self.idx..end];
         let any = mark_across(&mut self.out_info[start..], input, flags);
@@ -123,10 +112,6 @@ impl hb_buffer_t {
         requires unread { self.old.read ≤ end }
         requires within { end ≤ self.old.read + length self.old.ahead }
         ensures marked { self.new ≡ with_flagged flags start (index_in_all end self.old) self.old }
-        ensures items { items_of self.new ≡ items_of self.old }
-        ensures clusters { clusters (all_glyphs self.new) ≡ clusters (all_glyphs self.old) }
-        ensures flags { flags_of (all_glyphs self.new)
-            ≡ flags_flagged flags start (index_in_all end self.old) (all_glyphs self.old) }
     {
         flag_all(&mut self.out_info[start..], flags);
         flag_all(&mut self.info[self.idx..end], flags);

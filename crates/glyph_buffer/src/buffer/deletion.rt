@@ -1,12 +1,10 @@
-ghost use Rattle.std.specs.Prelude.{◌≡◌, ◌+◌, ◌<◌, ◌++◌, ◌∷◌, true, List, length, drop};
+ghost use Rattle.std.specs.Prelude.{◌≡◌, ◌+◌, ◌<◌, ◌++◌, ◌∷◌, true, List, length, drop, []};
 ghost use Rattle.glyph_types.specs.declared.info.hb_glyph_info_t.{hb_glyph_info_t as Glyph};
-ghost use Rattle.glyph_lists.specs.Items.{clusters, flags_of, glyph_flags, strip};
+ghost use Rattle.glyph_lists.specs.Items.{strip};
 ghost use Rattle.glyph_lists.specs.Deletions.{deleted};
-ghost use Rattle.glyph_lists.specs.Order.{BringsNone};
-ghost use Rattle.glyph_slices.specs.Facts.{together};
-ghost use Rattle.glyph_slices.specs.Flags.{flags_deleted};
-ghost use Rattle.glyph_buffer.specs.Sides.{all_glyphs, items_of};
+ghost use Rattle.glyph_buffer.specs.Sides.{items_of, origins_of, origins_by};
 ghost use Rattle.glyph_buffer.specs.Grouping.{with_deleted};
+ghost use Rattle.glyph_lists.specs.Events.{Delete};
 
 use super::hb_buffer_t;
 use super::merges::telling_flags;
@@ -26,14 +24,7 @@ impl hb_buffer_t {
         ensures behind { length self.new.behind ≡ length self.old.behind }
         ensures ahead { length self.new.ahead + 1 ≡ length self.old.ahead }
         ensures items { items_of self.new ≡ strip self.old.behind ++ drop 1 (strip self.old.ahead) }
-        ensures clusters { (g : Glyph) (back : List Glyph) → self.old.ahead ≡ g ∷ back →
-            clusters (all_glyphs self.new)
-            ≡ deleted self.old.level (clusters self.old.behind) g.cluster (clusters back) }
-        ensures numbers { BringsNone (clusters (all_glyphs self.old)) (clusters (all_glyphs self.new)) }
-        ensures flags { (g : Glyph) (back : List Glyph) → self.old.ahead ≡ g ∷ back →
-            flags_of (all_glyphs self.new)
-            ≡ together (flags_deleted self.old.level (clusters self.old.behind) g.cluster (clusters back)
-            (flags_of self.old.behind) (glyph_flags g) (flags_of back)) }
+        ensures origins { origins_of self.new ≡ origins_by (Delete (length self.old.behind) ∷ []) self.old }
     {
         self.order.settle(&self.out_info, &self.info);
         let in_order = self.order.known.is_known();

@@ -1,9 +1,8 @@
-ghost use Rattle.std.specs.Prelude.{◌≡◌, ◌+◌, ◌-◌, ◌≤◌, ◌<◌, if◌then◌else◌, true, length};
-ghost use Rattle.glyph_lists.specs.Items.{clusters, flags_of};
-ghost use Rattle.glyph_lists.specs.Glyphs.{flags_flagged, flags_marked};
-ghost use Rattle.glyph_buffer.specs.Sides.{all_glyphs, items_of};
+ghost use Rattle.std.specs.Prelude.{◌≡◌, ◌+◌, ◌-◌, ◌≤◌, ◌<◌, if◌then◌else◌, true, length, ◌∷◌, []};
+ghost use Rattle.glyph_buffer.specs.Sides.{items_of, origins_of, origins_by};
 ghost use Rattle.glyph_buffer.specs.Merging.{index_in_all};
-ghost use Rattle.glyph_buffer.specs.Marking.{asks_concat, asks_tatweel, concat_marked, end_or, marked_range, start_or, tatweel_marked, with_flagged, with_marked};
+ghost use Rattle.glyph_buffer.specs.Marking.{asks_concat, concat_marked, end_or, marked_range, start_or, tatweel_marked, with_flagged, with_marked, start_in_all, end_in_all};
+ghost use Rattle.glyph_lists.specs.Events.{Break, Concat, Tatweel};
 
 use super::hb_buffer_t;
 use super::merges::telling_flags;
@@ -21,10 +20,8 @@ impl hb_buffer_t {
         requires unread { self.old.is_open ≡ true → self.old.read ≤ start_or start }
         ensures marked { self.new ≡ marked_range 3 start end self.old }
         ensures items { items_of self.new ≡ items_of self.old }
-        ensures clusters { clusters (all_glyphs self.new) ≡ clusters (all_glyphs self.old) }
-        ensures flags { flags_of (all_glyphs self.new)
-            ≡ flags_marked 3 (index_in_all (start_or start) self.old) (index_in_all (end_or end self.old) self.old)
-            (all_glyphs self.old) }
+        ensures origins { origins_of self.new
+            ≡ origins_by (Break (start_in_all start self.old) (end_in_all end self.old) ∷ []) self.old }
     {
         let count = self.info.len();
         self.mark_range(
@@ -41,10 +38,8 @@ impl hb_buffer_t {
         requires unread { self.old.is_open ≡ true → self.old.read ≤ start_or start }
         ensures marked { self.new ≡ concat_marked start end self.old }
         ensures items { items_of self.new ≡ items_of self.old }
-        ensures clusters { clusters (all_glyphs self.new) ≡ clusters (all_glyphs self.old) }
-        ensures flags { flags_of (all_glyphs self.new)
-            ≡ (if asks_concat self.old then flags_flagged 2 (index_in_all (start_or start) self.old)
-            (index_in_all (end_or end self.old) self.old) (all_glyphs self.old) else flags_of (all_glyphs self.old)) }
+        ensures origins { origins_of self.new
+            ≡ origins_by (Concat (start_in_all start self.old) (end_in_all end self.old) ∷ []) self.old }
     {
         if self.asks_concat() {
             let count = self.info.len();
@@ -60,12 +55,8 @@ impl hb_buffer_t {
         requires unread { self.old.is_open ≡ true → self.old.read ≤ start_or start }
         ensures marked { self.new ≡ tatweel_marked start end self.old }
         ensures items { items_of self.new ≡ items_of self.old }
-        ensures clusters { clusters (all_glyphs self.new) ≡ clusters (all_glyphs self.old) }
-        ensures flags { flags_of (all_glyphs self.new)
-            ≡ (if asks_tatweel self.old then flags_marked 4 (index_in_all (start_or start) self.old)
-            (index_in_all (end_or end self.old) self.old) (all_glyphs self.old) else flags_marked 3
-            (index_in_all (start_or start) self.old) (index_in_all (end_or end self.old) self.old)
-            (all_glyphs self.old)) }
+        ensures origins { origins_of self.new
+            ≡ origins_by (Tatweel (start_in_all start self.old) (end_in_all end self.old) ∷ []) self.old }
     {
         if self
             .flags
@@ -95,10 +86,6 @@ impl hb_buffer_t {
         requires unread { self.old.is_open ≡ true → self.old.read ≤ start }
         ensures marked { self.new
             ≡ with_marked flags (index_in_all start self.old) (index_in_all end self.old) self.old }
-        ensures items { items_of self.new ≡ items_of self.old }
-        ensures clusters { clusters (all_glyphs self.new) ≡ clusters (all_glyphs self.old) }
-        ensures flags { flags_of (all_glyphs self.new)
-            ≡ flags_marked flags (index_in_all start self.old) (index_in_all end self.old) (all_glyphs self.old) }
     {
         let any = mark_within(&mut self.info, start, end, flags);
         self.scratch_flags = telling_flags(any, self.scratch_flags);
@@ -111,10 +98,6 @@ impl hb_buffer_t {
         requires unread { self.old.is_open ≡ true → self.old.read ≤ start }
         ensures marked { self.new
             ≡ with_flagged flags (index_in_all start self.old) (index_in_all end self.old) self.old }
-        ensures items { items_of self.new ≡ items_of self.old }
-        ensures clusters { clusters (all_glyphs self.new) ≡ clusters (all_glyphs self.old) }
-        ensures flags { flags_of (all_glyphs self.new)
-            ≡ flags_flagged flags (index_in_all start self.old) (index_in_all end self.old) (all_glyphs self.old) }
     {
         flag_within(&mut self.info, start, end, flags);
         self.scratch_flags = telling_flags(start < end, self.scratch_flags);

@@ -1,8 +1,9 @@
-ghost use Rattle.std.specs.Prelude.{◌≡◌, map, bit_and};
-ghost use Rattle.glyph_lists.specs.Items.{clusters, flags_of};
-ghost use Rattle.glyph_buffer.specs.Sides.{all_glyphs, items_of};
-ghost use Rattle.buffer_lists.specs.Masks.{flags_set, item_masked, items_set};
-ghost use Rattle.glyph_buffer.specs.Masks.{with_masks, with_set_masks};
+ghost use Rattle.std.specs.Prelude.{◌≡◌, map, bit_and, ◌∷◌, []};
+ghost use Rattle.glyph_lists.specs.Items.{clusters};
+ghost use Rattle.glyph_buffer.specs.Sides.{all_glyphs, items_of, origins_of, origins_by};
+ghost use Rattle.buffer_lists.specs.Masks.{item_masked, items_set};
+ghost use Rattle.glyph_buffer.specs.Masks.{with_masks, with_set_masks, origin_masked, origin_set};
+ghost use Rattle.glyph_lists.specs.Events.{Reset};
 
 use super::hb_buffer_t;
 use buffer_lists::masks::{reset_masks, set_masks};
@@ -13,8 +14,8 @@ impl hb_buffer_t {
     pub fn reset_masks(&mut self, mask: hb_mask_t)
         ensures masked { self.new ≡ with_masks mask self.old }
         ensures items { items_of self.new ≡ map (item_masked mask) (items_of self.old) }
-        ensures clusters { clusters (all_glyphs self.new) ≡ clusters (all_glyphs self.old) }
-        ensures flags { flags_of (all_glyphs self.new) ≡ map (λ _. bit_and mask 7) (all_glyphs self.old) }
+        ensures origins { origins_of self.new ≡ map (origin_masked mask) (origins_of self.old) }
+        ensures event { bit_and mask 7 ≡ 0 → origins_of self.new ≡ origins_by (Reset ∷ []) self.old }
     {
         reset_masks(&mut self.info, mask);
         reset_masks(&mut self.out_info, mask);
@@ -32,9 +33,9 @@ impl hb_buffer_t {
         ensures set { self.new ≡ with_set_masks value mask cluster_start cluster_end self.old }
         ensures items { items_of self.new
             ≡ items_set value mask cluster_start cluster_end (clusters (all_glyphs self.old)) (items_of self.old) }
-        ensures clusters { clusters (all_glyphs self.new) ≡ clusters (all_glyphs self.old) }
-        ensures flags { flags_of (all_glyphs self.new)
-            ≡ map (flags_set value mask cluster_start cluster_end) (all_glyphs self.old) }
+        ensures origins { origins_of self.new
+            ≡ map (origin_set value mask cluster_start cluster_end) (origins_of self.old) }
+        ensures above { bit_and mask 7 ≡ 0 → origins_of self.new ≡ origins_of self.old }
     {
         set_masks(&mut self.info, value, mask, cluster_start, cluster_end);
         set_masks(&mut self.out_info, value, mask, cluster_start, cluster_end);

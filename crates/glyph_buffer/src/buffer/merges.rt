@@ -1,11 +1,9 @@
-ghost use Rattle.std.specs.Prelude.{◌≡◌, ◌+◌, ◌-◌, ◌≤◌, if◌then◌else◌, true, length};
-ghost use Rattle.glyph_lists.specs.Items.{clusters, flags_of};
-ghost use Rattle.glyph_lists.specs.Merges.{merged_at};
-ghost use Rattle.glyph_lists.specs.Order.{BringsNone};
-ghost use Rattle.glyph_lists.specs.Glyphs.{flags_merged_at};
+ghost use Rattle.std.specs.Prelude.{◌≡◌, ◌+◌, ◌-◌, ◌≤◌, if◌then◌else◌, true, length, ◌∷◌, []};
 ghost use Rattle.glyph_clusters.specs.Deleting.{recast};
-ghost use Rattle.glyph_buffer.specs.Sides.{all_glyphs, items_of};
+ghost use Rattle.glyph_buffer.specs.Sides.{items_of, origins_of, origins_by};
 ghost use Rattle.glyph_buffer.specs.Merging.{index_in_all, telling_flags, with_merged};
+ghost use Rattle.glyph_lists.specs.Levels.{InList};
+ghost use Rattle.glyph_lists.specs.Events.{Merge};
 
 use super::hb_buffer_t;
 use buffer_lists::merges::merge_input;
@@ -25,13 +23,8 @@ impl hb_buffer_t {
         requires unread { self.old.is_open ≡ true → self.old.read ≤ start }
         ensures merged { self.new ≡ with_merged (index_in_all start self.old) (index_in_all end self.old) self.old }
         ensures items { items_of self.new ≡ items_of self.old }
-        ensures clusters { clusters (all_glyphs self.new)
-            ≡ merged_at self.old.level (index_in_all start self.old) (index_in_all end self.old)
-            (clusters (all_glyphs self.old)) }
-        ensures numbers { BringsNone (clusters (all_glyphs self.old)) (clusters (all_glyphs self.new)) }
-        ensures flags { flags_of (all_glyphs self.new)
-            ≡ flags_merged_at self.old.level (index_in_all start self.old) (index_in_all end self.old)
-            (all_glyphs self.old) }
+        ensures origins { origins_of self.new
+            ≡ origins_by (Merge InList (index_in_all start self.old) (index_in_all end self.old) ∷ []) self.old }
     {
         let from = self.first_of_input();
         self.order.settle(&self.out_info, &self.info);

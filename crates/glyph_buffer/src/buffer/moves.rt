@@ -1,9 +1,9 @@
-ghost use Rattle.std.specs.Prelude.{◌≡◌, ◌<◌, ◌≤◌, ◌+◌, ◌-◌, ◌++◌, length, drop, nat_le, true, false, Ok, OnErr, IfOk};
-ghost use Rattle.glyph_lists.specs.Items.{clusters, flags_of, strip};
-ghost use Rattle.glyph_lists.specs.Order.{BringsNone};
-ghost use Rattle.glyph_buffer.specs.Sides.{all_glyphs, fits_next, items_of, moved_on, refused};
+ghost use Rattle.std.specs.Prelude.{◌≡◌, ◌<◌, ◌≤◌, ◌+◌, ◌-◌, ◌++◌, length, drop, nat_le, true, false, Ok, OnErr, IfOk, ◌∷◌, []};
+ghost use Rattle.glyph_lists.specs.Items.{strip};
+ghost use Rattle.glyph_buffer.specs.Sides.{all_glyphs, fits_next, items_of, moved_on, refused, origins_of, origins_by};
 ghost use Rattle.glyph_buffer.specs.Merging.{with_skipped};
 ghost use Rattle.glyph_buffer.specs.Moving.{fits_moved, moved_to};
+ghost use Rattle.glyph_lists.specs.Events.{Replace};
 
 use super::hb_buffer_t;
 use buffer_lists::moves::put_in_front;
@@ -44,10 +44,7 @@ impl hb_buffer_t {
         requires there { 0 < length self.old.ahead }
         ensures skipped { self.new ≡ with_skipped self.old }
         ensures items { items_of self.new ≡ strip self.old.behind ++ drop 1 (strip self.old.ahead) }
-        ensures clusters { clusters (all_glyphs self.new)
-            ≡ clusters self.old.behind ++ drop 1 (clusters self.old.ahead) }
-        ensures numbers { BringsNone (clusters (all_glyphs self.old)) (clusters (all_glyphs self.new)) }
-        ensures flags { flags_of (all_glyphs self.new) ≡ flags_of self.old.behind ++ drop 1 (flags_of self.old.ahead) }
+        ensures origins { origins_of self.new ≡ origins_by (Replace (length self.old.behind) 1 0 ∷ []) self.old }
     {
         self.idx += 1;
     }

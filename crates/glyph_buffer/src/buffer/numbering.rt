@@ -1,7 +1,6 @@
 ghost use Rattle.std.specs.Prelude.{◌≡◌, false, vec_len};
-ghost use Rattle.glyph_lists.specs.Items.{clusters, flags_of};
-ghost use Rattle.glyph_buffer.specs.Sides.{all_glyphs, items_of};
-ghost use Rattle.glyph_buffer.specs.Settings.{counted_from, glyphs_counted, with_counted};
+ghost use Rattle.glyph_buffer.specs.Sides.{items_of, origins_of};
+ghost use Rattle.glyph_buffer.specs.Settings.{glyphs_counted, with_counted, origins_counted};
 
 use super::hb_buffer_t;
 use buffer_lists::order::{ClusterOrder, KnownOrder};
@@ -13,8 +12,7 @@ impl hb_buffer_t {
         requires { self.old.is_open ≡ false }
         ensures counted { self.new ≡ with_counted self.old }
         ensures items { items_of self.new ≡ items_of self.old }
-        ensures clusters { clusters (all_glyphs self.new) ≡ counted_from 0 (all_glyphs self.old) }
-        ensures flags { flags_of (all_glyphs self.new) ≡ flags_of (all_glyphs self.old) }
+        ensures origins { origins_of self.new ≡ origins_counted 0 (origins_of self.old) }
     {
         number_all(&mut self.info);
         self.order = ClusterOrder::of(KnownOrder::Rising);

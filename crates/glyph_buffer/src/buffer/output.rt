@@ -1,10 +1,11 @@
 ghost use Rattle.std.specs.Prelude.{◌≡◌, ◌<◌, ◌+◌, ◌++◌, ◌∷◌, [], length, true, false, Ok, OnErr, IfOk};
-ghost use Rattle.glyph_lists.specs.Items.{clusters, flags_of, glyph_flags, item_of, strip};
+ghost use Rattle.glyph_lists.specs.Items.{item_of, strip};
 ghost use Rattle.glyph_lists.specs.Parts.{replaced};
 ghost use Rattle.glyph_lists.specs.Replacements.{items_replaced};
-ghost use Rattle.glyph_lists.specs.Order.{BringsNone};
-ghost use Rattle.glyph_buffer.specs.Sides.{all_glyphs, has_output_room, items_of, refused};
+ghost use Rattle.glyph_buffer.specs.Sides.{has_output_room, items_of, refused, origins_of, origins_by};
 ghost use Rattle.glyph_buffer.specs.Merging.{fits_copies, with_copy, with_put, with_renumbered};
+ghost use Rattle.glyph_lists.specs.Origins.{origin_of, origins};
+ghost use Rattle.glyph_lists.specs.Events.{Replace};
 
 use super::hb_buffer_t;
 use buffer_lists::replacement::push_copies;
@@ -21,12 +22,8 @@ impl hb_buffer_t {
         ensures put { result ≡ Ok true → self.new ≡ with_copy glyph_index self.old }
         ensures items { result ≡ Ok true →
             items_of self.new ≡ items_replaced (length self.old.behind) 0 (glyph_index ∷ []) (items_of self.old) }
-        ensures clusters { result ≡ Ok true →
-            clusters (all_glyphs self.new) ≡ replaced (length self.old.behind) 0 1 (clusters (all_glyphs self.old)) }
-        ensures numbers { result ≡ Ok true →
-            BringsNone (clusters (all_glyphs self.old)) (clusters (all_glyphs self.new)) }
-        ensures flags { result ≡ Ok true →
-            flags_of (all_glyphs self.new) ≡ replaced (length self.old.behind) 0 1 (flags_of (all_glyphs self.old)) }
+        ensures origins { result ≡ Ok true →
+            origins_of self.new ≡ origins_by (Replace (length self.old.behind) 0 1 ∷ []) self.old }
         ensures full { result ≡ Ok false → self.new ≡ refused self.old }
         ensures err { OnErr result (self.new ≡ self.old) }
     {
@@ -41,18 +38,15 @@ impl hb_buffer_t {
     }
 
     /// Puts a glyph behind the output; answers false, and puts none, where the output has as many as it may.
-    #[tactic(auto, using(crate::proofs::Apart::put_items, crate::proofs::Apart::put_clusters, crate::proofs::Apart::put_flags))]
+    #[tactic(auto, using(crate::proofs::Apart::put_items, crate::proofs::Apart::put_origins))]
     pub fn output_info(&mut self, glyph_info: hb_glyph_info_t) -> Result<bool, AllocError>
         requires { self.old.is_open ≡ true }
         ensures held { IfOk result (λ b. b ≡ has_output_room 1 self.old) }
         ensures put { result ≡ Ok true → self.new ≡ with_put glyph_info self.old }
         ensures items { result ≡ Ok true →
             items_of self.new ≡ strip self.old.behind ++ item_of glyph_info ∷ strip self.old.ahead }
-        ensures clusters { result ≡ Ok true →
-            clusters (all_glyphs self.new) ≡ clusters self.old.behind ++ glyph_info.cluster ∷ clusters self.old.ahead }
-        ensures flags { result ≡ Ok true →
-            flags_of (all_glyphs self.new)
-            ≡ flags_of self.old.behind ++ glyph_flags glyph_info ∷ flags_of self.old.ahead }
+        ensures origins { result ≡ Ok true →
+            origins_of self.new ≡ origins self.old.behind ++ origin_of glyph_info ∷ origins self.old.ahead }
         ensures full { result ≡ Ok false → self.new ≡ refused self.old }
         ensures err { OnErr result (self.new ≡ self.old) }
     {
@@ -71,7 +65,7 @@ impl hb_buffer_t {
 
     /// Puts the glyph at the cursor behind the output under another number; answers false, and moves nothing, where the
     /// output has as many as it may.
-    #[tactic(auto, using(glyph_lists::specs::Lists::take_one, glyph_lists::specs::Lists::drop_next, crate::proofs::Kept::renumbered_clusters, crate::proofs::Kept::renumbered_flags))]
+    #[tactic(auto, using(glyph_lists::specs::Lists::take_one, glyph_lists::specs::Lists::drop_next, crate::proofs::Kept::renumbered_origins))]
     pub fn replace_glyph(&mut self, glyph_index: u32) -> Result<bool, AllocError>
         requires open { self.old.is_open ≡ true }
         requires there { 0 < length self.old.ahead }
@@ -79,10 +73,9 @@ impl hb_buffer_t {
         ensures replaced { result ≡ Ok true → self.new ≡ with_renumbered glyph_index self.old }
         ensures items { result ≡ Ok true →
             items_of self.new ≡ items_replaced (length self.old.behind) 1 (glyph_index ∷ []) (items_of self.old) }
+        ensures origins { origins_of self.new ≡ origins_of self.old }
         ensures full { result ≡ Ok false → self.new ≡ refused self.old }
         ensures err { OnErr result (self.new ≡ self.old) }
-        ensures clusters { clusters (all_glyphs self.new) ≡ clusters (all_glyphs self.old) }
-        ensures flags { flags_of (all_glyphs self.new) ≡ flags_of (all_glyphs self.old) }
     {
         if self.out_info.len() >= self.max_len {
             self.successful = false;

@@ -1,12 +1,9 @@
-ghost use Rattle.std.specs.Prelude.{◌≡◌, ◌+◌, ◌≤◌, not, length, true, false, Ok, OnErr, IfOk};
-ghost use Rattle.glyph_lists.specs.Items.{clusters, flags_of};
+ghost use Rattle.std.specs.Prelude.{◌≡◌, ◌+◌, ◌≤◌, not, length, true, false, Ok, OnErr, IfOk, ◌∷◌, []};
 ghost use Rattle.glyph_lists.specs.Parts.{replaced};
-ghost use Rattle.glyph_lists.specs.Merges.{replaced_at};
-ghost use Rattle.glyph_lists.specs.Order.{BringsNone};
-ghost use Rattle.glyph_lists.specs.Glyphs.{flags_merged_at};
 ghost use Rattle.glyph_lists.specs.Replacements.{items_replaced};
-ghost use Rattle.glyph_buffer.specs.Sides.{all_glyphs, items_of, refused};
+ghost use Rattle.glyph_buffer.specs.Sides.{items_of, refused, origins_of, origins_by};
 ghost use Rattle.glyph_buffer.specs.Merging.{fits_copies, with_replaced};
+ghost use Rattle.glyph_lists.specs.Events.{Replace};
 
 use super::hb_buffer_t;
 use super::merges::telling_flags;
@@ -33,16 +30,8 @@ impl hb_buffer_t {
         ensures replaced { result ≡ Ok true → self.new ≡ with_replaced num_in glyph_data.now self.old }
         ensures items { result ≡ Ok true →
             items_of self.new ≡ items_replaced (length self.old.behind) num_in glyph_data.now (items_of self.old) }
-        ensures clusters { result ≡ Ok true →
-            clusters (all_glyphs self.new)
-            ≡ replaced_at self.old.level (length self.old.behind) num_in num_out (clusters (all_glyphs self.old)) }
-        ensures numbers { result ≡ Ok true →
-            BringsNone (clusters (all_glyphs self.old)) (clusters (all_glyphs self.new)) }
-        ensures flags { result ≡ Ok true →
-            flags_of (all_glyphs self.new)
-            ≡ replaced (length self.old.behind) num_in num_out
-            (flags_merged_at self.old.level (length self.old.behind) (length self.old.behind + num_in)
-            (all_glyphs self.old)) }
+        ensures origins { result ≡ Ok true →
+            origins_of self.new ≡ origins_by (Replace (length self.old.behind) num_in num_out ∷ []) self.old }
         ensures full { result ≡ Ok false → self.new ≡ refused self.old }
         ensures err { OnErr result (self.new ≡ self.old) }
     {

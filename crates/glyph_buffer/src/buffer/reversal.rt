@@ -1,8 +1,7 @@
-ghost use Rattle.std.specs.Prelude.{◌≡◌, ◌≤◌, false, length, reverse, vec_len};
-ghost use Rattle.glyph_lists.specs.Items.{clusters};
-ghost use Rattle.glyph_lists.specs.Order.{BringsNone, BringsNone};
-ghost use Rattle.glyph_buffer.specs.Sides.{all_glyphs, flags_of, items_of, reversed, with_cleared_positions};
-ghost use Rattle.glyph_buffer.specs.Moving.{range_reversed, with_range_reversed};
+ghost use Rattle.std.specs.Prelude.{◌≡◌, ◌≤◌, ◌-◌, false, length, reverse, vec_len, ◌∷◌, []};
+ghost use Rattle.glyph_buffer.specs.Sides.{all_glyphs, items_of, reversed, with_cleared_positions, origins_of, origins_by};
+ghost use Rattle.glyph_buffer.specs.Moving.{range_reversed, with_range_reversed, indices_reversed};
+ghost use Rattle.glyph_lists.specs.Events.{Reverse, Arrange};
 
 use super::hb_buffer_t;
 use buffer_lists::order::{ClusterOrder, KnownOrder};
@@ -15,9 +14,7 @@ impl hb_buffer_t {
         requires { self.old.is_open ≡ false }
         ensures turned { self.new ≡ reversed self.old }
         ensures items { items_of self.new ≡ reverse (items_of self.old) }
-        ensures parts { clusters (all_glyphs self.new) ≡ reverse (clusters (all_glyphs self.old)) }
-        ensures numbers { BringsNone (clusters (all_glyphs self.old)) (clusters (all_glyphs self.new)) }
-        ensures flags { flags_of (all_glyphs self.new) ≡ reverse (flags_of (all_glyphs self.old)) }
+        ensures origins { origins_of self.new ≡ origins_by (Reverse ∷ []) self.old }
     {
         self.order.settle(&self.out_info, &self.info);
         self.order.known = self.order.known.reversed();
@@ -32,9 +29,8 @@ impl hb_buffer_t {
         requires within { end ≤ length (all_glyphs self.old) }
         ensures turned { self.new ≡ with_range_reversed start end self.old }
         ensures items { items_of self.new ≡ range_reversed start end (items_of self.old) }
-        ensures clusters { clusters (all_glyphs self.new) ≡ range_reversed start end (clusters (all_glyphs self.old)) }
-        ensures numbers { BringsNone (clusters (all_glyphs self.old)) (clusters (all_glyphs self.new)) }
-        ensures flags { flags_of (all_glyphs self.new) ≡ range_reversed start end (flags_of (all_glyphs self.old)) }
+        ensures origins { origins_of self.new
+            ≡ origins_by (Arrange start (indices_reversed (end - start)) ∷ []) self.old }
     {
         self.order = ClusterOrder::of(KnownOrder::Unknown);
         turn_glyphs(&mut self.info, start, end);

@@ -1,9 +1,9 @@
-ghost use Rattle.std.specs.Prelude.{◌≡◌, ◌+◌, ◌≤◌, ◌<◌, ◌^◌, ◌==◌, ◌++◌, ◌∷◌, [], length, not, replicate, nat_le, false, true, Ok, OnOk, OnErr, IfOk, IsTrue, vec_len, vec_capacity};
+ghost use Rattle.std.specs.Prelude.{◌≡◌, ◌+◌, ◌≤◌, ◌<◌, ◌^◌, ◌==◌, ◌++◌, ◌∷◌, [], length, not, nat_le, false, true, Ok, OnOk, OnErr, IfOk, IsTrue, vec_len, vec_capacity};
 ghost use Rattle.std.specs.Str.{chars};
-ghost use Rattle.glyph_buffer.specs.Sides.{all_glyphs, items_of, with_added, has_room, refused, zero_position, zero_positions};
-ghost use Rattle.glyph_lists.specs.Items.{clusters, flags_of, item_of};
-ghost use Rattle.buffer_lists.specs.Known.{HasOrder, is_known};
-ghost use Rattle.glyph_buffer.specs.Text.{added_glyph, added_text, fits_text, offsets_fit, offsets_from, text_items};
+ghost use Rattle.glyph_buffer.specs.Sides.{all_glyphs, items_of, with_added, has_room, refused, zero_position, zero_positions, origins_of};
+ghost use Rattle.glyph_lists.specs.Items.{clusters, item_of};
+ghost use Rattle.buffer_lists.specs.Known.{HasOrder};
+ghost use Rattle.glyph_buffer.specs.Text.{added_glyph, added_text, fits_text, offsets_fit, text_items, unflagged_origin, text_origins};
 ghost use Rattle.glyph_buffer.specs.Moving.{of_length, with_len, zero_glyph};
 ghost use Rattle.glyph_buffer.specs.Appended.{IsAppended};
 
@@ -69,7 +69,7 @@ impl hb_buffer_t {
         &self.pos
     }
 
-    #[tactic(auto, using(crate::proofs::Apart::added_items, crate::proofs::Apart::added_clusters, crate::proofs::Apart::added_flags))]
+    #[tactic(auto, using(crate::proofs::Apart::added_items, crate::proofs::Apart::added_origins))]
     /// Adds a character; answers false, and adds nothing, where the list has as many as it may.
     pub fn add(&mut self, codepoint: char, cluster: u32) -> Result<bool, AllocError>
         requires { self.old.is_open ≡ false }
@@ -77,9 +77,8 @@ impl hb_buffer_t {
         ensures added { result ≡ Ok true → self.new ≡ with_added (added_glyph codepoint cluster ∷ []) self.old }
         ensures items { result ≡ Ok true →
             items_of self.new ≡ items_of self.old ++ item_of (added_glyph codepoint 0) ∷ [] }
-        ensures clusters { result ≡ Ok true →
-            clusters (all_glyphs self.new) ≡ clusters (all_glyphs self.old) ++ cluster ∷ [] }
-        ensures flags { result ≡ Ok true → flags_of (all_glyphs self.new) ≡ flags_of (all_glyphs self.old) ++ 0 ∷ [] }
+        ensures origins { result ≡ Ok true →
+            origins_of self.new ≡ origins_of self.old ++ unflagged_origin cluster ∷ [] }
         ensures full { result ≡ Ok false → self.new ≡ self.old }
         ensures err { OnErr result (self.new ≡ self.old) }
     {
@@ -101,10 +100,7 @@ impl hb_buffer_t {
         ensures held { IfOk result (λ b. b ≡ nat_le n self.old.max_len) }
         ensures set { result ≡ Ok true → self.new ≡ with_len n self.old }
         ensures items { result ≡ Ok true → items_of self.new ≡ of_length n (item_of zero_glyph) (items_of self.old) }
-        ensures clusters { result ≡ Ok true →
-            clusters (all_glyphs self.new) ≡ of_length n 0 (clusters (all_glyphs self.old)) }
-        ensures flags { result ≡ Ok true →
-            flags_of (all_glyphs self.new) ≡ of_length n 0 (flags_of (all_glyphs self.old)) }
+        ensures origins { result ≡ Ok true → origins_of self.new ≡ of_length n (unflagged_origin 0) (origins_of self.old) }
         ensures full { result ≡ Ok false → self.new ≡ refused self.old }
         ensures err { OnErr result (self.new ≡ self.old) }
     {
@@ -126,10 +122,7 @@ impl hb_buffer_t {
         ensures held { IfOk result (λ b. b ≡ fits_text text.now self.old) }
         ensures added { result ≡ Ok true → self.new ≡ with_added (added_text text.now) self.old }
         ensures items { result ≡ Ok true → items_of self.new ≡ items_of self.old ++ text_items text.now }
-        ensures clusters { result ≡ Ok true →
-            clusters (all_glyphs self.new) ≡ clusters (all_glyphs self.old) ++ offsets_from 0 (chars text.now) }
-        ensures flags { result ≡ Ok true →
-            flags_of (all_glyphs self.new) ≡ flags_of (all_glyphs self.old) ++ replicate (length (chars text.now)) 0 }
+        ensures origins { result ≡ Ok true → origins_of self.new ≡ origins_of self.old ++ text_origins text.now }
         ensures full { result ≡ Ok false → self.new ≡ self.old }
         ensures err { OnErr result (self.new ≡ self.old) }
     {

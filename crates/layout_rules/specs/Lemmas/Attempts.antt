@@ -1,18 +1,16 @@
 -- What an attempt that fails does to a buffer.
-use Rattle.std.proofs.Common.{ℕ, ◌≡◌, ◌≤◌, ◌+◌, nat_lt, true, false, Bool, if◌then◌else◌, List, [], ◌∷◌, length, take, drop, Some, refl, sym, ap, subst, ◌∙◌, arith}
+use Rattle.std.proofs.Common.{ℕ, ◌≡◌, ◌≤◌, ◌+◌, nat_lt, true, false, Bool, if◌then◌else◌, List, [], ◌∷◌, length, take, drop, Some, refl, sym, ap, ◌∙◌, arith}
 use Rattle.std.proofs.lemmas.List.{take-map, drop-map}
 use Rattle.std.proofs.Math.Seq.{take-append_seam, drop-append_seam}
 use Rattle.glyph_types.specs.declared.info.hb_glyph_info_t.{hb_glyph_info_t}
 use Rattle.glyph_lists.specs.Items.{Item, item_of, strip}
 use Rattle.glyph_lists.specs.Glyphs.{glyphs_flagged}
 use Rattle.glyph_lists.specs.Lemmas.Glyphs.{strip_flagged}
-use Rattle.glyph_lists.specs.Origins.{origins}
-use Rattle.glyph_lists.specs.Events.{Concat, concat_marked as origins_concat}
-use Rattle.glyph_buffer.specs.Sides.{Sides, all_glyphs}
+use Rattle.glyph_lists.specs.Events.{Concat}
+use Rattle.glyph_buffer.specs.Sides.{Sides, all_glyphs, origins_of, origins_by}
 use Rattle.glyph_buffer.specs.Merging.{index_in_all, with_glyphs}
-use Rattle.glyph_buffer.specs.Marking.{asks_concat, concat_marked, with_flagged}
-use Rattle.glyph_buffer.specs.Followed.{flagged_origins}
-use Rattle.layout_rules.specs.Buffers.{cut_of, IsPassed}
+use Rattle.glyph_buffer.specs.Marking.{asks_concat, concat_marked, end_in_all, start_in_all, with_flagged}
+use Rattle.layout_rules.specs.Buffers.{cut_of, frame_of, IsPassed, IsStill}
 use Rattle.layout_rules.specs.Lemmas.Frames.{telling_still}
 
 -- glyphs that are the same items are cut alike
@@ -23,25 +21,31 @@ cut_with_glyphs gs s same =
     ap (λ (xs : List Item). record { front = xs; rest = strip (drop (length s.behind) gs); lig_id = s.lig_id; max_ops = s.max_ops; random = 1; max_len = s.max_len }) front
     ∙ ap (λ (xs : List Item). record { front = strip s.behind; rest = xs; lig_id = s.lig_id; max_ops = s.max_ops; random = 1; max_len = s.max_len }) rest
 
-flagged_passed : (from to : ℕ) (s : Sides) → from ≤ to → asks_concat s ≡ true → IsPassed (Concat from to ∷ []) s (with_flagged 2 from to s)
-flagged_passed from to s le asked = record {
-  cut_is = cut_with_glyphs (glyphs_flagged 2 from to (all_glyphs s)) s (strip_flagged 2 from to (all_glyphs s) (omega arith) le);
-  happened = flagged_origins 2 from to s (omega arith) le ∙ ap (λ b. origins_concat b from to (origins (all_glyphs s))) (sym asked);
-  still = telling_still (nat_lt from to) s;
-  read = refl;
-}
+concat_cut : (from to : ℕ) (s : Sides) (b : Bool) → from ≤ to → cut_of (if b then with_flagged 2 from to s else s) ≡ cut_of s
+concat_cut from to s true le = cut_with_glyphs (glyphs_flagged 2 from to (all_glyphs s)) s (strip_flagged 2 from to (all_glyphs s) (omega arith) le)
+concat_cut from to s false le = refl
 
-same_passed : (from to : ℕ) (s : Sides) → asks_concat s ≡ false → IsPassed (Concat from to ∷ []) s s
-same_passed from to s not = record { cut_is = refl; happened = ap (λ b. origins_concat b from to (origins (all_glyphs s))) (sym not); still = refl; read = refl }
+concat_still : (from to : ℕ) (s : Sides) (b : Bool) → IsStill s (if b then with_flagged 2 from to s else s)
+concat_still from to s true = telling_still (nat_lt from to) s
+concat_still from to s false = refl
 
-by_asking : (from to : ℕ) (s : Sides) (b : Bool) → from ≤ to → asks_concat s ≡ b → IsPassed (Concat from to ∷ []) s (if b then with_flagged 2 from to s else s)
-by_asking from to s true le e = flagged_passed from to s le e
-by_asking from to s false le e = same_passed from to s e
+concat_read : (from to : ℕ) (s : Sides) (b : Bool) → (if b then with_flagged 2 from to s else s).read ≡ s.read
+concat_read from to s true = refl
+concat_read from to s false = refl
 
 -- all from the cursor on up to behind so many more
-pub attempt_passed : (count at : ℕ) (s new : Sides) → at ≡ s.read → new ≡ concat_marked (Some at) (Some (at + count + 1)) s → IsPassed (Concat (length s.behind) (length s.behind + (count + 1)) ∷ []) s new
-attempt_passed count at s new here is =
-    let from : index_in_all at s ≡ length s.behind = omega (arith, here) in
-    let to : index_in_all (at + count + 1) s ≡ length s.behind + (count + 1) = omega (arith, here) in
-    let P : Sides → Type 0 = λ t. IsPassed (Concat (length s.behind) (length s.behind + (count + 1)) ∷ []) s t in
-    subst P (sym is) (rw (from, to) (by_asking (length s.behind) (length s.behind + (count + 1)) s (asks_concat s) (omega arith) refl))
+pub attempt_passed : (count at : ℕ) (s new : Sides) → at ≡ s.read → new ≡ concat_marked (Some at) (Some (at + count + 1)) s → origins_of new ≡ origins_by (Concat (start_in_all (Some at) s) (end_in_all (Some (at + count + 1)) s) ∷ []) s
+    → IsPassed (Concat (length s.behind) (length s.behind + (count + 1)) ∷ []) s new
+attempt_passed count at s new here is happened =
+    let i = length s.behind in
+    let j = length s.behind + (count + 1) in
+    let from : index_in_all at s ≡ i = omega (arith, here) in
+    let to : index_in_all (at + count + 1) s ≡ j = omega (arith, here) in
+    let asked = asks_concat s in
+    let same : new ≡ (if asked then with_flagged 2 i j s else s) = is ∙ rw (from, to) refl in
+    record {
+      cut_is = ap cut_of same ∙ concat_cut i j s asked (omega arith);
+      happened = happened ∙ rw (from, to) refl;
+      still = ap frame_of same ∙ concat_still i j s asked;
+      read = ap (λ (t : Sides). t.read) same ∙ concat_read i j s asked;
+    }

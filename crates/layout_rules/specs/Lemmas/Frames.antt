@@ -5,12 +5,12 @@ use Rattle.std.specs.Prelude.{bit_and, ◌==◌}
 use Rattle.glyph_types.specs.declared.level.BufferClusterLevel.{BufferClusterLevel}
 use Rattle.shaping_text.specs.declared.constants.BufferFlags.{BufferFlags}
 use Rattle.glyph_lists.specs.Items.{item_of}
-use Rattle.glyph_lists.specs.Origins.{Asks, origins}
+use Rattle.glyph_lists.specs.Origins.{Asks}
 use Rattle.glyph_lists.specs.Events.{Event, origins_after}
 use Rattle.glyph_lists.specs.Steps.{origins_after_both}
-use Rattle.glyph_buffer.specs.Sides.{Sides, Settings, settings_of, all_glyphs, items_of, asks_of, told_of}
+use Rattle.glyph_buffer.specs.Sides.{Sides, Settings, settings_of, items_of, origins_of, asks_of, told_of}
 use Rattle.glyph_buffer.specs.Merging.{telling_flags}
-use Rattle.glyph_buffer.specs.Followed.{told_telling}
+use Rattle.glyph_buffer.specs.Told.{told_telling}
 use Rattle.layout_rules.specs.Actions.{Cut, whole}
 use Rattle.layout_rules.specs.Buffers.{cut_of, Frame, frame_of, IsStill, Happened}
 
@@ -55,8 +55,8 @@ telling_still any s = ap (λ (t : ℕ). record (frame_of s) { told = t }) (told_
 -- events one after another
 pub then_happened : (es fs : List Event) (a b c : Sides) → settings_of b ≡ settings_of a → Happened es a b → Happened fs b c → Happened (es ++ fs) a c
 then_happened es fs a b c same f g =
-    g ∙ ap (λ (l : BufferClusterLevel). origins_after (asks_of b) l fs (origins (all_glyphs b))) (same_level a b same) ∙ ap (λ (k : Asks). origins_after k a.level fs (origins (all_glyphs b))) (same_asks a b same)
-    ∙ ap (origins_after (asks_of a) a.level fs) f ∙ sym (origins_after_both (asks_of a) a.level es fs (origins (all_glyphs a)))
+    g ∙ ap (λ (l : BufferClusterLevel). origins_after (asks_of b) l fs (origins_of b)) (same_level a b same) ∙ ap (λ (k : Asks). origins_after k a.level fs (origins_of b)) (same_asks a b same)
+    ∙ ap (origins_after (asks_of a) a.level fs) f ∙ sym (origins_after_both (asks_of a) a.level es fs (origins_of a))
 
 -- both sides are as long where the cut is the same
 pub same_lengths : (a b : Sides) → cut_of b ≡ cut_of a → (length b.behind ≡ length a.behind) × (length b.ahead ≡ length a.ahead)

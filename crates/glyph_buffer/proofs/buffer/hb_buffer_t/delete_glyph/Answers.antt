@@ -3,15 +3,14 @@ use borrow.Rule.Slice.PartMut.{put_mid}
 use Rattle.std.proofs.Common.{◌≡◌, ◌<◌, ◌+◌, ◌-◌, ◌∷◌, true, length, drop, get_or, refl, rules, arith, sym, ap, ◌∙◌}
 use Rattle.std.proofs.lemmas.Grind.{common_steps}
 use Rattle.std.proofs.lemmas.List.{drop_more, drop-drop, take_rest}
-use Rattle.glyph_lists.specs.Items.{clusters, flags_of}
 use Rattle.glyph_buffer.specs.Grouping.{with_deleted}
 use Rattle.glyph_buffer.specs.Moving.{zero_glyph}
-use Rattle.glyph_buffer.specs.Sides.{Sides, all_glyphs, items_of}
-use Rattle.glyph_buffer.proofs.Deleting.{deleted_view, deletes_same, left_flags, left_items, left_numbers, order_gone}
+use Rattle.glyph_buffer.specs.Sides.{items_of, origins_of}
+use Rattle.glyph_buffer.proofs.Deleting.{deleted_view, deletes_same, left_items, order_gone, first_is}
 use Rattle.glyph_buffer.proofs.Ordered.{known_ordered, known_ahead, known_back, none_lent}
-use Rattle.glyph_buffer.proofs.Brings.{delete_brings}
 use Rattle.glyph_buffer.proofs.Slices.{all_put, rest_is}
 use Rattle.glyph_buffer.proofs.buffer.hb_buffer_t.delete_glyph.Goals as goal
+use Rattle.glyph_buffer.proofs.DeletedOrigins.{deleted_origins}
 
 pub delete_first-marked-requires-clause-known : goal.delete_first-marked-requires-clause-known
 delete_first-marked-requires-clause-known c e =
@@ -41,21 +40,15 @@ returns-clause-deleted c g back e =
 
 pub returns-clause-items : goal.returns-clause-items
 returns-clause-items c =
-    let b = c.self.inside in
     let s = c.args.self.now in
-    let within : b.idx < length b.info.items = grind (arith, common_steps) in
-    let first = drop_more b.info.items b.idx zero_glyph within in
-    let ahead : s.ahead ≡ get_or b.info.items b.idx zero_glyph ∷ drop (b.idx + 1) b.info.items = sym (ap (λ (t : Sides). t.ahead) c.self.view_is) ∙ first in
-    ap items_of (returns-clause-deleted c _ _ ahead) ∙ left_items _ _ s ahead
+    let first = first_is s.ahead c.requires.there in
+    ap items_of (returns-clause-deleted c _ _ first) ∙ left_items _ _ s first
 
-pub returns-clause-clusters : goal.returns-clause-clusters
-returns-clause-clusters c g back e = ap (λ (s : Sides). clusters (all_glyphs s)) (returns-clause-deleted c g back e) ∙ left_numbers g back c.args.self.now
-
-pub returns-clause-numbers : goal.returns-clause-numbers
-returns-clause-numbers c = delete_brings c.args.self.now.level c.args.self.now.behind c.args.self.now.ahead _ c.requires.there (λ g back e. returns-clause-clusters c g back e)
-
-pub returns-clause-flags : goal.returns-clause-flags
-returns-clause-flags c g back e = ap (λ (s : Sides). flags_of (all_glyphs s)) (returns-clause-deleted c g back e) ∙ left_flags g back c.args.self.now
+pub returns-clause-origins : goal.returns-clause-origins
+returns-clause-origins c =
+    let s = c.args.self.now in
+    let first = first_is s.ahead c.requires.there in
+    ap origins_of (returns-clause-deleted c _ _ first) ∙ deleted_origins _ _ s first
 
 pub invariant_of-self : goal.invariant_of-self
 invariant_of-self c =

@@ -1,43 +1,29 @@
 use Rattle.std.specs.Vec.{with_items}
 use Rattle.std.proofs.Common.{◌≡◌, ◌≤◌, true, length, rules, arith, refl, drop, ap, ◌∙◌}
 use Rattle.std.proofs.lemmas.Grind.{common_steps}
-use Rattle.glyph_lists.specs.Items.{clusters, flags_of}
 use Rattle.glyph_lists.specs.Glyphs.{glyphs_flagged}
 use Rattle.glyph_lists.specs.Lemmas.Glyphs.{clusters_flagged}
 use Rattle.glyph_buffer.specs.Inside.{start_of}
-use Rattle.glyph_buffer.specs.Sides.{Sides, all_glyphs, items_of}
+use Rattle.glyph_buffer.specs.Sides.{Sides}
 use Rattle.glyph_buffer.specs.Merging.{index_in_all}
 use Rattle.glyph_buffer.specs.Marking.{with_flagged}
-use Rattle.glyph_buffer.proofs.Marked.{places_order, flagged_items, flagged_clusters, flagged_flags, flagged_view, flagged_rest, flagged_length, start_before, start_within}
+use Rattle.glyph_buffer.proofs.Marked.{flagged_view, flagged_rest, flagged_length, start_before, start_within}
 use Rattle.glyph_buffer.proofs.Slices.{all_put}
 use Rattle.glyph_buffer.proofs.buffer.hb_buffer_t.flag_range.Goals as goal
 
-pub returns-clause-marked : goal.returns-clause-marked
-returns-clause-marked c =
+pub returns : goal.returns
+returns c =
     let b = c.self.inside in
     let in_info : b.info.len ≡ length b.info.items = first_of (search rules, grind (arith, common_steps)) in
     let info = all_put b.info c.flag_within.new.glyphs (glyphs_flagged c.args.flags c.args.start c.args.end b.info.items) in_info (rw c.deref_mut.ensures.value at c.flag_within.ensures) (flagged_length c.args.flags c.args.start c.args.end b.info.items c.requires.ordered) in
     let unread : b.have_output ≡ true → b.idx ≤ c.args.start = rw (← c.self.view_is) at c.requires.unread in
     let before = start_within b c.self.invariant.cursor in
     let begins = start_before b c.args.start unread in
-    flagged_view b (with_items b.info c.flag_within.new.glyphs) b.order c.args.flags (start_of b) c.args.start c.args.end _ c.self.invariant.cursor c.requires.ordered unread refl
-    (ap (drop (start_of b)) info ∙ flagged_rest c.args.flags c.args.start c.args.end (start_of b) b.info.items before begins c.requires.ordered) c.telling_flags-self-inside.ensures
-    ∙ ap (λ (s : Sides). with_flagged c.args.flags (index_in_all c.args.start s) (index_in_all c.args.end s) s) c.self.view_is
-
-pub returns-clause-items : goal.returns-clause-items
-returns-clause-items c =
-    let s = c.args.self.now in
-    ap items_of (returns-clause-marked c) ∙ flagged_items c.args.flags (index_in_all c.args.start s) (index_in_all c.args.end s) s c.requires.glyph_flags (places_order c.args.start c.args.end s c.requires.ordered)
-
-pub returns-clause-clusters : goal.returns-clause-clusters
-returns-clause-clusters c =
-    let s = c.args.self.now in
-    ap (λ (s : Sides). clusters (all_glyphs s)) (returns-clause-marked c) ∙ flagged_clusters c.args.flags (index_in_all c.args.start s) (index_in_all c.args.end s) s (places_order c.args.start c.args.end s c.requires.ordered)
-
-pub returns-clause-flags : goal.returns-clause-flags
-returns-clause-flags c =
-    let s = c.args.self.now in
-    ap (λ (s : Sides). flags_of (all_glyphs s)) (returns-clause-marked c) ∙ flagged_flags c.args.flags (index_in_all c.args.start s) (index_in_all c.args.end s) s c.requires.glyph_flags
+    record {
+      marked = flagged_view b (with_items b.info c.flag_within.new.glyphs) b.order c.args.flags (start_of b) c.args.start c.args.end _ c.self.invariant.cursor c.requires.ordered unread refl
+          (ap (drop (start_of b)) info ∙ flagged_rest c.args.flags c.args.start c.args.end (start_of b) b.info.items before begins c.requires.ordered) c.telling_flags-self-inside.ensures
+          ∙ ap (λ (s : Sides). with_flagged c.args.flags (index_in_all c.args.start s) (index_in_all c.args.end s) s) c.self.view_is;
+    }
 
 pub invariant_of-self : goal.invariant_of-self
 invariant_of-self c =

@@ -4,20 +4,19 @@ use borrow.Rule.Slice.PartMut.{put_mid}
 use Rattle.std.proofs.Common.{◌≡◌, ◌≤◌, ◌-◌, ◌++◌, true, length, map, take, drop, rules, arith, ap, ◌∙◌}
 use Rattle.std.proofs.lemmas.Grind.{common_steps}
 use Rattle.std.proofs.lemmas.List.{drop_at, length-drop, length-map, length-take-le, take_rest}
-use Rattle.glyph_lists.specs.Items.{clusters, flags_of}
+use Rattle.glyph_lists.specs.Items.{clusters}
 use Rattle.glyph_lists.specs.Glyphs.{marked_outside}
 use Rattle.glyph_lists.specs.Merges.{least_number}
 use Rattle.glyph_lists.specs.Lemmas.Glyphs.{cluster_marked}
-use Rattle.glyph_buffer.specs.Sides.{Sides, all_glyphs, items_of}
+use Rattle.glyph_buffer.specs.Sides.{Sides}
 use Rattle.glyph_buffer.specs.Merging.{index_in_all, telling_flags}
 use Rattle.glyph_buffer.specs.Marking.{with_marked}
-use Rattle.glyph_buffer.proofs.Across.{marked_across_view, place_within, drop_on}
-use Rattle.glyph_buffer.proofs.Marked.{marked_items, marked_clusters, marked_flags}
+use Rattle.glyph_buffer.proofs.Across.{marked_across_view, drop_on}
 use Rattle.glyph_buffer.proofs.Slices.{part_kept, part_put, rest_kept, rest_put}
 use Rattle.glyph_buffer.proofs.buffer.hb_buffer_t.mark_both.Goals as goal
 
-pub returns-clause-marked : goal.returns-clause-marked
-returns-clause-marked c =
+pub returns : goal.returns
+returns c =
     let b = c.self.inside in
     let open_now : b.have_output ≡ true = rw (← c.self.view_is) at c.requires.open in
     let in_info : b.info.len ≡ length b.info.items = first_of (search rules, grind (arith, common_steps)) in
@@ -36,23 +35,10 @@ returns-clause-marked c =
     let marks = rw (c.deref_mut.ensures.value, c.deref_mut-2.ensures.value, take_rest b.out_info.items c.args.start) at c.mark_across-any.ensures.any in
     let ahead = ap (drop b.idx) info ∙ drop_at (take b.idx b.info.items) (map f (slice_range b.info.items b.idx c.args.end) ++ drop (c.args.end - b.idx) (drop b.idx b.info.items)) b.idx (length-take-le b.idx b.info.items c.self.invariant.cursor)
     ∙ ap (λ gs. map f (slice_range b.info.items b.idx c.args.end) ++ gs) (drop_on b.info.items b.idx c.args.end begins) in
-    marked_across_view b (with_items b.info (put_mid b.idx (c.args.end - b.idx) c.deref_mut.result.now c.mark_across-any.new.ahead)) (with_items b.out_info (put_mid c.args.start (length c.deref_mut-2.result.now - c.args.start) c.deref_mut-2.result.now c.mark_across-any.new.behind)) b.order c.args.flags c.args.start c.args.end _ open_now there begins out ahead (c.telling_flags-self-inside.ensures ∙ ap (λ any. telling_flags any b.scratch_flags) marks)
-    ∙ ap (λ (s : Sides). with_marked c.args.flags c.args.start (index_in_all c.args.end s) s) c.self.view_is
-
-pub returns-clause-items : goal.returns-clause-items
-returns-clause-items c =
-    let s = c.args.self.now in
-    ap items_of (returns-clause-marked c) ∙ marked_items c.args.flags c.args.start (index_in_all c.args.end s) s c.requires.glyph_flags (place_within c.args.start c.args.end s c.requires.begins c.requires.unread)
-
-pub returns-clause-clusters : goal.returns-clause-clusters
-returns-clause-clusters c =
-    let s = c.args.self.now in
-    ap (λ (s : Sides). clusters (all_glyphs s)) (returns-clause-marked c) ∙ marked_clusters c.args.flags c.args.start (index_in_all c.args.end s) s (place_within c.args.start c.args.end s c.requires.begins c.requires.unread)
-
-pub returns-clause-flags : goal.returns-clause-flags
-returns-clause-flags c =
-    let s = c.args.self.now in
-    ap (λ (s : Sides). flags_of (all_glyphs s)) (returns-clause-marked c) ∙ marked_flags c.args.flags c.args.start (index_in_all c.args.end s) s c.requires.glyph_flags
+    record {
+      marked = marked_across_view b (with_items b.info (put_mid b.idx (c.args.end - b.idx) c.deref_mut.result.now c.mark_across-any.new.ahead)) (with_items b.out_info (put_mid c.args.start (length c.deref_mut-2.result.now - c.args.start) c.deref_mut-2.result.now c.mark_across-any.new.behind)) b.order c.args.flags c.args.start c.args.end _ open_now there begins out ahead (c.telling_flags-self-inside.ensures ∙ ap (λ any. telling_flags any b.scratch_flags) marks)
+          ∙ ap (λ (s : Sides). with_marked c.args.flags c.args.start (index_in_all c.args.end s) s) c.self.view_is;
+    }
 
 pub invariant_of-self : goal.invariant_of-self
 invariant_of-self c =

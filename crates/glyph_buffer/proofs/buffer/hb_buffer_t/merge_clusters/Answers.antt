@@ -3,20 +3,19 @@ use borrow.Rule.Slice.PartMut.{put_mid}
 use Rattle.std.proofs.Common.{◌≡◌, ◌≤◌, ◌-◌, rules, arith, length, drop, sym, ap, ◌∙◌}
 use Rattle.std.proofs.lemmas.Grind.{common_steps}
 use Rattle.std.proofs.lemmas.List.{length-drop, take_rest}
-use Rattle.glyph_lists.specs.Items.{clusters, flags_of}
+use Rattle.glyph_lists.specs.Items.{clusters}
 use Rattle.glyph_lists.specs.Parts.{stretch}
 use Rattle.glyph_lists.specs.Glyphs.{beside_merged}
 use Rattle.glyph_lists.specs.Lemmas.Glyphs.{length_beside, length_merged_at}
-use Rattle.glyph_lists.specs.Lemmas.Merges.{merged_at_brings}
 use Rattle.glyph_buffer.specs.Inside.{start_of}
-use Rattle.glyph_buffer.specs.Sides.{Sides, all_glyphs, items_of}
+use Rattle.glyph_buffer.specs.Sides.{Sides, items_of, origins_of}
 use Rattle.glyph_buffer.specs.Merging.{index_in_all, telling_flags, with_merged}
-use Rattle.glyph_buffer.proofs.Brings.{brings_same}
 use Rattle.glyph_buffer.proofs.Marked.{start_within}
-use Rattle.glyph_buffer.proofs.Merged.{merged_view, merged_items, merged_clusters, merged_flags}
+use Rattle.glyph_buffer.proofs.Merged.{merged_view, merged_items}
 use Rattle.glyph_buffer.proofs.Ordered.{known_ordered, known_ahead, known_back, none_lent, order_merged}
 use Rattle.glyph_buffer.proofs.Slices.{all_put, rest_is}
 use Rattle.glyph_buffer.proofs.buffer.hb_buffer_t.merge_clusters.Goals as goal
+use Rattle.glyph_buffer.proofs.MergedOrigins.{merged_origins}
 
 pub returns-clause-merged : goal.returns-clause-merged
 returns-clause-merged c =
@@ -44,15 +43,6 @@ returns-clause-merged c =
 pub returns-clause-items : goal.returns-clause-items
 returns-clause-items c = ap items_of (returns-clause-merged c) ∙ merged_items c.args.start c.args.end c.args.self.now c.requires.ordered
 
-pub returns-clause-clusters : goal.returns-clause-clusters
-returns-clause-clusters c = ap (λ (s : Sides). clusters (all_glyphs s)) (returns-clause-merged c) ∙ merged_clusters c.args.start c.args.end c.args.self.now c.requires.ordered
-
-pub returns-clause-numbers : goal.returns-clause-numbers
-returns-clause-numbers c = brings_same _ _ _ (returns-clause-clusters c) (merged_at_brings c.args.self.now.level _ _ _)
-
-pub returns-clause-flags : goal.returns-clause-flags
-returns-clause-flags c = ap (λ (s : Sides). flags_of (all_glyphs s)) (returns-clause-merged c) ∙ merged_flags c.args.start c.args.end c.args.self.now
-
 pub merge_input-marked-requires-clause-known : goal.merge_input-marked-requires-clause-known
 merge_input-marked-requires-clause-known c e =
     let b = c.self.inside in
@@ -60,6 +50,9 @@ merge_input-marked-requires-clause-known c e =
     let from = c.first_of_input-from.result in
     let known = known_ahead c.settle.new.self.known b.out_info.items b.info.items from (start_of b) begins ((rw (c.deref.ensures.value, c.deref-2.ensures.value) at (c.settle.ensures.order (start_of b))) c.self.invariant.ordered) in
     rw (c.deref_mut.ensures.value, c.deref_mut-2.ensures.value, take_rest b.info.items from) (known_ordered c.settle.new.self.known _ known (sym c.is_known.ensures ∙ e))
+
+pub returns-clause-origins : goal.returns-clause-origins
+returns-clause-origins c = ap origins_of (returns-clause-merged c) ∙ merged_origins c.args.start c.args.end c.args.self.now c.requires.ordered
 
 pub invariant_of-self : goal.invariant_of-self
 invariant_of-self c =

@@ -1,14 +1,13 @@
 use Rattle.std.proofs.Common.{◌≡◌, ◌∷◌, [], true, drop, refl, rules, arith, ap, ◌∙◌}
 use Rattle.std.proofs.lemmas.Grind.{common_steps}
 use Rattle.std.proofs.lemmas.List.{take_rest}
-use Rattle.glyph_lists.specs.Items.{clusters, flags_of}
 use Rattle.glyph_buffer.specs.Merging.{with_copy}
-use Rattle.glyph_buffer.specs.Sides.{Sides, all_glyphs, items_of}
-use Rattle.glyph_buffer.proofs.Apart.{copied_view, copy_items, copy_clusters, copy_flags}
-use Rattle.glyph_buffer.proofs.Brings.{brings_same, copied_brings}
+use Rattle.glyph_buffer.specs.Sides.{items_of, origins_of}
+use Rattle.glyph_buffer.proofs.Apart.{copied_view, copy_items}
 use Rattle.glyph_buffer.proofs.Ordered.{none_lent, known_ahead, known_back, order_copied}
 use Rattle.glyph_buffer.proofs.Replaced.{room_is, replaced_within}
 use Rattle.glyph_buffer.proofs.buffer.hb_buffer_t.output_glyph.Goals as goal
+use Rattle.glyph_buffer.proofs.MergedOrigins.{copy_origins}
 
 pub returns-clause-put : goal.returns-clause-put
 returns-clause-put c e =
@@ -20,14 +19,8 @@ returns-clause-put c e =
 pub returns-clause-items : goal.returns-clause-items
 returns-clause-items c e = ap items_of (returns-clause-put c e) ∙ copy_items c.args.glyph_index c.args.self.now
 
-pub returns-clause-clusters : goal.returns-clause-clusters
-returns-clause-clusters c e = ap (λ (s : Sides). clusters (all_glyphs s)) (returns-clause-put c e) ∙ copy_clusters c.args.glyph_index c.args.self.now
-
-pub returns-clause-numbers : goal.returns-clause-numbers
-returns-clause-numbers c e = brings_same _ _ _ (ap (λ (s : Sides). clusters (all_glyphs s)) (returns-clause-put c e)) (copied_brings c.args.glyph_index c.args.self.now)
-
-pub returns-clause-flags : goal.returns-clause-flags
-returns-clause-flags c e = ap (λ (s : Sides). flags_of (all_glyphs s)) (returns-clause-put c e) ∙ copy_flags c.args.glyph_index c.args.self.now
+pub returns-clause-origins : goal.returns-clause-origins
+returns-clause-origins c e = ap origins_of (returns-clause-put c e) ∙ copy_origins c.args.glyph_index c.args.self.now
 
 pub invariant_of-self-2 : goal.invariant_of-self-2
 invariant_of-self-2 c =

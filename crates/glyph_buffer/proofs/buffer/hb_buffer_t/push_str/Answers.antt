@@ -1,9 +1,8 @@
 use Rattle.std.proofs.Common.{◌≡◌, ◌≤◌, ◌+◌, ◌∙◌, length, false, ap, arith}
 use Rattle.std.proofs.lemmas.Grind.{common_steps}
-use Rattle.glyph_lists.specs.Items.{clusters, flags_of}
-use Rattle.glyph_buffer.specs.Sides.{Sides, all_glyphs, items_of, with_added}
+use Rattle.glyph_buffer.specs.Sides.{items_of, with_added, origins_of}
 use Rattle.glyph_buffer.specs.Text.{added_text}
-use Rattle.glyph_buffer.proofs.Apart.{text_added_items, text_added_clusters, text_added_flags}
+use Rattle.glyph_buffer.proofs.Apart.{text_added_items, text_added_origins}
 use Rattle.glyph_buffer.proofs.Chars.{length_added}
 use Rattle.glyph_buffer.proofs.Appended.{appended_sound, appended_view}
 use Rattle.glyph_buffer.proofs.buffer.hb_buffer_t.push_str.Goals as goal
@@ -16,11 +15,8 @@ returns-clause-added c e =
 pub returns-clause-items : goal.returns-clause-items
 returns-clause-items c e = ap items_of (returns-clause-added c e) ∙ text_added_items c.args.text.now c.args.self.now
 
-pub returns-clause-clusters : goal.returns-clause-clusters
-returns-clause-clusters c e = ap (λ (s : Sides). clusters (all_glyphs s)) (returns-clause-added c e) ∙ text_added_clusters c.args.text.now c.args.self.now
-
-pub returns-clause-flags : goal.returns-clause-flags
-returns-clause-flags c e = ap (λ (s : Sides). flags_of (all_glyphs s)) (returns-clause-added c e) ∙ text_added_flags c.args.text.now c.args.self.now
+pub returns-clause-origins : goal.returns-clause-origins
+returns-clause-origins c e = ap origins_of (returns-clause-added c e) ∙ text_added_origins c.args.text.now c.args.self.now
 
 pub invariant_of-self-2 : goal.invariant_of-self-2
 invariant_of-self-2 c =

@@ -1,21 +1,20 @@
 use Rattle.std.specs.Vec.{with_items}
 use borrow.Rule.Slice.PartMut.{put_mid}
-use Rattle.std.proofs.Common.{true, ◌≡◌, ◌+◌, ◌-◌, rules, arith, refl, drop, length, sym, ap, ◌∙◌}
+use Rattle.std.proofs.Common.{true, ◌≡◌, ◌+◌, ◌-◌, rules, arith, refl, drop, length, sym, ap, ◌∙◌, [], ◌∷◌}
 use Rattle.std.proofs.lemmas.Grind.{common_steps}
 use Rattle.std.proofs.lemmas.List.{drop-drop, length-drop, take_rest}
-use Rattle.glyph_lists.specs.Items.{clusters, flags_of}
-use Rattle.glyph_lists.specs.Parts.{replaced, stretch}
-use Rattle.glyph_lists.specs.Glyphs.{beside_merged, flags_merged_at}
-use Rattle.glyph_lists.specs.Merges.{replaced_at}
+use Rattle.glyph_lists.specs.Items.{clusters}
+use Rattle.glyph_lists.specs.Parts.{stretch}
+use Rattle.glyph_lists.specs.Glyphs.{beside_merged}
 use Rattle.glyph_lists.specs.Lemmas.Glyphs.{length_beside, length_merged_at}
-use Rattle.glyph_lists.specs.Steps.{replacement_brings}
-use Rattle.glyph_buffer.specs.Sides.{Sides, all_glyphs, items_of}
+use Rattle.glyph_buffer.specs.Sides.{items_of, origins_of, origins_by}
 use Rattle.glyph_buffer.specs.Merging.{telling_flags, with_replaced}
-use Rattle.glyph_buffer.proofs.Brings.{brings_same}
 use Rattle.glyph_buffer.proofs.Ordered.{known_ordered, known_ahead, known_back, none_lent, order_merged, order_copied}
-use Rattle.glyph_buffer.proofs.Replaced.{replaced_within, room_is, replaced_view, replaced_items, replaced_clusters, replaced_flags}
+use Rattle.glyph_buffer.proofs.Replaced.{replaced_within, room_is, replaced_view, replaced_items}
 use Rattle.glyph_buffer.proofs.Slices.{all_put, rest_is}
 use Rattle.glyph_buffer.proofs.buffer.hb_buffer_t.replace_glyphs.Goals as goal
+use Rattle.glyph_buffer.proofs.MergedOrigins.{replaced_origins}
+use Rattle.glyph_lists.specs.Events.{Replace}
 
 pub returns-clause-replaced : goal.returns-clause-replaced
 returns-clause-replaced c e =
@@ -42,19 +41,10 @@ returns-clause-replaced c e =
 pub returns-clause-items : goal.returns-clause-items
 returns-clause-items c e = ap items_of (returns-clause-replaced c e) ∙ replaced_items c.args.num_in c.args.glyph_data.now c.args.self.now
 
-pub returns-clause-clusters : goal.returns-clause-clusters
-returns-clause-clusters c e =
-    ap (λ (s : Sides). clusters (all_glyphs s)) (returns-clause-replaced c e) ∙ replaced_clusters c.args.num_in c.args.glyph_data.now c.args.self.now
-    ∙ ap (λ n. replaced_at c.args.self.now.level (length c.args.self.now.behind) c.args.num_in n (clusters (all_glyphs c.args.self.now))) (sym c.requires.given)
-
-pub returns-clause-numbers : goal.returns-clause-numbers
-returns-clause-numbers c e = brings_same _ _ _ (returns-clause-clusters c e) (replacement_brings c.args.self.now.level (length c.args.self.now.behind) c.args.num_in c.args.num_out _)
-
-pub returns-clause-flags : goal.returns-clause-flags
-returns-clause-flags c e =
+pub returns-clause-origins : goal.returns-clause-origins
+returns-clause-origins c e =
     let s = c.args.self.now in
-    ap (λ (s : Sides). flags_of (all_glyphs s)) (returns-clause-replaced c e) ∙ replaced_flags c.args.num_in c.args.glyph_data.now s
-    ∙ ap (λ n. replaced (length s.behind) c.args.num_in n (flags_merged_at s.level (length s.behind) (length s.behind + c.args.num_in) (all_glyphs s))) (sym c.requires.given)
+    ap origins_of (returns-clause-replaced c e) ∙ replaced_origins c.args.num_in c.args.glyph_data.now s ∙ ap (λ n. origins_by (Replace (length s.behind) c.args.num_in n ∷ []) s) (sym c.requires.given)
 
 pub merge_input-marked-requires-clause-known : goal.merge_input-marked-requires-clause-known
 merge_input-marked-requires-clause-known c e =

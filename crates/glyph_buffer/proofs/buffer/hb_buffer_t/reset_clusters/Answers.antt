@@ -1,9 +1,8 @@
 use Rattle.std.proofs.Common.{[], ◌≡◌, false, rules, arith, ap, ◌∙◌}
 use Rattle.std.proofs.lemmas.Grind.{common_steps}
-use Rattle.glyph_lists.specs.Items.{clusters, flags_of}
-use Rattle.glyph_buffer.specs.Sides.{Sides, all_glyphs, items_of}
+use Rattle.glyph_buffer.specs.Sides.{items_of, origins_of}
 use Rattle.glyph_buffer.specs.Settings.{with_counted}
-use Rattle.glyph_buffer.proofs.Counted.{clusters_counted, counted_view, counted_items, counted_clusters, counted_flags, counted_rises}
+use Rattle.glyph_buffer.proofs.Counted.{clusters_counted, counted_view, counted_items, counted_rises, counted_origins}
 use Rattle.glyph_buffer.proofs.buffer.hb_buffer_t.reset_clusters.Goals as goal
 
 pub returns-clause-counted : goal.returns-clause-counted
@@ -14,11 +13,8 @@ returns-clause-counted c =
 pub returns-clause-items : goal.returns-clause-items
 returns-clause-items c = ap items_of (returns-clause-counted c) ∙ counted_items c.args.self.now
 
-pub returns-clause-clusters : goal.returns-clause-clusters
-returns-clause-clusters c = ap (λ (s : Sides). clusters (all_glyphs s)) (returns-clause-counted c) ∙ counted_clusters c.args.self.now
-
-pub returns-clause-flags : goal.returns-clause-flags
-returns-clause-flags c = ap (λ (s : Sides). flags_of (all_glyphs s)) (returns-clause-counted c) ∙ counted_flags c.args.self.now
+pub returns-clause-origins : goal.returns-clause-origins
+returns-clause-origins c = ap origins_of (returns-clause-counted c) ∙ counted_origins c.args.self.now
 
 pub invariant_of-self : goal.invariant_of-self
 invariant_of-self c =

@@ -4,10 +4,9 @@ use Rattle.std.proofs.lemmas.List.{length-map}
 use Rattle.buffer_lists.specs.Masks.{glyph_masked}
 use Rattle.std.proofs.lemmas.Grind.{common_steps}
 use Rattle.glyph_buffer.proofs.Ordered.{clusters_masked}
-use Rattle.glyph_lists.specs.Items.{clusters, flags_of}
-use Rattle.glyph_buffer.specs.Sides.{Sides, all_glyphs, items_of}
+use Rattle.glyph_buffer.specs.Sides.{items_of, origins_of}
 use Rattle.glyph_buffer.specs.Masks.{with_masks}
-use Rattle.glyph_buffer.proofs.Masked.{masked_view, masked_items, masked_clusters, masked_flags}
+use Rattle.glyph_buffer.proofs.Masked.{masked_view, masked_items, masked_origins, reset_origins}
 use Rattle.glyph_buffer.proofs.Slices.{all_put}
 use Rattle.glyph_buffer.proofs.buffer.hb_buffer_t.reset_masks.Goals as goal
 
@@ -24,11 +23,11 @@ returns-clause-masked c =
 pub returns-clause-items : goal.returns-clause-items
 returns-clause-items c = ap items_of (returns-clause-masked c) ∙ masked_items c.args.mask c.args.self.now
 
-pub returns-clause-clusters : goal.returns-clause-clusters
-returns-clause-clusters c = ap (λ (s : Sides). clusters (all_glyphs s)) (returns-clause-masked c) ∙ masked_clusters c.args.mask c.args.self.now
+pub returns-clause-origins : goal.returns-clause-origins
+returns-clause-origins c = ap origins_of (returns-clause-masked c) ∙ masked_origins c.args.mask c.args.self.now
 
-pub returns-clause-flags : goal.returns-clause-flags
-returns-clause-flags c = ap (λ (s : Sides). flags_of (all_glyphs s)) (returns-clause-masked c) ∙ masked_flags c.args.mask c.args.self.now
+pub returns-clause-event : goal.returns-clause-event
+returns-clause-event c none = ap origins_of (returns-clause-masked c) ∙ reset_origins c.args.mask c.args.self.now none
 
 pub invariant_of-self : goal.invariant_of-self
 invariant_of-self c =

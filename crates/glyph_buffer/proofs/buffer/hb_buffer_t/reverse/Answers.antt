@@ -3,10 +3,10 @@ use Rattle.std.proofs.lemmas.Grind.{common_steps}
 use Rattle.glyph_lists.specs.Items.{clusters}
 use Rattle.glyph_buffer.proofs.Ordered.{clusters_reversed}
 use Rattle.glyph_buffer.specs.Inside.{sides_of}
-use Rattle.glyph_buffer.specs.Sides.{Sides, all_glyphs, flags_of, items_of, reversed}
-use Rattle.glyph_buffer.proofs.Kept.{turned_view, reversed_items, reversed_clusters, reversed_flags}
-use Rattle.glyph_buffer.proofs.Brings.{brings_same, turn_brings}
+use Rattle.glyph_buffer.specs.Sides.{items_of, reversed, origins_of}
+use Rattle.glyph_buffer.proofs.Kept.{turned_view, reversed_items}
 use Rattle.glyph_buffer.proofs.buffer.hb_buffer_t.reverse.Goals as goal
+use Rattle.glyph_buffer.proofs.MergedOrigins.{reversed_origins}
 
 turned : (c : goal.After-reverse-2) → sides_of (record c.self.inside { info = c.reverse.new.self; pos = c.reverse-2.new.self }) ≡ reversed c.args.self.now
 turned c =
@@ -16,14 +16,8 @@ turned c =
 pub returns-clause-items : goal.returns-clause-items
 returns-clause-items c = ap items_of (turned c) ∙ reversed_items c.args.self.now
 
-pub returns-clause-parts : goal.returns-clause-parts
-returns-clause-parts c = ap (λ (s : Sides). clusters (all_glyphs s)) (turned c) ∙ reversed_clusters c.args.self.now
-
-pub returns-clause-numbers : goal.returns-clause-numbers
-returns-clause-numbers c = brings_same _ _ _ (returns-clause-parts c) (turn_brings _)
-
-pub returns-clause-flags : goal.returns-clause-flags
-returns-clause-flags c = ap (λ (s : Sides). flags_of (all_glyphs s)) (turned c) ∙ reversed_flags c.args.self.now
+pub returns-clause-origins : goal.returns-clause-origins
+returns-clause-origins c = ap origins_of (turned c) ∙ reversed_origins c.args.self.now
 
 pub invariant_of-self : goal.invariant_of-self
 invariant_of-self c =

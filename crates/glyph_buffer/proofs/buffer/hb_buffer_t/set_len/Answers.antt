@@ -1,8 +1,7 @@
 use Rattle.std.proofs.Common.{◌≡◌, false, ap, ◌∙◌}
-use Rattle.glyph_lists.specs.Items.{clusters, flags_of}
 use Rattle.glyph_buffer.specs.Moving.{with_len}
-use Rattle.glyph_buffer.specs.Sides.{all_glyphs, items_of}
-use Rattle.glyph_buffer.proofs.Resized.{resized_view, len_items, len_clusters, len_flags}
+use Rattle.glyph_buffer.specs.Sides.{items_of, origins_of}
+use Rattle.glyph_buffer.proofs.Resized.{resized_view, len_items, len_origins}
 use Rattle.glyph_buffer.proofs.buffer.hb_buffer_t.set_len.Goals as goal
 
 pub returns-clause-set : goal.returns-clause-set
@@ -15,8 +14,5 @@ returns-clause-set c = λ e.
 pub returns-clause-items : goal.returns-clause-items
 returns-clause-items c = λ e. ap items_of (returns-clause-set c e) ∙ len_items c.args.n c.args.self.now
 
-pub returns-clause-clusters : goal.returns-clause-clusters
-returns-clause-clusters c = λ e. ap (λ s. clusters (all_glyphs s)) (returns-clause-set c e) ∙ len_clusters c.args.n c.args.self.now
-
-pub returns-clause-flags : goal.returns-clause-flags
-returns-clause-flags c = λ e. ap (λ s. flags_of (all_glyphs s)) (returns-clause-set c e) ∙ len_flags c.args.n c.args.self.now
+pub returns-clause-origins : goal.returns-clause-origins
+returns-clause-origins c = λ e. ap origins_of (returns-clause-set c e) ∙ len_origins c.args.n c.args.self.now

@@ -2,11 +2,10 @@ use Rattle.std.specs.Vec.{with_items}
 use Rattle.std.proofs.Common.{◌≡◌, map, length, rules, arith, ap, ◌∙◌}
 use Rattle.std.proofs.lemmas.List.{length-map}
 use Rattle.std.proofs.lemmas.Grind.{common_steps}
-use Rattle.glyph_lists.specs.Items.{clusters, flags_of}
-use Rattle.glyph_buffer.specs.Sides.{Sides, all_glyphs, items_of}
+use Rattle.glyph_buffer.specs.Sides.{items_of, origins_of}
 use Rattle.buffer_lists.specs.Masks.{glyph_set}
 use Rattle.glyph_buffer.specs.Masks.{with_set_masks}
-use Rattle.glyph_buffer.proofs.Masked.{mapped_view, clusters_set, set_items, set_clusters, set_flags}
+use Rattle.glyph_buffer.proofs.Masked.{mapped_view, clusters_set, set_items, set_origins, kept_origins}
 use Rattle.glyph_buffer.proofs.Slices.{all_put}
 use Rattle.glyph_buffer.proofs.buffer.hb_buffer_t.set_masks.Goals as goal
 
@@ -24,11 +23,11 @@ returns-clause-set c =
 pub returns-clause-items : goal.returns-clause-items
 returns-clause-items c = ap items_of (returns-clause-set c) ∙ set_items c.args.value c.args.mask c.args.cluster_start c.args.cluster_end c.args.self.now
 
-pub returns-clause-clusters : goal.returns-clause-clusters
-returns-clause-clusters c = ap (λ (s : Sides). clusters (all_glyphs s)) (returns-clause-set c) ∙ set_clusters c.args.value c.args.mask c.args.cluster_start c.args.cluster_end c.args.self.now
+pub returns-clause-origins : goal.returns-clause-origins
+returns-clause-origins c = ap origins_of (returns-clause-set c) ∙ set_origins c.args.value c.args.mask c.args.cluster_start c.args.cluster_end c.args.self.now
 
-pub returns-clause-flags : goal.returns-clause-flags
-returns-clause-flags c = ap (λ (s : Sides). flags_of (all_glyphs s)) (returns-clause-set c) ∙ set_flags c.args.value c.args.mask c.args.cluster_start c.args.cluster_end c.args.self.now
+pub returns-clause-above : goal.returns-clause-above
+returns-clause-above c none = ap origins_of (returns-clause-set c) ∙ kept_origins c.args.value c.args.mask c.args.cluster_start c.args.cluster_end c.args.self.now none
 
 pub invariant_of-self : goal.invariant_of-self
 invariant_of-self c =

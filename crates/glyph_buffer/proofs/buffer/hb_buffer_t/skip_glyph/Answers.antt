@@ -1,13 +1,13 @@
 use Rattle.std.proofs.Common.{◌≡◌, ◌∙◌, true, ap, rules, arith}
 use Rattle.std.proofs.lemmas.Grind.{common_steps}
-use Rattle.glyph_lists.specs.Items.{clusters, flags_of}
+use Rattle.glyph_lists.specs.Items.{clusters}
 use Rattle.glyph_buffer.specs.Merging.{with_skipped}
-use Rattle.glyph_buffer.specs.Sides.{Sides, all_glyphs, items_of}
-use Rattle.glyph_buffer.proofs.Apart.{skipped_view, skipped_items, skipped_clusters, skipped_flags}
+use Rattle.glyph_buffer.specs.Sides.{items_of, origins_of}
+use Rattle.glyph_buffer.proofs.Apart.{skipped_view, skipped_items}
 use Rattle.glyph_buffer.proofs.Ordered.{order_skipped}
-use Rattle.glyph_buffer.proofs.Brings.{brings_same, skip_brings}
 use Rattle.buffer_lists.specs.Known.{put_back_ahead, put_back_behind}
 use Rattle.glyph_buffer.proofs.buffer.hb_buffer_t.skip_glyph.Goals as goal
+use Rattle.glyph_buffer.proofs.MergedOrigins.{skipped_origins}
 
 pub returns-clause-skipped : goal.returns-clause-skipped
 returns-clause-skipped c = skipped_view c.self.inside (rw (← c.self.view_is) at c.requires.open) ∙ ap with_skipped c.self.view_is
@@ -15,14 +15,8 @@ returns-clause-skipped c = skipped_view c.self.inside (rw (← c.self.view_is) a
 pub returns-clause-items : goal.returns-clause-items
 returns-clause-items c = ap items_of (returns-clause-skipped c) ∙ skipped_items c.args.self.now
 
-pub returns-clause-clusters : goal.returns-clause-clusters
-returns-clause-clusters c = ap (λ (s : Sides). clusters (all_glyphs s)) (returns-clause-skipped c) ∙ skipped_clusters c.args.self.now
-
-pub returns-clause-numbers : goal.returns-clause-numbers
-returns-clause-numbers c = brings_same _ _ _ (returns-clause-clusters c) (skip_brings c.args.self.now.behind c.args.self.now.ahead)
-
-pub returns-clause-flags : goal.returns-clause-flags
-returns-clause-flags c = ap (λ (s : Sides). flags_of (all_glyphs s)) (returns-clause-skipped c) ∙ skipped_flags c.args.self.now
+pub returns-clause-origins : goal.returns-clause-origins
+returns-clause-origins c = ap origins_of (returns-clause-skipped c) ∙ skipped_origins c.args.self.now
 
 pub invariant_of-self : goal.invariant_of-self
 invariant_of-self c =

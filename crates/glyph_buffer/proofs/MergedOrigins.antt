@@ -1,21 +1,24 @@
--- What calls that take, skip, copy or turn glyphs do to where they come from.
+-- What merges, replacements and a reversal do to where glyphs come from.
 use Rattle.std.proofs.Common.{ℕ, ◌≡◌, ◌≤◌, ◌+◌, ◌-◌, ◌==◌, ◌||◌, max, Bool, true, false, if◌then◌else◌, List, [], ◌∷◌, ◌++◌, length, map, take, drop, reverse, refl, sym, ap, ◌∙◌, arith}
 use Rattle.std.specs.Prelude.{Option, Some, None}
-use Rattle.std.proofs.lemmas.Grind.{common_steps, reverse_onto}
+use Rattle.std.proofs.lemmas.Grind.{common_steps}
 use Rattle.std.proofs.lemmas.List.{append-nil, map-append, take-append-drop, take-map, drop-map}
-use Rattle.std.proofs.Math.Seq.{take-append_seam, drop-append_seam, drop-append-add}
+use Rattle.std.proofs.Math.Seq.{take-append_seam, drop-append-add}
 use Rattle.glyph_types.specs.declared.info.hb_glyph_info_t.{hb_glyph_info_t}
 use Rattle.glyph_types.specs.declared.level.BufferClusterLevel.{BufferClusterLevel}
 use Rattle.glyph_types.specs.declared.level.BufferClusterLevel.TheVariants.{MonotoneGraphemes, MonotoneCharacters, Characters}
 use Rattle.glyph_lists.specs.Parts.{first_of, last_of, or, copies, replaced_among, stretch}
+use Rattle.glyph_lists.specs.Glyphs.{glyphs_merged_at}
 use Rattle.glyph_lists.specs.Merges.{least_number, merged}
-use Rattle.glyph_lists.specs.Replacements.{glyphs_replaced}
 use Rattle.glyph_lists.specs.Origins.{Origin, origin_of, origins, numbers, cast, added_outside, InList, InOutput, Manner, Unites, Marks, Keeps, manner, merged_as}
-use Rattle.glyph_lists.specs.Events.{Merge, Replace, Reverse, origins_after_event}
+use Rattle.glyph_lists.specs.Events.{Merge, Replace, Reverse}
 use Rattle.glyph_lists.specs.Lemmas.Origins.{cut_in_three, origins_of_merged_at, origins_of_replaced}
-use Rattle.glyph_buffer.specs.Sides.{Sides, all_glyphs, asks_of, reversed}
-use Rattle.glyph_buffer.specs.Merging.{output_merged_at, with_output_merged, with_copy, with_skipped}
-use Rattle.glyph_buffer.specs.Followed.{all_with_glyphs}
+use Rattle.glyph_buffer.specs.Sides.{Sides, all_glyphs, reversed, origins_of, origins_by}
+use Rattle.glyph_buffer.specs.Merging.{output_merged_at, with_output_merged, with_copy, with_skipped, with_merged, with_replaced, index_in_all}
+use Rattle.glyph_buffer.proofs.Kept.{map-reverse}
+use Rattle.glyph_buffer.proofs.Merged.{all_merged}
+use Rattle.glyph_buffer.proofs.Replaced.{all_replaced, all_copied}
+use Rattle.glyph_buffer.proofs.Across.{all_output_merged}
 
 itself : (n : ℕ) → (n == n) ≡ true
 itself n = grind (arith, common_steps)
@@ -68,28 +71,39 @@ merged_none Marks at os =
     ∙ ap (λ xs. take at os ++ xs ++ drop (max at (at + 0)) os) (sym range) ∙ cut_in_three at (at + 0) os
 merged_none Keeps at os = refl
 
+-- `merge_clusters`
+pub merged_origins : (start end : ℕ) (s : Sides) → start ≤ end → origins_of (with_merged (index_in_all start s) (index_in_all end s) s) ≡ origins_by (Merge InList (index_in_all start s) (index_in_all end s) ∷ []) s
+merged_origins start end s le =
+    let from = index_in_all start s in
+    let to = index_in_all end s in
+    ap origins (all_merged from to s) ∙ origins_of_merged_at s.level from to (all_glyphs s) (omega arith)
+
+-- `replace_glyphs`
+pub replaced_origins : (taken : ℕ) (given : List ℕ) (s : Sides) → origins_of (with_replaced taken given s) ≡ origins_by (Replace (length s.behind) taken (length given) ∷ []) s
+replaced_origins taken given s =
+    let b = length s.behind in
+    let gs = glyphs_merged_at s.level b (b + taken) (all_glyphs s) in
+    ap origins (all_replaced taken given s) ∙ origins_of_replaced b taken given gs ∙ ap (replaced_among b taken (length given)) (origins_of_merged_at s.level b (b + taken) (all_glyphs s) (omega arith))
+
 output_origins_at : (level : BufferClusterLevel) (from to : ℕ) (gs : List hb_glyph_info_t) → from ≤ to → origins (output_merged_at level from to gs) ≡ merged_as (manner InOutput level) from to (origins gs)
 output_origins_at MonotoneGraphemes from to gs le = origins_of_merged_at MonotoneGraphemes from to gs le
 output_origins_at MonotoneCharacters from to gs le = origins_of_merged_at MonotoneCharacters from to gs le
 output_origins_at Characters from to gs le = refl
 
 -- `merge_out_clusters`
-pub output_origins : (from to : ℕ) (s : Sides) → from ≤ to → origins (all_glyphs (with_output_merged from to s)) ≡ origins_after_event (asks_of s) s.level (origins (all_glyphs s)) (Merge InOutput from to)
-output_origins from to s le = ap origins (all_with_glyphs (output_merged_at s.level from to (all_glyphs s)) s) ∙ output_origins_at s.level from to (all_glyphs s) le
-
-copied_all : (n : ℕ) (s : Sides) → all_glyphs (with_copy n s) ≡ glyphs_replaced (length s.behind) 0 (n ∷ []) (all_glyphs s)
-copied_all n s = rw (take-append_seam s.behind s.ahead, drop-append_seam s.behind s.ahead, drop-append-add s.behind s.ahead 0) refl
+pub output_origins : (from to : ℕ) (s : Sides) → from ≤ to → origins_of (with_output_merged from to s) ≡ origins_by (Merge InOutput from to ∷ []) s
+output_origins from to s le = ap origins (all_output_merged from to s) ∙ output_origins_at s.level from to (all_glyphs s) le
 
 -- `output_glyph`
-pub copy_origins : (n : ℕ) (s : Sides) → origins (all_glyphs (with_copy n s)) ≡ origins_after_event (asks_of s) s.level (origins (all_glyphs s)) (Replace (length s.behind) 0 1)
-copy_origins n s = ap origins (copied_all n s) ∙ origins_of_replaced (length s.behind) 0 (n ∷ []) (all_glyphs s) ∙ ap (replaced_among (length s.behind) 0 1) (sym (merged_none (manner InList s.level) (length s.behind) (origins (all_glyphs s))))
+pub copy_origins : (n : ℕ) (s : Sides) → origins_of (with_copy n s) ≡ origins_by (Replace (length s.behind) 0 1 ∷ []) s
+copy_origins n s = ap origins (all_copied 0 (n ∷ []) s) ∙ origins_of_replaced (length s.behind) 0 (n ∷ []) (all_glyphs s) ∙ ap (replaced_among (length s.behind) 0 1) (sym (merged_none (manner InList s.level) (length s.behind) (origins (all_glyphs s))))
 
 no_copies : {X : Type 0} (o : Option X) → copies 0 o ≡ []
 no_copies None = refl
 no_copies (Some x) = refl
 
 -- `skip_glyph`
-pub skipped_origins : (s : Sides) → origins (all_glyphs (with_skipped s)) ≡ origins_after_event (asks_of s) s.level (origins (all_glyphs s)) (Replace (length s.behind) 1 0)
+pub skipped_origins : (s : Sides) → origins_of (with_skipped s) ≡ origins_by (Replace (length s.behind) 1 0 ∷ []) s
 skipped_origins s =
     let os = origins (all_glyphs s) in
     let b = length s.behind in
@@ -98,10 +112,6 @@ skipped_origins s =
     map-append origin_of s.behind (drop 1 s.ahead) ∙ ap (λ xs. xs ++ origins (drop 1 s.ahead)) (sym front) ∙ ap (λ xs. take b os ++ xs) (sym rest) ∙ ap (λ xs. xs ++ drop (b + 1) os) (sym (append-nil (take b os)))
     ∙ ap (λ xs. take b os ++ xs ++ drop (b + 1) os) (sym (no_copies (or (first_of (drop b os)) (last_of (take b os))))) ∙ ap (replaced_among b 1 0) (sym (merged_alone (manner InList s.level) b os))
 
-map-reverse : {X Y : Type 0} (f : X → Y) (xs : List X) → map f (reverse xs) ≡ reverse (map f xs)
-map-reverse f [] = refl
-map-reverse f (x ∷ xs) = rw (reverse_onto xs x [], map-append, map-reverse f xs, reverse_onto (map f xs) (f x) []) refl
-
 -- `reverse`
-pub reversed_origins : (s : Sides) → origins (all_glyphs (reversed s)) ≡ origins_after_event (asks_of s) s.level (origins (all_glyphs s)) Reverse
+pub reversed_origins : (s : Sides) → origins_of (reversed s) ≡ origins_by (Reverse ∷ []) s
 reversed_origins s = ap origins (take-append-drop s.read (reverse (all_glyphs s))) ∙ map-reverse origin_of (all_glyphs s)

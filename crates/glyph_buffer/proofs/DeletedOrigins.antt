@@ -11,10 +11,10 @@ use Rattle.glyph_lists.specs.Items.{clusters, without_flags, glyph_flags}
 use Rattle.glyph_lists.specs.Parts.{first_of, last_of, is_number}
 use Rattle.glyph_lists.specs.Glyphs.{glyphs_merged_at}
 use Rattle.glyph_lists.specs.Origins.{Origin, origin_of, origins, cast, end_cast, alone_deleted, one_deleted, first_deleted}
-use Rattle.glyph_lists.specs.Events.{Delete, origins_after_event}
+use Rattle.glyph_lists.specs.Events.{Delete}
 use Rattle.glyph_lists.specs.Lemmas.Origins.{numbers_origins, origins_of_merged_at}
 use Rattle.glyph_clusters.specs.Deleting.{Left, recast, end_recast_from, end_recast, glyphs_deleted_alone, glyphs_deleted}
-use Rattle.glyph_buffer.specs.Sides.{Sides, all_glyphs, asks_of}
+use Rattle.glyph_buffer.specs.Sides.{Sides, all_glyphs, origins_of, origins_by}
 use Rattle.glyph_buffer.specs.Grouping.{with_deleted}
 
 flags_taken : (m n : ℕ) → bit_and (without_flags m + bit_and n 7) 7 ≡ bit_and n 7
@@ -67,7 +67,7 @@ one_origins level front g back = rw (numbers_origins front, numbers_origins back
     by_test false = alone_origins level (last_of (clusters front)) front g back refl
 
 -- `delete_glyph` is the event
-pub deleted_origins : (g : hb_glyph_info_t) (back : List hb_glyph_info_t) (s : Sides) → s.ahead ≡ g ∷ back → origins (all_glyphs (with_deleted g back s)) ≡ origins_after_event (asks_of s) s.level (origins (all_glyphs s)) (Delete (length s.behind))
+pub deleted_origins : (g : hb_glyph_info_t) (back : List hb_glyph_info_t) (s : Sides) → s.ahead ≡ g ∷ back → origins_of (with_deleted g back s) ≡ origins_by (Delete (length s.behind) ∷ []) s
 deleted_origins g back s at =
     let b = length s.behind in
     let cut : take b (origins (all_glyphs s)) ≡ origins s.behind = take-map origin_of b (all_glyphs s) ∙ ap origins (take-append_seam s.behind s.ahead) in
