@@ -60,8 +60,18 @@ face_keys d =
     and_then (read_if_there (substitution_table (length gdef.sets)) (get (codes "gsub") d)) (λ gsub.
     and_then (read_if_there (positioning_table (length gdef.sets)) (get (codes "gpos") d)) (λ gpos.
     Ok (record {
-      upem = upem; ascender = ascender; cmap = cmap; variants = variants; h = widths; v = heights;
-      origins = origins; extents = boxes; names = names; gdef = gdef; gsub = gsub; gpos = gpos
+      upem = upem;
+      ascender = ascender;
+      cmap = cmap;
+      variants = variants;
+      h = widths;
+      v = heights;
+      origins = origins;
+      extents = boxes;
+      names = names;
+      gdef = gdef;
+      gsub = gsub;
+      gpos = gpos;
     })))))))))))))
 
 -- that indices stay within their lists was held against each row that has one

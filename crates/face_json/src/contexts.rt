@@ -121,7 +121,10 @@ fn read_class_maps(alloc: Global, value: &Value, limit: usize) -> Result<ClassMa
 {
     match value.get("classes") {
         Some(value) => read_row(alloc, value, limit),
-        None => Ok((no_classes(alloc), (no_classes(alloc), (no_classes(alloc), ())))),
+        None => Ok((
+            no_classes(alloc),
+            (no_classes(alloc), (no_classes(alloc), ())),
+        )),
     }
 }
 

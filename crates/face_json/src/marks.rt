@@ -18,8 +18,9 @@ impl Parts for MarkRecord {
     ghost parts = { mark_record };
 
     fn read_parts(alloc: Global, values: &[Value], limit: usize) -> Result<MarkRecord, JsonFault> {
-        let (class, (anchor, ())): (u16, (Option<Anchor>, ())) =
-            Parts::read_parts(alloc, values, limit)?;
+        let (class, (anchor, ())): (u16, (Option<Anchor>, ())) = Parts::read_parts(
+            alloc, values, limit,
+        )?;
         Ok(MarkRecord { class, anchor })
     }
 }

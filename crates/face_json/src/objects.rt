@@ -9,8 +9,8 @@ ghost use Rattle.face_json.specs.Glyphs.{glyph_limit, subtables_of};
 
 use crate::glyphs::GLYPH_LIMIT;
 use crate::lists::{read_in_turn, read_list};
-use crate::value::Part;
 use crate::rising::read_by_key;
+use crate::value::Part;
 use json_values::fault::JsonFault;
 use layout_common::array::Array;
 use serde_json::Value;

@@ -107,7 +107,11 @@ impl Part for PositioningLookup {
 impl Part for PositioningTable {
     ghost part = { positioning_table };
 
-    fn read_part(alloc: Global, value: &Value, limit: usize) -> Result<PositioningTable, JsonFault> {
+    fn read_part(
+        alloc: Global,
+        value: &Value,
+        limit: usize,
+    ) -> Result<PositioningTable, JsonFault> {
         object(value)?;
         let inner = read_layout(alloc, value)?;
         let lookups = read_in_turn_at(alloc, value, "lookups", limit)?;

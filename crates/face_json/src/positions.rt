@@ -32,8 +32,9 @@ impl Part for ValueRecord {
     ghost part = { λ _. value_record };
 
     fn read_part(alloc: Global, value: &Value, limit: usize) -> Result<ValueRecord, JsonFault> {
-        let (x_placement, (y_placement, (x_advance, (y_advance, ())))) =
-            read_row(alloc, value, limit)?;
+        let (x_placement, (y_placement, (x_advance, (y_advance, ())))) = read_row(
+            alloc, value, limit,
+        )?;
         Ok(ValueRecord {
             x_placement,
             y_placement,
@@ -131,8 +132,9 @@ impl Parts for EntryExit {
     ghost parts = { λ _. entry_exit };
 
     fn read_parts(alloc: Global, values: &[Value], limit: usize) -> Result<EntryExit, JsonFault> {
-        let (entry, (exit, ())): (Option<Anchor>, (Option<Anchor>, ())) =
-            Parts::read_parts(alloc, values, limit)?;
+        let (entry, (exit, ())): (Option<Anchor>, (Option<Anchor>, ())) = Parts::read_parts(
+            alloc, values, limit,
+        )?;
         Ok(EntryExit { entry, exit })
     }
 }

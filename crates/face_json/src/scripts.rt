@@ -19,8 +19,7 @@ impl Part for LangSys {
     fn read_part(alloc: Global, value: &Value, limit: usize) -> Result<LangSys, JsonFault> {
         object(value)?;
         let required = read_optional_at::<u16>(alloc, value, "required", limit);
-        let (required, features) =
-            pair(required, read_list_at(alloc, value, "features", limit))?;
+        let (required, features) = pair(required, read_list_at(alloc, value, "features", limit))?;
         Ok(LangSys::new(required, features))
     }
 }
@@ -38,10 +37,8 @@ impl Part for ScriptRecord {
     ghost part = { script };
 
     fn read_part(alloc: Global, value: &Value, limit: usize) -> Result<ScriptRecord, JsonFault> {
-        let (tag, (default, (systems, ()))): (
-            Tag,
-            (Option<LangSys>, (Array<LangSysRecord>, ())),
-        ) = read_row(alloc, value, limit)?;
+        let (tag, (default, (systems, ()))): (Tag, (Option<LangSys>, (Array<LangSysRecord>, ()))) =
+            read_row(alloc, value, limit)?;
         let systems = systems.into_vec();
         if !is_rising(&systems) {
             return Err(JsonFault::OutOfOrder);

@@ -99,7 +99,11 @@ impl Part for SubstLookup {
 impl Part for SubstitutionTable {
     ghost part = { substitution_table };
 
-    fn read_part(alloc: Global, value: &Value, limit: usize) -> Result<SubstitutionTable, JsonFault> {
+    fn read_part(
+        alloc: Global,
+        value: &Value,
+        limit: usize,
+    ) -> Result<SubstitutionTable, JsonFault> {
         object(value)?;
         let inner = read_layout(alloc, value)?;
         let lookups = read_in_turn_at(alloc, value, "lookups", limit)?;

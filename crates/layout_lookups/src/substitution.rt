@@ -4,8 +4,8 @@ ghost use Rattle.std.specs.Option.{option_copied};
 ghost use Rattle.std.specs.Prelude.{slice_get};
 ghost use Rattle.layout_lookups.specs.Lookups.{props_of, is_reverse};
 
-use layout_common::flags::USE_MARK_FILTERING_SET;
 use layout_common::array::Array;
+use layout_common::flags::USE_MARK_FILTERING_SET;
 use layout_contexts::context::ContextSubtable;
 use layout_font::ligature::LigatureSubst;
 use layout_font::table::LayoutTable;

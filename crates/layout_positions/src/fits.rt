@@ -25,10 +25,10 @@ impl MarkLigPos {
         ensures { result ≡ marks_fit_ligatures self.now.marks self.now.ligatures }
     {
         let count = mark_class_count(self.marks.as_slice());
-        self.ligatures
-            .as_slice()
-            .iter()
-            .all(|ligature| components_fit(count, ligature.components.as_slice()))
+        self.ligatures.as_slice().iter().all(|ligature| components_fit(
+            count,
+            ligature.components.as_slice(),
+        ))
     }
 }
 
