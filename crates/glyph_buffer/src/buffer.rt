@@ -6,6 +6,7 @@ mod context;
 mod cursor;
 mod deletion;
 mod flags;
+mod graphemes;
 mod groups;
 mod lending;
 mod limits;
