@@ -9,8 +9,6 @@ pub mod law_fault;
 pub mod laws;
 pub mod records;
 pub mod tables;
-#[cfg(test)]
-mod tests;
 
 pub use character::CharTablesExt;
 pub use hangul::{compose_hangul, decompose_hangul, hangul_pairs_are_splits};

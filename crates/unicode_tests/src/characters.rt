@@ -1,0 +1,88 @@
+//! Properties of characters by tables.
+use serde_json::Value;
+use std::alloc::Global;
+use std::test::Fail;
+use tables_json::read_tables;
+use unicode_tables::{
+    CharTablesExt, UnicodeTables, compose, compose_hangul, decompose, decompose_hangul,
+};
+
+const TABLES: &str = r#"{"splits":[[225,97,769],[6918,6917,6965],[8491,197,0]],
+    "pairs":[[97,769,225],[6917,6965,6918]],
+    "classes":[[769,230],[803,220]],
+    "mirrored":[[40,41],[41,40]],
+    "vertical":[[12289,65041]],
+    "pictographic":[[169,4351],[174,174]],
+    "joining":[[1576,"D"]],
+    "indic":[[2325,"ML","END"]],
+    "universal":[[6917,"HR"]],
+    "thai":[[3640,"SD",63256,63257],[3640,"RD",63258,63259]]}"#;
+
+fn tables(alloc: Global) -> Result<UnicodeTables, Fail> {
+    let value = Value::from_str(alloc, TABLES)?;
+    Ok(read_tables(alloc, &value)?)
+}
+
+#[test]
+fn splits_and_pairs(rt: HostRuntime) -> Result<(), Fail> {
+    let tables = tables(rt.alloc())?;
+    for (c, parts) in [
+        ('\u{E1}', Some(('a', '\u{301}'))),
+        ('\u{212B}', Some(('\u{C5}', '\0'))),
+        ('\u{AC00}', Some(('\u{1100}', '\u{1161}'))),
+        ('a', None),
+    ] {
+        assert_eq!(rt; decompose(&tables, c), parts);
+    }
+    for (a, b, whole) in [
+        ('\u{1B05}', '\u{1B35}', Some('\u{1B06}')),
+        ('\u{AC00}', '\u{11A8}', Some('\u{AC01}')),
+        ('a', '\u{323}', None),
+    ] {
+        assert_eq!(rt; compose(&tables, a, b), whole);
+    }
+    Ok(())
+}
+
+#[test]
+fn properties(rt: HostRuntime) -> Result<(), Fail> {
+    let tables = tables(rt.alloc())?;
+    assert_eq!(rt; '\u{301}'.modified_combining_class(&tables), 230);
+    assert_eq!(rt; 'a'.modified_combining_class(&tables), 0);
+    assert_eq!(rt; '('.mirrored(&tables), Some(')'));
+    assert_eq!(rt; '\u{3001}'.vertical(&tables), Some('\u{FE11}'));
+    assert!(rt; '\u{1000}'.is_emoji_extended_pictographic(&tables));
+    assert!(rt; !'\u{1100}'.is_emoji_extended_pictographic(&tables));
+    Ok(())
+}
+
+#[test]
+fn categories(rt: HostRuntime) -> Result<(), Fail> {
+    let tables = tables(rt.alloc())?;
+    assert_eq!(rt; tables.joining('\u{628}'), Some(3));
+    assert_eq!(rt; tables.joining('a'), None);
+    assert_eq!(rt; tables.indic('\u{915}'), Some((34, 14)));
+    assert_eq!(rt; tables.universal('\u{1B05}'), Some(44));
+    assert_eq!(rt; tables.thai('\u{E38}', 3), Some(('\u{F71A}', '\u{F71B}')));
+    assert_eq!(rt; tables.thai('\u{E38}', 2), None);
+    Ok(())
+}
+
+#[test]
+fn hangul_syllables(rt: HostRuntime) {
+    for (a, b, whole) in [
+        ('\u{1112}', '\u{1175}', Some('\u{D788}')),
+        ('\u{D788}', '\u{11C2}', Some('\u{D7A3}')),
+        ('\u{AC00}', '\u{11A7}', None),
+        ('\u{AC01}', '\u{11A8}', None),
+    ] {
+        assert_eq!(rt; compose_hangul(a, b), whole);
+    }
+    for (whole, parts) in [
+        ('\u{D7A3}', Some(('\u{D788}', '\u{11C2}'))),
+        ('\u{D788}', Some(('\u{1112}', '\u{1175}'))),
+        ('\u{D7A4}', None),
+    ] {
+        assert_eq!(rt; decompose_hangul(whole), parts);
+    }
+}

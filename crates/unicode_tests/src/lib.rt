@@ -1,0 +1,13 @@
+// Tests of what shaping knows of characters, of syllables and of languages, and of how it is read.
+#![tactic(auto)]
+
+#[cfg(test)]
+mod characters;
+#[cfg(test)]
+mod faults;
+#[cfg(test)]
+mod laws;
+#[cfg(test)]
+mod rows;
+#[cfg(test)]
+mod syllables;

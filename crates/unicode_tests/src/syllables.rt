@@ -1,0 +1,44 @@
+//! Syllables and languages that are read from JSON values.
+use script_constants::hb_ot_script_shaper_t::{KHMER_SHAPER, MYANMAR_SHAPER};
+use script_syllables::{SyllableSpans, SyllableTable};
+use serde_json::Value;
+use shaping_text::language_tags::{LanguageTable, LanguageTags};
+use shaping_text::tag::Tag;
+use std::alloc::Global;
+use std::test::Fail;
+use tables_json::{read_languages, read_syllables};
+
+const MACHINE: &str = r#"{"syllables":{"khmer":{"states":3,
+    "next":[[0,"C",1],[1,"H",2],[2,"C",1]],"accept":[[1,"consonant"]]}}}"#;
+
+fn syllables(alloc: Global, text: &str) -> Result<SyllableTable, Fail> {
+    let value = Value::from_str(alloc, text)?;
+    Ok(read_syllables(alloc, &value)?)
+}
+
+// C H C H: the longest front that the machine accepts, then one glyph of the kind of what is no syllable.
+#[test]
+fn khmer_syllables(rt: HostRuntime) -> Result<(), Fail> {
+    let table = syllables(rt.alloc(), MACHINE)?;
+    let categories = [1, 4, 1, 4];
+    assert_eq!(rt; table.next(KHMER_SHAPER, &categories, 0), (3, 0));
+    assert_eq!(rt; table.next(KHMER_SHAPER, &categories, 3), (4, 2));
+    assert_eq!(rt; table.next(MYANMAR_SHAPER, &categories, 0), (1, 2));
+    Ok(())
+}
+
+fn languages(alloc: Global, text: &str) -> Result<LanguageTable, Fail> {
+    let value = Value::from_str(alloc, text)?;
+    Ok(read_languages(alloc, &value)?)
+}
+
+#[test]
+fn tags_of_languages(rt: HostRuntime) -> Result<(), Fail> {
+    let table = languages(rt.alloc(), r#"{"languages":[["de",["DEU"]],["en",[]]]}"#)?;
+    assert_eq!(rt;
+        table.tags("de-AT").as_slice(),
+        [Tag::from_bytes(b"DEU ")].as_slice()
+    );
+    assert!(rt; table.tags("en").is_empty());
+    Ok(())
+}
