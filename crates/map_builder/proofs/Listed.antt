@@ -1,7 +1,7 @@
 -- Features of a font without a table.
 use Rattle.std.proofs.Common.{ℕ, ◌≡◌, List, [], ◌∷◌, find, Option, Some, None, refl}
 use Rattle.std.specs.Option.{option_and_then}
-use Rattle.layout_font.specs.Layout.{FeatureTable, LangSysTable}
+use Rattle.layout_font.specs.Layout.{LangSysTable}
 use Rattle.layout_font.specs.Choice.{has_tag_at, language_feature}
 use Rattle.shaping_text.specs.declared.tag.Tag.{Tag}
 use Rattle.map_builder.specs.Chosen.{ChosenTable, system_feature}

@@ -1,5 +1,5 @@
 -- The map that a builder compiles.
-use Rattle.std.specs.Prelude.{ℕ, ◌==◌, ◌&&◌, nat_le, Bool, if◌then◌else◌, List, [], ◌∷◌, ◌++◌, find, slice_range, ◌+◌, ◌-◌, length, slice_get, Option}
+use Rattle.std.specs.Prelude.{ℕ, ◌==◌, ◌&&◌, nat_le, Bool, if◌then◌else◌, List, [], ◌∷◌, ◌++◌, find, slice_range, ◌-◌, length, slice_get, Option}
 use Rattle.std.specs.List.{flat_map}
 use Rattle.std.specs.Option.{option_map_or}
 use Rattle.shaping_text.specs.declared.tag.Tag.{Tag}

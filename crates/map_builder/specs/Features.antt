@@ -10,7 +10,7 @@ use Rattle.map_features.specs.declared.field.FeatureField.{FeatureField}
 use Rattle.map_features.specs.Tables.{for_table}
 use Rattle.map_features.specs.Fields.{global_bit, field_among, kept_fields}
 use Rattle.map_builder.specs.declared.features.feature_map_t.{feature_map_t}
-use Rattle.map_builder.specs.Chosen.{ChosenTable, system_feature, listed_feature, required_feature}
+use Rattle.map_builder.specs.Chosen.{ChosenTable, system_feature, listed_feature}
 
 abbrev pub in_any : PerTable (Option ℕ) → Bool
 in_any index = is_some index.gsub || is_some index.gpos

@@ -1,12 +1,12 @@
 -- The bits of fields that follow one another.
-use Rattle.std.proofs.Common.{ℕ, zero, suc, ◌≡◌, ◌<◌, ◌≤◌, ◌+◌, ◌-◌, ◌*◌, ◌^◌, ◌==◌, ◌&&◌, nat_lt, Bool, true, false, if◌then◌else◌, List, [], ◌∷◌, ◌++◌, length, slice_get, bit_and, Option, Some, None, refl, sym, ap, ◌∙◌, arith, subst, mul_comm, pow_mono}
+use Rattle.std.proofs.Common.{ℕ, zero, suc, ◌≡◌, ◌<◌, ◌≤◌, ◌+◌, ◌-◌, ◌*◌, ◌^◌, ◌==◌, nat_lt, Bool, true, false, if◌then◌else◌, List, [], ◌∷◌, ◌++◌, slice_get, bit_and, Some, None, refl, ap, ◌∙◌, arith, subst, mul_comm, pow_mono}
 use Rattle.std.proofs.lemmas.Bool.Decides.{nat_tests}
 use Rattle.std.proofs.lemmas.Nat.{and_block, and_le_r, and_comm, pow-add, pow_pos}
 use Rattle.map_features.specs.declared.field.FeatureField.{FeatureField}
 use Rattle.map_features.specs.declared.request.MergedRequest.{MergedRequest}
 use Rattle.map_features.specs.declared.kept.KeptField.{KeptField}
 use Rattle.map_features.specs.Entering.{RisesFrom}
-use Rattle.map_features.specs.Fields.{global_bit, global_field, own_field, first_feature_bit, bits_needed, uses_global_bit, bit_behind, field_of, kept_if, kept_fields}
+use Rattle.map_features.specs.Fields.{global_bit, global_field, own_field, first_feature_bit, bits_needed, uses_global_bit, kept_if, kept_fields}
 use Rattle.map_features.proofs.Threading.{kept_from, kept_threaded}
 
 -- ---- numbers that share no bit

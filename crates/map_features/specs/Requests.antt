@@ -1,8 +1,7 @@
 -- What the requests for a feature ask together.
-use Rattle.std.specs.Prelude.{ℕ, ◌==◌, Bool, false, not, ◌||◌, min, max, if◌then◌else◌, List, [], ◌∷◌, fold}
+use Rattle.std.specs.Prelude.{ℕ, ◌==◌, Bool, not, ◌||◌, min, max, if◌then◌else◌, List, ◌∷◌, fold}
 use Rattle.std.specs.Int.RustNames.{bit_and}
 use Rattle.std.specs.List.{list_any}
-use Rattle.map_features.specs.declared.per_table.PerTable.{PerTable}
 use Rattle.map_features.specs.declared.request.FeatureRequest.{FeatureRequest}
 use Rattle.map_features.specs.declared.request.MergedRequest.{MergedRequest}
 use Rattle.map_features.specs.declared.flags.TheConstants.{F_GLOBAL, F_HAS_FALLBACK, F_MANUAL_ZWNJ, F_MANUAL_ZWJ, F_GLOBAL_SEARCH, F_RANDOM, F_PER_SYLLABLE}

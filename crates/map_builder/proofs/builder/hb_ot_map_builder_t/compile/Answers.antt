@@ -1,11 +1,8 @@
 use Rattle.std.proofs.Common.{rules, ◌≡◌, map, fold, sym}
 use Rattle.std.specs.Int.RustNames.{bit_or}
-use Rattle.map_features.specs.declared.per_table.TableIndex.TheVariants.{GSUB, GPOS}
-use Rattle.map_features.specs.Entering.{RisesFrom}
 use Rattle.map_features.specs.Fields.{global_bit, kept_fields}
 use Rattle.map_features.specs.Requests.{merged_requests}
 use Rattle.map_features.specs.Rising.{wanted_rise}
-use Rattle.map_builder.specs.Compiled.{stages_with}
 use Rattle.map_builder.specs.Features.{feature_with, is_wanted, wanted_requests}
 use Rattle.map_builder.proofs.Compiling.{compiled_is}
 use Rattle.map_builder.proofs.Flagless.{flagless}
@@ -19,10 +16,11 @@ invariant_of-result c =
     let w : c.in_ok-wanted.wanted.items ≡ wanted_requests tables c.in_ok-requests.requests.items = search rules in
     let k : c.in_ok-kept.kept.items ≡ kept_fields c.in_ok-wanted.wanted.items = search rules in
     let f : c.in_ok-features.features.items ≡ map (λ k. feature_with tables k.request k.field) c.in_ok-kept.kept.items = rw (← c.self.view_is) (rw c.deref-4.ensures.value at c.in_ok-features.ensures) in
-    let m : c.global_mask.result ≡ fold (λ mask k. bit_or mask k.field.default_mask) global_bit c.in_ok-kept.kept.items = rw c.deref-11.ensures.value at c.global_mask.ensures in
-    (features_rise tables c.in_ok-wanted.wanted.items c.in_ok-kept.kept.items c.in_ok-features.features.items
-    (wanted_rise (is_wanted tables) c.self.inside.requests.items c.in_ok-requests.requests.items c.in_ok-wanted.wanted.items r w) k f,
-    flagless c.in_ok-wanted.wanted.items c.in_ok-kept.kept.items c.global_mask.result k m)
+    let m : c.global_mask.result ≡ fold (λ mask k. bit_or mask k.field.default_mask) global_bit c.in_ok-kept.kept.items = rw c.deref-11.ensures.value at c.global_mask.ensures in (
+      features_rise tables c.in_ok-wanted.wanted.items c.in_ok-kept.kept.items c.in_ok-features.features.items
+          (wanted_rise (is_wanted tables) c.self.inside.requests.items c.in_ok-requests.requests.items c.in_ok-wanted.wanted.items r w) k f,
+      flagless c.in_ok-wanted.wanted.items c.in_ok-kept.kept.items c.global_mask.result k m,
+    )
 
 pub returns : goal.returns
 returns c =
