@@ -5,6 +5,13 @@ mod no_order;
 use glyph_clusters::deletion::{recast_end, set_cluster};
 use glyph_clusters::ranges::merge_range;
 use glyph_slices::deletion::delete_within;
+use glyph_slices::flags::{AskedFlags, propagate_flags};
+use glyph_slices::groups::{group_end, next_cluster, next_grapheme, next_syllable};
+use glyph_slices::reversal::reverse_groups;
+use glyph_slices::sorting::sort;
+use glyph_clusters::deletion::{recast_end, set_cluster};
+use glyph_clusters::ranges::merge_range;
+use glyph_slices::deletion::delete_within;
 use glyph_slices::groups::{group_end, next_cluster, next_grapheme, next_syllable};
 use glyph_slices::reversal::reverse_groups;
 use glyph_slices::sorting::sort;
@@ -382,5 +389,30 @@ fn merges_groups_that_share_falling_clusters(rt: HostRuntime) -> Result<(), Fail
             place(20)
         ]
     );
+    Ok(())
+}
+
+/// The masks that a spread leaves of glyphs of such clusters and masks.
+fn masks_after_spread(concat: bool, tatweel: bool, rows: [(u32, u32); 4]) -> [u32; 4] {
+    let [one, two, three, four] = rows;
+    let mut glyphs = [
+        glyph(1, one.0, one.1),
+        glyph(2, two.0, two.1),
+        glyph(3, three.0, three.1),
+        glyph(4, four.0, four.1),
+    ];
+    propagate_flags(&mut glyphs, AskedFlags { concat, tatweel });
+    let [one, two, three, four] = glyphs;
+    [one.mask, two.mask, three.mask, four.mask]
+}
+
+#[test]
+fn spreads_flags_over_runs_of_clusters(rt: HostRuntime) -> Result<(), Fail> {
+    let plain = [(0, 0x101), (0, 2), (3, 2), (0, 1)];
+    let tatweels = [(0, 4), (0, 0), (2, 5), (2, 0)];
+    assert_eq!(&rt; masks_after_spread(false, false, plain), [0x101, 1, 0, 1]);
+    assert_eq!(&rt; masks_after_spread(true, false, plain), [0x103, 3, 2, 1]);
+    assert_eq!(&rt; masks_after_spread(false, true, tatweels), [5, 5, 1, 1]);
+    assert_eq!(&rt; masks_after_spread(true, true, tatweels), [7, 7, 1, 1]);
     Ok(())
 }

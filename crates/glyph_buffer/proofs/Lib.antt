@@ -17,7 +17,6 @@ pub mod Picked
 pub mod Deleting
 pub mod Resized
 pub mod Apart
-pub mod Brings
 pub mod Grouped
 pub mod Slices
 pub mod Walked

@@ -38,7 +38,7 @@ range_arranged start n xs le =
     ap (λ k. take start xs ++ reverse (take k (drop start xs)) ++ drop (start + n) xs) less ∙ ap (λ k. take start xs ++ reverse range ++ drop (start + k) xs) (sym many)
     ∙ sym (arranged_as start (indices_reversed n) (reverse range) xs there (omega (arith, many, le)))
 
-range_seen : {X Y : Type 0} (v : X → Y) (start end : ℕ) (xs : List X) → map v (range_reversed start end xs) ≡ range_reversed start end (map v xs)
+pub range_seen : {X Y : Type 0} (v : X → Y) (start end : ℕ) (xs : List X) → map v (range_reversed start end xs) ≡ range_reversed start end (map v xs)
 range_seen v start end xs =
     let range = slice_range xs start end in
     let seen = reverse (slice_range (map v xs) start end) in
