@@ -1,7 +1,7 @@
--- What a reversal of groups, a sort and deletions in place do to items, positions, clusters and flags.
+-- What a reversal of groups, a sort and deletions in place do to items and positions, and where the glyphs come from.
 use Rattle.std.specs.Prelude.{slice_range}
 use Rattle.std.specs.Global.{Vec}
-use Rattle.std.proofs.Common.{ℕ, ◌≡◌, ◌≤◌, Bool, false, ◌++◌, length, min, take, drop, refl, ap, ◌∙◌}
+use Rattle.std.proofs.Common.{ℕ, ◌≡◌, ◌≤◌, Bool, false, [], ◌∷◌, ◌++◌, length, map, min, take, drop, refl, ap, ◌∙◌}
 use Rattle.std.proofs.lemmas.List.{take-append-drop, length-take-le}
 use Rattle.glyph_types.specs.declared.info.hb_glyph_info_t.{hb_glyph_info_t as Glyph}
 use Rattle.glyph_types.specs.declared.position.GlyphPosition.{GlyphPosition}
@@ -10,26 +10,24 @@ use Rattle.glyph_buffer.specs.declared.buffer.hb_buffer_t.TheInside.{Inside}
 use Rattle.glyph_buffer.specs.Inside.{sides_of}
 use Rattle.glyph_buffer.specs.Merging.{telling_flags}
 use Rattle.glyph_slices.specs.Lemmas.GroupsTurned.{turned_plain}
-use Rattle.glyph_lists.specs.Items.{Item, clusters, flags_of, item_of, strip}
-use Rattle.glyph_lists.specs.Order.{BringsNone}
+use Rattle.glyph_lists.specs.Items.{Item, item_of, strip}
+use Rattle.glyph_lists.specs.Origins.{origins}
+use Rattle.glyph_lists.specs.Events.{Sort}
+use Rattle.glyph_slices.specs.Events.{deletions, groups_reversed, order_of}
+use Rattle.glyph_slices.specs.Lemmas.DeletedEvents.{deletions_are_events}
+use Rattle.glyph_slices.specs.Lemmas.ReversedEvents.{groups_are_events}
+use Rattle.glyph_slices.specs.Lemmas.SortedEvents.{sort_is_event}
 use Rattle.stable_order.specs.Keys.{key_order}
 use Rattle.glyph_slices.specs.DeletionWalk.{all_passed}
-use Rattle.glyph_slices.specs.Facts.{clusters_kept, clusters_turned, items_kept, positions_kept, positions_turned}
-use Rattle.glyph_slices.specs.Flags.{flags_kept, flags_turned}
-use Rattle.glyph_slices.specs.NoNewNumbers.{deleting_brings_none, sorting_brings_none, turning_brings_none}
-use Rattle.glyph_slices.specs.SortedFacts.{clusters_sorted, flags_sorted}
+use Rattle.glyph_slices.specs.Facts.{items_kept, positions_kept, positions_turned}
 use Rattle.glyph_slices.specs.Sorting.{range_sorted}
 use Rattle.glyph_slices.specs.Turning.{groups_turned, turned}
-use Rattle.glyph_slices.specs.Lemmas.Kept.{clusters_all, items_all, places_all}
-use Rattle.glyph_slices.specs.Lemmas.KeptFlags.{flags_all}
-use Rattle.glyph_slices.specs.Lemmas.Regrouped.{clusters_beside, items_turned, places_beside}
-use Rattle.glyph_slices.specs.Lemmas.RegroupedFlags.{flags_beside}
+use Rattle.glyph_slices.specs.Lemmas.Kept.{items_all, places_all}
+use Rattle.glyph_slices.specs.Lemmas.Regrouped.{items_turned, places_beside}
 use Rattle.glyph_slices.specs.Lemmas.SortedItems.{items_sorted}
-use Rattle.glyph_slices.specs.Lemmas.SortedNumbers.{sorted_clusters, sorted_flags}
 use Rattle.glyph_buffer.specs.Grouping.{with_groups_turned, with_picked_deleted}
-use Rattle.glyph_buffer.specs.Sides.{Sides, all_glyphs, items_of}
+use Rattle.glyph_buffer.specs.Sides.{Sides, all_glyphs, asks_of, items_of, origins_by, origins_of}
 use Rattle.glyph_buffer.specs.Sorting.{with_range_sorted}
-use Rattle.glyph_buffer.proofs.Brings.{brings_same}
 
 all_turned : (merge : Bool) (joins : Glyph → Glyph → Bool) (s : Sides) → all_glyphs (with_groups_turned merge joins s) ≡ (turned merge s.level joins (all_glyphs s) s.positions).glyphs
 all_turned merge joins s = take-append-drop s.read (turned merge s.level joins (all_glyphs s) s.positions).glyphs
@@ -40,14 +38,8 @@ groups_items merge q s = ap strip (all_turned merge (λ g h. q (item_of g) (item
 pub groups_positions : (merge : Bool) (q : Item → Item → Bool) (s : Sides) → (with_groups_turned merge (λ g h. q (item_of g) (item_of h)) s).positions ≡ positions_turned q (items_of s) s.positions
 groups_positions merge q s = places_beside merge s.level q (all_glyphs s) s.positions
 
-pub groups_clusters : (merge : Bool) (q : Item → Item → Bool) (s : Sides) → clusters (all_glyphs (with_groups_turned merge (λ g h. q (item_of g) (item_of h)) s)) ≡ clusters_turned merge s.level q (items_of s) (clusters (all_glyphs s))
-groups_clusters merge q s = ap clusters (all_turned merge (λ g h. q (item_of g) (item_of h)) s) ∙ clusters_beside merge s.level q (all_glyphs s) s.positions
-
-pub groups_flags : (merge : Bool) (q : Item → Item → Bool) (s : Sides) → flags_of (all_glyphs (with_groups_turned merge (λ g h. q (item_of g) (item_of h)) s)) ≡ flags_turned merge s.level q (items_of s) (clusters (all_glyphs s)) (flags_of (all_glyphs s))
-groups_flags merge q s = ap flags_of (all_turned merge (λ g h. q (item_of g) (item_of h)) s) ∙ flags_beside merge s.level q (all_glyphs s) s.positions
-
-pub groups_bring_none : (merge : Bool) (joins : Glyph → Glyph → Bool) (s : Sides) → BringsNone (clusters (all_glyphs s)) (clusters (all_glyphs (with_groups_turned merge joins s)))
-groups_bring_none merge joins s = brings_same _ _ _ (ap clusters (all_turned merge joins s)) (turning_brings_none merge s.level joins (all_glyphs s) s.positions)
+pub groups_origins : (merge : Bool) (q : Item → Item → Bool) (s : Sides) → origins_of (with_groups_turned merge (λ g h. q (item_of g) (item_of h)) s) ≡ origins_by (groups_reversed merge q (items_of s)) s
+groups_origins merge q s = ap origins (all_turned merge (λ g h. q (item_of g) (item_of h)) s) ∙ groups_are_events (asks_of s) merge s.level q (all_glyphs s) s.positions
 
 pub all_picked : (goes : Glyph → Bool) (s : Sides) → all_glyphs (with_picked_deleted goes s) ≡ (all_passed s.level goes (all_glyphs s) s.positions).kept
 all_picked goes s = let gs = (all_passed s.level goes (all_glyphs s) s.positions).kept in take-append-drop (min s.read (length gs)) gs
@@ -58,14 +50,8 @@ picked_items q s = ap strip (all_picked (λ g. q (item_of g)) s) ∙ items_all s
 pub picked_positions : (q : Item → Bool) (s : Sides) → (with_picked_deleted (λ g. q (item_of g)) s).positions ≡ positions_kept q (items_of s) s.positions
 picked_positions q s = places_all s.level q (all_glyphs s) s.positions
 
-pub picked_clusters : (q : Item → Bool) (s : Sides) → clusters (all_glyphs (with_picked_deleted (λ g. q (item_of g)) s)) ≡ clusters_kept s.level q (items_of s) (clusters (all_glyphs s))
-picked_clusters q s = ap clusters (all_picked (λ g. q (item_of g)) s) ∙ clusters_all s.level q (all_glyphs s) s.positions
-
-pub picked_flags : (q : Item → Bool) (s : Sides) → flags_of (all_glyphs (with_picked_deleted (λ g. q (item_of g)) s)) ≡ flags_kept s.level q (items_of s) (clusters (all_glyphs s)) (flags_of (all_glyphs s))
-picked_flags q s = ap flags_of (all_picked (λ g. q (item_of g)) s) ∙ flags_all s.level q (all_glyphs s) s.positions
-
-pub picked_bring_none : (goes : Glyph → Bool) (s : Sides) → BringsNone (clusters (all_glyphs s)) (clusters (all_glyphs (with_picked_deleted goes s)))
-picked_bring_none goes s = brings_same _ _ _ (ap clusters (all_picked goes s)) (deleting_brings_none s.level goes (all_glyphs s) s.positions)
+pub picked_origins : (q : Item → Bool) (s : Sides) → origins_of (with_picked_deleted (λ g. q (item_of g)) s) ≡ origins_by (deletions q (items_of s)) s
+picked_origins q s = ap origins (all_picked (λ g. q (item_of g)) s) ∙ deletions_are_events (asks_of s) s.level q (all_glyphs s) s.positions
 
 all_sorted : (start end : ℕ) (k : Glyph → ℕ) (s : Sides) → all_glyphs (with_range_sorted start end k s) ≡ (range_sorted s.level start end k (all_glyphs s)).glyphs
 all_sorted start end k s = take-append-drop (length s.behind) (range_sorted s.level start end k (all_glyphs s)).glyphs
@@ -73,14 +59,8 @@ all_sorted start end k s = take-append-drop (length s.behind) (range_sorted s.le
 pub sorted_items : (start end : ℕ) (k : Item → ℕ) (s : Sides) → items_of (with_range_sorted start end (λ g. k (item_of g)) s) ≡ take start (items_of s) ++ key_order k (slice_range (items_of s) start end) ++ drop end (items_of s)
 sorted_items start end k s = ap strip (all_sorted start end (λ g. k (item_of g)) s) ∙ items_sorted s.level start end k (all_glyphs s)
 
-pub range_clusters : (start end : ℕ) (k : Item → ℕ) (s : Sides) → clusters (all_glyphs (with_range_sorted start end (λ g. k (item_of g)) s)) ≡ clusters_sorted s.level start end k (items_of s) (clusters (all_glyphs s))
-range_clusters start end k s = ap clusters (all_sorted start end (λ g. k (item_of g)) s) ∙ sorted_clusters s.level start end k (all_glyphs s)
-
-pub range_flags : (start end : ℕ) (k : Glyph → ℕ) (s : Sides) → flags_of (all_glyphs (with_range_sorted start end k s)) ≡ flags_sorted s.level start end k (all_glyphs s)
-range_flags start end k s = ap flags_of (all_sorted start end k s) ∙ sorted_flags s.level start end k (all_glyphs s)
-
-pub sort_brings_none : (start end : ℕ) (k : Glyph → ℕ) (s : Sides) → BringsNone (clusters (all_glyphs s)) (clusters (all_glyphs (with_range_sorted start end k s)))
-sort_brings_none start end k s = brings_same _ _ _ (ap clusters (all_sorted start end k s)) (sorting_brings_none s.level start end k (all_glyphs s))
+pub sorted_origins : (start end : ℕ) (k : Item → ℕ) (s : Sides) → start ≤ end → end ≤ length (all_glyphs s) → origins_of (with_range_sorted start end (λ g. k (item_of g)) s) ≡ origins_by (Sort start (order_of (map k (slice_range (items_of s) start end))) ∷ []) s
+sorted_origins start end k s le within = ap origins (all_sorted start end (λ g. k (item_of g)) s) ∙ sort_is_event (asks_of s) s.level start end k (all_glyphs s) le within
 
 -- both vectors, with the groups turned round
 pub grouped_view : (merge : Bool) (joins : Glyph → Glyph → Bool) (b : Inside) (info : Vec Glyph) (positions : Vec GlyphPosition) (order : ClusterOrder) (flags : ℕ) → b.have_output ≡ false

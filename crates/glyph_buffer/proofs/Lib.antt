@@ -17,10 +17,10 @@ pub mod Picked
 pub mod Deleting
 pub mod Resized
 pub mod Apart
-pub mod Brings
 pub mod Grouped
 pub mod Slices
 pub mod Walked
 pub mod MergedOrigins
 pub mod MarkedOrigins
 pub mod DeletedOrigins
+pub mod Spread

@@ -1,6 +1,8 @@
 -- The cursor at another place, and lists cut, filled or turned round in part.
 use Rattle.std.specs.Prelude.{ℕ, zero, suc, ◌+◌, ◌-◌, ◌&&◌, Bool, true, not, nat_le, nat_lt, if◌then◌else◌, List, [], ◌∷◌, ◌++◌, length, take, drop, reverse, replicate, min, slice_range}
 use Rattle.glyph_types.specs.declared.info.hb_glyph_info_t.{hb_glyph_info_t}
+pub use Rattle.glyph_slices.specs.Events.{indices_reversed}
+pub use Rattle.glyph_slices.specs.Turning.{range_reversed}
 use Rattle.glyph_buffer.specs.Sides.{Sides, all_glyphs, with_list, zero_position}
 use Rattle.glyph_buffer.specs.Text.{added_glyph}
 
@@ -15,15 +17,6 @@ side_holds i s = if nat_lt (length s.behind) i then nat_le i s.max_len else nat_
 -- whether the cursor may be moved there: with an output open, after no refusal, and where the side that grows holds it
 abbrev pub fits_moved : ℕ → Sides → Bool
 fits_moved i s = if s.is_open then not s.has_refused && side_holds i s else true
-
--- the elements from `start` up to before `end` turned round
-abbrev pub range_reversed : {X : Type 0} → ℕ → ℕ → List X → List X
-range_reversed start end xs = take start xs ++ reverse (slice_range xs start end) ++ drop end xs
-
--- so many indices, the last first
-abbrev pub indices_reversed : ℕ → List ℕ
-indices_reversed zero = []
-indices_reversed (suc n) = n ∷ indices_reversed n
 
 -- a range of glyphs and positions turned round
 abbrev pub with_range_reversed : ℕ → ℕ → Sides → Sides

@@ -5,6 +5,8 @@ mod across;
 mod context;
 mod cursor;
 mod deletion;
+mod flags;
+mod graphemes;
 mod groups;
 mod lending;
 mod limits;

@@ -21,7 +21,7 @@ recast_cluster c mask h = by_test (h.cluster == c) refl
     by_test true e = grind (arith, common_steps, e)
     by_test false e = refl
 
-flags_put : (m n : ℕ) → without_flags (without_flags m + bit_and n 7) ≡ without_flags m
+pub flags_put : (m n : ℕ) → without_flags (without_flags m + bit_and n 7) ≡ without_flags m
 flags_put m n =
     let low = and_mask m 3 in
     let put = and_mask n 3 in

@@ -11,7 +11,7 @@ use Rattle.glyph_lists.specs.Glyphs.{in_cluster, glyphs_merged_at}
 use Rattle.glyph_lists.specs.Lemmas.Numbers.{Has, has_either, has_left, has_right, has_reverse}
 use Rattle.glyph_slices.specs.declared.due.falling.Stretch.{Stretch}
 use Rattle.glyph_lists.specs.Levels.{IsMonotone}
-use Rattle.glyph_slices.specs.Turning.{part_turned}
+use Rattle.glyph_slices.specs.Turning.{range_reversed}
 use Rattle.glyph_slices.specs.Falling.{carried, IsDueBefore, IsRound}
 use Rattle.glyph_slices.specs.Lemmas.Turned.{map-reverse, part_front, part_behind, clusters_part}
 use Rattle.glyph_slices.proofs.Carried.{two_ranges, take_to, drop_beyond, take_carried, drop_carried, same_range, front_long}
@@ -21,25 +21,25 @@ pub carried_long : (d : Stretch) (gs : List Glyph) → d.from ≤ d.to → d.to 
 carried_long d gs le within = omega (arith, length-append (take d.from gs ++ map (in_cluster d.cluster) (slice_range gs d.from d.to)) (drop d.to gs), front_long d gs le within, length-drop d.to gs)
 
 -- the parts of a list of which a part was turned round
-turned_front : {X : Type 0} (i start end : ℕ) (xs : List X) → i ≤ start → start ≤ length xs → take i (part_turned start end xs) ≡ take i xs
+turned_front : {X : Type 0} (i start end : ℕ) (xs : List X) → i ≤ start → start ≤ length xs → take i (range_reversed start end xs) ≡ take i xs
 turned_front i start end xs le within =
     let r = reverse (slice_range xs start end) in
     let long : length (take start xs) ≡ start = length-take-le start xs within in
-    let whole : take start (part_turned start end xs) ≡ take start xs = ap (take start) (append_assoc (take start xs) r (drop end xs)) ∙ ap (λ n. take n (take start xs ++ (r ++ drop end xs))) (sym long) ∙ take-append_seam (take start xs) (r ++ drop end xs) in
-    sym (take-take i start (part_turned start end xs) le) ∙ ap (take i) whole ∙ take-take i start xs le
+    let whole : take start (range_reversed start end xs) ≡ take start xs = ap (take start) (append_assoc (take start xs) r (drop end xs)) ∙ ap (λ n. take n (take start xs ++ (r ++ drop end xs))) (sym long) ∙ take-append_seam (take start xs) (r ++ drop end xs) in
+    sym (take-take i start (range_reversed start end xs) le) ∙ ap (take i) whole ∙ take-take i start xs le
 
-turned_mid : {X : Type 0} (start end : ℕ) (xs : List X) → start ≤ end → end ≤ length xs → slice_range (part_turned start end xs) start end ≡ reverse (slice_range xs start end)
+turned_mid : {X : Type 0} (start end : ℕ) (xs : List X) → start ≤ end → end ≤ length xs → slice_range (range_reversed start end xs) start end ≡ reverse (slice_range xs start end)
 turned_mid start end xs le within =
     let r = reverse (slice_range xs start end) in
     let long : length (take start xs) ≡ start = length-take-le start xs (omega arith) in
     let wide : length r ≡ end - start = length-reverse (slice_range xs start end) ∙ length-take-le (end - start) (drop start xs) (omega (arith, length-drop start xs)) in
-    let rest : drop start (part_turned start end xs) ≡ r ++ drop end xs = ap (drop start) (append_assoc (take start xs) r (drop end xs)) ∙ ap (λ n. drop n (take start xs ++ (r ++ drop end xs))) (sym long) ∙ drop-append_seam (take start xs) (r ++ drop end xs) in
+    let rest : drop start (range_reversed start end xs) ≡ r ++ drop end xs = ap (drop start) (append_assoc (take start xs) r (drop end xs)) ∙ ap (λ n. drop n (take start xs ++ (r ++ drop end xs))) (sym long) ∙ drop-append_seam (take start xs) (r ++ drop end xs) in
     ap (take (end - start)) rest ∙ ap (λ n. take n (r ++ drop end xs)) (sym wide) ∙ take-append_seam r (drop end xs)
 
-turned_back : {X : Type 0} (start end : ℕ) (xs : List X) → start ≤ end → end ≤ length xs → drop end (part_turned start end xs) ≡ drop end xs
+turned_back : {X : Type 0} (start end : ℕ) (xs : List X) → start ≤ end → end ≤ length xs → drop end (range_reversed start end xs) ≡ drop end xs
 turned_back start end xs le within = part_behind start end xs le within ∙ drop_beyond start end xs le
 
-turned_long : {X : Type 0} (start end : ℕ) (xs : List X) → start ≤ end → end ≤ length xs → length (part_turned start end xs) ≡ length xs
+turned_long : {X : Type 0} (start end : ℕ) (xs : List X) → start ≤ end → end ≤ length xs → length (range_reversed start end xs) ≡ length xs
 turned_long start end xs le within = omega (arith, length-append (take start xs ++ reverse (slice_range xs start end)) (drop end xs), part_front start end xs le within, length-drop end xs)
 
 -- a list is known by three parts
@@ -51,14 +51,14 @@ by_take : {X : Type 0} (i j : ℕ) (xs : List X) → i ≤ j → slice_range xs 
 by_take i j xs le = let there : j ≡ i + (j - i) = omega arith in sym (ap (λ n. drop i (take n xs)) there ∙ drop-take i (j - i) xs)
 
 -- a range before the part
-turned_range : {X : Type 0} (i j start end : ℕ) (xs : List X) → i ≤ j → j ≤ start → start ≤ length xs → slice_range (part_turned start end xs) i j ≡ slice_range xs i j
+turned_range : {X : Type 0} (i j start end : ℕ) (xs : List X) → i ≤ j → j ≤ start → start ≤ length xs → slice_range (range_reversed start end xs) i j ≡ slice_range xs i j
 turned_range i j start end xs le less within =
-    by_take i j (part_turned start end xs) le ∙ ap (drop i) (turned_front j start end xs less within) ∙ sym (by_take i j xs le)
+    by_take i j (range_reversed start end xs) le ∙ ap (drop i) (turned_front j start end xs less within) ∙ sym (by_take i j xs le)
 
 -- what is due goes with the part
-pub carried_turned : (d : Stretch) (start end : ℕ) (gs : List Glyph) → start ≤ end → end ≤ length gs → d.from ≤ d.to → IsRound start end d → carried d (part_turned start end gs) ≡ part_turned start end (carried d gs)
+pub carried_turned : (d : Stretch) (start end : ℕ) (gs : List Glyph) → start ≤ end → end ≤ length gs → d.from ≤ d.to → IsRound start end d → carried d (range_reversed start end gs) ≡ range_reversed start end (carried d gs)
 carried_turned d start end gs le within ordered (inl before) =
-    let new = part_turned start end gs in
+    let new = range_reversed start end gs in
     let long : length new ≡ length gs = turned_long start end gs le within in
     let there : d.to ≤ length gs = omega (arith, before, le, within) in
     let same : take d.to (carried d new) ≡ take d.to (carried d gs) =
@@ -69,7 +69,7 @@ carried_turned d start end gs le within ordered (inl before) =
     (same_range d new start end ordered (omega (arith, long, there)) before ∙ turned_mid start end gs le within ∙ ap reverse (sym (same_range d gs start end ordered there before)))
     (drop_carried d new end ordered (omega (arith, long, there)) (omega (arith, before, le)) ∙ turned_back start end gs le within ∙ sym (drop_carried d gs end ordered there (omega (arith, before, le))))
 carried_turned d start end gs le within ordered (inr round) =
-    let new = part_turned start end gs in
+    let new = range_reversed start end gs in
     let m = carried d gs in
     let go : List Glyph → List Glyph = map (in_cluster d.cluster) in
     let f = take d.from gs in
@@ -93,12 +93,12 @@ carried_turned d start end gs le within ordered (inr round) =
     sym (take-append-drop d.to (carried d new)) ∙ ap (λ hs. hs ++ drop d.to (carried d new)) (left ∙ ap (λ hs. hs ++ reverse (go w)) (sym before) ∙ ap (λ hs. take start m ++ reverse hs) (sym among)) ∙ ap (λ hs. take start m ++ reverse (slice_range m start end) ++ hs) back
 
 -- a cluster that occurs before the end of what is due did so before
-turned_has : (d : Stretch) (start end n : ℕ) (gs : List Glyph) → start ≤ end → end ≤ length gs → IsRound start end d → Has (clusters (take d.to (part_turned start end gs))) n → Has (clusters (take d.to gs)) n
+turned_has : (d : Stretch) (start end n : ℕ) (gs : List Glyph) → start ≤ end → end ≤ length gs → IsRound start end d → Has (clusters (take d.to (range_reversed start end gs))) n → Has (clusters (take d.to gs)) n
 turned_has d start end n gs le within (inl before) h = subst (λ (hs : List Glyph). Has (clusters hs) n) (turned_front d.to start end gs before (omega arith)) h
 turned_has d start end n gs le within (inr round) h =
     let v : Glyph → ℕ = λ g. g.cluster in
     let w = slice_range gs start end in
-    let new = part_turned start end gs in
+    let new = range_reversed start end gs in
     let cut : clusters (take d.to new) ≡ clusters (take start gs) ++ reverse (clusters w) =
     ap clusters (ap (λ k. take k new) round.1 ∙ take_to start end new le ∙ ap (λ hs. hs ++ slice_range new start end) (turned_front start start end gs (omega arith) (omega arith)) ∙ ap (λ hs. take start gs ++ hs) (turned_mid start end gs le within)) ∙ map-append v (take start gs) (reverse w) ∙ ap (λ ns. clusters (take start gs) ++ ns) (map-reverse v w) in
     let old : clusters (take d.to gs) ≡ clusters (take start gs) ++ clusters w = ap clusters (ap (λ k. take k gs) round.1 ∙ take_to start end gs le) ∙ map-append v (take start gs) w in
@@ -108,9 +108,9 @@ turned_has d start end n gs le within (inr round) h =
     ])
 
 -- a stretch is due where its group was merged and is turned round in its place
-pub stretch_turned : (level : Level) (d : Stretch) (start end : ℕ) (old gs : List Glyph) → IsMonotone level → start ≤ end → end ≤ length gs → IsDueBefore end d gs → IsRound start end d → carried d gs ≡ glyphs_merged_at level start end old → IsDueBefore end d (part_turned start end gs)
+pub stretch_turned : (level : Level) (d : Stretch) (start end : ℕ) (old gs : List Glyph) → IsMonotone level → start ≤ end → end ≤ length gs → IsDueBefore end d gs → IsRound start end d → carried d gs ≡ glyphs_merged_at level start end old → IsDueBefore end d (range_reversed start end gs)
 stretch_turned level d start end old gs mono le within due round e =
-    let new = part_turned start end gs in
+    let new = range_reversed start end gs in
     let whole : clusters (carried d new) ≡ clusters (carried d gs) = ap clusters (carried_turned d start end gs le within due.ordered round) ∙ clusters_part level start end old (carried d gs) mono le e in
     let early : d.from ≤ start = early_is round due.ordered in record {
       ordered = due.ordered;

@@ -6,3 +6,4 @@ pub mod Dues
 pub mod Passing
 pub mod Spans
 pub mod Seams
+pub mod Examples

@@ -5,7 +5,7 @@ use Rattle.glyph_types.specs.declared.level.BufferClusterLevel.{BufferClusterLev
 use Rattle.glyph_slices.specs.declared.due.falling.Stretch.{Stretch}
 use Rattle.glyph_slices.specs.declared.due.Due.{Due}
 use Rattle.glyph_slices.specs.declared.due.Due.TheVariants.{Nothing, Falling}
-use Rattle.glyph_slices.specs.Turning.{merged_if, part_turned}
+use Rattle.glyph_slices.specs.Turning.{merged_if, range_reversed}
 use Rattle.glyph_slices.specs.Falling.{carried, IsDueBefore}
 use Rattle.glyph_slices.specs.Due.{meant, IsDue, IsWithin, MayBeDue, MayBeRound}
 use Rattle.glyph_slices.proofs.Carried.{drop_carried}
@@ -24,12 +24,12 @@ pub meant_long : (level : Level) (at : ℕ) (due : Due) (gs : List Glyph) → at
 meant_long level at Nothing gs le h = refl
 meant_long level at (Falling d) gs le h = carried_long d gs h.1.ordered (omega (arith, h.1.before, le))
 
-pub meant_turned : (level : Level) (start end : ℕ) (due : Due) (gs : List Glyph) → start ≤ end → end ≤ length gs → MayBeDue level end due gs → MayBeRound start end due → meant due (part_turned start end gs) ≡ part_turned start end (meant due gs)
+pub meant_turned : (level : Level) (start end : ℕ) (due : Due) (gs : List Glyph) → start ≤ end → end ≤ length gs → MayBeDue level end due gs → MayBeRound start end due → meant due (range_reversed start end gs) ≡ range_reversed start end (meant due gs)
 meant_turned level start end Nothing gs le within h round = refl
 meant_turned level start end (Falling d) gs le within h round = carried_turned d start end gs le within h.1.ordered round
 
 -- a group that was merged is turned round in its place
-pub due_turned : (merge : Bool) (level : Level) (start end : ℕ) (due : Due) (old gs : List Glyph) → start ≤ end → end ≤ length gs → MayBeDue level end due gs → MayBeRound start end due → (merge ≡ false → due ≡ Nothing) → meant due gs ≡ merged_if merge level start end old → MayBeDue level end due (part_turned start end gs)
+pub due_turned : (merge : Bool) (level : Level) (start end : ℕ) (due : Due) (old gs : List Glyph) → start ≤ end → end ≤ length gs → MayBeDue level end due gs → MayBeRound start end due → (merge ≡ false → due ≡ Nothing) → meant due gs ≡ merged_if merge level start end old → MayBeDue level end due (range_reversed start end gs)
 due_turned merge level start end Nothing old gs le within h round plain e = (tt, tt)
 due_turned false level start end (Falling d) old gs le within h round plain e = let no = plain refl in cc
 due_turned true level start end (Falling d) old gs le within h round plain e = (h.0, stretch_turned level d start end old gs h.0 le within h.1 round e)

@@ -1,25 +1,21 @@
 -- What holds of each deletion, of groups and of walks.
-use Rattle.std.specs.Prelude.{ℕ, ◌≡◌, ◌≤◌, ◌↔◌, Bool, IsTrue, List, [], ◌∷◌, ◌++◌, length, map, take, drop, reverse}
+use Rattle.std.specs.Prelude.{ℕ, ◌≡◌, ◌≤◌, ◌↔◌, Bool, true, IsTrue, List, [], ◌∷◌, ◌++◌, length, map, take, drop, reverse, slice_range}
 use Rattle.std.specs.List.{All, flat_map}
 use Rattle.glyph_types.specs.declared.info.hb_glyph_info_t.{hb_glyph_info_t}
 use Rattle.glyph_types.specs.declared.level.BufferClusterLevel.{BufferClusterLevel}
-use Rattle.glyph_lists.specs.Items.{Position, strip, clusters}
-use Rattle.glyph_lists.specs.Order.{BringsNone}
-use Rattle.glyph_lists.specs.Deletions.{deleted}
-use Rattle.glyph_slices.specs.Turning.{groups, groups_turned, turned}
+use Rattle.glyph_lists.specs.Items.{Item, Position, item_of, strip}
+use Rattle.glyph_lists.specs.Origins.{Asks, origins, origins_deleted}
+use Rattle.glyph_lists.specs.Events.{Sort, origins_after, IsPlain}
 use Rattle.glyph_clusters.specs.Deleting.{glyphs_deleted}
+use Rattle.glyph_slices.specs.Turning.{groups, groups_turned, turned}
 use Rattle.glyph_slices.specs.DeletionWalk.{all_passed}
-use Rattle.glyph_slices.specs.Facts.{numbers_deleted}
+use Rattle.glyph_slices.specs.Events.{deletions, groups_reversed, order_of}
 use Rattle.glyph_slices.specs.Sorting.{is_seam, places_by_key, range_sorted}
 
--- the clusters that it leaves are those of the deletion of a number
-abbrev pub DeletesClusters : Type 0
-DeletesClusters = (level : BufferClusterLevel) (front : List hb_glyph_info_t) (g : hb_glyph_info_t) (back : List hb_glyph_info_t)
-    → clusters (glyphs_deleted level front g back).front ++ clusters (glyphs_deleted level front g back).back ≡ deleted level (clusters front) g.cluster (clusters back)
-
--- the numbers before one that went and those behind it are together what its deletion leaves
-abbrev pub DeletesNumbers : Type 0
-DeletesNumbers = (level : BufferClusterLevel) (front : List ℕ) (n : ℕ) (back : List ℕ) → (numbers_deleted level front n back).front ++ (numbers_deleted level front n back).back ≡ deleted level front n back
+-- the first of the glyphs behind others goes: where the others come from is what the event leaves
+abbrev pub DeletionIsEvent : Type 0
+DeletionIsEvent = (level : BufferClusterLevel) (front : List hb_glyph_info_t) (g : hb_glyph_info_t) (back : List hb_glyph_info_t) → let left = glyphs_deleted level front g back in
+    origins (left.front ++ left.back) ≡ origins_deleted level (length front) (origins (front ++ g ∷ back))
 
 -- all other items stay
 abbrev pub DeletesOneItem : Type 0
@@ -39,18 +35,24 @@ GroupsAreAll = (joins : hb_glyph_info_t → hb_glyph_info_t → Bool) (gs : List
 abbrev pub TurnsGroups : Type 0
 TurnsGroups = (joins : hb_glyph_info_t → hb_glyph_info_t → Bool) (gs : List hb_glyph_info_t) → let turned = reverse (groups joins gs) in cut_into (map (λ hs. length hs) turned) (groups_turned joins gs) ≡ turned
 
--- turning round groups brings no cluster number, with merges or without
-abbrev pub TurningBringsNone : Type 0
-TurningBringsNone = (merge : Bool) (level : BufferClusterLevel) (joins : hb_glyph_info_t → hb_glyph_info_t → Bool) (gs : List hb_glyph_info_t) (ps : List Position) → BringsNone (clusters gs) (clusters (turned merge level joins gs ps).glyphs)
-
--- a walk of deletions brings none
-abbrev pub DeletingBringsNone : Type 0
-DeletingBringsNone = (level : BufferClusterLevel) (goes : hb_glyph_info_t → Bool) (gs : List hb_glyph_info_t) (ps : List Position) → BringsNone (clusters gs) (clusters (all_passed level goes gs ps).kept)
-
--- a sort of a range brings none
-abbrev pub SortingBringsNone : Type 0
-SortingBringsNone = (level : BufferClusterLevel) (start end : ℕ) (k : hb_glyph_info_t → ℕ) (gs : List hb_glyph_info_t) → BringsNone (clusters gs) (clusters (range_sorted level start end k gs).glyphs)
-
 -- a place is a seam of the order by a key exactly where no glyph before it has a greater key than one from it on
 abbrev pub SeamParts : Type 0
 SeamParts = (k : hb_glyph_info_t → ℕ) (gs : List hb_glyph_info_t) (i : ℕ) → i ≤ length gs → let order = places_by_key k gs in IsTrue (is_seam order i) ↔ All (λ g. All (λ h. k g ≤ k h) (drop i gs)) (take i gs)
+
+-- deletions in place are events, one for each glyph that goes
+abbrev pub DeletionsAreEvents : Type 0
+DeletionsAreEvents = (asks : Asks) (level : BufferClusterLevel) (q : Item → Bool) (gs : List hb_glyph_info_t) (ps : List Position) → origins (all_passed level (λ g. q (item_of g)) gs ps).kept ≡ origins_after asks level (deletions q (strip gs)) (origins gs)
+
+-- a reversal of groups is a list of events, one for each group and one for the list
+abbrev pub GroupsAreEvents : Type 0
+GroupsAreEvents = (asks : Asks) (merge : Bool) (level : BufferClusterLevel) (q : Item → Item → Bool) (gs : List hb_glyph_info_t) (ps : List Position)
+    → origins (turned merge level (λ g h. q (item_of g) (item_of h)) gs ps).glyphs ≡ origins_after asks level (groups_reversed merge q (strip gs)) (origins gs)
+
+-- a sort of a range is one event
+abbrev pub SortIsEvent : Type 0
+SortIsEvent = (asks : Asks) (level : BufferClusterLevel) (start end : ℕ) (k : Item → ℕ) (gs : List hb_glyph_info_t) → start ≤ end → end ≤ length gs
+    → origins (range_sorted level start end (λ g. k (item_of g)) gs).glyphs ≡ origins_after asks level (Sort start (order_of (map k (slice_range (strip gs) start end))) ∷ []) (origins gs)
+
+-- none of these events puts glyphs in another order without a merge, but a reversal of groups that does not merge them
+abbrev pub EventsArePlain : Type 0
+EventsArePlain = (q : Item → Bool) (joins : Item → Item → Bool) (xs : List Item) (at : ℕ) (keys : List ℕ) → IsPlain (deletions q xs) × IsPlain (groups_reversed true joins xs) × IsPlain (Sort at (order_of keys) ∷ [])

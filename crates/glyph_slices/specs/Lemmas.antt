@@ -1,10 +1,14 @@
 pub mod GroupsTurned
 pub mod Kept
-pub mod KeptFlags
 pub mod Neighbours
 pub mod Regrouped
-pub mod RegroupedFlags
 pub mod SortedItems
-pub mod SortedNumbers
 pub mod Stretches
 pub mod Turned
+pub mod KeyOrder
+pub mod Picked
+pub mod DeletedEvents
+pub mod ReversedEvents
+pub mod SortedEvents
+pub mod OrderSpans
+pub mod Flags

@@ -7,9 +7,7 @@ pub mod Sorting
 pub mod Due
 pub mod Laws
 pub mod Facts
-pub mod SortedFacts
-pub mod Flags
 pub mod Places
-pub mod NoNewNumbers
-pub mod DeletedFlags
+pub mod Events
+pub mod Flags
 pub mod Lemmas

@@ -1,21 +1,13 @@
 -- The positions of a range in the order by a key.
 use Rattle.std.specs.Prelude.{slice_range}
 use Rattle.std.specs.List.{All}
-use Rattle.std.proofs.Common.{ℕ, suc, zero, ◌≡◌, ◌≤◌, ◌<◌, ◌+◌, ◌-◌, ◌==◌, min, List, [], ◌∷◌, length, drop, arith, ap, sym, ◌∙◌}
+use Rattle.std.proofs.Common.{ℕ, ◌≡◌, ◌≤◌, ◌<◌, ◌+◌, ◌-◌, min, List, [], ◌∷◌, length, drop, arith, ap, sym, ◌∙◌}
 use Rattle.std.proofs.lemmas.List.{length-drop, length-take}
-use Rattle.std.proofs.lemmas.List.Elements.{All-nil, All-cons, All-append, All-filter}
+use Rattle.std.proofs.lemmas.List.Elements.{All-nil, All-cons}
 use Rattle.glyph_types.specs.declared.info.hb_glyph_info_t.{hb_glyph_info_t as Glyph}
-use Rattle.stable_order.specs.Keys.{by_key, of_key, key_bound, key_order}
 use Rattle.glyph_slices.specs.declared.sorting.Keyed.{Keyed}
 use Rattle.glyph_slices.specs.Sorting.{keyed_from, places_by_key}
-
--- what holds of each element holds of each in the order by a key
-pub all_by_key : {X : Type 0} (P : X → Type 0) (key : X → ℕ) (n : ℕ) (xs : List X) → All P xs → All P (by_key key n xs)
-all_by_key P key zero xs h = All-nil P
-all_by_key P key (suc n) xs h = All-append P (by_key key n xs) (of_key key n xs) (all_by_key P key n xs h) (All-filter (λ x. key x == n) P xs h)
-
-pub all_in_order : {X : Type 0} (P : X → Type 0) (key : X → ℕ) (xs : List X) → All P xs → All P (key_order key xs)
-all_in_order P key xs h = all_by_key P key (key_bound key xs) xs h
+use Rattle.glyph_slices.specs.Lemmas.KeyOrder.{all_in_order}
 
 pub all_keyed : (k : Glyph → ℕ) (i n : ℕ) (gs : List Glyph) → i + length gs ≤ n → All (λ (e : Keyed). e.place < n) (keyed_from k i gs)
 all_keyed k i n [] le = All-nil (λ (e : Keyed). e.place < n)

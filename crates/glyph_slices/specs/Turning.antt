@@ -23,9 +23,9 @@ groups p (x ∷ xs) = in_front p x (groups p xs)
 abbrev pub groups_turned : {X : Type 0} → (X → X → Bool) → List X → List X
 groups_turned p xs = flat_map (λ ys. ys) (reverse (groups p xs))
 
--- the indices from `start` up to before `end` are turned round
-abbrev pub part_turned : {X : Type 0} → ℕ → ℕ → List X → List X
-part_turned start end xs = take start xs ++ reverse (slice_range xs start end) ++ drop end xs
+-- the elements from `start` up to before `end` in reversed order
+abbrev pub range_reversed : {X : Type 0} → ℕ → ℕ → List X → List X
+range_reversed start end xs = take start xs ++ reverse (slice_range xs start end) ++ drop end xs
 
 -- glyphs and positions of the groups that were found, the last in front, and of what is ahead; and whether a merge marked one
 pub record Turning : Type 0 where

@@ -1,11 +1,8 @@
-ghost use Rattle.std.specs.Prelude.{◌≡◌, ◌+◌, ◌<◌, ◌≤◌, [], Some, true, Bool, length, map, take, drop};
+ghost use Rattle.std.specs.Prelude.{◌≡◌, ◌≤◌, true, Bool, length, take};
 ghost use Rattle.glyph_types.specs.declared.info.hb_glyph_info_t.{hb_glyph_info_t as Glyph};
-ghost use Rattle.glyph_lists.specs.Items.{Item, clusters, flags_of, item_of, strip};
-ghost use Rattle.glyph_lists.specs.Parts.{first_of, is_number, last_of};
-ghost use Rattle.glyph_lists.specs.Order.{BringsNone, IsOrdered};
+ghost use Rattle.glyph_lists.specs.Items.{clusters};
+ghost use Rattle.glyph_lists.specs.Order.{IsOrdered};
 ghost use Rattle.glyph_slices.specs.DeletionWalk.{Tells, all_passed};
-ghost use Rattle.glyph_slices.specs.Facts.{clusters_kept, items_kept, positions_kept};
-ghost use Rattle.glyph_slices.specs.Flags.{flags_kept};
 
 mod walk;
 

@@ -1,13 +1,9 @@
-ghost use Rattle.glyph_slices.specs.Laws.{DeletesClusters, DeletesNumbers, DeletesOneItem, DeletingBringsNone, GroupsAreAll, SeamParts, SortingBringsNone, TurningBringsNone, TurnsGroups};
+ghost use Rattle.glyph_slices.specs.Laws.{DeletesOneItem, DeletionIsEvent, DeletionsAreEvents, EventsArePlain, GroupsAreAll, GroupsAreEvents, SeamParts, SortIsEvent, TurnsGroups};
 
-/// A deletion leaves the clusters that the deletion of a number leaves of numbers.
-pub fn deletes_clusters()
-    ensures { DeletesClusters }
-{}
-
-/// The numbers before one that went and those behind it are together what its deletion leaves.
-pub fn deletes_numbers()
-    ensures { DeletesNumbers }
+/// The deletion of a glyph is the event of that name.
+#[tactic(auto, using(glyph_clusters::specs::DeletedOrigins::deleted_behind))]
+pub fn deletion_is_event()
+    ensures { DeletionIsEvent }
 {}
 
 /// A deletion changes no other item.
@@ -25,22 +21,29 @@ pub fn turns_groups()
     ensures { TurnsGroups }
 {}
 
-/// Turning round groups brings no cluster number that was not there.
-pub fn turning_brings_none()
-    ensures { TurningBringsNone }
-{}
-
-/// Nor does a walk of deletions.
-pub fn deleting_brings_none()
-    ensures { DeletingBringsNone }
-{}
-
-/// Nor does a sort of a range.
-pub fn sorting_brings_none()
-    ensures { SortingBringsNone }
-{}
-
 /// A place is a seam of the order by a key exactly where no key before it is greater than one from it on.
 pub fn seam_parts()
     ensures { SeamParts }
+{}
+
+/// Deletions in place are events, one for each glyph that goes.
+#[tactic(auto, using(crate::specs::Lemmas::DeletedEvents::deletions_are_events))]
+pub fn deletions_are_events()
+    ensures { DeletionsAreEvents }
+{}
+
+/// A reversal of groups is a list of events, one for each group and one for the list.
+#[tactic(auto, using(crate::specs::Lemmas::ReversedEvents::groups_are_events))]
+pub fn groups_are_events()
+    ensures { GroupsAreEvents }
+{}
+
+/// A sort of a range is one event.
+pub fn sort_is_event()
+    ensures { SortIsEvent }
+{}
+
+/// None of these events puts glyphs in another order without a merge, but a reversal of groups that does not merge them.
+pub fn events_are_plain()
+    ensures { EventsArePlain }
 {}

@@ -3,6 +3,7 @@
 
 pub mod deletion;
 mod due;
+pub mod flags;
 pub mod groups;
 pub mod laws;
 pub mod reversal;

@@ -6,7 +6,7 @@ ghost use Rattle.glyph_lists.specs.Levels.{IsMonotone};
 ghost use Rattle.glyph_slices.specs.declared.due.Due.TheVariants.{Nothing};
 ghost use Rattle.glyph_slices.specs.Due.{MayBeDue, MayBeRound, meant};
 ghost use Rattle.glyph_slices.specs.Groups.{Decides};
-ghost use Rattle.glyph_slices.specs.Turning.{first_turned, is_marked_if, merged_if, part_turned, turned, turning_at};
+ghost use Rattle.glyph_slices.specs.Turning.{first_turned, is_marked_if, merged_if, range_reversed, turned, turning_at};
 
 use crate::due::{Merges, merge_next, no_merges, settle};
 use crate::groups::end_of_group;
@@ -117,7 +117,7 @@ fn merge_group(
 fn turn_part<T>(items: &mut [T], start: usize, end: usize)
     requires ordered { start ≤ end }
     requires within { end ≤ length items.old }
-    ensures { items.new ≡ part_turned start end items.old }
+    ensures { items.new ≡ range_reversed start end items.old }
 {
     items[start..end].reverse();
 }

@@ -3,6 +3,7 @@ ghost use Rattle.std.specs.Prelude.{◌≡◌};
 mod no_order;
 
 use crate::deletion::delete_within;
+use crate::flags::{AskedFlags, propagate_flags};
 use crate::groups::{group_end, next_cluster, next_grapheme, next_syllable};
 use crate::reversal::reverse_groups;
 use crate::sorting::sort;
@@ -382,5 +383,30 @@ fn merges_groups_that_share_falling_clusters(rt: HostRuntime) -> Result<(), Fail
             place(20)
         ]
     );
+    Ok(())
+}
+
+/// The masks that a spread leaves of glyphs of such clusters and masks.
+fn masks_after_spread(concat: bool, tatweel: bool, rows: [(u32, u32); 4]) -> [u32; 4] {
+    let [one, two, three, four] = rows;
+    let mut glyphs = [
+        glyph(1, one.0, one.1),
+        glyph(2, two.0, two.1),
+        glyph(3, three.0, three.1),
+        glyph(4, four.0, four.1),
+    ];
+    propagate_flags(&mut glyphs, AskedFlags { concat, tatweel });
+    let [one, two, three, four] = glyphs;
+    [one.mask, two.mask, three.mask, four.mask]
+}
+
+#[test]
+fn spreads_flags_over_runs_of_clusters(rt: HostRuntime) -> Result<(), Fail> {
+    let plain = [(0, 0x101), (0, 2), (3, 2), (0, 1)];
+    let tatweels = [(0, 4), (0, 0), (2, 5), (2, 0)];
+    assert_eq!(&rt; masks_after_spread(false, false, plain), [0x101, 1, 0, 1]);
+    assert_eq!(&rt; masks_after_spread(true, false, plain), [0x103, 3, 2, 1]);
+    assert_eq!(&rt; masks_after_spread(false, true, tatweels), [5, 5, 1, 1]);
+    assert_eq!(&rt; masks_after_spread(true, true, tatweels), [7, 7, 1, 1]);
     Ok(())
 }

@@ -2,12 +2,11 @@ ghost use Rattle.std.specs.Prelude.{◌≡◌, ◌+◌, ◌<◌, ◌≤◌, fals
 ghost use Rattle.glyph_types.specs.declared.info.hb_glyph_info_t.{hb_glyph_info_t as Glyph};
 ghost use Rattle.glyph_slices.specs.Groups.{Decides, group_length};
 ghost use Rattle.glyph_slices.specs.Runs.{grapheme_length, run_length};
-ghost use Rattle.glyph_buffer.specs.Sides.{all_glyphs, items_of};
-ghost use Rattle.glyph_lists.specs.Items.{Item, clusters, flags_of, item_of};
-ghost use Rattle.glyph_lists.specs.Order.{BringsNone};
+ghost use Rattle.glyph_buffer.specs.Sides.{all_glyphs, items_of, origins_by, origins_of};
+ghost use Rattle.glyph_lists.specs.Items.{Item, item_of};
+ghost use Rattle.glyph_slices.specs.Events.{deletions, groups_reversed};
 ghost use Rattle.glyph_slices.specs.Turning.{groups_turned};
-ghost use Rattle.glyph_slices.specs.Flags.{flags_kept, flags_turned};
-ghost use Rattle.glyph_slices.specs.Facts.{clusters_kept, clusters_turned, items_kept, positions_kept, positions_turned};
+ghost use Rattle.glyph_slices.specs.Facts.{items_kept, positions_kept, positions_turned};
 ghost use Rattle.glyph_slices.specs.DeletionWalk.{Tells};
 ghost use Rattle.glyph_buffer.specs.Grouping.{with_groups_turned, with_picked_deleted};
 
@@ -77,15 +76,8 @@ impl hb_buffer_t {
             items_of self.new ≡ groups_turned q (items_of self.old) }
         ensures positions { (q : Item → Item → Bool) → Decides F.Fn group (λ g h. q (item_of g) (item_of h)) →
             self.new.positions ≡ positions_turned q (items_of self.old) self.old.positions }
-        ensures clusters { (q : Item → Item → Bool) → Decides F.Fn group (λ g h. q (item_of g) (item_of h)) →
-            clusters (all_glyphs self.new)
-            ≡ clusters_turned merge self.old.level q (items_of self.old) (clusters (all_glyphs self.old)) }
-        ensures numbers { (joins : Glyph → Glyph → Bool) → Decides F.Fn group joins →
-            BringsNone (clusters (all_glyphs self.old)) (clusters (all_glyphs self.new)) }
-        ensures flags { (q : Item → Item → Bool) → Decides F.Fn group (λ g h. q (item_of g) (item_of h)) →
-            flags_of (all_glyphs self.new)
-            ≡ flags_turned merge self.old.level q (items_of self.old) (clusters (all_glyphs self.old))
-            (flags_of (all_glyphs self.old)) }
+        ensures origins { (q : Item → Item → Bool) → Decides F.Fn group (λ g h. q (item_of g) (item_of h)) →
+            origins_of self.new ≡ origins_by (groups_reversed merge q (items_of self.old)) self.old }
         ensures closed { self.new.is_open ≡ false }
         ensures count { length (all_glyphs self.new) ≡ length (all_glyphs self.old) }
     {
@@ -115,15 +107,8 @@ impl hb_buffer_t {
             items_of self.new ≡ items_kept q (items_of self.old) }
         ensures positions { (q : Item → Bool) → Tells F.Fn filter (λ g. q (item_of g)) →
             self.new.positions ≡ positions_kept q (items_of self.old) self.old.positions }
-        ensures clusters { (q : Item → Bool) → Tells F.Fn filter (λ g. q (item_of g)) →
-            clusters (all_glyphs self.new)
-            ≡ clusters_kept self.old.level q (items_of self.old) (clusters (all_glyphs self.old)) }
-        ensures numbers { (goes : Glyph → Bool) → Tells F.Fn filter goes →
-            BringsNone (clusters (all_glyphs self.old)) (clusters (all_glyphs self.new)) }
-        ensures flags { (q : Item → Bool) → Tells F.Fn filter (λ g. q (item_of g)) →
-            flags_of (all_glyphs self.new)
-            ≡ flags_kept self.old.level q (items_of self.old) (clusters (all_glyphs self.old))
-            (flags_of (all_glyphs self.old)) }
+        ensures origins { (q : Item → Bool) → Tells F.Fn filter (λ g. q (item_of g)) →
+            origins_of self.new ≡ origins_by (deletions q (items_of self.old)) self.old }
         ensures closed { self.new.is_open ≡ false }
         ensures cursor { self.new.read ≡ min self.old.read (length (all_glyphs self.new)) }
         ensures few { length (all_glyphs self.new) ≤ length (all_glyphs self.old) }

@@ -1,11 +1,11 @@
-ghost use Rattle.std.specs.Prelude.{◌≡◌, ◌≤◌, ◌++◌, ℕ, false, take, drop, length, slice_range, OnOk, OnErr};
+ghost use Rattle.std.specs.Prelude.{◌≡◌, ◌≤◌, ◌++◌, ◌∷◌, [], ℕ, false, map, take, drop, length, slice_range, OnOk, OnErr};
 ghost use Rattle.glyph_types.specs.declared.info.hb_glyph_info_t.{hb_glyph_info_t as Glyph};
-ghost use Rattle.glyph_lists.specs.Items.{Item, clusters, flags_of, item_of};
-ghost use Rattle.glyph_lists.specs.Order.{BringsNone};
+ghost use Rattle.glyph_lists.specs.Items.{Item, item_of};
+ghost use Rattle.glyph_lists.specs.Events.{Sort};
 ghost use Rattle.stable_order.specs.Keys.{key_order};
-ghost use Rattle.glyph_slices.specs.SortedFacts.{clusters_sorted, flags_sorted};
+ghost use Rattle.glyph_slices.specs.Events.{order_of};
 ghost use Rattle.glyph_slices.specs.Sorting.{Gives};
-ghost use Rattle.glyph_buffer.specs.Sides.{all_glyphs, items_of};
+ghost use Rattle.glyph_buffer.specs.Sides.{all_glyphs, items_of, origins_by, origins_of};
 ghost use Rattle.glyph_buffer.specs.Sorting.{with_range_sorted};
 
 use super::hb_buffer_t;
@@ -34,14 +34,9 @@ impl hb_buffer_t {
             OnOk result (items_of self.new
             ≡ take start (items_of self.old) ++ key_order k (slice_range (items_of self.old) start end)
             ++ drop end (items_of self.old)) }
-        ensures clusters { (k : Item → ℕ) → Gives F.Fn key (λ g. k (item_of g)) →
-            OnOk result (clusters (all_glyphs self.new)
-            ≡ clusters_sorted self.old.level start end k (items_of self.old) (clusters (all_glyphs self.old))) }
-        ensures numbers { (k : Glyph → ℕ) → Gives F.Fn key k →
-            OnOk result (BringsNone (clusters (all_glyphs self.old)) (clusters (all_glyphs self.new))) }
-        ensures flags { (k : Glyph → ℕ) → Gives F.Fn key k →
-            OnOk result (flags_of (all_glyphs self.new)
-            ≡ flags_sorted self.old.level start end k (all_glyphs self.old)) }
+        ensures origins { (k : Item → ℕ) → Gives F.Fn key (λ g. k (item_of g)) →
+            OnOk result (origins_of self.new
+            ≡ origins_by (Sort start (order_of (map k (slice_range (items_of self.old) start end))) ∷ []) self.old) }
         ensures closed { self.new.is_open ≡ false }
         ensures count { length (all_glyphs self.new) ≡ length (all_glyphs self.old) }
         ensures err { OnErr result (self.new ≡ self.old) }

@@ -63,7 +63,7 @@ numbers_arranged from order os =
     ∙ ap (λ ns. ns ++ numbers (picked (take (length order) (drop from os)) order (drop from os))) (sym (take-map n from os))
     ∙ ap (λ ns. take from (numbers os) ++ ns) (numbers_picked (take (length order) (drop from os)) order (drop from os) ∙ ap (λ ns. picked ns order (numbers (drop from os))) (sym (take-map n (length order) (drop from os))) ∙ ap (λ ns. picked (take (length order) ns) order ns) (sym (drop-map n from os)))
 
-numbers_spread : (asks : Asks) (before : Option Origin) (os : List Origin) → numbers (spread_after asks before os) ≡ numbers os
+pub numbers_spread : (asks : Asks) (before : Option Origin) (os : List Origin) → numbers (spread_after asks before os) ≡ numbers os
 numbers_spread asks before [] = refl
 numbers_spread asks before (o ∷ os) = ap (λ ns. o.cluster ∷ ns) (numbers_spread asks (Some (record { cluster = o.cluster; flags = spread_flags before o.cluster (settled asks (run_flags o.cluster (o ∷ os))) })) os)
 

@@ -43,7 +43,7 @@ group_ends p xs i n d le ge before =
 pub front_within : {X : Type 0} (p : X → Bool) (n : ℕ) (xs : List X) → n ≡ prefix_len p xs → n ≤ length xs
 front_within p n xs e = let few = prefix_len-le-length p xs in omega (arith, few, e)
 
-rest_whole : {X : Type 0} (i : ℕ) (xs : List X) → take (length xs - i) (drop i xs) ≡ drop i xs
+pub rest_whole : {X : Type 0} (i : ℕ) (xs : List X) → take (length xs - i) (drop i xs) ≡ drop i xs
 rest_whole i xs = take_all (length xs - i) (drop i xs) (omega (arith, length-drop i xs))
 
 -- a run begins with one

@@ -1,4 +1,4 @@
--- What the walk that turns round groups leaves of items, of positions and of clusters.
+-- What the walk that reverses groups leaves of items and of positions.
 use Rattle.std.proofs.Common.{ℕ, suc, zero, ◌≡◌, ◌≤◌, ◌+◌, Bool, true, false, if◌then◌else◌, List, [], ◌∷◌, ◌++◌, length, map, take, drop, arith, refl, ap, sym, ◌∙◌, append_assoc}
 use Rattle.std.proofs.lemmas.List.{append-nil, drop-map, take-map, length-map, length-drop, map-append, map-id}
 use Rattle.glyph_types.specs.declared.info.hb_glyph_info_t.{hb_glyph_info_t as Glyph}
@@ -6,13 +6,12 @@ use Rattle.glyph_types.specs.declared.level.BufferClusterLevel.{BufferClusterLev
 use Rattle.glyph_types.specs.declared.level.BufferClusterLevel.TheVariants.{MonotoneGraphemes, MonotoneCharacters, Characters}
 use Rattle.glyph_lists.specs.Items.{Item, Position, item_of, strip, clusters}
 use Rattle.glyph_lists.specs.Parts.{stretch}
-use Rattle.glyph_lists.specs.Merges.{merged_at}
-use Rattle.glyph_lists.specs.Lemmas.Glyphs.{strip_merged, strip_merged_at, clusters_merged, clusters_merged_at}
+use Rattle.glyph_lists.specs.Lemmas.Glyphs.{strip_merged, strip_merged_at}
 use Rattle.glyph_slices.specs.Groups.{joined_behind, group_length}
 use Rattle.glyph_slices.specs.Turning.{groups_turned, merged_if, beside_if, all_turned, turned}
-use Rattle.glyph_slices.specs.Facts.{group_lengths, stretches_merged, stretches_turned, clusters_turned, positions_turned}
+use Rattle.glyph_slices.specs.Facts.{group_lengths, stretches_turned, positions_turned}
 use Rattle.glyph_slices.specs.Lemmas.GroupsTurned.{turned_onto}
-use Rattle.glyph_slices.specs.Lemmas.Stretches.{beside_number, beside_all, total, first_stretch, lengths_cut, total_lengths, told, merged_told}
+use Rattle.glyph_slices.specs.Lemmas.Stretches.{lengths_cut}
 use Rattle.glyph_slices.specs.Lemmas.Turned.{all_idle}
 
 -- a test of items, asked of glyphs
@@ -35,16 +34,6 @@ beside_items false level range gs = refl
 beside_items true MonotoneGraphemes range gs = strip_merged range gs
 beside_items true MonotoneCharacters range gs = strip_merged range gs
 beside_items true Characters range gs = refl
-
-merged_clusters : (merge : Bool) (level : Level) (n : ℕ) (gs : List Glyph) → clusters (merged_if merge level 0 n gs) ≡ merged_at (told merge level) 0 n (clusters gs)
-merged_clusters false level n gs = refl
-merged_clusters true level n gs = clusters_merged_at level 0 n gs (omega arith)
-
-beside_clusters : (merge : Bool) (level : Level) (range : List ℕ) (gs : List Glyph) → clusters (beside_if merge level range gs) ≡ map (beside_number (told merge level) range) (clusters gs)
-beside_clusters false level range gs = sym (map-id (clusters gs))
-beside_clusters true MonotoneGraphemes range gs = clusters_merged range gs
-beside_clusters true MonotoneCharacters range gs = clusters_merged range gs
-beside_clusters true Characters range gs = sym (map-id (clusters gs))
 
 -- the items ahead, with those of the first group merged
 ahead_items : (merge : Bool) (level : Level) (n : ℕ) (gs : List Glyph) → strip (drop n (merged_if merge level 0 n gs)) ≡ drop n (strip gs)
@@ -103,47 +92,3 @@ places_many (suc n) merge level q gs ps pa m (x ∷ xs) le =
 -- and so are the positions beside them
 pub places_beside : (merge : Bool) (level : Level) (q : Item → Item → Bool) (gs : List Glyph) (ps : List Position) → (turned merge level (λ g h. q (item_of g) (item_of h)) gs ps).positions ≡ positions_turned q (strip gs) ps
 places_beside merge level q gs ps = places_many (length gs) merge level q [] [] ps false gs (omega arith) ∙ append-nil (positions_turned q (strip gs) ps)
-
--- the clusters that go in front of those that were turned
-first_clusters : (merge : Bool) (level : Level) (n : ℕ) (range : List ℕ) (ahead gs : List Glyph)
-    → clusters (take n (merged_if merge level 0 n ahead) ++ beside_if merge level range gs) ≡ take n (merged_at (told merge level) 0 n (clusters ahead)) ++ map (beside_number (told merge level) range) (clusters gs)
-first_clusters merge level n range ahead gs =
-    let f : Glyph → ℕ = λ g. g.cluster in
-    map-append f (take n (merged_if merge level 0 n ahead)) (beside_if merge level range gs) ∙ ap (λ ns. clusters (take n (merged_if merge level 0 n ahead)) ++ ns) (beside_clusters merge level range gs)
-    ∙ ap (λ ns. ns ++ map (beside_number (told merge level) range) (clusters gs)) (sym (take-map f n (merged_if merge level 0 n ahead)) ∙ ap (take n) (merged_clusters merge level n ahead))
-
-pub ahead_clusters : (merge : Bool) (level : Level) (n : ℕ) (gs : List Glyph) → clusters (drop n (merged_if merge level 0 n gs)) ≡ drop n (merged_at (told merge level) 0 n (clusters gs))
-ahead_clusters merge level n gs =
-    let f : Glyph → ℕ = λ g. g.cluster in
-    sym (drop-map f n (merged_if merge level 0 n gs)) ∙ ap (drop n) (merged_clusters merge level n gs)
-
-abbrev numbers_after : Level → List ℕ → List ℕ → List ℕ → List ℕ
-numbers_after level lens ns turned = stretches_turned lens (stretches_merged level lens 0 ns) ++ map (beside_all level lens ns) turned
-
-clusters_many : (n : ℕ) (merge : Bool) (level : Level) (q : Item → Item → Bool) (gs : List Glyph) (ps pa : List Position) (m : Bool) (ahead : List Glyph) → length ahead ≤ n
-    → clusters (all_turned merge level (of_items q) n (record { glyphs = gs; positions = ps; ahead = ahead; positions_ahead = pa; is_marked = m })).glyphs ≡ numbers_after (told merge level) (group_lengths q (strip ahead)) (clusters ahead) (clusters gs)
-clusters_many n merge level q gs ps pa m [] le = ap (λ t. clusters t.glyphs) (all_idle n merge level (of_items q) gs ps pa m) ∙ sym (map-id (clusters gs))
-clusters_many zero merge level q gs ps pa m (x ∷ xs) le = absurd (omega arith)
-clusters_many (suc n) merge level q gs ps pa m (x ∷ xs) le =
-    let f : Glyph → ℕ = λ g. g.cluster in
-    let l = told merge level in
-    let k = group_length (of_items q) (x ∷ xs) in
-    let ns = clusters (x ∷ xs) in
-    let range = stretch 0 k ns in
-    let back = drop k (merged_if merge level 0 k (x ∷ xs)) in
-    let lens = group_lengths q (strip back) in
-    let numbers = drop k (merged_at l 0 k ns) in
-    let cut : group_lengths q (strip (x ∷ xs)) ≡ k ∷ lens = lengths_ahead merge level q x xs in
-    let sum : k + total lens ≡ length (strip (x ∷ xs)) = sym (ap total cut) ∙ total_lengths q (strip (x ∷ xs)) in
-    let fits : k + total lens ≤ length ns = omega (arith, sum, length-map (x ∷ xs) item_of, length-map (x ∷ xs) f) in
-    clusters_many n merge level q (take k (merged_if merge level 0 k (x ∷ xs)) ++ beside_if merge level range gs) (take k pa ++ ps) (drop k pa) _ back (few_ahead merge level (joined_behind (of_items q) x xs) n x xs le)
-    ∙ ap (λ ms. numbers_after l lens ms (clusters (take k (merged_if merge level 0 k (x ∷ xs)) ++ beside_if merge level range gs))) (ahead_clusters merge level k (x ∷ xs))
-    ∙ ap (numbers_after l lens numbers) (first_clusters merge level k range (x ∷ xs) gs)
-    ∙ first_stretch l k lens ns (clusters gs) fits
-    ∙ ap (λ ks. numbers_after l ks ns (clusters gs)) (sym cut)
-
--- the clusters, merged by groups of the items where that is asked for, and turned with them
-pub clusters_beside : (merge : Bool) (level : Level) (q : Item → Item → Bool) (gs : List Glyph) (ps : List Position) → clusters (turned merge level (λ g h. q (item_of g) (item_of h)) gs ps).glyphs ≡ clusters_turned merge level q (strip gs) (clusters gs)
-clusters_beside merge level q gs ps =
-    let lens = group_lengths q (strip gs) in
-    clusters_many (length gs) merge level q [] [] ps false gs (omega arith) ∙ append-nil (stretches_turned lens (stretches_merged (told merge level) lens 0 (clusters gs))) ∙ ap (stretches_turned lens) (merged_told merge level lens (clusters gs))

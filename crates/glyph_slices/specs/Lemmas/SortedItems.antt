@@ -56,7 +56,7 @@ span_strip level from to s le = by_test (nat_lt (from + 1) to)
     by_test true = strip_merged_at level from to s.glyphs le
     by_test false = refl
 
-spans_strip : (level : Level) (start : ℕ) (order : List Keyed) (left begin place : ℕ) (s : Spanned) → begin ≤ place → strip (spans_merged level start order begin place left s).glyphs ≡ strip s.glyphs
+pub spans_strip : (level : Level) (start : ℕ) (order : List Keyed) (left begin place : ℕ) (s : Spanned) → begin ≤ place → strip (spans_merged level start order begin place left s).glyphs ≡ strip s.glyphs
 spans_strip level start order zero begin place s le = refl
 spans_strip level start order (suc left) begin place s le = by_test (is_seam order (place + 1)) (spans_strip level start order left begin (place + 1) s (omega arith)) (spans_strip level start order left (place + 1) (place + 1) (span_merged level (start + begin) (start + (place + 1)) s) (omega arith))
   where

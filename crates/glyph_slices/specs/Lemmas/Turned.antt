@@ -18,9 +18,9 @@ use Rattle.glyph_clusters.specs.Merging.{order_merged}
 use Rattle.glyph_lists.specs.Glyphs.{in_cluster, glyphs_merged_at, beside_merged, glyphs_merged, tells_apart}
 use Rattle.glyph_lists.specs.Lemmas.Glyphs.{merged_at_beyond, stretch_is, length_beside, length_merged_at, clusters_merged, cut_out}
 use Rattle.glyph_slices.specs.Groups.{group_length}
-use Rattle.glyph_slices.specs.Turning.{Turning, part_turned, merged_if, is_marked_if, beside_if, first_turned, group_turned, turning_at, all_turned, turned}
+use Rattle.glyph_slices.specs.Turning.{Turning, range_reversed, merged_if, is_marked_if, beside_if, first_turned, group_turned, turning_at, all_turned, turned}
 
-pub turned_put : {X : Type 0} (start end : ℕ) (xs range : List X) → start ≤ end → range ≡ reverse (slice_range xs start end) → put_mid start (end - start) xs range ≡ part_turned start end xs
+pub turned_put : {X : Type 0} (start end : ℕ) (xs range : List X) → start ≤ end → range ≡ reverse (slice_range xs start end) → put_mid start (end - start) xs range ≡ range_reversed start end xs
 turned_put start end xs range le e =
     let there : start + (end - start) ≡ end = omega arith in
     let behind : drop (end - start) (drop start xs) ≡ drop end xs = drop-drop (end - start) start xs ∙ ap (λ n. drop n xs) there in
@@ -30,14 +30,14 @@ pub part_front : {X : Type 0} (start end : ℕ) (xs : List X) → start ≤ end 
 part_front start end xs le within =
     omega (arith, length-append (take start xs) (reverse (slice_range xs start end)), length-take-le start xs (omega arith), length-reverse (slice_range xs start end), length-take-le (end - start) (drop start xs) (omega (arith, length-drop start xs)))
 
-part_before : {X : Type 0} (start end : ℕ) (xs : List X) → start ≤ end → end ≤ length xs → reverse (take end (part_turned start end xs)) ≡ take (end - start) (drop start xs) ++ reverse (take start xs)
+part_before : {X : Type 0} (start end : ℕ) (xs : List X) → start ≤ end → end ≤ length xs → reverse (take end (range_reversed start end xs)) ≡ take (end - start) (drop start xs) ++ reverse (take start xs)
 part_before start end xs le within =
     let front = take start xs ++ reverse (slice_range xs start end) in
     let long : length front ≡ end = part_front start end xs le within in
     let cut : take end (front ++ drop end xs) ≡ front = ap (λ n. take n (front ++ drop end xs)) (sym long) ∙ take-append_seam front (drop end xs) in
     ap reverse cut ∙ reverse-append (take start xs) (reverse (slice_range xs start end)) ∙ ap (λ ys. ys ++ reverse (take start xs)) (reverse-reverse (slice_range xs start end))
 
-pub part_behind : {X : Type 0} (start end : ℕ) (xs : List X) → start ≤ end → end ≤ length xs → drop end (part_turned start end xs) ≡ drop (end - start) (drop start xs)
+pub part_behind : {X : Type 0} (start end : ℕ) (xs : List X) → start ≤ end → end ≤ length xs → drop end (range_reversed start end xs) ≡ drop (end - start) (drop start xs)
 part_behind start end xs le within =
     let front = take start xs ++ reverse (slice_range xs start end) in
     let long : length front ≡ end = part_front start end xs le within in
@@ -82,11 +82,15 @@ marked_cut true Characters start end gs =
     let none : end - start - 0 ≡ end - start = omega arith in
     ap tells_apart (ap (take (end - start)) (drop-map f start gs) ∙ ap (λ n. take n (clusters (drop start gs))) (sym none))
 
--- a group was merged and turned round in its place
-pub group_placed : (merge : Bool) (level : BufferClusterLevel) (start end : ℕ) (gs mid new : List Glyph) (ps positions : List Position) (before marked : Bool) → start ≤ end → end ≤ length gs → length ps ≡ length gs
-    → mid ≡ merged_if merge level start end gs → marked ≡ is_marked_if merge level start end (clusters gs) → new ≡ part_turned start end mid → positions ≡ part_turned start end ps
-    → turning_at end new positions (before || marked) ≡ first_turned merge level (end - start) (turning_at start gs ps before)
-group_placed merge level start end gs mid new ps positions before marked le within long m k n p =
+merged_length : (merge : Bool) (level : BufferClusterLevel) (start end : ℕ) (gs : List Glyph) → start ≤ end → length (merged_if merge level start end gs) ≡ length gs
+merged_length false level start end gs le = refl
+merged_length true level start end gs le = length_merged_at level start end gs le
+
+-- a group was merged and turned round in its place: the glyphs up to its end in reversed order, and those behind it
+pub placed_glyphs : (merge : Bool) (level : BufferClusterLevel) (start end : ℕ) (gs mid new : List Glyph) → start ≤ end → end ≤ length gs → mid ≡ merged_if merge level start end gs → new ≡ range_reversed start end mid
+    → (reverse (take end new) ≡ take (end - start) (merged_if merge level 0 (end - start) (drop start gs)) ++ beside_if merge level (stretch 0 (end - start) (clusters (drop start gs))) (reverse (take start gs)))
+    × (drop end new ≡ drop (end - start) (merged_if merge level 0 (end - start) (drop start gs)))
+placed_glyphs merge level start end gs mid new le within m n =
     let range = stretch 0 (end - start) (clusters (drop start gs)) in
     let front = beside_if merge level range (take start gs) in
     let ahead = merged_if merge level 0 (end - start) (drop start gs) in
@@ -98,14 +102,20 @@ group_placed merge level start end gs mid new ps positions before marked le with
     let one : reverse (take end new) ≡ take (end - start) ahead ++ beside_if merge level range (reverse (take start gs)) =
     ap (λ ys. reverse (take end ys)) n ∙ part_before start end mid le wide ∙ ap (λ ys. take (end - start) ys ++ reverse (take start mid)) rest ∙ ap (λ ys. take (end - start) ahead ++ reverse ys) first ∙ ap (λ ys. take (end - start) ahead ++ ys) (beside_turned merge level range (take start gs)) in
     let two : drop end new ≡ drop (end - start) ahead = ap (drop end) n ∙ part_behind start end mid le wide ∙ ap (drop (end - start)) rest in
+    (one, two)
+
+-- and its positions beside it
+pub group_placed : (merge : Bool) (level : BufferClusterLevel) (start end : ℕ) (gs mid new : List Glyph) (ps positions : List Position) (before marked : Bool) → start ≤ end → end ≤ length gs → length ps ≡ length gs
+    → mid ≡ merged_if merge level start end gs → marked ≡ is_marked_if merge level start end (clusters gs) → new ≡ range_reversed start end mid → positions ≡ range_reversed start end ps
+    → turning_at end new positions (before || marked) ≡ first_turned merge level (end - start) (turning_at start gs ps before)
+group_placed merge level start end gs mid new ps positions before marked le within long m k n p =
+    let moved = placed_glyphs merge level start end gs mid new le within m n in
+    let one = moved.0 in
+    let two = moved.1 in
     let three : reverse (take end positions) ≡ take (end - start) (drop start ps) ++ reverse (take start ps) = ap (λ ys. reverse (take end ys)) p ∙ part_before start end ps le (omega arith) in
     let four : drop end positions ≡ drop (end - start) (drop start ps) = ap (drop end) p ∙ part_behind start end ps le (omega arith) in
     let five : marked ≡ is_marked_if merge level 0 (end - start) (clusters (drop start gs)) = k ∙ marked_cut merge level start end gs in
     rw (one, two, three, four, five) refl
-  where
-    merged_length : (t : Bool) (l : BufferClusterLevel) (i j : ℕ) (hs : List Glyph) → i ≤ j → length (merged_if t l i j hs) ≡ length hs
-    merged_length false l i j hs h = refl
-    merged_length true l i j hs h = length_merged_at l i j hs h
 
 all_one : (c : ℕ) (ns : List ℕ) → reverse (map (λ (n : ℕ). c) ns) ≡ map (λ (n : ℕ). c) ns
 all_one c ns = sym (map-reverse (λ (n : ℕ). c) ns) ∙ alike c (reverse ns) ns (length-reverse ns)
@@ -131,7 +141,7 @@ merged_stretch MonotoneGraphemes start end gs mono le = in_range start end gs
 merged_stretch MonotoneCharacters start end gs mono le = in_range start end gs
 
 -- turned round, they leave the clusters as they are
-pub clusters_part : (level : BufferClusterLevel) (start end : ℕ) (gs mid : List Glyph) → IsMonotone level → start ≤ end → mid ≡ glyphs_merged_at level start end gs → clusters (part_turned start end mid) ≡ clusters mid
+pub clusters_part : (level : BufferClusterLevel) (start end : ℕ) (gs mid : List Glyph) → IsMonotone level → start ≤ end → mid ≡ glyphs_merged_at level start end gs → clusters (range_reversed start end mid) ≡ clusters mid
 clusters_part level start end gs mid mono le m =
     let f : Glyph → ℕ = λ g. g.cluster in
     let range = slice_range mid start end in
@@ -140,7 +150,7 @@ clusters_part level start end gs mid mono le m =
     map-append f (take start mid ++ reverse range) (drop end mid) ∙ ap (λ ns. ns ++ clusters (drop end mid)) (map-append f (take start mid) (reverse range) ∙ ap (λ ns. clusters (take start mid) ++ ns) turned ∙ sym (map-append f (take start mid) range)) ∙ sym (map-append f (take start mid ++ range) (drop end mid)) ∙ ap clusters (cut_out start end mid le)
 
 -- and so the order
-pub group_ordered : (merge : Bool) (level : BufferClusterLevel) (start end : ℕ) (gs mid new : List Glyph) → start ≤ end → mid ≡ merged_if merge level start end gs → new ≡ part_turned start end mid
+pub group_ordered : (merge : Bool) (level : BufferClusterLevel) (start end : ℕ) (gs mid new : List Glyph) → start ≤ end → mid ≡ merged_if merge level start end gs → new ≡ range_reversed start end mid
     → merge ≡ true → IsMonotone level → IsOrdered (clusters gs) → IsOrdered (clusters new)
 group_ordered false level start end gs mid new le m n asked mono o = cc
 group_ordered true level start end gs mid new le m n asked mono o =

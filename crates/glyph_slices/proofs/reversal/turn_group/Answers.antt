@@ -2,7 +2,7 @@ use Rattle.std.proofs.Common.{◌≡◌, ◌≤◌, List, length, arith, ap, ref
 use Rattle.glyph_types.specs.declared.info.hb_glyph_info_t.{hb_glyph_info_t as Glyph}
 use Rattle.glyph_lists.specs.Items.{clusters}
 use Rattle.glyph_slices.specs.Due.{MayBeDue, meant}
-use Rattle.glyph_slices.specs.Turning.{is_marked_if, part_turned, turning_at}
+use Rattle.glyph_slices.specs.Turning.{is_marked_if, range_reversed, turning_at}
 use Rattle.glyph_slices.specs.Lemmas.Turned.{group_placed, group_ordered}
 use Rattle.glyph_slices.proofs.Meant.{meant_long, meant_turned, due_turned}
 use Rattle.glyph_slices.proofs.reversal.turn_group.Goals as goal
@@ -15,7 +15,7 @@ returns-clause-turned c =
     let new = meant merged.result.due c.turn_part.new.items in
     let long : length old ≡ length c.args.glyphs.now = meant_long c.args.level c.args.start c.args.merges.due c.args.glyphs.now (omega (arith, c.requires.some, c.requires.within)) c.requires.due in
     let le : c.args.start ≤ c.args.end = omega (arith, c.requires.some) in
-    let turned : new ≡ part_turned c.args.start c.args.end mid = ap (meant merged.result.due) c.turn_part.ensures ∙ meant_turned c.args.level c.args.start c.args.end merged.result.due merged.new.glyphs le (omega (arith, c.requires.within, merged.auto.glyphs)) merged.ensures.due merged.ensures.round in
+    let turned : new ≡ range_reversed c.args.start c.args.end mid = ap (meant merged.result.due) c.turn_part.ensures ∙ meant_turned c.args.level c.args.start c.args.end merged.result.due merged.new.glyphs le (omega (arith, c.requires.within, merged.auto.glyphs)) merged.ensures.due merged.ensures.round in
     ap (turning_at c.args.end new c.turn_part-2.new.items) merged.ensures.marked
     ∙ group_placed c.args.merge c.args.level c.args.start c.args.end old mid new c.args.positions.now c.turn_part-2.new.items c.args.merges.marked (is_marked_if c.args.merge c.args.level c.args.start c.args.end (clusters old))
     le (omega (arith, c.requires.within, long)) (omega (arith, c.requires.placed, long)) merged.ensures.merged refl turned c.turn_part-2.ensures

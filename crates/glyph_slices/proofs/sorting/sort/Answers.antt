@@ -6,7 +6,8 @@ use Rattle.glyph_slices.specs.declared.sorting.Keyed.{Keyed}
 use Rattle.glyph_slices.specs.Sorting.{glyph_at}
 use Rattle.glyph_slices.proofs.Spans.{put_same, sorted_is, sort_marks}
 use Rattle.glyph_lists.specs.Order.{IsInOrder}
-use Rattle.glyph_slices.specs.Places.{all_in_order, range_length}
+use Rattle.glyph_slices.specs.Places.{range_length}
+use Rattle.glyph_slices.specs.Lemmas.KeyOrder.{all_in_order}
 use Rattle.glyph_slices.proofs.sorting.sort.Goals as goal
 
 pub returns-clause-sorted : goal.returns-clause-sorted

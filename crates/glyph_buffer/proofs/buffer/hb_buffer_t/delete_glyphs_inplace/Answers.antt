@@ -1,11 +1,10 @@
 use Rattle.std.proofs.Common.{◌≡◌, false, min, length, take, refl, rules, arith, ap, ◌∙◌}
 use Rattle.std.proofs.lemmas.Grind.{common_steps}
-use Rattle.glyph_lists.specs.Items.{clusters, flags_of, item_of}
+use Rattle.glyph_lists.specs.Items.{item_of}
 use Rattle.glyph_buffer.specs.Grouping.{with_picked_deleted}
 use Rattle.glyph_buffer.specs.Merging.{telling_flags}
-use Rattle.glyph_buffer.specs.Sides.{Sides, all_glyphs, items_of}
-use Rattle.glyph_buffer.proofs.Brings.{brings_same}
-use Rattle.glyph_buffer.proofs.Grouped.{picked_bring_none, picked_clusters, picked_flags, picked_items, picked_positions}
+use Rattle.glyph_buffer.specs.Sides.{Sides, items_of, origins_of}
+use Rattle.glyph_buffer.proofs.Grouped.{picked_items, picked_origins, picked_positions}
 use Rattle.glyph_buffer.proofs.Picked.{picked_view}
 use Rattle.glyph_buffer.proofs.Slices.{all_put, all_put_positions}
 use Rattle.glyph_buffer.proofs.buffer.hb_buffer_t.delete_glyphs_inplace.Goals as goal
@@ -35,11 +34,5 @@ returns-clause-items g c q tells = ap items_of (returns-clause-deleted g c (λ h
 pub returns-clause-positions : goal.returns-clause-positions
 returns-clause-positions g c q tells = ap (λ (s : Sides). s.positions) (returns-clause-deleted g c (λ h. q (item_of h)) tells) ∙ picked_positions q c.args.self.now
 
-pub returns-clause-clusters : goal.returns-clause-clusters
-returns-clause-clusters g c q tells = ap (λ (s : Sides). clusters (all_glyphs s)) (returns-clause-deleted g c (λ h. q (item_of h)) tells) ∙ picked_clusters q c.args.self.now
-
-pub returns-clause-numbers : goal.returns-clause-numbers
-returns-clause-numbers g c goes tells = brings_same _ _ _ (ap (λ (s : Sides). clusters (all_glyphs s)) (returns-clause-deleted g c goes tells)) (picked_bring_none goes c.args.self.now)
-
-pub returns-clause-flags : goal.returns-clause-flags
-returns-clause-flags g c q tells = ap (λ (s : Sides). flags_of (all_glyphs s)) (returns-clause-deleted g c (λ h. q (item_of h)) tells) ∙ picked_flags q c.args.self.now
+pub returns-clause-origins : goal.returns-clause-origins
+returns-clause-origins g c q tells = ap origins_of (returns-clause-deleted g c (λ h. q (item_of h)) tells) ∙ picked_origins q c.args.self.now

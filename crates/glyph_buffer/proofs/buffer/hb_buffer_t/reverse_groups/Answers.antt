@@ -1,12 +1,11 @@
 use Rattle.std.specs.Vec.{with_items}
 use Rattle.std.proofs.Common.{◌≡◌, false, length, rules, arith, ap, sym, ◌∙◌}
 use Rattle.std.proofs.lemmas.Grind.{common_steps}
-use Rattle.glyph_lists.specs.Items.{clusters, flags_of, item_of}
+use Rattle.glyph_lists.specs.Items.{item_of}
 use Rattle.glyph_buffer.specs.Grouping.{with_groups_turned}
 use Rattle.glyph_buffer.specs.Merging.{telling_flags}
-use Rattle.glyph_buffer.specs.Sides.{Sides, all_glyphs, items_of}
-use Rattle.glyph_buffer.proofs.Brings.{brings_same}
-use Rattle.glyph_buffer.proofs.Grouped.{grouped_view, groups_bring_none, groups_clusters, groups_flags, groups_items, groups_plain, groups_positions}
+use Rattle.glyph_buffer.specs.Sides.{Sides, all_glyphs, items_of, origins_of}
+use Rattle.glyph_buffer.proofs.Grouped.{grouped_view, groups_items, groups_origins, groups_plain, groups_positions}
 use Rattle.glyph_buffer.proofs.Slices.{all_put, all_put_positions}
 use Rattle.glyph_buffer.proofs.buffer.hb_buffer_t.reverse_groups.Goals as goal
 
@@ -35,11 +34,5 @@ returns-clause-items g c q decides = ap items_of (returns-clause-turned g c (λ 
 pub returns-clause-positions : goal.returns-clause-positions
 returns-clause-positions g c q decides = ap (λ (s : Sides). s.positions) (returns-clause-turned g c (λ h k. q (item_of h) (item_of k)) decides) ∙ groups_positions c.args.merge q c.args.self.now
 
-pub returns-clause-clusters : goal.returns-clause-clusters
-returns-clause-clusters g c q decides = ap (λ (s : Sides). clusters (all_glyphs s)) (returns-clause-turned g c (λ h k. q (item_of h) (item_of k)) decides) ∙ groups_clusters c.args.merge q c.args.self.now
-
-pub returns-clause-numbers : goal.returns-clause-numbers
-returns-clause-numbers g c joins decides = brings_same _ _ _ (ap (λ (s : Sides). clusters (all_glyphs s)) (returns-clause-turned g c joins decides)) (groups_bring_none c.args.merge joins c.args.self.now)
-
-pub returns-clause-flags : goal.returns-clause-flags
-returns-clause-flags g c q decides = ap (λ (s : Sides). flags_of (all_glyphs s)) (returns-clause-turned g c (λ h k. q (item_of h) (item_of k)) decides) ∙ groups_flags c.args.merge q c.args.self.now
+pub returns-clause-origins : goal.returns-clause-origins
+returns-clause-origins g c q decides = ap origins_of (returns-clause-turned g c (λ h k. q (item_of h) (item_of k)) decides) ∙ groups_origins c.args.merge q c.args.self.now

@@ -1,12 +1,11 @@
 use Rattle.std.specs.Vec.{with_items}
 use Rattle.std.proofs.Common.{[], ◌≡◌, false, length, refl, rules, arith, ap, sym, ◌∙◌}
 use Rattle.std.proofs.lemmas.Grind.{common_steps}
-use Rattle.glyph_lists.specs.Items.{clusters, flags_of, item_of}
+use Rattle.glyph_lists.specs.Items.{clusters, item_of}
 use Rattle.glyph_buffer.specs.Merging.{telling_flags}
-use Rattle.glyph_buffer.specs.Sides.{Sides, all_glyphs, items_of}
+use Rattle.glyph_buffer.specs.Sides.{items_of, origins_of}
 use Rattle.glyph_buffer.specs.Sorting.{with_range_sorted}
-use Rattle.glyph_buffer.proofs.Brings.{brings_same}
-use Rattle.glyph_buffer.proofs.Grouped.{range_clusters, range_flags, sort_brings_none, sorted_items, sorted_view}
+use Rattle.glyph_buffer.proofs.Grouped.{sorted_items, sorted_origins, sorted_view}
 use Rattle.glyph_buffer.proofs.Slices.{all_put}
 use Rattle.glyph_buffer.proofs.buffer.hb_buffer_t.sort.Goals as goal
 
@@ -25,14 +24,8 @@ returns-clause-sorted g c k gives =
 pub returns-clause-items : goal.returns-clause-items
 returns-clause-items g c k gives = ap items_of (returns-clause-sorted g c (λ h. k (item_of h)) gives) ∙ sorted_items c.args.start c.args.end k c.args.self.now
 
-pub returns-clause-clusters : goal.returns-clause-clusters
-returns-clause-clusters g c k gives = ap (λ (s : Sides). clusters (all_glyphs s)) (returns-clause-sorted g c (λ h. k (item_of h)) gives) ∙ range_clusters c.args.start c.args.end k c.args.self.now
-
-pub returns-clause-numbers : goal.returns-clause-numbers
-returns-clause-numbers g c k gives = brings_same _ _ _ (ap (λ (s : Sides). clusters (all_glyphs s)) (returns-clause-sorted g c k gives)) (sort_brings_none c.args.start c.args.end k c.args.self.now)
-
-pub returns-clause-flags : goal.returns-clause-flags
-returns-clause-flags g c k gives = ap (λ (s : Sides). flags_of (all_glyphs s)) (returns-clause-sorted g c k gives) ∙ range_flags c.args.start c.args.end k c.args.self.now
+pub returns-clause-origins : goal.returns-clause-origins
+returns-clause-origins g c k gives = ap origins_of (returns-clause-sorted g c (λ h. k (item_of h)) gives) ∙ sorted_origins c.args.start c.args.end k c.args.self.now c.requires.ordered c.requires.within
 
 pub invariant_of-self-2 : goal.invariant_of-self-2
 invariant_of-self-2 g c =

@@ -1,0 +1,19 @@
+use Rattle.std.proofs.Common.{◌∙◌, ap, arith, get_or}
+use Rattle.std.proofs.lemmas.List.{length-set}
+use Rattle.std.proofs.Math.Seq.{map-set_same}
+use Rattle.glyph_lists.specs.Items.{item_of}
+use Rattle.glyph_slices.specs.Flags.{asks_of, cluster_flags}
+use Rattle.glyph_slices.specs.Lemmas.Flags.{flagged_item, spread_step}
+use Rattle.glyph_slices.specs.Lemmas.Neighbours.{no_glyph, rest_whole}
+use Rattle.glyph_slices.proofs.flags.propagate_flags.Goals as goal
+
+pub loop-at-preserved : goal.loop-at-preserved
+loop-at-preserved c =
+    let inv = c.loop-at.invariant in
+    let gs = c.loop-at.glyphs in
+    let glyph = c.with_flags-glyph.ensures in
+    record {
+      len = length-set gs c.loop-at.at c.with_flags-glyph.result ∙ inv.len;
+      items = map-set_same item_of gs c.loop-at.at c.with_flags-glyph.result no_glyph (ap item_of glyph ∙ flagged_item c.flags_of_cluster-flags.result (get_or gs c.loop-at.at no_glyph)) ∙ inv.items;
+      rest = spread_step (asks_of c.args.asked) c.loop-at.before c.loop-at.at c.flags_of_cluster-flags.result gs no_glyph c.with_flags-glyph.result _ (omega (arith, inv.len)) (c.flags_of_cluster-flags.ensures ∙ ap (cluster_flags (asks_of c.args.asked) c.loop-at.before) (rest_whole c.loop-at.at gs)) glyph inv.rest;
+    }

@@ -1,0 +1,99 @@
+-- Flags are spread over the runs of clusters.
+use Rattle.std.specs.List.{prefix_len}
+use Rattle.std.specs.Int.RustNames.{bit_and, bit_or}
+use Rattle.std.specs.Int.Bits.{or_zero_l, or_zero_r}
+use Rattle.std.proofs.Common.{ℕ, suc, zero, ◌≡◌, ◌≤◌, ◌<◌, ◌+◌, ◌-◌, ◌==◌, ◌/◌, Bool, true, false, if◌then◌else◌, List, [], ◌∷◌, ◌++◌, Some, None, Option, fold, length, map, take, drop, set, get_or, arith, refl, ap, sym, subst, ◌∙◌, append_assoc}
+use Rattle.glyph_types.specs.declared.info.hb_glyph_info_t.{hb_glyph_info_t as Glyph}
+use Rattle.glyph_lists.specs.Items.{flags_of, glyph_flags, item_of}
+use Rattle.glyph_lists.specs.Origins.{Asks, Origin, origin_of, origins, concat_settled, run_flags, settled, spread_after, tatweel_settled}
+use Rattle.glyph_clusters.specs.Deleted.{flags_put}
+use Rattle.glyph_clusters.specs.DeletedOrigins.{flags_taken}
+use Rattle.glyph_slices.specs.Flags.{before_of, cluster_flags, glyph_flagged}
+use Rattle.std.proofs.lemmas.List.{drop_more, drop-set-lt, map-append, take_more_set}
+use Rattle.std.proofs.lemmas.Nat.{and_le_r, and_mask, or_lt, or_shr}
+use lib.Arith.{bin_ind}
+use lib.Bits.{or_step}
+
+or_assoc : (c a b : ℕ) → bit_or (bit_or a b) c ≡ bit_or a (bit_or b c)
+or_assoc =
+    bin_ind (λ (c : ℕ). (a b : ℕ) → bit_or (bit_or a b) c ≡ bit_or a (bit_or b c)) (λ a b. or_zero_r (bit_or a b) ∙ sym (ap (bit_or a) (or_zero_r b)))
+    (λ c ih a b.
+    let p : bit_or (bit_or a b / 2) (c / 2) ≡ bit_or (a / 2) (bit_or b c / 2) = ap (λ x. bit_or x (c / 2)) (or_shr a b 1) ∙ ih (a / 2) (b / 2) ∙ sym (ap (bit_or (a / 2)) (or_shr b c 1)) in
+    omega (arith, or_step (bit_or a b) c, or_step a (bit_or b c), or_step a b, or_step b c))
+
+-- the flags of a run at the front
+run_joined : (c a : ℕ) (gs : List Glyph) → fold bit_or a (flags_of (take (prefix_len (λ (g : Glyph). g.cluster == c) gs) gs)) ≡ bit_or a (run_flags c (origins gs))
+run_joined c a [] = sym (or_zero_r a)
+run_joined c a (g ∷ gs) = by_test (g.cluster == c) (run_joined c (bit_or a (glyph_flags g)) gs)
+  where
+    by_test : (t : Bool) → fold bit_or (bit_or a (glyph_flags g)) (flags_of (take (prefix_len (λ (h : Glyph). h.cluster == c) gs) gs)) ≡ bit_or (bit_or a (glyph_flags g)) (run_flags c (origins gs))
+        → fold bit_or a (flags_of (take (if t then 1 + prefix_len (λ (h : Glyph). h.cluster == c) gs else 0) (g ∷ gs))) ≡ bit_or a (if t then bit_or (glyph_flags g) (run_flags c (origins gs)) else 0)
+    by_test false rest = sym (or_zero_r a)
+    by_test true rest =
+        let n = prefix_len (λ (h : Glyph). h.cluster == c) gs in
+        let more : 1 + n ≡ suc n = omega arith in
+        ap (λ k. fold bit_or a (flags_of (take k (g ∷ gs)))) more ∙ rest ∙ or_assoc (run_flags c (origins gs)) a (glyph_flags g)
+
+pub run_folded : (c n : ℕ) (gs : List Glyph) → n ≡ prefix_len (λ (g : Glyph). g.cluster == c) gs → fold bit_or 0 (flags_of (take n gs)) ≡ run_flags c (origins gs)
+run_folded c n gs e = ap (λ k. fold bit_or 0 (flags_of (take k gs))) e ∙ run_joined c 0 gs ∙ or_zero_l (run_flags c (origins gs))
+
+-- ---- no flag is other than the three
+
+defined : (m : ℕ) → bit_and m 7 < 8
+defined m = let low = and_mask m 3 in omega (arith, low)
+
+or_defined : (m n : ℕ) → m < 8 → n < 8 → bit_or m n < 8
+or_defined m n a b = or_lt 3 m n a b
+
+run_defined : (c : ℕ) (gs : List Glyph) → run_flags c (origins gs) < 8
+run_defined c [] = omega arith
+run_defined c (g ∷ gs) = elim (g.cluster == c) as (λ t. (if t then bit_or (glyph_flags g) (run_flags c (origins gs)) else 0) < 8) [ true ↦ or_defined (glyph_flags g) (run_flags c (origins gs)) (defined g.mask) (run_defined c gs) | false ↦ omega arith ]
+
+tatweel_defined : (asked : Bool) (m : ℕ) → m < 8 → tatweel_settled asked m < 8
+tatweel_defined false m lt = lt
+tatweel_defined true m lt =
+    let first : bit_and m 3 < 8 = (let low = and_mask m 2 in omega (arith, low)) in
+    elim (bit_and m 1 == 1) as (λ t. (if t then bit_and m 3 else if bit_and m 4 == 4 then bit_or m 3 else m) < 8) [
+      | true ↦ first
+      | false ↦ elim (bit_and m 4 == 4) as (λ t. (if t then bit_or m 3 else m) < 8) [ true ↦ or_defined m 3 lt (omega arith) | false ↦ lt ]
+    ]
+
+concat_defined : (asked : Bool) (m : ℕ) → m < 8 → concat_settled asked m < 8
+concat_defined true m lt = lt
+concat_defined false m lt = let least = and_le_r m 5 in omega (arith, least)
+
+cluster_defined : (asks : Asks) (before : Option Glyph) (gs : List Glyph) → cluster_flags asks before gs < 8
+cluster_defined asks before [] = omega arith
+cluster_defined asks None (g ∷ gs) = concat_defined asks.concat _ (tatweel_defined asks.tatweel _ (run_defined g.cluster (g ∷ gs)))
+cluster_defined asks (Some p) (g ∷ gs) =
+    elim (p.cluster == g.cluster) as (λ t. (if t then glyph_flags p else settled asks (run_flags g.cluster (origins (g ∷ gs)))) < 8)
+    [ true ↦ defined p.mask | false ↦ concat_defined asks.concat _ (tatweel_defined asks.tatweel _ (run_defined g.cluster (g ∷ gs))) ]
+
+same_defined : (m : ℕ) → m < 8 → bit_and m 7 ≡ m
+same_defined m lt = let low = and_mask m 3 in omega (arith, low)
+
+-- ---- one step of the walk
+
+pub flagged_item : (flags : ℕ) (g : Glyph) → item_of (glyph_flagged flags g) ≡ item_of g
+flagged_item flags g = rw (flags_put g.mask flags) refl
+
+flagged_origin : (flags : ℕ) (g : Glyph) → flags < 8 → origin_of (glyph_flagged flags g) ≡ record { cluster = g.cluster; flags = flags }
+flagged_origin flags g lt = ap (λ (f : ℕ). record { cluster = g.cluster; flags = f }) (flags_taken g.mask flags ∙ same_defined flags lt)
+
+pub spread_step : (asks : Asks) (before : Option Glyph) (at flags : ℕ) (gs : List Glyph) (d g : Glyph) (whole : List Origin) → at < length gs → flags ≡ cluster_flags asks before (drop at gs) → g ≡ glyph_flagged flags (get_or gs at d)
+    → origins (take at gs) ++ spread_after asks (before_of before) (origins (drop at gs)) ≡ whole
+    → origins (take (at + 1) (set gs at g)) ++ spread_after asks (Some (origin_of g)) (origins (drop (at + 1) (set gs at g))) ≡ whole
+spread_step asks before at flags gs d g whole lt f e prior =
+    let h = get_or gs at d in
+    let rest = drop (at + 1) gs in
+    let front = origins (take at gs) in
+    let cut : drop at gs ≡ h ∷ rest = drop_more gs at d lt in
+    let now : Origin = record { cluster = h.cluster; flags = cluster_flags asks before (h ∷ rest) } in
+    let same : flags ≡ cluster_flags asks before (h ∷ rest) = f ∙ ap (cluster_flags asks before) cut in
+    let small : flags < 8 = subst (λ (n : ℕ). n < 8) (sym same) (cluster_defined asks before (h ∷ rest)) in
+    let is : origin_of g ≡ now = ap origin_of e ∙ flagged_origin flags h small ∙ ap (λ (n : ℕ). record { cluster = h.cluster; flags = n }) same in
+    let taken : origins (take (at + 1) (set gs at g)) ≡ front ++ origin_of g ∷ [] = ap origins (take_more_set gs at g lt) ∙ map-append origin_of (take at gs) (g ∷ []) in
+    let left : drop (at + 1) (set gs at g) ≡ rest = drop-set-lt (at + 1) gs at g (omega arith) in
+    ap (λ os. os ++ spread_after asks (Some (origin_of g)) (origins (drop (at + 1) (set gs at g)))) taken ∙ ap (λ hs. (front ++ origin_of g ∷ []) ++ spread_after asks (Some (origin_of g)) (origins hs)) left
+    ∙ append_assoc front (origin_of g ∷ []) (spread_after asks (Some (origin_of g)) (origins rest)) ∙ ap (λ (o : Origin). front ++ o ∷ spread_after asks (Some o) (origins rest)) is
+    ∙ ap (λ hs. front ++ spread_after asks (before_of before) (origins hs)) (sym cut) ∙ prior
