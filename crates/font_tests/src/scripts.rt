@@ -28,41 +28,43 @@ fn font_of_scripts(alloc: Global, tags: &str) -> Result<Face, Fail> {
     font(alloc, &text)
 }
 
-// Scripts of a table, wanted scripts, and the script that is selected: wanted (`+`) or not (`-`).
-const SCRIPT_CHOICES: [(&str, &str, &str); 12] = [
-    ("DFLT dev2 deva latn", "dev3 dev2 deva", "+dev2"),
-    ("DFLT dev2 dev3", "dev3 dev2", "+dev3"),
-    ("deva", "dev3 dev2 deva", "+deva"),
-    ("DFLT latn", "latn", "+latn"),
-    ("DFLT", "DFLT", "+DFLT"),
-    ("DFLT dflt latn", "grek", "-DFLT"),
-    ("dflt latn", "grek", "-dflt"),
-    ("cyrl latn", "grek", "-latn"),
-    ("DFLT grek", "", "-DFLT"),
-    ("cyrl thai", "grek", ""),
-    ("cyrl", "", ""),
-    ("", "latn", ""),
+// Scripts of a table, wanted scripts, and the script that is selected, with whether it was wanted.
+const SCRIPT_CHOICES: [(&str, &str, Option<(bool, &[u8; 4])>); 12] = [
+    (
+        "DFLT dev2 deva latn",
+        "dev3 dev2 deva",
+        Some((true, b"dev2")),
+    ),
+    ("DFLT dev2 dev3", "dev3 dev2", Some((true, b"dev3"))),
+    ("deva", "dev3 dev2 deva", Some((true, b"deva"))),
+    ("DFLT latn", "latn", Some((true, b"latn"))),
+    ("DFLT", "DFLT", Some((true, b"DFLT"))),
+    ("DFLT dflt latn", "grek", Some((false, b"DFLT"))),
+    ("dflt latn", "grek", Some((false, b"dflt"))),
+    ("cyrl latn", "grek", Some((false, b"latn"))),
+    ("DFLT grek", "", Some((false, b"DFLT"))),
+    ("cyrl thai", "grek", None),
+    ("cyrl", "", None),
+    ("", "latn", None),
 ];
 
-fn choice_of(alloc: Global, tags: &str, wanted: &str) -> Result<String, Fail> {
+fn choice_of(alloc: Global, tags: &str, wanted: &str) -> Result<Option<(bool, Tag)>, Fail> {
     let font = font_of_scripts(alloc, tags)?;
     let table = font.gsub().ok_or("no table")?;
     let wanted = tags_of(alloc, wanted)?;
-    match table.inner.select_script(&wanted) {
-        Some(selected) => {
-            let sign = if selected.found { "+" } else { "-" };
-            let tag = selected.script.tag();
-            Ok(format!(in alloc; "{sign}{tag}")?)
-        }
-        None => Ok(String::new(alloc)),
-    }
+    let selected = table.inner.select_script(&wanted);
+    Ok(selected.map(|selected| (selected.found, selected.script.tag())))
 }
 
 #[test]
 fn scripts_are_selected(rt: HostRuntime) -> Result<(), Fail> {
     for (tags, wanted, choice) in SCRIPT_CHOICES {
-        let found = choice_of(rt.alloc(), tags, wanted)?;
-        assert_eq!(rt; found.as_str(), choice, "{tags} {wanted}");
+        let choice = choice.map(|(found, tag)| (found, Tag::from_bytes(tag)));
+        assert_eq!(rt;
+            choice_of(rt.alloc(), tags, wanted)?,
+            choice,
+            "{tags} {wanted}"
+        );
     }
     Ok(())
 }
