@@ -7,5 +7,7 @@ pub mod ligature;
 pub mod lookup;
 pub mod script;
 pub mod table;
+#[cfg(test)]
+mod tests;
 
 pub use sorted_rows::{Keyed, is_above, is_rising};
