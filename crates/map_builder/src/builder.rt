@@ -54,7 +54,8 @@ impl<'a> hb_ot_map_builder_t<'a> {
         scripts: &[Tag],
         languages: &[Tag],
     ) -> hb_ot_map_builder_t<'a>
-        ensures { result ≡ no_requests scripts.now languages.now (option_copied gsub.entry) (option_copied gpos.entry) }
+        ensures { result
+            ≡ no_requests scripts.now languages.now (option_copied gsub.entry) (option_copied gpos.entry) }
     {
         hb_ot_map_builder_t {
             tables: FontTables {
@@ -198,7 +199,9 @@ impl<'a> hb_ot_map_builder_t<'a> {
         wanted: &[MergedRequest],
         features: &[feature_map_t],
     ) -> Result<TableMap, AllocError>
-        ensures { IfOk result (λ map. map ≡ stages_with table (for_table table self.now.tables) requests.now wanted.now features.now (for_table table self.now.pauses)) }
+        ensures { IfOk result (λ map. map
+            ≡ stages_with table (for_table table self.now.tables) requests.now wanted.now features.now
+            (for_table table self.now.pauses)) }
     {
         let chosen = self.tables.get(table);
         let of = TableFeatures {

@@ -125,7 +125,8 @@ fn selected_script<'a>(
     table: Option<&'a LayoutTable>,
     scripts: &[Tag],
 ) -> Option<SelectedScript<'a>>
-    ensures { option_map (λ s. record { found = s.found; script = s.script.now }) result ≡ script_of scripts.now (option_copied table.entry) }
+    ensures { option_map (λ s. record { found = s.found; script = s.script.now }) result
+        ≡ script_of scripts.now (option_copied table.entry) }
 {
     table?.select_script(scripts)
 }

@@ -175,7 +175,8 @@ pub(crate) fn features_with(
     tables: &FontTables,
     kept: &[KeptField],
 ) -> Result<Vec<feature_map_t>, AllocError>
-    ensures { IfOk result (λ features. features.items ≡ map (λ k. feature_with tables.now k.request k.field) kept.now) }
+    ensures { IfOk result (λ features. features.items
+        ≡ map (λ k. feature_with tables.now k.request k.field) kept.now) }
 {
     kept.iter()
         .map(|kept| feature_with(tables, kept))

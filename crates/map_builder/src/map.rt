@@ -85,7 +85,8 @@ impl Model for hb_ot_map_t {
       tables = record { gsub = m.gsub; gpos = m.gpos };
     } };
 
-    ghost invariant = { λ m. (is_rising nat_cmp (λ f. f.tag.0) None m.features.items ≡ true) × (bit_and m.global_mask 7 ≡ 0) };
+    ghost invariant = { λ m. (is_rising nat_cmp (λ f. f.tag.0) None m.features.items ≡ true)
+        × (bit_and m.global_mask 7 ≡ 0) };
 }
 
 impl hb_ot_map_t {

@@ -108,7 +108,8 @@ fn stage_uses(
     of: &TableFeatures,
     stage: usize,
 ) -> Result<Vec<lookup_map_t>, AllocError>
-    ensures { IfOk result (λ uses. uses.items ≡ stage_uses of.now.table of.now.chosen.now of.now.required of.now.features.now stage) }
+    ensures { IfOk result (λ uses. uses.items
+        ≡ stage_uses of.now.table of.now.chosen.now of.now.required of.now.features.now stage) }
 {
     let mut uses = Vec::new(alloc);
     push_required(&mut uses, of.chosen, of.required, stage)?;
@@ -123,7 +124,8 @@ fn stage_lookups(
     of: &TableFeatures,
     stage: usize,
 ) -> Result<Vec<lookup_map_t>, AllocError>
-    ensures { IfOk result (λ lookups. lookups.items ≡ stage_lookups of.now.table of.now.chosen.now of.now.required of.now.features.now stage) }
+    ensures { IfOk result (λ lookups. lookups.items
+        ≡ stage_lookups of.now.table of.now.chosen.now of.now.required of.now.features.now stage) }
 {
     let uses = stage_uses(alloc, of, stage)?;
     merged_lookups(alloc, of.chosen.lookup_count(), &uses)
@@ -154,8 +156,12 @@ pub(crate) fn all_stages(
     of: &TableFeatures,
     pauses: &[u8],
 ) -> Result<(Vec<lookup_map_t>, Vec<StageMap>), AllocError>
-    ensures lookups { IfOk result (λ all. all.0.items ≡ flat_map (λ s. s.lookups) (stages_from (stage_lookups of.now.table of.now.chosen.now of.now.required of.now.features.now) 0 pauses.now)) }
-    ensures stages { IfOk result (λ all. all.1.items ≡ stage_ends 0 (stages_from (stage_lookups of.now.table of.now.chosen.now of.now.required of.now.features.now) 0 pauses.now)) }
+    ensures lookups { IfOk result (λ all. all.0.items
+        ≡ flat_map (λ s. s.lookups)
+        (stages_from (stage_lookups of.now.table of.now.chosen.now of.now.required of.now.features.now) 0 pauses.now)) }
+    ensures stages { IfOk result (λ all. all.1.items
+        ≡ stage_ends 0
+        (stages_from (stage_lookups of.now.table of.now.chosen.now of.now.required of.now.features.now) 0 pauses.now)) }
 {
     let mut lookups = Vec::new(alloc);
     let mut stages = Vec::new(alloc);
