@@ -77,7 +77,7 @@ ahead_is c =
 pub returns : goal.returns
 returns c = record {
   marked = flagged_across_view c.self.inside (new_info c) (new_out c) c.self.inside.order c.args.flags c.args.start c.args.end c.telling_flags-self-inside.result (open_now c) (there c) (begins c) (out_is c) (ahead_is c) (some c)
-  ∙ ap (λ (s : Sides). with_flagged c.args.flags c.args.start (index_in_all c.args.end s) s) c.self.view_is;
+      ∙ ap (λ (s : Sides). with_flagged c.args.flags c.args.start (index_in_all c.args.end s) s) c.self.view_is;
 }
 
 pub invariant_of-self : goal.invariant_of-self
