@@ -50,7 +50,12 @@ impl hb_buffer_t {
 
     /// Puts the marks from `start` up to before `end` in stable order by their modified combining classes, and merges each
     /// smallest span that the order permutes.
-    pub fn sort_by_class(&mut self, alloc: Global, start: usize, end: usize) -> Result<(), AllocError>
+    pub fn sort_by_class(
+        &mut self,
+        alloc: Global,
+        start: usize,
+        end: usize,
+    ) -> Result<(), AllocError>
         requires closed { self.old.is_open ≡ false }
         requires ordered { start ≤ end }
         requires within { end ≤ length (all_glyphs self.old) }
@@ -62,7 +67,12 @@ impl hb_buffer_t {
             self.old) }
         ensures err { OnErr result (self.new ≡ self.old) }
     {
-        self.sort(alloc, start, end, |glyph| u32::from(glyph.modified_combining_class))
+        self.sort(
+            alloc,
+            start,
+            end,
+            |glyph| u32::from(glyph.modified_combining_class),
+        )
     }
 }
 
