@@ -1,14 +1,13 @@
 -- Each index of an order by keys stays within its span.
 use Rattle.std.specs.List.{All, list_all, range_with_len}
-use Rattle.std.proofs.Common.{ℕ, suc, zero, ◌≡◌, ◌≤◌, ◌<◌, ◌+◌, ◌-◌, nat_lt, inl, inr, Bool, true, false, List, [], ◌∷◌, ◌++◌, Some, slice_get, length, take, drop, arith, refl, ap, sym, subst, ◌∙◌}
+use Rattle.std.proofs.Common.{ℕ, suc, zero, ◌≡◌, ◌≤◌, ◌<◌, ◌+◌, ◌-◌, nat_lt, true, false, List, [], ◌∷◌, ◌++◌, Some, slice_get, length, take, drop, arith, refl, ap, sym, subst, ◌∙◌}
 use Rattle.std.specs.Prelude.{slice_index_or}
 use Rattle.std.proofs.lemmas.Bool.Decides.{nat_tests}
-use Rattle.std.proofs.lemmas.Bool.{cases_lt}
-use Rattle.std.proofs.lemmas.List.{length-append, length-take-le, take-append-drop}
+use Rattle.std.proofs.lemmas.List.{length-take-le, take-append-drop}
 use Rattle.std.proofs.lemmas.List.Elements.{All-nil, All-cons, All-head, All-tail, All-weaker}
 use Rattle.std.proofs.lemmas.List.FromFn.{length-range_with_len}
 use Rattle.std.proofs.lemmas.Option.{slice_get_within}
-use Rattle.stable_order.specs.Keys.{by_key, key_bound, key_order}
+use Rattle.stable_order.specs.Keys.{by_key, key_bound}
 use Rattle.glyph_lists.specs.Origins.{is_seam}
 use Rattle.glyph_lists.specs.Events.{StaysInSpans}
 use Rattle.glyph_slices.specs.Events.{order_of}

@@ -1,9 +1,7 @@
 -- Elements in an order of their indices.
-use Rattle.std.proofs.Common.{ℕ, zero, suc, ◌≡◌, ◌≤◌, ◌<◌, ◌+◌, List, [], ◌∷◌, ◌++◌, Some, slice_get, length, map, take, drop, reverse, get_or, arith, refl, ap, sym, subst, ◌∙◌, append_assoc}
-use Rattle.std.specs.List.{All, range_with_len}
+use Rattle.std.proofs.Common.{ℕ, ◌≡◌, ◌≤◌, ◌+◌, List, [], ◌∷◌, ◌++◌, Some, slice_get, length, take, drop, reverse, arith, refl, ap, sym, subst, ◌∙◌, append_assoc}
+use Rattle.std.specs.List.{range_with_len}
 use Rattle.std.proofs.lemmas.List.{drop-drop, length-append, length-drop, reverse-append}
-use Rattle.std.proofs.lemmas.List.Elements.{All-head, All-tail}
-use Rattle.std.proofs.lemmas.Option.{slice_get-get_or}
 use Rattle.glyph_lists.specs.Origins.{picked, arranged}
 
 -- at the indices of an order stand these elements

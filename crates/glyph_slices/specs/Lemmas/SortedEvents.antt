@@ -1,7 +1,7 @@
 -- A sort of a range is an event.
 use Rattle.std.specs.Prelude.{slice_range, slice_index_or, option_map}
 use Rattle.std.specs.List.{All, list_all, range_with_len}
-use Rattle.std.proofs.Common.{ℕ, suc, zero, ◌≡◌, ◌≤◌, ◌<◌, ◌+◌, ◌-◌, ◌==◌, ◌||◌, max, nat_lt, Bool, true, false, if◌then◌else◌, List, [], ◌∷◌, ◌++◌, Some, slice_get, length, map, take, drop, get_or, arith, refl, ap, sym, subst, ◌∙◌, append_assoc}
+use Rattle.std.proofs.Common.{ℕ, suc, zero, ◌≡◌, ◌≤◌, ◌<◌, ◌+◌, ◌-◌, ◌==◌, ◌||◌, max, nat_lt, Bool, true, false, if◌then◌else◌, List, [], ◌∷◌, ◌++◌, length, map, take, drop, arith, refl, ap, sym, subst, ◌∙◌, append_assoc}
 use Rattle.std.proofs.lemmas.Bool.Decides.{nat_tests}
 use Rattle.std.proofs.lemmas.Grind.{common_steps}
 use Rattle.std.proofs.lemmas.List.{map-append, map-id, take-map, drop-map, length-append, length-map, length-drop, length-take-le}
@@ -16,10 +16,9 @@ use Rattle.stable_order.specs.Orders.{key_order_map}
 use Rattle.glyph_types.specs.declared.info.hb_glyph_info_t.{hb_glyph_info_t as Glyph}
 use Rattle.glyph_types.specs.declared.level.BufferClusterLevel.{BufferClusterLevel as Level}
 use Rattle.glyph_lists.specs.Items.{Item, clusters, item_of, strip}
-use Rattle.glyph_lists.specs.Parts.{stretch}
 use Rattle.glyph_lists.specs.Merges.{least_number, merged}
 use Rattle.glyph_lists.specs.Glyphs.{glyphs_merged_at, is_marked_at}
-use Rattle.glyph_lists.specs.Origins.{Origin, Asks, InList, Manner, Unites, Marks, Keeps, manner, numbers, cast, added_outside, origins_merged, merged_as, origin_of, origins, arranged, is_seam as is_seam_of, Span, spans_from, spans, spans_merged as all_merged}
+use Rattle.glyph_lists.specs.Origins.{Origin, Asks, InList, Manner, Unites, Marks, Keeps, manner, numbers, cast, added_outside, origins_merged, merged_as, origin_of, origins, arranged, is_seam as is_seam_of, spans_from, spans, spans_merged as all_merged}
 use Rattle.glyph_lists.specs.Events.{Sort, origins_after}
 use Rattle.glyph_lists.specs.Lemmas.Origins.{cut_in_three, origins_of_merged_at, slice_seen}
 use Rattle.glyph_slices.specs.declared.sorting.Keyed.{Keyed}

@@ -1,5 +1,5 @@
 -- How long groups are.
-use Rattle.std.proofs.Common.{ℕ, suc, ◌≡◌, ◌≤◌, Bool, true, false, if◌then◌else◌, List, [], ◌∷◌, length, map, drop, arith, refl, ap, ◌∙◌}
+use Rattle.std.proofs.Common.{suc, ◌≡◌, ◌≤◌, Bool, true, false, if◌then◌else◌, List, [], ◌∷◌, length, map, drop, arith, refl, ap, ◌∙◌}
 use Rattle.std.proofs.lemmas.List.{length-take-le}
 use Rattle.glyph_slices.specs.Groups.{joined_behind, group_length}
 use Rattle.glyph_slices.specs.Facts.{group_lengths}
