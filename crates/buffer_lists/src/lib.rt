@@ -7,3 +7,5 @@ pub mod merges;
 pub mod moves;
 pub mod order;
 pub mod replacement;
+#[cfg(test)]
+mod tests;

@@ -8,3 +8,5 @@ pub mod groups;
 pub mod laws;
 pub mod reversal;
 pub mod sorting;
+#[cfg(test)]
+mod tests;

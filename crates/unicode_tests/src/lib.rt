@@ -8,8 +8,6 @@ mod faults;
 #[cfg(test)]
 mod laws;
 #[cfg(test)]
-mod normalizing;
-#[cfg(test)]
 mod rows;
 #[cfg(test)]
 mod syllables;

@@ -2,13 +2,13 @@ ghost use Rattle.std.specs.Prelude.{◌≡◌};
 
 mod no_order;
 
+use crate::deletion::delete_within;
+use crate::flags::{AskedFlags, propagate_flags};
+use crate::groups::{group_end, next_cluster, next_grapheme, next_syllable};
+use crate::reversal::reverse_groups;
+use crate::sorting::sort;
 use glyph_clusters::deletion::{recast_end, set_cluster};
 use glyph_clusters::ranges::merge_range;
-use glyph_slices::deletion::delete_within;
-use glyph_slices::flags::{AskedFlags, propagate_flags};
-use glyph_slices::groups::{group_end, next_cluster, next_grapheme, next_syllable};
-use glyph_slices::reversal::reverse_groups;
-use glyph_slices::sorting::sort;
 use glyph_types::flags::UnicodeProps;
 use glyph_types::info::hb_glyph_info_t;
 use glyph_types::level::BufferClusterLevel;

@@ -1,5 +1,5 @@
 use Rattle.std.proofs.Common.{arith, inr}
-use Rattle.buffer_tests.proofs.slices.deletes_in_falling_clusters.Goals as goal
+use Rattle.glyph_slices.proofs.tests.deletes_in_falling_clusters.Goals as goal
 
 pub delete_within-kept-requires-clause-known : goal.delete_within-kept-requires-clause-known
 delete_within-kept-requires-clause-known g c =

@@ -1,6 +1,6 @@
 use super::{glyph, place};
-use glyph_slices::reversal::reverse_groups;
-use glyph_slices::sorting::sort;
+use crate::reversal::reverse_groups;
+use crate::sorting::sort;
 use glyph_types::info::hb_glyph_info_t;
 use glyph_types::level::BufferClusterLevel;
 use glyph_types::position::GlyphPosition;

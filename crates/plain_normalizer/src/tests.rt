@@ -1,7 +1,9 @@
 //! Worked rows of normalising.
 
+use crate::normalizing::Normalizing;
+use crate::rounds::{items_of_text, normalized};
+use crate::rows::RowNormalizer;
 use normal_forms::NormalizationMode;
-use plain_normalizer::{Normalizing, RowNormalizer, items_of_text, normalized};
 use std::alloc::Global;
 use std::process::Abort;
 use std::test::Fail;
