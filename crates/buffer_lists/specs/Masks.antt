@@ -3,14 +3,7 @@ use Rattle.std.specs.Prelude.{ℕ, ◌-◌, ◌==◌, ◌&&◌, ◌||◌, Bool, 
 use Rattle.std.specs.Int.RustNames.{bit_or}
 use Rattle.glyph_types.specs.declared.info.hb_glyph_info_t.{hb_glyph_info_t}
 use Rattle.glyph_lists.specs.Items.{Item, glyph_flags, without_flags}
-
--- a glyph with another mask
-abbrev pub glyph_masked : ℕ → hb_glyph_info_t → hb_glyph_info_t
-glyph_masked m g = record g { mask = m }
-
--- an item with another mask
-abbrev pub item_masked : ℕ → Item → Item
-item_masked m x = record x { mask = without_flags m }
+pub use Rattle.glyph_lists.specs.Items.{glyph_masked, item_masked}
 
 -- the bits of a mask under another become those of a value; the other bits stay
 abbrev pub bits_set : ℕ → ℕ → ℕ → ℕ

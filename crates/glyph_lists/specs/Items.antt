@@ -21,6 +21,13 @@ pub record Item : Type 0 where
 abbrev pub without_flags : ℕ → ℕ
 without_flags m = m - bit_and m 7
 
+-- a glyph, an item with another mask
+abbrev pub glyph_masked : ℕ → hb_glyph_info_t → hb_glyph_info_t
+glyph_masked m g = record g { mask = m }
+
+abbrev pub item_masked : ℕ → Item → Item
+item_masked m x = record x { mask = without_flags m }
+
 abbrev pub item_of : hb_glyph_info_t → Item
 item_of g = record {
   number = g.glyph_id;

@@ -1,18 +1,12 @@
 -- The glyph flags of runs of clusters.
-use Rattle.std.specs.Prelude.{ℕ, ◌+◌, List, [], ◌∷◌, Option, Some, None}
-use Rattle.std.specs.Int.RustNames.{bit_and}
+use Rattle.std.specs.Prelude.{ℕ, List, [], ◌∷◌, Option, Some, None}
 use Rattle.glyph_types.specs.declared.info.hb_glyph_info_t.{hb_glyph_info_t}
-use Rattle.glyph_lists.specs.Items.{without_flags}
 use Rattle.glyph_lists.specs.Origins.{Asks, Origin, origin_of, origins, run_flags, settled, spread_flags}
 use Rattle.glyph_slices.specs.declared.flags.AskedFlags.{AskedFlags}
 
 -- what is asked of glyph flags
 abbrev pub asks_of : AskedFlags → Asks
 asks_of a = record { concat = a.concat; tatweel = a.tatweel }
-
--- a glyph with other glyph flags
-abbrev pub glyph_flagged : ℕ → hb_glyph_info_t → hb_glyph_info_t
-glyph_flagged flags g = record g { mask = without_flags g.mask + bit_and flags 7 }
 
 abbrev pub before_of : Option hb_glyph_info_t → Option Origin
 before_of None = None

@@ -1,8 +1,8 @@
-ghost use Rattle.std.specs.Prelude.{◌≡◌, ◌<◌, fold, length};
-ghost use Rattle.std.specs.Int.RustNames.{bit_or};
-ghost use Rattle.glyph_lists.specs.Items.{flags_of, strip};
+ghost use Rattle.std.specs.Prelude.{◌≡◌, ◌<◌, fold, length, map};
+ghost use Rattle.std.specs.Int.RustNames.{bit_and, bit_or};
+ghost use Rattle.glyph_lists.specs.Items.{flags_of, glyph_masked, item_masked, strip};
 ghost use Rattle.glyph_lists.specs.Origins.{concat_settled, origins, origins_spread, run_flags, settled, tatweel_settled};
-ghost use Rattle.glyph_slices.specs.Flags.{asks_of, cluster_flags, glyph_flagged};
+ghost use Rattle.glyph_slices.specs.Flags.{asks_of, cluster_flags};
 
 use crate::groups::front_of_cluster;
 use glyph_types::info::{
@@ -20,9 +20,10 @@ pub struct AskedFlags {
 
 /// Gives the glyphs of each run of one cluster the same glyph flags: those that one of them has. Where tatweels are asked
 /// for, none may stand where a break is unsafe, and where one may stand a break is. The flag of texts that may not be put
-/// together stays only where it is asked for. All else of a glyph stays. It takes linear time.
+/// together stays only where it is asked for. A mask has no other bit then: those of features go. All else of a glyph
+/// stays. It takes linear time.
 pub fn propagate_flags(glyphs: &mut [hb_glyph_info_t], asked: AskedFlags)
-    ensures items { strip glyphs.new ≡ strip glyphs.old }
+    ensures items { strip glyphs.new ≡ map (item_masked 0) (strip glyphs.old) }
     ensures origins { origins glyphs.new ≡ origins_spread (asks_of asked) (origins glyphs.old) }
 {
     let mut before = None;
@@ -100,12 +101,12 @@ fn concat_settled(flags: hb_mask_t, asked: bool) -> hb_mask_t
     }
 }
 
-/// The glyph with other glyph flags.
+/// The glyph with a mask of glyph flags alone.
 fn with_flags(glyph: hb_glyph_info_t, flags: hb_mask_t) -> hb_glyph_info_t
-    ensures { result ≡ glyph_flagged flags glyph }
+    ensures { result ≡ glyph_masked (bit_and flags 7) glyph }
 {
     hb_glyph_info_t {
-        mask: glyph.mask - (glyph.mask & DEFINED) + (flags & DEFINED),
+        mask: flags & DEFINED,
         ..glyph
     }
 }

@@ -404,8 +404,8 @@ fn masks_after_spread(concat: bool, tatweel: bool, rows: [(u32, u32); 4]) -> [u3
 fn spreads_flags_over_runs_of_clusters(rt: HostRuntime) -> Result<(), Fail> {
     let plain = [(0, 0x101), (0, 2), (3, 2), (0, 1)];
     let tatweels = [(0, 4), (0, 0), (2, 5), (2, 0)];
-    assert_eq!(&rt; masks_after_spread(false, false, plain), [0x101, 1, 0, 1]);
-    assert_eq!(&rt; masks_after_spread(true, false, plain), [0x103, 3, 2, 1]);
+    assert_eq!(&rt; masks_after_spread(false, false, plain), [1, 1, 0, 1]);
+    assert_eq!(&rt; masks_after_spread(true, false, plain), [3, 3, 2, 1]);
     assert_eq!(&rt; masks_after_spread(false, true, tatweels), [5, 5, 1, 1]);
     assert_eq!(&rt; masks_after_spread(true, true, tatweels), [7, 7, 1, 1]);
     Ok(())

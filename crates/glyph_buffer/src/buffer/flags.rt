@@ -1,5 +1,6 @@
-ghost use Rattle.std.specs.Prelude.{◌≡◌, ◌∷◌, [], false};
+ghost use Rattle.std.specs.Prelude.{◌≡◌, ◌∷◌, [], false, map};
 ghost use Rattle.glyph_lists.specs.Events.{Spread};
+ghost use Rattle.glyph_lists.specs.Items.{item_masked};
 ghost use Rattle.glyph_buffer.specs.Merging.{with_glyphs};
 ghost use Rattle.glyph_buffer.specs.Sides.{all_glyphs, items_of, origins_by, origins_of};
 
@@ -11,12 +12,12 @@ use shaping_text::constants::BufferFlags;
 impl hb_buffer_t {
     /// Gives the glyphs of each run of one cluster the same glyph flags: those that one of them has. Where tatweels are
     /// asked for, none may stand where a break is unsafe, and where one may stand a break is. The flag of texts that may not
-    /// be put together stays only where it is asked for. It takes linear time, and walks also where no scratch flag tells
-    /// of glyph flags.
+    /// be put together stays only where it is asked for. A mask has no other bit then: those of features go. It takes linear
+    /// time, and walks also where no scratch flag tells of glyph flags.
     pub fn propagate_flags(&mut self)
         requires { self.old.is_open ≡ false }
         ensures rest { self.new ≡ with_glyphs (all_glyphs self.new) self.old }
-        ensures items { items_of self.new ≡ items_of self.old }
+        ensures items { items_of self.new ≡ map (item_masked 0) (items_of self.old) }
         ensures origins { origins_of self.new ≡ origins_by (Spread ∷ []) self.old }
     {
         let asked = AskedFlags {

@@ -2,13 +2,11 @@
 use Rattle.std.specs.List.{prefix_len}
 use Rattle.std.specs.Int.RustNames.{bit_and, bit_or}
 use Rattle.std.specs.Int.Bits.{or_zero_l, or_zero_r}
-use Rattle.std.proofs.Common.{ℕ, suc, ◌≡◌, ◌<◌, ◌+◌, ◌==◌, ◌/◌, Bool, true, false, if◌then◌else◌, List, [], ◌∷◌, ◌++◌, Some, None, Option, fold, length, take, drop, set, get_or, arith, refl, ap, sym, subst, ◌∙◌, append_assoc}
+use Rattle.std.proofs.Common.{ℕ, suc, ◌≡◌, ◌<◌, ◌+◌, ◌==◌, ◌/◌, Bool, true, false, if◌then◌else◌, List, [], ◌∷◌, ◌++◌, Some, None, Option, fold, length, take, drop, set, get_or, arith, ap, sym, subst, ◌∙◌, append_assoc}
 use Rattle.glyph_types.specs.declared.info.hb_glyph_info_t.{hb_glyph_info_t as Glyph}
-use Rattle.glyph_lists.specs.Items.{flags_of, glyph_flags, item_of}
+use Rattle.glyph_lists.specs.Items.{flags_of, glyph_flags, glyph_masked, item_masked, item_of, without_flags}
 use Rattle.glyph_lists.specs.Origins.{Asks, Origin, origin_of, origins, concat_settled, run_flags, settled, spread_after, tatweel_settled}
-use Rattle.glyph_clusters.specs.Deleted.{flags_put}
-use Rattle.glyph_clusters.specs.DeletedOrigins.{flags_taken}
-use Rattle.glyph_slices.specs.Flags.{before_of, cluster_flags, glyph_flagged}
+use Rattle.glyph_slices.specs.Flags.{before_of, cluster_flags}
 use Rattle.std.proofs.lemmas.List.{drop_more, drop-set-lt, map-append, take_more_set}
 use Rattle.std.proofs.lemmas.Nat.{and_le_r, and_mask, or_lt, or_shr}
 use lib.Arith.{bin_ind}
@@ -74,13 +72,17 @@ same_defined m lt = let low = and_mask m 3 in omega (arith, low)
 
 -- ---- one step of the walk
 
-pub flagged_item : (flags : ℕ) (g : Glyph) → item_of (glyph_flagged flags g) ≡ item_of g
-flagged_item flags g = rw (flags_put g.mask flags) refl
+-- a mask of flags alone has no other bit
+pub flagged_item : (flags : ℕ) (g : Glyph) → item_of (glyph_masked (bit_and flags 7) g) ≡ item_masked 0 (item_of g)
+flagged_item flags g = ap (λ (m : ℕ). record (item_of g) { mask = m }) (none_else flags)
+  where
+    none_else : (m : ℕ) → without_flags (bit_and m 7) ≡ 0
+    none_else m = rw (same_defined (bit_and m 7) (defined m)) (omega arith)
 
-flagged_origin : (flags : ℕ) (g : Glyph) → flags < 8 → origin_of (glyph_flagged flags g) ≡ record { cluster = g.cluster; flags = flags }
-flagged_origin flags g lt = ap (λ (f : ℕ). record { cluster = g.cluster; flags = f }) (flags_taken g.mask flags ∙ same_defined flags lt)
+flagged_origin : (flags : ℕ) (g : Glyph) → flags < 8 → origin_of (glyph_masked (bit_and flags 7) g) ≡ record { cluster = g.cluster; flags = flags }
+flagged_origin flags g lt = ap (λ (f : ℕ). record { cluster = g.cluster; flags = f }) (same_defined (bit_and flags 7) (defined flags) ∙ same_defined flags lt)
 
-pub spread_step : (asks : Asks) (before : Option Glyph) (at flags : ℕ) (gs : List Glyph) (d g : Glyph) (whole : List Origin) → at < length gs → flags ≡ cluster_flags asks before (drop at gs) → g ≡ glyph_flagged flags (get_or gs at d)
+pub spread_step : (asks : Asks) (before : Option Glyph) (at flags : ℕ) (gs : List Glyph) (d g : Glyph) (whole : List Origin) → at < length gs → flags ≡ cluster_flags asks before (drop at gs) → g ≡ glyph_masked (bit_and flags 7) (get_or gs at d)
     → origins (take at gs) ++ spread_after asks (before_of before) (origins (drop at gs)) ≡ whole
     → origins (take (at + 1) (set gs at g)) ++ spread_after asks (Some (origin_of g)) (origins (drop (at + 1) (set gs at g))) ≡ whole
 spread_step asks before at flags gs d g whole lt f e prior =

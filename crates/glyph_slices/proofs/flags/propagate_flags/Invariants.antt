@@ -1,5 +1,5 @@
-use Rattle.std.proofs.Common.{◌≡◌, ◌++◌, take, drop, length}
-use Rattle.glyph_lists.specs.Items.{strip}
+use Rattle.std.proofs.Common.{◌≡◌, ◌++◌, map, take, drop, length}
+use Rattle.glyph_lists.specs.Items.{item_masked, strip}
 use Rattle.glyph_lists.specs.Origins.{origins, origins_spread, spread_after}
 use Rattle.glyph_slices.specs.Flags.{asks_of, before_of}
 use Rattle.glyph_slices.proofs.flags.propagate_flags.Given as goal
@@ -8,6 +8,6 @@ use Rattle.glyph_slices.proofs.flags.propagate_flags.Given as goal
 abbrev pub invariant-loop-at : goal.invariant-loop-at
 invariant-loop-at l = record {
   len : length l.glyphs ≡ length l.fn.glyphs;
-  items : strip l.glyphs ≡ strip l.fn.glyphs;
+  items : strip l.glyphs ≡ map (item_masked 0) (take l.at (strip l.fn.glyphs)) ++ drop l.at (strip l.fn.glyphs);
   rest : origins (take l.at l.glyphs) ++ spread_after (asks_of l.asked) (before_of l.before) (origins (drop l.at l.glyphs)) ≡ origins_spread (asks_of l.asked) (origins l.fn.glyphs);
 }

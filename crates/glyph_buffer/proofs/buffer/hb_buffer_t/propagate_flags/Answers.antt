@@ -1,9 +1,9 @@
 use Rattle.std.specs.Vec.{with_items}
 use Rattle.std.specs.Prelude.{bit_and}
-use Rattle.std.proofs.Common.{◌≡◌, ◌==◌, false, [], length, List, refl, rules, arith, ap, sym, ◌∙◌}
+use Rattle.std.proofs.Common.{◌≡◌, ◌==◌, false, [], length, map, List, refl, rules, arith, ap, sym, ◌∙◌}
 use Rattle.std.proofs.lemmas.Grind.{common_steps}
 use Rattle.glyph_types.specs.declared.info.hb_glyph_info_t.{hb_glyph_info_t as Glyph}
-use Rattle.glyph_lists.specs.Items.{clusters, strip}
+use Rattle.glyph_lists.specs.Items.{clusters, item_masked, strip}
 use Rattle.glyph_lists.specs.Origins.{Asks, origins, origins_spread}
 use Rattle.glyph_buffer.specs.Sides.{Sides}
 use Rattle.glyph_buffer.specs.Inside.{sides_of}
@@ -24,7 +24,7 @@ put : (c : goal.After-self-1) → (with_items c.self.inside.info c.propagate_fla
 put c =
     let b = c.self.inside in
     let in_info : b.info.len ≡ length b.info.items = first_of (search rules, grind (arith, common_steps)) in
-    let same : strip c.propagate_flags.new.glyphs ≡ strip b.info.items = rw c.deref_mut.ensures.value at c.propagate_flags.ensures.items in
+    let same : strip c.propagate_flags.new.glyphs ≡ map (item_masked 0) (strip b.info.items) = rw c.deref_mut.ensures.value at c.propagate_flags.ensures.items in
     all_put b.info c.propagate_flags.new.glyphs c.propagate_flags.new.glyphs in_info refl (glyphs_same b.info.items c.propagate_flags.new.glyphs same)
 
 spread : (c : goal.After-self-1) → origins (with_items c.self.inside.info c.propagate_flags.new.glyphs).items ≡ origins_spread (asks c) (origins c.self.inside.info.items)
