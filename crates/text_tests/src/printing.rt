@@ -1,6 +1,7 @@
+//! The printed text of runs of glyphs.
 ghost use Rattle.std.specs.Prelude.{Option, None, Some, codes, pos, negsuc, if◌then◌else◌, ◌==◌};
 
-use crate::serialize;
+use glyph_text::serialize;
 use glyph_types::flags::SerializeFlags;
 use glyph_types::info::hb_glyph_info_t;
 use glyph_types::names::{GlyphId, GlyphNames, hb_glyph_extents_t};
