@@ -11,54 +11,77 @@ use shaping_text::tag::{Tag, TagExt};
 use std::alloc::Global;
 use std::test::Fail;
 
-const TEXTS_OF_TAGS: [(&str, Tag); 4] = [
-    ("", Tag(0)),
-    ("yi", Tag(0x79692020)),
-    ("kern", Tag(0x6B65726E)),
-    ("kern1", Tag(0x6B65726E)),
+// Tags are compared by their numbers.
+const NUMBERS_OF_TEXTS: [(&str, u32); 5] = [
+    ("", 0),
+    ("yi", 0x79692020),
+    ("liga", 0x6C696761),
+    ("kern", 0x6B65726E),
+    ("kern1", 0x6B65726E),
 ];
+
+fn number_of_text(text: &str) -> u32 {
+    Tag::from_bytes_lossy(text.as_bytes()).0
+}
+
+fn number(bytes: &[u8; 4]) -> u32 {
+    Tag::from_bytes(bytes).0
+}
+
+fn uppercase_number(bytes: &[u8; 4]) -> u32 {
+    Tag::from_bytes(bytes).to_uppercase().0
+}
+
+fn default_numbers() -> (u32, u32) {
+    (
+        <Tag as TagExt>::default_script().0,
+        <Tag as TagExt>::default_language().0,
+    )
+}
 
 #[test]
 fn tags(rt: HostRuntime) {
-    for (text, want) in TEXTS_OF_TAGS {
-        assert_eq!(rt; Tag::from_bytes_lossy(text.as_bytes()), want);
+    for (text, want) in NUMBERS_OF_TEXTS {
+        assert_eq!(rt; number_of_text(text), want);
     }
-    let made = [
-        (Tag::from_bytes(b"liga"), 0x6C696761),
-        (<Tag as TagExt>::default_script(), 0x44464C54),
-        (<Tag as TagExt>::default_language(), 0x64666C74),
-        (Tag::from_bytes(b"deu ").to_uppercase(), 0x44455520),
-    ];
-    for (tag, number) in made {
-        assert_eq!(rt; tag, Tag(number));
-    }
+    assert_eq!(rt; number(b"liga"), 0x6C696761);
+    assert_eq!(rt; uppercase_number(b"deu "), 0x44455520);
+    assert_eq!(rt; default_numbers(), (0x44464C54, 0x64666C74));
     assert_eq!(rt; Tag(0x6C696761).to_bytes(), *b"liga");
 }
 
-const TEXTS_OF_SCRIPTS: [(&str, Result<Script, InvalidScript>); 14] = [
-    ("Arab", Ok(ARABIC)),
-    ("aran", Ok(ARABIC)),
-    ("QAAI", Ok(INHERITED)),
-    ("Qaac", Ok(COPTIC)),
-    ("Cyrs", Ok(CYRILLIC)),
-    ("Hant", Ok(HAN)),
-    ("jamo", Ok(HANGUL)),
-    ("Latg", Ok(LATIN)),
-    ("Syrn", Ok(SYRIAC)),
-    ("Latin", Ok(Script(Tag(0x4C617469)))),
-    ("Lat", Ok(UNKNOWN)),
-    ("La-n", Ok(UNKNOWN)),
-    ("", Err(InvalidScript)),
-    ("\0\0\0\0", Err(InvalidScript)),
+// The tag of each text's script; none where it is refused.
+const SCRIPTS_OF_TEXTS: [(&str, Option<&[u8; 4]>); 14] = [
+    ("Arab", Some(b"Arab")),
+    ("aran", Some(b"Arab")),
+    ("QAAI", Some(b"Zinh")),
+    ("Qaac", Some(b"Copt")),
+    ("Cyrs", Some(b"Cyrl")),
+    ("Hant", Some(b"Hani")),
+    ("jamo", Some(b"Hang")),
+    ("Latg", Some(b"Latn")),
+    ("Syrn", Some(b"Syrc")),
+    ("Latin", Some(b"Lati")),
+    ("Lat", Some(b"Zzzz")),
+    ("La-n", Some(b"Zzzz")),
+    ("", None),
+    ("\0\0\0\0", None),
 ];
+
+fn script_of_text(text: &str) -> Option<[u8; 4]> {
+    match text.parse::<Script>() {
+        Ok(script) => Some(script.tag().to_bytes()),
+        Err(InvalidScript) => None,
+    }
+}
 
 #[test]
 fn scripts(rt: HostRuntime) {
-    for (text, want) in TEXTS_OF_SCRIPTS {
-        assert_eq!(rt; text.parse::<Script>(), want, "{text}");
+    for (text, want) in SCRIPTS_OF_TEXTS {
+        assert_eq!(rt; script_of_text(text), want.copied(), "{text}");
     }
     assert_eq!(rt; Script::from_iso15924_tag(Tag(0)), None);
-    assert_eq!(rt; ARABIC.tag(), Tag::from_bytes(b"Arab"));
+    assert_eq!(rt; ARABIC.tag().to_bytes(), *b"Arab");
 }
 
 const TEXTS_OF_DIRECTIONS: [(&str, Result<Direction, InvalidDirection>); 6] = [
@@ -114,18 +137,26 @@ fn flags(rt: HostRuntime) {
     assert_eq!(rt; (rb_flag64(40), rb_flag64_unsafe(64)), (1 << 40, 0));
 }
 
-fn row(alloc: Global, text: &str, tag: &[u8; 4]) -> Result<LanguageRow, Fail> {
+fn row(alloc: Global, text: &str, tag: Tag) -> Result<LanguageRow, Fail> {
+    let text = String::from_str(alloc, text)?;
     let mut tags = ArrayVec::new();
-    tags.push(Tag::from_bytes(tag));
-    Ok(LanguageRow {
-        text: String::from_str(alloc, text)?,
-        tags,
-    })
+    tags.push(tag);
+    Ok(LanguageRow { text, tags })
 }
+
+const GERMAN: Tag = Tag(0x44455520);
+
+const CHINESE_SIMPLIFIED: Tag = Tag(0x5A485320);
+
+const CHINESE_TRADITIONAL: Tag = Tag(0x5A485420);
 
 fn german_and_chinese(alloc: Global) -> Result<LanguageTable, Fail> {
     let mut rows = Vec::new(alloc);
-    for (text, tag) in [("de", b"DEU "), ("zh", b"ZHS "), ("zh-hant", b"ZHT ")] {
+    for (text, tag) in [
+        ("de", GERMAN),
+        ("zh", CHINESE_SIMPLIFIED),
+        ("zh-hant", CHINESE_TRADITIONAL),
+    ] {
         rows.push(row(alloc, text, tag)?)?;
     }
     if !LanguageTable::are_rising(&rows) {
@@ -135,10 +166,10 @@ fn german_and_chinese(alloc: Global) -> Result<LanguageTable, Fail> {
 }
 
 const TAGS_OF_LANGUAGES: [(&str, Option<Tag>); 5] = [
-    ("de", Some(Tag(0x44455520))),
-    ("de-ch", Some(Tag(0x44455520))),
-    ("zh-hant", Some(Tag(0x5A485420))),
-    ("zh-hant-hk", Some(Tag(0x5A485320))),
+    ("de", Some(GERMAN)),
+    ("de-ch", Some(GERMAN)),
+    ("zh-hant", Some(CHINESE_TRADITIONAL)),
+    ("zh-hant-hk", Some(CHINESE_SIMPLIFIED)),
     ("d", None),
 ];
 
@@ -166,19 +197,32 @@ const TAGS_OF_SCRIPTS: [(Option<Script>, &[&[u8; 4]]); 8] = [
     (None, &[]),
 ];
 
+fn script_tags(
+    script: Option<Script>,
+    language: Option<&Language>,
+    table: &LanguageTable,
+) -> ArrayVec<Tag, 3> {
+    let (scripts, _) = tags_from_script_and_language(script, language, table);
+    scripts
+}
+
+fn language_tag(language: Option<&Language>, table: &LanguageTable) -> Option<Tag> {
+    let (_, languages) = tags_from_script_and_language(Some(BENGALI), language, table);
+    languages.first().copied()
+}
+
 #[test]
 fn wanted_tags(rt: HostRuntime) -> Result<(), Fail> {
     let table = german_and_chinese(rt.alloc())?;
     let german = Language::from_str(rt.alloc(), "de-AT")?;
+    assert_eq!(rt; language_tag(Some(&german), &table), Some(GERMAN));
+    assert_eq!(rt; language_tag(None, &table), None);
     for (script, want) in TAGS_OF_SCRIPTS {
-        let (scripts, languages) = tags_from_script_and_language(script, Some(&german), &table);
-        assert_eq!(rt; scripts.len(), want.len());
-        for (tag, bytes) in scripts.iter().zip(want) {
-            assert_eq!(rt; *tag, Tag::from_bytes(bytes));
+        let found = script_tags(script, Some(&german), &table);
+        assert_eq!(rt; found.len(), want.len());
+        for (tag, bytes) in found.iter().zip(want) {
+            assert_eq!(rt; tag.to_bytes(), **bytes);
         }
-        assert_eq!(rt; languages.as_slice(), [Tag(0x44455520)].as_slice());
     }
-    let (_, languages) = tags_from_script_and_language(Some(BENGALI), None, &table);
-    assert!(rt; languages.is_empty());
     Ok(())
 }
