@@ -4,5 +4,3 @@
 pub mod character;
 pub mod info;
 pub mod laws;
-#[cfg(test)]
-mod tests;

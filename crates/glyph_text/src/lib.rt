@@ -7,6 +7,3 @@ mod pieces;
 mod printing;
 
 pub use printing::serialize;
-
-#[cfg(test)]
-mod tests;

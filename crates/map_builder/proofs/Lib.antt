@@ -1,5 +1,4 @@
-pub mod StageSteps
-pub mod Listed
+pub mod StageEnds
 pub mod Sorted
 pub mod Compiling
 pub mod Flagless

@@ -11,12 +11,12 @@ use Rattle.map_features.specs.declared.request.FeatureRequest.{FeatureRequest}
 use Rattle.map_features.specs.declared.request.MergedRequest.{MergedRequest}
 use Rattle.map_features.specs.Tables.{for_table}
 use Rattle.map_features.specs.Requests.{merged_requests}
-use Rattle.map_builder.specs.declared.features.feature_map_t.{feature_map_t}
+use Rattle.map_stages.specs.declared.feature.feature_map_t.{feature_map_t}
 use Rattle.map_features.specs.declared.lookup.lookup_map_t.{lookup_map_t}
-use Rattle.map_builder.specs.declared.stages.StageMap.{StageMap}
-use Rattle.map_builder.specs.Chosen.{ChosenTable, chosen_table, is_script_found, script_tag}
-use Rattle.map_builder.specs.Features.{wanted_requests, kept_features, global_mask}
-use Rattle.map_builder.specs.Lookups.{Stage, required_in, stage_lookups, stages_from, stage_ends}
+use Rattle.map_stages.specs.declared.stages.StageMap.{StageMap}
+use Rattle.map_stages.specs.Chosen.{ChosenTable, chosen_table, is_script_found, script_tag}
+use Rattle.map_builder.specs.Features.{wanted_requests, kept_features, global_mask, required_in}
+use Rattle.map_stages.specs.Lookups.{Stage, stage_lookups, stages_from, stage_ends}
 
 -- ---- the builder
 

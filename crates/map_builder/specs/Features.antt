@@ -1,6 +1,6 @@
 -- The features of a map: which requests are kept, and the bits that each gets.
 use Rattle.std.specs.Prelude.{ℕ, ◌==◌, ◌||◌, Bool, if◌then◌else◌, List, map, fold, filter, find, Option, None, is_some}
-use Rattle.std.specs.Option.{option_map_or}
+use Rattle.std.specs.Option.{option_map, option_map_or}
 use Rattle.std.specs.Int.RustNames.{bit_or}
 use Rattle.shaping_text.specs.declared.tag.Tag.{Tag}
 use Rattle.map_features.specs.declared.per_table.TableIndex.{TableIndex}
@@ -9,8 +9,9 @@ use Rattle.map_features.specs.declared.request.MergedRequest.{MergedRequest}
 use Rattle.map_features.specs.declared.field.FeatureField.{FeatureField}
 use Rattle.map_features.specs.Tables.{for_table}
 use Rattle.map_features.specs.Fields.{global_bit, field_among, kept_fields}
-use Rattle.map_builder.specs.declared.features.feature_map_t.{feature_map_t}
-use Rattle.map_builder.specs.Chosen.{ChosenTable, system_feature, listed_feature}
+use Rattle.map_stages.specs.declared.feature.feature_map_t.{feature_map_t}
+use Rattle.map_stages.specs.declared.stages.RequiredFeature.{RequiredFeature}
+use Rattle.map_stages.specs.Chosen.{ChosenTable, system_feature, listed_feature, required_feature}
 
 abbrev pub in_any : PerTable (Option ℕ) → Bool
 in_any index = is_some index.gsub || is_some index.gpos
@@ -65,3 +66,8 @@ stage_if_field table wanted m = if is_some (field_among wanted m) then for_table
 abbrev pub stage_among : TableIndex → List MergedRequest → List MergedRequest → Tag → ℕ
 stage_among table requests wanted tag =
     option_map_or (stage_if_field table wanted) (find (λ (m : MergedRequest). m.tag.0 == tag.0) requests) 0
+
+-- the required feature of a table, and the stage in which it runs
+abbrev pub required_in : TableIndex → ChosenTable → List MergedRequest → List MergedRequest → Option RequiredFeature
+required_in table t requests wanted =
+    option_map (λ (r : ℕ × Tag). record { index = r.0; stage = stage_among table requests wanted r.1 }) (required_feature t)

@@ -1,4 +1,2 @@
-pub mod Chosen
 pub mod Features
-pub mod Lookups
 pub mod Compiled

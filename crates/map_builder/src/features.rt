@@ -1,92 +1,16 @@
-ghost use Rattle.std.specs.Prelude.{◌≡◌, ◌==◌, map, fold, find, nat_eq, bit_or, IfOk};
-ghost use Rattle.std.specs.Cmp.{partial_order_from_own_ties};
-ghost use Rattle.std.specs.Cmp.Rules.{comparing};
-ghost use Rattle.std.specs.Ordering.{on, nat_cmp, as_partial_cmp};
-ghost use Rattle.std.proofs.Common.{rules};
+//! The features of a map.
+ghost use Rattle.std.specs.Prelude.{◌≡◌, ◌==◌, map, fold, find, bit_or, IfOk};
 ghost use Rattle.map_features.specs.Fields.{global_bit};
 ghost use Rattle.map_builder.specs.Features.{feature_index, feature_with, in_any, is_wanted, listed_features, stage_among, system_features, wanted_requests};
 
-use crate::chosen::FontTables;
 use map_features::field::GLOBAL_BIT;
 use map_features::kept::{KeptField, field_among};
 use map_features::per_table::{PerTable, TableIndex};
 use map_features::request::MergedRequest;
+use map_stages::chosen::FontTables;
+pub use map_stages::feature::feature_map_t;
 use shaping_text::tag::Tag;
-use sorted_rows::Keyed;
 use std::alloc::{AllocError, Global};
-use std::cmp::Ordering;
-
-/// A feature of a map: its indices and stages by table, and its bits in the masks of glyphs. Features are equal, and
-/// ordered, by their tags.
-#[derive(Clone, Copy, Debug)]
-pub struct feature_map_t {
-    pub tag: Tag,
-    /// The feature in each table's list, where the table has it.
-    pub index: PerTable<Option<u16>>,
-    pub stage: PerTable<usize>,
-    /// The lowest of its bits.
-    pub shift: u32,
-    pub mask: u32,
-    /// The mask of a glyph whose value is 1.
-    pub one_mask: u32,
-    /// ZWNJ is passed over when contexts are matched.
-    pub auto_zwnj: bool,
-    /// ZWJ is passed over when input is matched.
-    pub auto_zwj: bool,
-    /// An alternate is drawn at random.
-    pub random: bool,
-    /// Its lookups match within syllables.
-    pub per_syllable: bool,
-}
-
-impl Keyed for feature_map_t {
-    type Key = u32;
-
-    ghost key_of = { λ f. f.tag.0 };
-
-    fn key(&self) -> u32 {
-        self.tag.0
-    }
-}
-
-impl PartialEq for feature_map_t {
-    ghost eq = { on (λ f. f.tag.0) nat_eq };
-
-    ghost laws = { Prim.search (comparing, rules) };
-
-    fn eq(&self, other: &feature_map_t) -> bool {
-        self.tag == other.tag
-    }
-}
-
-impl Eq for feature_map_t {
-    ghost laws = { Prim.search (comparing, rules) };
-}
-
-impl Ord for feature_map_t {
-    ghost cmp = { on (λ f. f.tag.0) nat_cmp };
-
-    ghost total = { Prim.search (comparing, rules) };
-
-    ghost matches_partial_cmp = { Prim.search (comparing, rules) };
-
-    ghost matches_eq = { Prim.search (comparing, rules) };
-
-    fn cmp(&self, other: &feature_map_t) -> Ordering {
-        self.tag.0.cmp(&other.tag.0)
-    }
-}
-
-impl PartialOrd for feature_map_t {
-    ghost partial_cmp = { as_partial_cmp (on (λ f. f.tag.0) nat_cmp) };
-
-    ghost laws = { partial_order_from_own_ties (Prim.search (comparing, rules))
-        (Prim.search (comparing, rules)) };
-
-    fn partial_cmp(&self, other: &feature_map_t) -> Option<Ordering> {
-        Some(self.cmp(other))
-    }
-}
 
 pub(crate) fn in_any(index: &PerTable<Option<u16>>) -> bool
     ensures { result ≡ in_any index.now }

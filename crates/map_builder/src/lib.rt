@@ -2,7 +2,5 @@
 #![tactic(auto)]
 
 pub mod builder;
-mod chosen;
 pub mod features;
 pub mod map;
-pub mod stages;

@@ -8,8 +8,6 @@ mod normalizing;
 mod ordering;
 mod rounds;
 mod rows;
-#[cfg(test)]
-mod tests;
 
 pub use item::PlainItem;
 pub use normalizing::Normalizing;

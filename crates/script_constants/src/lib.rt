@@ -11,8 +11,6 @@ pub mod ot_category_t;
 pub mod ot_position_t;
 pub mod shaper;
 pub mod syllable_kinds;
-#[cfg(test)]
-mod tests;
 pub mod thai_action;
 
 pub use category::universal_category_number;

@@ -7,8 +7,6 @@ pub mod machine;
 pub mod scan;
 pub mod spans;
 pub mod table;
-#[cfg(test)]
-mod tests;
 
 pub use machine::{Accept, Step, SyllableMachine, SyllableMachines};
 pub use spans::SyllableSpans;

@@ -8,5 +8,3 @@ pub mod language_tags;
 pub mod script;
 pub mod script_tags;
 pub mod tag;
-#[cfg(test)]
-mod tests;

@@ -214,32 +214,3 @@ impl GeneralCategoryExt for GeneralCategory {
 pub fn from_rb_inverts_to_rb()
     ensures { NumberLeadsBack }
 {}
-
-#[cfg(test)]
-mod tests {
-    use super::*;
-    use std::test::Fail;
-
-    // Cc Cf Cn Co Cs Ll Lm Lo Lt Lu Mc Me Mn Nd Nl No Pc Pd Pe Pf Pi Po Ps Sc Sk Sm So Zl Zp Zs
-    const CHARACTERS: [char; 30] = [
-        '\u{0009}', '\u{00AD}', '\u{0378}', '\u{E000}', '\u{0378}', 'a', '\u{02B0}', '\u{05D0}',
-        '\u{01C5}', 'A', '\u{0903}', '\u{0488}', '\u{0301}', '0', '\u{2160}', '\u{00B2}', '_', '-',
-        ')', '\u{00BB}', '\u{00AB}', '!', '(', '$', '^', '+', '\u{00A9}', '\u{2028}', '\u{2029}',
-        ' ',
-    ];
-
-    #[test]
-    fn numbers(rt: HostRuntime) -> Result<(), Fail> {
-        for (i, c) in CHARACTERS.iter().enumerate() {
-            // No character is a surrogate.
-            if i != 4 {
-                let category = GeneralCategory::for_char(*c);
-                assert_eq!(rt; category.to_rb() as usize, i);
-                assert_eq!(rt; GeneralCategory::from_rb(category.to_rb()), category);
-                assert_eq!(rt; category.is_mark(), 10 <= i && i <= 12);
-                assert_eq!(rt; category.is_letter(), 5 <= i && i <= 9);
-            }
-        }
-        Ok(())
-    }
-}

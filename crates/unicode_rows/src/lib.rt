@@ -7,8 +7,6 @@ pub mod ranges;
 pub mod read;
 pub mod rows;
 pub mod search;
-#[cfg(test)]
-mod tests;
 
 pub use fault::TablesFault;
 pub use keyed::{Keyed, Row};

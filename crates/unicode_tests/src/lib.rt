@@ -1,4 +1,4 @@
-// Tests of what shaping knows of characters, of syllables and of languages, and of how it is read.
+// Tests of what shaping knows of characters, of syllables and of languages, of how it is read, and of normalising.
 #![tactic(auto)]
 
 #[cfg(test)]
@@ -7,6 +7,10 @@ mod characters;
 mod faults;
 #[cfg(test)]
 mod laws;
+#[cfg(test)]
+mod machines;
+#[cfg(test)]
+mod normalizing;
 #[cfg(test)]
 mod rows;
 #[cfg(test)]

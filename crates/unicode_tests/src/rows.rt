@@ -1,6 +1,7 @@
-//! Tables of rows of numbers.
+//! Rows of numbers that are read, found and refused.
 use std::alloc::{AllocError, Global};
 use std::test::Fail;
+use unicode_rows::{CharacterRange, CharacterRanges, Pair, Split, find_row, read_rows};
 use unicode_tables::{TablesFault, UnicodeRows, UnicodeTables};
 
 fn split_rows(alloc: Global, splits: &[[u32; 3]]) -> Result<UnicodeRows, AllocError> {
@@ -34,6 +35,73 @@ const SPLITS: [([[u32; 3]; 2], Option<TablesFault>); 4] = [
 fn faults_of_rows(rt: HostRuntime) -> Result<(), Fail> {
     for (splits, want) in SPLITS {
         assert_eq!(rt; fault(rt.alloc(), &splits)?, want);
+    }
+    Ok(())
+}
+
+fn second_of(alloc: Global, whole: u32) -> Result<Option<char>, TablesFault> {
+    let rows = [[0x41, 1, 2], [0xE1, 0x61, 0x301], [0x1B06, 0x1B05, 0x1B35]];
+    let splits: Vec<Split> = read_rows(alloc, &rows)?;
+    Ok(find_row(&splits, 0, whole).map(|row| row.second))
+}
+
+fn whole_of(alloc: Global, first: u32, second: u32) -> Result<Option<char>, TablesFault> {
+    let rows = [[0x41, 0x300, 0xC0], [0x61, 0x300, 0xE0]];
+    let pairs: Vec<Pair> = read_rows(alloc, &rows)?;
+    Ok(find_row(&pairs, first, second).map(|row| row.whole))
+}
+
+#[test]
+fn finds_rows(rt: HostRuntime) {
+    for (whole, second) in [(0xE1, Some('\u{301}')), (0xE2, None)] {
+        assert_eq!(rt; second_of(rt.alloc(), whole), Ok(second));
+    }
+    for (second, whole) in [(0x300, Some('\u{E0}')), (0x301, None)] {
+        assert_eq!(rt; whole_of(rt.alloc(), 0x61, second), Ok(whole));
+    }
+}
+
+fn fault_of(alloc: Global, rows: &[[u32; 3]]) -> Option<TablesFault> {
+    let splits: Result<Vec<Split>, TablesFault> = read_rows(alloc, rows);
+    splits.err()
+}
+
+#[test]
+fn refuses_rows(rt: HostRuntime) {
+    for (rows, want) in [
+        ([[1, 2, 3], [1, 2, 3]], TablesFault::OutOfOrder),
+        ([[1, 2, 3], [1, 0xD800, 3]], TablesFault::OutOfRange),
+    ] {
+        assert_eq!(rt; fault_of(rt.alloc(), &rows), Some(want));
+    }
+}
+
+fn range(first: char, last: char) -> CharacterRange
+    ensures { result ≡ record { first = first; last = last } }
+{
+    CharacterRange { first, last }
+}
+
+fn ranges(alloc: Global) -> Result<CharacterRanges, AllocError> {
+    let mut rows = Vec::new(alloc);
+    rows.extend_from_slice(&[range('b', 'x'), range('d', 'e'), range('z', 'a')])?;
+    CharacterRanges::new(alloc, rows)
+}
+
+const WITHIN_RANGES: [(char, bool); 6] = [
+    ('a', false),
+    ('b', true),
+    ('d', true),
+    ('x', true),
+    ('y', false),
+    ('z', false),
+];
+
+#[test]
+fn overlapping_ranges(rt: HostRuntime) -> Result<(), Fail> {
+    let ranges = ranges(rt.alloc())?;
+    for (c, within) in WITHIN_RANGES {
+        assert_eq!(rt; ranges.contains(c), within);
     }
     Ok(())
 }

@@ -1,6 +1,6 @@
 use Rattle.std.proofs.Common.{rules, ◌≡◌, ◌<◌, length}
 use Rattle.map_builder.specs.Compiled.{stage_end, stage_start}
-use Rattle.map_builder.proofs.StageSteps.{stage_in_order, stage_within}
+use Rattle.map_builder.proofs.StageEnds.{stage_in_order, stage_within}
 use Rattle.map_builder.proofs.map.TableMap.stage_range.Goals as goal
 
 pub returns-clause-in_order : goal.returns-clause-in_order

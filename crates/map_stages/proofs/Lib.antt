@@ -1,0 +1,2 @@
+pub mod StageSteps
+pub mod Listed

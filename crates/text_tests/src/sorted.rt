@@ -1,0 +1,104 @@
+//! Records that are found and missed, by numbers and by pairs.
+use sorted_rows::{Keyed, SortedRows, is_rising};
+use std::alloc::Global;
+use std::test::Fail;
+
+#[derive(Clone, Copy)]
+struct Advance {
+    glyph: u16,
+    width: u16,
+}
+
+impl Keyed for Advance {
+    type Key = u16;
+
+    ghost key_of = { λ a. a.glyph };
+
+    fn key(&self) -> u16 {
+        self.glyph
+    }
+}
+
+#[derive(Clone, Copy)]
+struct Kern {
+    first: u16,
+    second: u16,
+    width: i16,
+}
+
+impl Keyed for Kern {
+    type Key = (u16, u16);
+
+    ghost key_of = { λ k. (k.first, k.second) };
+
+    fn key(&self) -> (u16, u16) {
+        (self.first, self.second)
+    }
+}
+
+fn advances(alloc: Global) -> Result<SortedRows<Advance>, Fail> {
+    let mut rows = Vec::new(alloc);
+    for glyph in [3, 5, 9, 65535] {
+        rows.push(Advance { glyph, width: 7 })?;
+    }
+    if !is_rising(&rows) {
+        return Err("not rising".into());
+    }
+    Ok(SortedRows::new(rows))
+}
+
+fn kerns(alloc: Global) -> Result<SortedRows<Kern>, Fail> {
+    let mut rows = Vec::new(alloc);
+    for (first, second, width) in [(1, 9, -5), (2, 1, 6)] {
+        rows.push(Kern {
+            first,
+            second,
+            width,
+        })?;
+    }
+    if !is_rising(&rows) {
+        return Err("not rising".into());
+    }
+    Ok(SortedRows::new(rows))
+}
+
+const ADVANCES: [(u16, Option<u16>); 5] = [
+    (3, Some(7)),
+    (4, None),
+    (9, Some(7)),
+    (65535, Some(7)),
+    (0, None),
+];
+
+#[test]
+fn numbers(rt: HostRuntime) -> Result<(), Fail> {
+    let table = advances(rt.alloc())?;
+    for (glyph, width) in ADVANCES {
+        assert_eq!(rt; table.get(glyph).map(|row| row.width), width);
+    }
+    assert_eq!(rt; table.as_slice().len(), 4);
+    Ok(())
+}
+
+const KERNS: [((u16, u16), Option<i16>); 4] = [
+    ((1, 9), Some(-5)),
+    ((2, 1), Some(6)),
+    ((2, 9), None),
+    ((9, 1), None),
+];
+
+#[test]
+fn pairs(rt: HostRuntime) -> Result<(), Fail> {
+    let table = kerns(rt.alloc())?;
+    for (key, width) in KERNS {
+        assert_eq!(rt; table.get(key).map(|row| row.width), width);
+    }
+    Ok(())
+}
+
+#[test]
+fn equal_and_falling_keys(rt: HostRuntime) {
+    let at = |glyph| Advance { glyph, width: 0 };
+    assert!(rt; !is_rising(&[at(1), at(1)]));
+    assert!(rt; !is_rising(&[at(2), at(3), at(1)]));
+}
