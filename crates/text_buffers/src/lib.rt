@@ -2,6 +2,4 @@
 #![tactic(auto)]
 
 pub mod glyphs;
-#[cfg(test)]
-mod tests;
 pub mod unicode_buffer;

@@ -1,0 +1,172 @@
+//! Texts, what is guessed of them, and glyphs in print.
+ghost use Rattle.std.specs.Prelude.{None};
+
+use glyph_types::flags::SerializeFlags;
+use glyph_types::info::hb_glyph_info_t;
+use glyph_types::level::BufferClusterLevel;
+use glyph_types::names::{GlyphId, GlyphNames, hb_glyph_extents_t};
+use glyph_types::position::GlyphPosition;
+use shaping_text::constants::BufferFlags;
+use shaping_text::direction::Direction;
+use shaping_text::language::Language;
+use shaping_text::script::{ARABIC, CYRILLIC, HAN, HEBREW, RUNIC, Script, UNKNOWN};
+use std::alloc::{AllocError, Global};
+use std::test::Fail;
+use text_buffers::glyphs::GlyphBuffer;
+use text_buffers::unicode_buffer::UnicodeBuffer;
+
+/// A font that knows no glyph's name and no glyph's box.
+struct NoNames;
+
+impl GlyphNames for NoNames {
+    ghost name_of = { λ _ _. None };
+
+    ghost extents_of = { λ _ _. None };
+
+    fn glyph_name(&self, _glyph: GlyphId) -> Option<&str> {
+        None
+    }
+
+    fn glyph_extents(&self, _glyph: GlyphId) -> Option<hb_glyph_extents_t> {
+        None
+    }
+}
+
+/// The glyphs are these characters of these clusters, with all else of them nothing.
+fn are(glyphs: &[hb_glyph_info_t], want: &[(char, u32)]) -> bool {
+    let wanted = want.iter().map(|(character, cluster)| hb_glyph_info_t {
+        glyph_id: *character as u32,
+        cluster: *cluster,
+        ..hb_glyph_info_t::default()
+    });
+    glyphs.iter().copied().eq(wanted)
+}
+
+fn adds(alloc: Global, text: &str, want: &[(char, u32)]) -> Result<bool, AllocError> {
+    let mut buffer = UnicodeBuffer::new(alloc);
+    let added = buffer.push_str(text)? && buffer.len() == want.len();
+    let buffer = UnicodeBuffer::from_buffer(buffer.into_buffer()).into_buffer();
+    Ok(added && buffer.pos_slice().len() == want.len() && are(buffer.info_slice(), want))
+}
+
+#[test]
+fn numbers_characters_by_bytes(rt: HostRuntime) -> Result<(), Fail> {
+    let rows: [(&str, &[(char, u32)]); 4] = [
+        ("", &[]),
+        ("aé€", &[('a', 0), ('é', 1), ('€', 3)]),
+        ("€😀b", &[('€', 0), ('😀', 3), ('b', 7)]),
+        ("e\u{301}", &[('e', 0), ('\u{301}', 1)]),
+    ];
+    for (text, want) in rows {
+        assert!(rt; adds(rt.alloc(), text, want)?, "{text}");
+    }
+    Ok(())
+}
+
+fn guessed(
+    alloc: Global,
+    text: &str,
+    direction: Direction,
+    script: Option<Script>,
+) -> Result<(Direction, Script), AllocError> {
+    let mut buffer = UnicodeBuffer::new(alloc);
+    buffer.push_str(text)?;
+    buffer.set_direction(direction);
+    if let Some(script) = script {
+        buffer.set_script(script);
+    }
+    buffer.guess_segment_properties();
+    Ok((buffer.direction(), buffer.script()))
+}
+
+#[test]
+fn guesses_what_was_not_told(rt: HostRuntime) -> Result<(), Fail> {
+    let auto = Direction::Invalid;
+    let left_to_right = Direction::LeftToRight;
+    let right_to_left = Direction::RightToLeft;
+    let downward = Direction::TopToBottom;
+    for (text, direction, script, want_direction, want_script) in [
+        ("12 я", auto, None, left_to_right, CYRILLIC),
+        ("אב", auto, None, right_to_left, HEBREW),
+        ("\u{301}ب", auto, None, right_to_left, ARABIC),
+        ("12", auto, None, left_to_right, UNKNOWN),
+        ("", auto, None, left_to_right, UNKNOWN),
+        ("ᚠ", auto, None, left_to_right, RUNIC),
+        ("漢", downward, None, downward, HAN),
+        ("אב", left_to_right, None, left_to_right, HEBREW),
+        ("12 я", auto, Some(HEBREW), right_to_left, HEBREW),
+    ] {
+        let (guessed_direction, guessed_script) = guessed(rt.alloc(), text, direction, script)?;
+        assert!(rt; guessed_direction == want_direction, "{text}");
+        assert!(rt; guessed_script == want_script, "{text}");
+    }
+    Ok(())
+}
+
+fn place(positions: &mut [GlyphPosition], advances: &[i32]) {
+    for (position, advance) in positions.iter_mut().zip(advances) {
+        position.x_advance = *advance;
+    }
+}
+
+/// The glyphs 1 and 2, of the clusters 0 and 1, with such advances.
+fn two_glyphs(alloc: Global, advances: &[i32], turned: bool) -> Result<GlyphBuffer, AllocError> {
+    let mut text = UnicodeBuffer::new(alloc);
+    text.push_str("\u{1}\u{2}")?;
+    let mut buffer = text.into_buffer();
+    place(buffer.pos_slice_mut(), advances);
+    if turned {
+        buffer.reverse();
+    }
+    Ok(GlyphBuffer::from_buffer(buffer))
+}
+
+#[test]
+fn prints_glyphs_as_they_stand(rt: HostRuntime) -> Result<(), Fail> {
+    for (turned, want) in [(false, "1=0+500|2=1+600"), (true, "2=1+600|1=0+500")] {
+        let glyphs = two_glyphs(rt.alloc(), &[500, 600], turned)?;
+        let text = glyphs.serialize(rt.alloc(), &NoNames, SerializeFlags::NO_GLYPH_NAMES)?;
+        assert_eq!(rt; text.as_str(), want);
+        assert!(rt; glyphs.clear().is_empty());
+    }
+    Ok(())
+}
+
+#[test]
+fn keeps_what_it_was_told(rt: HostRuntime) -> Result<(), Fail> {
+    let mut text = UnicodeBuffer::new(rt.alloc());
+    text.set_flags(BufferFlags::BEGINNING_OF_TEXT);
+    text.set_cluster_level(BufferClusterLevel::Characters);
+    text.set_invisible_glyph(3);
+    text.set_not_found_variation_selector_glyph(4);
+    text.set_pre_context("ab");
+    text.set_post_context("cd");
+    text.reset_clusters();
+    assert!(rt; text.flags() == BufferFlags::BEGINNING_OF_TEXT);
+    assert!(rt; text.cluster_level() == BufferClusterLevel::Characters);
+    let buffer = text.into_buffer();
+    assert_eq!(rt;
+        (buffer.invisible(), buffer.not_found_variation_selector()),
+        (Some(3), Some(4))
+    );
+    assert_eq!(rt; buffer.pre_context(), ['b', 'a'].as_slice());
+    assert_eq!(rt; buffer.post_context(), ['c', 'd'].as_slice());
+    Ok(())
+}
+
+fn is_turkish(language: Option<&Language>) -> bool {
+    language.is_some_and(|language| language.as_str() == "tr")
+}
+
+#[test]
+fn knows_its_language(rt: HostRuntime) -> Result<(), Fail> {
+    let mut text = UnicodeBuffer::new(rt.alloc());
+    assert!(rt; text.language().is_none());
+    if let Ok(language) = Language::from_str(rt.alloc(), "TR") {
+        text.set_language(language);
+    }
+    assert!(rt; is_turkish(text.language()));
+    text.clear();
+    assert!(rt; text.language().is_none());
+    Ok(())
+}
