@@ -24,3 +24,4 @@ pub mod MergedOrigins
 pub mod MarkedOrigins
 pub mod DeletedOrigins
 pub mod Spread
+pub mod Room

@@ -10,9 +10,13 @@ use Rattle.glyph_buffer.specs.Text.{added_glyph}
 abbrev pub moved_to : ℕ → Sides → Sides
 moved_to i s = record s { behind = take i (all_glyphs s); ahead = drop i (all_glyphs s); read = s.read + i - length s.behind }
 
+-- whether the input may have what stands behind the cursor from the i-th on too
+abbrev pub has_room_back : ℕ → Sides → Bool
+has_room_back i s = nat_le (length s.ahead + (length s.behind - i)) s.max_len
+
 -- whether the side that grows by that may have so many glyphs
 abbrev pub side_holds : ℕ → Sides → Bool
-side_holds i s = if nat_lt (length s.behind) i then nat_le i s.max_len else nat_le (length s.ahead + (length s.behind - i)) s.max_len
+side_holds i s = if nat_lt (length s.behind) i then nat_le i s.max_len else has_room_back i s
 
 -- whether the cursor may be moved there: with an output open, after no refusal, and where the side that grows holds it
 abbrev pub fits_moved : ℕ → Sides → Bool

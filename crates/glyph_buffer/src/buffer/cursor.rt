@@ -1,6 +1,6 @@
-ghost use Rattle.std.specs.Prelude.{◌≡◌, ◌<◌, ◌+◌, ◌-◌, length, true, false, Some, OnErr, IfOk, slice_get};
+ghost use Rattle.std.specs.Prelude.{◌≡◌, ◌<◌, ◌≤◌, ◌+◌, ◌-◌, ◌^◌, ◌++◌, [], drop, length, vec_len, true, false, Some, OnOk, OnErr, IfOk, slice_get};
 ghost use Rattle.std.specs.Borrow.{sem};
-ghost use Rattle.glyph_buffer.specs.Sides.{all_glyphs, with_output, moved_on, fits_next, fits_joined, synced, refused};
+ghost use Rattle.glyph_buffer.specs.Sides.{all_glyphs, has_output_room, with_output, moved_on, fits_next, fits_joined, synced, refused, zero_positions};
 ghost use Rattle.glyph_buffer.specs.Lending.{LendsGlyph, LendsLast, LendsPlace};
 
 use super::hb_buffer_t;
@@ -115,7 +115,7 @@ impl hb_buffer_t {
 
     /// Moves the cursor over a glyph, which goes behind the output where one is open; answers false, and moves nothing,
     /// where the output has as many as it may.
-    #[tactic(auto, using(glyph_lists::specs::Lists::take_one, glyph_lists::specs::Lists::take_next, glyph_lists::specs::Lists::drop_next, crate::proofs::Kept::moved_all))]
+    #[tactic(auto, using(crate::proofs::Kept::moved_all))]
     pub fn next_glyph(&mut self) -> Result<bool, AllocError>
         requires { 0 < length self.old.ahead }
         ensures held { IfOk result (λ b. b ≡ fits_next 1 self.old) }
@@ -129,14 +129,24 @@ impl hb_buffer_t {
             self.idx += 1;
             return Ok(true);
         }
-        if self.out_info.len() >= self.max_len {
-            self.successful = false;
-            return Ok(false);
+        if !self.has_output_room(1) {
+            return Ok(self.refuse());
         }
+        self.push_current()?;
+        Ok(true)
+    }
+
+    fn push_current(&mut self) -> Result<(), AllocError>
+        requires open { self.old.is_open ≡ true }
+        requires there { 0 < length self.old.ahead }
+        requires room { has_output_room 1 self.old ≡ true }
+        ensures moved { OnOk result (self.new ≡ moved_on 1 self.old) }
+        ensures err { OnErr result (self.new ≡ self.old) }
+    {
         self.order.settle(&self.out_info, &self.info);
         self.out_info.push(self.info[self.idx])?;
         self.idx += 1;
-        Ok(true)
+        Ok(())
     }
 
     /// Puts what is ahead of the cursor behind the output, which becomes the list, with positions of nothing and the cursor
@@ -150,23 +160,57 @@ impl hb_buffer_t {
         ensures full { result ≡ Ok false → self.new ≡ refused self.old }
         ensures err { OnErr result (self.new ≡ self.old) }
     {
-        let rest = self.info.len() - self.idx;
-        if !self.successful || self.max_len - self.out_info.len() < rest {
-            self.successful = false;
-            return Ok(false);
+        if !self.fits_joined() {
+            return Ok(self.refuse());
         }
-        let count = self.out_info.len() + rest;
-        self.out_info.reserve(rest)?;
-        self.pos.clear();
-        self.pos.resize(count, GlyphPosition::default())?;
-        self.order.settle(&self.out_info, &self.info);
-        self.out_info
-            .extend_from_slice(&self.info[self.idx..])
-            .unwrap();
-        mem::swap(&mut self.info, &mut self.out_info);
-        self.out_info.clear();
-        self.have_output = false;
-        self.idx = 0;
+        self.join()?;
         Ok(true)
     }
+
+    fn fits_joined(&self) -> bool
+        requires { self.now.is_open ≡ true }
+        ensures { result ≡ fits_joined self.now }
+    {
+        self.successful && self.info.len() - self.idx <= self.max_len - self.out_info.len()
+    }
+
+    fn join(&mut self) -> Result<(), AllocError>
+        requires open { self.old.is_open ≡ true }
+        requires fits { fits_joined self.old ≡ true }
+        ensures joined { OnOk result (self.new ≡ synced self.old) }
+        ensures err { OnErr result (self.new ≡ self.old) }
+    {
+        self.order.settle(&self.out_info, &self.info);
+        join_lists(&mut self.info, self.idx, &mut self.out_info, &mut self.pos)?;
+        self.have_output = false;
+        self.idx = 0;
+        Ok(())
+    }
+}
+
+/// Puts what the input has from an index on behind the output, which takes its place, with positions of nothing.
+fn join_lists(
+    info: &mut Vec<hb_glyph_info_t>,
+    from: usize,
+    output: &mut Vec<hb_glyph_info_t>,
+    positions: &mut Vec<GlyphPosition>,
+) -> Result<(), AllocError>
+    requires there { from ≤ vec_len info.old }
+    requires small { vec_len output.old + (vec_len info.old - from) < 2 ^ 64 }
+    ensures joined { OnOk result (info.new.items ≡ output.old.items ++ drop from info.old.items) }
+    ensures emptied { OnOk result (output.new.items ≡ []) }
+    ensures placed { OnOk result
+        (positions.new.items ≡ zero_positions (length output.old.items + (length info.old.items - from))) }
+    ensures input_err { OnErr result (info.new.items ≡ info.old.items) }
+    ensures output_err { OnErr result (output.new.items ≡ output.old.items) }
+{
+    let rest = info.len() - from;
+    let count = output.len() + rest;
+    output.reserve(rest)?;
+    positions.clear();
+    positions.resize(count, GlyphPosition::default())?;
+    output.extend_from_slice(&info[from..]).unwrap();
+    mem::swap(info, output);
+    output.clear();
+    Ok(())
 }

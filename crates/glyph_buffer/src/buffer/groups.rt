@@ -81,8 +81,7 @@ impl hb_buffer_t {
         ensures closed { self.new.is_open ≡ false }
         ensures count { length (all_glyphs self.new) ≡ length (all_glyphs self.old) }
     {
-        self.order.settle(&self.out_info, &self.info);
-        let known = self.order.known.walked(&self.out_info, &self.info);
+        let known = self.walked_order();
         self.order = ClusterOrder::of(KnownOrder::Unknown);
         let marked = reversal::reverse_groups(
             &mut self.info,
@@ -113,8 +112,7 @@ impl hb_buffer_t {
         ensures cursor { self.new.read ≡ min self.old.read (length (all_glyphs self.new)) }
         ensures few { length (all_glyphs self.new) ≤ length (all_glyphs self.old) }
     {
-        self.order.settle(&self.out_info, &self.info);
-        let known = self.order.known.walked(&self.out_info, &self.info);
+        let known = self.walked_order();
         self.order = ClusterOrder::of(KnownOrder::Unknown);
         let (kept, marked) = delete_within(
             &mut self.info,

@@ -1,8 +1,8 @@
-ghost use Rattle.std.specs.Prelude.{◌≡◌, ◌<◌, ◌≤◌, ◌+◌, ◌-◌, ◌++◌, length, drop, nat_le, true, false, Ok, OnErr, IfOk, ◌∷◌, []};
+ghost use Rattle.std.specs.Prelude.{◌≡◌, ◌<◌, ◌≤◌, ◌+◌, ◌-◌, ◌++◌, length, drop, true, false, Ok, OnOk, OnErr, IfOk, ◌∷◌, []};
 ghost use Rattle.glyph_lists.specs.Items.{strip};
-ghost use Rattle.glyph_buffer.specs.Sides.{all_glyphs, fits_next, items_of, moved_on, refused, origins_of, origins_by};
+ghost use Rattle.glyph_buffer.specs.Sides.{all_glyphs, fits_next, has_output_room, items_of, moved_on, refused, origins_of, origins_by};
 ghost use Rattle.glyph_buffer.specs.Merging.{with_skipped};
-ghost use Rattle.glyph_buffer.specs.Moving.{fits_moved, moved_to};
+ghost use Rattle.glyph_buffer.specs.Moving.{fits_moved, has_room_back, moved_to};
 ghost use Rattle.glyph_lists.specs.Events.{Replace};
 
 use super::hb_buffer_t;
@@ -26,15 +26,25 @@ impl hb_buffer_t {
             self.idx += count;
             return Ok(true);
         }
-        if self.max_len - self.out_info.len() < count {
-            self.successful = false;
-            return Ok(false);
+        if !self.has_output_room(count) {
+            return Ok(self.refuse());
         }
+        self.push_next(count)?;
+        Ok(true)
+    }
+
+    fn push_next(&mut self, count: usize) -> Result<(), AllocError>
+        requires open { self.old.is_open ≡ true }
+        requires there { count ≤ length self.old.ahead }
+        requires room { has_output_room count self.old ≡ true }
+        ensures moved { OnOk result (self.new ≡ moved_on count self.old) }
+        ensures err { OnErr result (self.new ≡ self.old) }
+    {
         self.order.settle(&self.out_info, &self.info);
         self.out_info
             .extend_from_slice(&self.info[self.idx..self.idx + count])?;
         self.idx += count;
-        Ok(true)
+        Ok(())
     }
 
     /// The glyph at the cursor goes. It takes no memory.
@@ -76,25 +86,44 @@ impl hb_buffer_t {
     }
 
     /// Takes the glyphs of the output from the i-th on back in front of the input.
+    #[tactic(auto, using(crate::proofs::Moved::moved_to_all))]
     fn move_back(&mut self, i: usize) -> Result<bool, AllocError>
         requires open { self.old.is_open ≡ true }
         requires there { i ≤ length self.old.behind }
-        ensures held { IfOk result
-            (λ b. b ≡ nat_le (length self.old.ahead + (length self.old.behind - i)) self.old.max_len) }
+        ensures held { IfOk result (λ b. b ≡ has_room_back i self.old) }
         ensures moved { result ≡ Ok true → self.new ≡ moved_to i self.old }
         ensures kept { all_glyphs self.new ≡ all_glyphs self.old }
         ensures full { result ≡ Ok false → self.new ≡ refused self.old }
         ensures err { OnErr result (self.new ≡ self.old) }
     {
-        let rest = self.info.len() - self.idx;
-        if self.max_len - rest < self.out_info.len() - i {
-            self.successful = false;
-            return Ok(false);
+        if !self.has_room_back(i) {
+            return Ok(self.refuse());
         }
+        self.take_back(i)?;
+        Ok(true)
+    }
+
+    /// Whether the input may have the glyphs of the output from the i-th on too.
+    fn has_room_back(&self, i: usize) -> bool
+        requires open { self.now.is_open ≡ true }
+        requires there { i ≤ length self.now.behind }
+        ensures { result ≡ has_room_back i self.now }
+    {
+        let rest = self.info.len() - self.idx;
+        self.out_info.len() - i <= self.max_len - rest
+    }
+
+    fn take_back(&mut self, i: usize) -> Result<(), AllocError>
+        requires open { self.old.is_open ≡ true }
+        requires there { i ≤ length self.old.behind }
+        requires room { has_room_back i self.old ≡ true }
+        ensures moved { OnOk result (self.new ≡ moved_to i self.old) }
+        ensures err { OnErr result (self.new ≡ self.old) }
+    {
         self.order.settle(&self.out_info, &self.info);
         let first = put_in_front(&mut self.info, self.idx, &self.out_info[i..])?;
         self.idx = first;
         self.out_info.truncate(i);
-        Ok(true)
+        Ok(())
     }
 }

@@ -1,4 +1,4 @@
-ghost use Rattle.std.specs.Prelude.{◌≡◌, ◌<◌, ◌+◌, ◌++◌, ◌∷◌, [], length, true, false, Ok, OnErr, IfOk};
+ghost use Rattle.std.specs.Prelude.{◌≡◌, ◌<◌, ◌+◌, ◌++◌, ◌∷◌, [], length, true, false, Ok, OnOk, OnErr, IfOk};
 ghost use Rattle.glyph_lists.specs.Items.{item_of, strip};
 ghost use Rattle.glyph_lists.specs.Parts.{replaced};
 ghost use Rattle.glyph_lists.specs.Replacements.{items_replaced};
@@ -27,18 +27,26 @@ impl hb_buffer_t {
         ensures full { result ≡ Ok false → self.new ≡ refused self.old }
         ensures err { OnErr result (self.new ≡ self.old) }
     {
-        if self.lacks_room(1) {
-            self.successful = false;
-            return Ok(false);
+        if !self.fits_copies(1) {
+            return Ok(self.refuse());
         }
-        self.out_info.reserve(1)?;
-        self.order.settle(&self.out_info, &self.info);
-        push_copies(&mut self.out_info, &self.info[self.idx..], &[glyph_index]);
+        self.push_copy(glyph_index)?;
         Ok(true)
     }
 
+    fn push_copy(&mut self, glyph_index: u32) -> Result<(), AllocError>
+        requires open { self.old.is_open ≡ true }
+        requires room { fits_copies 1 self.old ≡ true }
+        ensures put { OnOk result (self.new ≡ with_copy glyph_index self.old) }
+        ensures err { OnErr result (self.new ≡ self.old) }
+    {
+        self.out_info.reserve(1)?;
+        self.order.settle(&self.out_info, &self.info);
+        push_copies(&mut self.out_info, &self.info[self.idx..], &[glyph_index]);
+        Ok(())
+    }
+
     /// Puts a glyph behind the output; answers false, and puts none, where the output has as many as it may.
-    #[tactic(auto, using(crate::proofs::Apart::put_items, crate::proofs::Apart::put_origins))]
     pub fn output_info(&mut self, glyph_info: hb_glyph_info_t) -> Result<bool, AllocError>
         requires { self.old.is_open ≡ true }
         ensures held { IfOk result (λ b. b ≡ has_output_room 1 self.old) }
@@ -50,22 +58,31 @@ impl hb_buffer_t {
         ensures full { result ≡ Ok false → self.new ≡ refused self.old }
         ensures err { OnErr result (self.new ≡ self.old) }
     {
-        if self.out_info.len() >= self.max_len {
-            self.successful = false;
-            return Ok(false);
+        if !self.has_output_room(1) {
+            return Ok(self.refuse());
         }
+        self.push_info(glyph_info)?;
+        Ok(true)
+    }
+
+    fn push_info(&mut self, glyph_info: hb_glyph_info_t) -> Result<(), AllocError>
+        requires open { self.old.is_open ≡ true }
+        requires room { has_output_room 1 self.old ≡ true }
+        ensures put { OnOk result (self.new ≡ with_put glyph_info self.old) }
+        ensures err { OnErr result (self.new ≡ self.old) }
+    {
         self.out_info.reserve(1)?;
         self.order.settle(&self.out_info, &self.info);
         let known = self.order.known;
         let rest = &self.info[self.idx..];
         self.order.known = known.with_between(&self.out_info, glyph_info.cluster, rest);
         self.out_info.push(glyph_info).unwrap();
-        Ok(true)
+        Ok(())
     }
 
     /// Puts the glyph at the cursor behind the output under another number; answers false, and moves nothing, where the
     /// output has as many as it may.
-    #[tactic(auto, using(glyph_lists::specs::Lists::take_one, glyph_lists::specs::Lists::drop_next, crate::proofs::Kept::renumbered_origins))]
+    #[tactic(auto, using(crate::proofs::Kept::renumbered_origins))]
     pub fn replace_glyph(&mut self, glyph_index: u32) -> Result<bool, AllocError>
         requires open { self.old.is_open ≡ true }
         requires there { 0 < length self.old.ahead }
@@ -77,16 +94,26 @@ impl hb_buffer_t {
         ensures full { result ≡ Ok false → self.new ≡ refused self.old }
         ensures err { OnErr result (self.new ≡ self.old) }
     {
-        if self.out_info.len() >= self.max_len {
-            self.successful = false;
-            return Ok(false);
+        if !self.has_output_room(1) {
+            return Ok(self.refuse());
         }
+        self.push_renumbered(glyph_index)?;
+        Ok(true)
+    }
+
+    fn push_renumbered(&mut self, glyph_index: u32) -> Result<(), AllocError>
+        requires open { self.old.is_open ≡ true }
+        requires there { 0 < length self.old.ahead }
+        requires room { has_output_room 1 self.old ≡ true }
+        ensures replaced { OnOk result (self.new ≡ with_renumbered glyph_index self.old) }
+        ensures err { OnErr result (self.new ≡ self.old) }
+    {
         self.order.settle(&self.out_info, &self.info);
         self.out_info.push(hb_glyph_info_t {
             glyph_id: glyph_index,
             ..self.info[self.idx]
         })?;
         self.idx += 1;
-        Ok(true)
+        Ok(())
     }
 }

@@ -1,4 +1,4 @@
-ghost use Rattle.std.specs.Prelude.{◌≡◌, ◌+◌, ◌≤◌, not, length, true, false, Ok, OnErr, IfOk, ◌∷◌, []};
+ghost use Rattle.std.specs.Prelude.{◌≡◌, ◌+◌, ◌≤◌, length, true, false, Ok, OnOk, OnErr, IfOk, ◌∷◌, []};
 ghost use Rattle.glyph_lists.specs.Parts.{replaced};
 ghost use Rattle.glyph_lists.specs.Replacements.{items_replaced};
 ghost use Rattle.glyph_buffer.specs.Sides.{items_of, refused, origins_of, origins_by};
@@ -35,11 +35,21 @@ impl hb_buffer_t {
         ensures full { result ≡ Ok false → self.new ≡ refused self.old }
         ensures err { OnErr result (self.new ≡ self.old) }
     {
-        if self.lacks_room(num_out) {
-            self.successful = false;
-            return Ok(false);
+        if !self.fits_copies(num_out) {
+            return Ok(self.refuse());
         }
-        self.out_info.reserve(num_out)?;
+        self.replace_taken(num_in, glyph_data)?;
+        Ok(true)
+    }
+
+    fn replace_taken(&mut self, num_in: usize, glyph_data: &[u32]) -> Result<(), AllocError>
+        requires open { self.old.is_open ≡ true }
+        requires taken { num_in ≤ length self.old.ahead }
+        requires room { fits_copies (length glyph_data.now) self.old ≡ true }
+        ensures replaced { OnOk result (self.new ≡ with_replaced num_in glyph_data.now self.old) }
+        ensures err { OnErr result (self.new ≡ self.old) }
+    {
+        self.out_info.reserve(glyph_data.len())?;
         self.order.settle(&self.out_info, &self.info);
         let known = self.order.known;
         let marked = merge_input(
@@ -54,15 +64,14 @@ impl hb_buffer_t {
         self.idx += num_in;
         self.order.known = known.walked(&self.out_info, &self.info[self.idx..]);
         self.scratch_flags = telling_flags(marked, self.scratch_flags);
-        Ok(true)
+        Ok(())
     }
 
-    /// Whether so many copies can't be put behind the output.
-    pub(super) fn lacks_room(&self, count: usize) -> bool
+    /// Whether so many copies may be put behind the output.
+    pub(super) fn fits_copies(&self, count: usize) -> bool
         requires { self.now.is_open ≡ true }
-        ensures { result ≡ not (fits_copies count self.now) }
+        ensures { result ≡ fits_copies count self.now }
     {
-        let holds_some = !self.out_info.is_empty() || self.idx < self.info.len();
-        holds_some && self.max_len - self.out_info.len() < count
+        self.is_empty() || self.has_output_room(count)
     }
 }

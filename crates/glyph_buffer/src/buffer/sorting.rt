@@ -10,6 +10,7 @@ ghost use Rattle.glyph_buffer.specs.Sorting.{with_range_sorted};
 
 use super::hb_buffer_t;
 use super::merges::telling_flags;
+use buffer_lists::order::ClusterOrder;
 use glyph_slices::sorting::sort;
 use glyph_types::info::hb_glyph_info_t;
 use std::alloc::{AllocError, Global};
@@ -41,13 +42,12 @@ impl hb_buffer_t {
         ensures count { length (all_glyphs self.new) ≡ length (all_glyphs self.old) }
         ensures err { OnErr result (self.new ≡ self.old) }
     {
-        self.order.settle(&self.out_info, &self.info);
-        let known = self.order.known.walked(&self.out_info, &self.info);
-        self.order.known = known;
+        let known = self.walked_order();
         let level = self.cluster_level;
         let in_order = known.is_known();
         let sorted = sort(alloc, &mut self.info, level, in_order, start, end, key)?;
-        self.order.known = known.if_kept(sorted.in_order);
+        let order = known.if_kept(sorted.in_order);
+        self.order = ClusterOrder::of(order);
         self.scratch_flags = telling_flags(sorted.marked, self.scratch_flags);
         Ok(())
     }

@@ -2,6 +2,7 @@ use Rattle.std.proofs.Common.{◌≡◌, false, min, length, take, refl, rules, 
 use Rattle.std.proofs.lemmas.Grind.{common_steps}
 use Rattle.glyph_lists.specs.Items.{item_of}
 use Rattle.glyph_buffer.specs.Grouping.{with_picked_deleted}
+use Rattle.glyph_buffer.specs.Inside.{sides_of}
 use Rattle.glyph_buffer.specs.Merging.{telling_flags}
 use Rattle.glyph_buffer.specs.Sides.{Sides, items_of, origins_of}
 use Rattle.glyph_buffer.proofs.Grouped.{picked_items, picked_origins, picked_positions}
@@ -12,7 +13,8 @@ use Rattle.glyph_buffer.proofs.buffer.hb_buffer_t.delete_glyphs_inplace.Goals as
 pub returns-clause-deleted : goal.returns-clause-deleted
 returns-clause-deleted g c goes tells =
     let b = c.self.inside in
-    let closed : b.have_output ≡ false = rw (← c.self.view_is) at c.requires.closed in
+    let same : sides_of b ≡ c.args.self.now = c.self.view_is ∙ c.walked_order-known.ensures.same in
+    let closed : b.have_output ≡ false = rw (← same) at c.requires.closed in
     let in_info : b.info.len ≡ length b.info.items = first_of (search rules, grind (arith, common_steps)) in
     let in_pos : b.pos.len ≡ length b.pos.items = first_of (search rules, grind (arith, common_steps)) in
     let walk = c.delete_within-kept in
@@ -26,7 +28,7 @@ returns-clause-deleted g c goes tells =
     (c.truncate.ensures.items ∙ ap (take walk.result.0) (all_put b.info walk.new.glyphs walk.new.glyphs in_info refl wide) ∙ glyphs)
     (c.truncate-2.ensures.items ∙ ap (take walk.result.0) (all_put_positions b.pos walk.new.positions walk.new.positions in_pos refl long) ∙ positions)
     (c.min-self-inside.ensures ∙ ap (min b.idx) count) (c.telling_flags-self-inside.ensures ∙ ap (λ m. telling_flags m b.scratch_flags) marks)
-    ∙ ap (with_picked_deleted goes) c.self.view_is
+    ∙ ap (with_picked_deleted goes) same
 
 pub returns-clause-items : goal.returns-clause-items
 returns-clause-items g c q tells = ap items_of (returns-clause-deleted g c (λ h. q (item_of h)) tells) ∙ picked_items q c.args.self.now

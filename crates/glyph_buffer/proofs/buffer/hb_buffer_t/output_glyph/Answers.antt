@@ -1,43 +1,11 @@
-use Rattle.std.proofs.Common.{◌≡◌, ◌∷◌, [], true, drop, refl, rules, arith, ap, ◌∙◌}
-use Rattle.std.proofs.lemmas.Grind.{common_steps}
-use Rattle.std.proofs.lemmas.List.{take_rest}
-use Rattle.glyph_buffer.specs.Merging.{with_copy}
+use Rattle.std.proofs.Common.{ap, ◌∙◌}
 use Rattle.glyph_buffer.specs.Sides.{items_of, origins_of}
-use Rattle.glyph_buffer.proofs.Apart.{copied_view, copy_items}
-use Rattle.glyph_buffer.proofs.Ordered.{none_lent, known_ahead, known_back, order_copied}
-use Rattle.glyph_buffer.proofs.Replaced.{room_is, replaced_within}
-use Rattle.glyph_buffer.proofs.buffer.hb_buffer_t.output_glyph.Goals as goal
+use Rattle.glyph_buffer.proofs.Apart.{copy_items}
 use Rattle.glyph_buffer.proofs.MergedOrigins.{copy_origins}
-
-pub returns-clause-put : goal.returns-clause-put
-returns-clause-put c e =
-    let b = c.self.inside in
-    let open_now : b.have_output ≡ true = rw (← c.self.view_is) at c.requires in
-    let items = rw (c.in_ok-reserve.ensures.items, c.deref-3.ensures.value, take_rest b.info.items b.idx) at c.push_copies.ensures in
-    copied_view b c.push_copies.new.output c.settle.new.self c.args.glyph_index open_now items ∙ ap (with_copy c.args.glyph_index) c.self.view_is
+use Rattle.glyph_buffer.proofs.buffer.hb_buffer_t.output_glyph.Goals as goal
 
 pub returns-clause-items : goal.returns-clause-items
-returns-clause-items c e = ap items_of (returns-clause-put c e) ∙ copy_items c.args.glyph_index c.args.self.now
+returns-clause-items c e = ap items_of c.in_ok-push_copy.ensures.put ∙ copy_items c.args.glyph_index c.args.self.now
 
 pub returns-clause-origins : goal.returns-clause-origins
-returns-clause-origins c e = ap origins_of (returns-clause-put c e) ∙ copy_origins c.args.glyph_index c.args.self.now
-
-pub invariant_of-self-2 : goal.invariant_of-self-2
-invariant_of-self-2 c =
-    let open_now : c.self.inside.have_output ≡ true = rw (← c.self.view_is) at c.requires in
-    let before = rw open_now at c.self.invariant.ordered in
-    let b = c.self.inside in
-    let order = c.settle.new.self.known in
-    let known = (rw (c.deref.ensures.value, c.deref-2.ensures.value, c.in_ok-reserve.ensures.items) at (c.settle.ensures.order b.idx)) before in
-    let items = rw (c.in_ok-reserve.ensures.items, c.deref-3.ensures.value, take_rest b.info.items b.idx) at c.push_copies.ensures in
-    let after = order_copied order 0 (c.args.glyph_index ∷ []) b.out_info.items (drop b.idx b.info.items) c.push_copies.new.output.items items (known_ahead order b.out_info.items b.info.items b.idx b.idx refl known) in
-    let fits = rw (← c.self.view_is, open_now) at (room_is 1 c.args.self.now c.lacks_room.result c.lacks_room.ensures c.if-lacks_room.false) in
-    let within = replaced_within b.max_len 1 b.out_info.items (drop b.idx b.info.items) b.out_info.items (drop b.idx b.info.items) (c.args.glyph_index ∷ []) refl fits refl refl c.self.invariant.output_within in
-    record {
-      cursor = first_of (search rules, grind (arith, common_steps));
-      input_within = first_of (search rules, grind (arith, common_steps));
-      output_within = rw items within;
-      closed = first_of (search rules, grind (arith, common_steps));
-      placed = first_of (search rules, grind (arith, common_steps));
-      ordered = rw open_now (none_lent order c.settle.new.self.lent c.push_copies.new.output.items b.info.items b.idx c.settle.ensures.back (known_back order c.push_copies.new.output.items b.info.items b.idx b.idx refl after));
-    }
+returns-clause-origins c e = ap origins_of c.in_ok-push_copy.ensures.put ∙ copy_origins c.args.glyph_index c.args.self.now

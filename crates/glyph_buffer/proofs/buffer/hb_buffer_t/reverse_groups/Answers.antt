@@ -3,6 +3,7 @@ use Rattle.std.proofs.Common.{◌≡◌, false, length, rules, arith, ap, sym, �
 use Rattle.std.proofs.lemmas.Grind.{common_steps}
 use Rattle.glyph_lists.specs.Items.{item_of}
 use Rattle.glyph_buffer.specs.Grouping.{with_groups_turned}
+use Rattle.glyph_buffer.specs.Inside.{sides_of}
 use Rattle.glyph_buffer.specs.Merging.{telling_flags}
 use Rattle.glyph_buffer.specs.Sides.{Sides, all_glyphs, items_of, origins_of}
 use Rattle.glyph_buffer.proofs.Grouped.{grouped_view, groups_items, groups_origins, groups_plain, groups_positions}
@@ -12,7 +13,8 @@ use Rattle.glyph_buffer.proofs.buffer.hb_buffer_t.reverse_groups.Goals as goal
 pub returns-clause-turned : goal.returns-clause-turned
 returns-clause-turned g c joins decides =
     let b = c.self.inside in
-    let closed : b.have_output ≡ false = rw (← c.self.view_is) at c.requires.closed in
+    let same : sides_of b ≡ c.args.self.now = c.self.view_is ∙ c.walked_order-known.ensures.same in
+    let closed : b.have_output ≡ false = rw (← same) at c.requires.closed in
     let in_info : b.info.len ≡ length b.info.items = first_of (search rules, grind (arith, common_steps)) in
     let in_pos : b.pos.len ≡ length b.pos.items = first_of (search rules, grind (arith, common_steps)) in
     let groups = c.reverse_groups-marked in
@@ -23,7 +25,7 @@ returns-clause-turned g c joins decides =
     let long : length groups.new.positions ≡ length b.pos.items = first_of (search rules, grind (arith, common_steps)) in
     grouped_view c.args.merge joins b (with_items b.info groups.new.glyphs) (with_items b.pos groups.new.positions) c.of-self-inside.result _ closed
     (all_put b.info groups.new.glyphs _ in_info glyphs (sym (ap length glyphs) ∙ wide)) (all_put_positions b.pos groups.new.positions _ in_pos positions (sym (ap length positions) ∙ long)) (c.telling_flags-self-inside.ensures ∙ ap (λ m. telling_flags m b.scratch_flags) marks)
-    ∙ ap (with_groups_turned c.args.merge joins) c.self.view_is
+    ∙ ap (with_groups_turned c.args.merge joins) same
 
 pub returns-clause-plain : goal.returns-clause-plain
 returns-clause-plain g c joins decides off = ap all_glyphs (returns-clause-turned g c joins decides) ∙ groups_plain c.args.merge joins c.args.self.now off

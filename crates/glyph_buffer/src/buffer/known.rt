@@ -1,0 +1,21 @@
+ghost use Rattle.std.specs.Prelude.{◌≡◌, false};
+ghost use Rattle.glyph_lists.specs.Items.{clusters};
+ghost use Rattle.buffer_lists.specs.Known.{HasOrder};
+ghost use Rattle.glyph_buffer.specs.Sides.{all_glyphs};
+
+use super::hb_buffer_t;
+use buffer_lists::order::KnownOrder;
+
+impl hb_buffer_t {
+    /// What is known of the order of clusters once the list has been walked, where it was not known.
+    pub(super) fn walked_order(&mut self) -> KnownOrder
+        requires { self.old.is_open ≡ false }
+        ensures same { self.new ≡ self.old }
+        ensures order { HasOrder result (clusters (all_glyphs self.old)) }
+    {
+        self.order.settle(&self.out_info, &self.info);
+        let known = self.order.known.walked(&self.out_info, &self.info);
+        self.order.known = known;
+        known
+    }
+}
