@@ -1,8 +1,7 @@
 -- The cursor at another place, and a range turned round.
 use Rattle.std.specs.Global.{Vec}
-use Rattle.std.specs.Prelude.{slice_range}
-use Rattle.std.proofs.Common.{ℕ, ◌≡◌, ◌≤◌, ◌+◌, ◌-◌, ◌++◌, true, false, List, length, map, take, drop, reverse, refl, ap, sym, subst, arith, append_assoc, ◌∙◌, get_or, zero, suc, slice_get, Some, [], ◌∷◌}
-use Rattle.std.proofs.lemmas.List.{map-append, take-map, drop-map, take-append-drop, take-append-le, drop-append-le, length-drop, length-take-le, length-map, drop-drop, reverse-append, take_all, get_or_default}
+use Rattle.std.proofs.Common.{ℕ, ◌≡◌, ◌≤◌, ◌+◌, ◌-◌, ◌++◌, true, false, List, length, take, drop, refl, ap, sym, subst, arith, append_assoc, ◌∙◌, [], ◌∷◌}
+use Rattle.std.proofs.lemmas.List.{map-append, take-append-drop, take-append-le, drop-append-le}
 use Rattle.std.proofs.Math.Seq.{take-append-add, drop-append-add}
 use Rattle.glyph_types.specs.declared.info.hb_glyph_info_t.{hb_glyph_info_t}
 use Rattle.glyph_types.specs.declared.position.GlyphPosition.{GlyphPosition}
@@ -14,9 +13,8 @@ use Rattle.glyph_buffer.specs.Inside.{sides_of}
 use Rattle.buffer_lists.specs.Known.{HasOrder}
 use Rattle.glyph_buffer.specs.Moving.{moved_to, range_reversed, with_range_reversed, indices_reversed}
 use Rattle.glyph_buffer.specs.Sides.{Sides, all_glyphs, items_of, moved_on, origins_of, origins_by}
-use Rattle.glyph_buffer.proofs.Kept.{map-reverse}
 use Rattle.glyph_buffer.proofs.Ordered.{known_ahead, known_back}
-use Rattle.glyph_lists.specs.Origins.{origin_of, origins, arranged, picked}
+use Rattle.glyph_lists.specs.Origins.{origins}
 use Rattle.glyph_lists.specs.Events.{Arrange}
 use Rattle.glyph_slices.specs.Lemmas.ReversedEvents.{range_origins as reversed_range, range_seen}
 

@@ -1,8 +1,9 @@
 -- Glyphs that an output or a list still holds.
+use Rattle.std.specs.Bool.{OnFalse}
 use Rattle.std.specs.Global.{Vec}
-use Rattle.std.proofs.Common.{ℕ, ◌≡◌, ◌≤◌, ◌<◌, ◌+◌, ◌-◌, ◌&&◌, Bool, true, false, not, nat_le, List, [], ◌∷◌, ◌++◌, length, take, drop, get_or, refl, arith, ap, sym, ◌∙◌}
+use Rattle.std.proofs.Common.{ℕ, ◌≡◌, ◌≤◌, ◌<◌, ◌+◌, ◌-◌, ◌&&◌, Bool, true, false, nat_le, List, [], ◌∷◌, ◌++◌, length, take, drop, get_or, refl, arith, ap, sym, ◌∙◌}
 use Rattle.std.proofs.lemmas.Bool.Decides.{nat_tests}
-use Rattle.std.proofs.lemmas.List.{length-append, length-drop, length-replicate, length-take-le}
+use Rattle.std.proofs.lemmas.List.{length-append, length-drop, length-replicate}
 use Rattle.glyph_types.specs.declared.info.hb_glyph_info_t.{hb_glyph_info_t}
 use Rattle.glyph_types.specs.declared.position.GlyphPosition.{GlyphPosition}
 use Rattle.glyph_lists.specs.Lists.{take_one}
@@ -50,3 +51,9 @@ pub joined_view : (b : Inside) (info out : Vec hb_glyph_info_t) (positions : Vec
 joined_view b info out positions order h i p =
     let long = joined_length b.out_info.items b.info.items b.idx in
     rw (h, i, p, ← long) refl
+
+-- a list that stays empty while no output is open
+pub empty_kept : (t : Bool) (xs ys : List hb_glyph_info_t) → length ys ≡ length xs → OnFalse t (xs ≡ []) → OnFalse t (ys ≡ [])
+empty_kept true xs ys e none = tt
+empty_kept false xs [] e none = refl
+empty_kept false xs (y ∷ ys) e none = let zero : length xs ≡ 0 = ap length none in absurd (omega (arith, zero, e))

@@ -1,5 +1,5 @@
 -- The cursor at another place, and lists cut, filled or turned round in part.
-use Rattle.std.specs.Prelude.{ℕ, zero, suc, ◌+◌, ◌-◌, ◌&&◌, Bool, true, not, nat_le, nat_lt, if◌then◌else◌, List, [], ◌∷◌, ◌++◌, length, take, drop, reverse, replicate, min, slice_range}
+use Rattle.std.specs.Prelude.{ℕ, ◌+◌, ◌-◌, ◌&&◌, Bool, true, not, nat_le, nat_lt, if◌then◌else◌, List, ◌++◌, length, take, drop, replicate, min}
 use Rattle.glyph_types.specs.declared.info.hb_glyph_info_t.{hb_glyph_info_t}
 pub use Rattle.glyph_slices.specs.Events.{indices_reversed}
 pub use Rattle.glyph_slices.specs.Turning.{range_reversed}

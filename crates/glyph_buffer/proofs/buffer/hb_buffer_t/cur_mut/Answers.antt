@@ -20,8 +20,8 @@ invariant_of-self-lent c w =
     record {
       cursor = first_of (search rules, grind (arith, common_steps));
       input_within = first_of (search rules, grind (arith, common_steps));
-      output_within = first_of (search rules, grind (arith, common_steps));
-      closed = first_of (search rules, grind (arith, common_steps));
+      output_within = c.self.invariant.output_within;
+      closed = c.self.invariant.closed;
       placed = first_of (search rules, grind (arith, common_steps));
       ordered = rw c.index.ensures (rw back at known);
     }

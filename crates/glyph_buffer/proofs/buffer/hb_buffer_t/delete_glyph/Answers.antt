@@ -1,6 +1,6 @@
 use Rattle.std.specs.Vec.{with_items}
 use borrow.Rule.Slice.PartMut.{put_mid}
-use Rattle.std.proofs.Common.{◌≡◌, ◌<◌, ◌+◌, ◌-◌, ◌∷◌, true, length, drop, get_or, refl, rules, arith, sym, ap, ◌∙◌}
+use Rattle.std.proofs.Common.{◌≡◌, ◌≤◌, ◌<◌, ◌+◌, ◌-◌, ◌∷◌, true, length, drop, get_or, refl, rules, arith, sym, ap, ◌∙◌}
 use Rattle.std.proofs.lemmas.Grind.{common_steps}
 use Rattle.std.proofs.lemmas.List.{drop_more, drop-drop, take_rest}
 use Rattle.glyph_buffer.specs.Grouping.{with_deleted}
@@ -8,7 +8,8 @@ use Rattle.glyph_buffer.specs.Moving.{zero_glyph}
 use Rattle.glyph_buffer.specs.Sides.{items_of, origins_of}
 use Rattle.glyph_buffer.proofs.Deleting.{deleted_view, deletes_same, left_items, order_gone, first_is}
 use Rattle.glyph_buffer.proofs.Ordered.{known_ordered, known_ahead, known_back, none_lent}
-use Rattle.glyph_buffer.proofs.Slices.{all_put, rest_is}
+use Rattle.glyph_buffer.proofs.Room.{some_ahead}
+use Rattle.glyph_buffer.proofs.Slices.{all_put, rest_is, rest_long}
 use Rattle.glyph_buffer.proofs.buffer.hb_buffer_t.delete_glyph.Goals as goal
 use Rattle.glyph_buffer.proofs.DeletedOrigins.{deleted_origins}
 
@@ -66,13 +67,18 @@ invariant_of-self c =
     let behind = sym (all_put b.out_info c.delete_first-marked.new.output c.delete_first-marked.new.output in_out refl wide) in
     let deletes = deletes_same b.cluster_level b.out_info.items (drop b.idx b.info.items) _ _ _ _ c.delete_first-marked.result behind ahead gone in
     let known = (rw (c.deref.ensures.value, c.deref-2.ensures.value) at (c.settle.ensures.order b.idx)) (rw open_now at c.self.invariant.ordered) in
-    let within : b.idx < length b.info.items = grind (arith, common_steps) in
+    let within : b.idx < length b.info.items = some_ahead b.info.items b.idx (rw (← c.self.view_is) at c.requires.there) in
     let after = order_gone c.settle.new.self.known b.cluster_level b.out_info.items (drop b.idx b.info.items) out.items (drop (b.idx + 1) info.items) c.delete_first-marked.result (get_or b.info.items b.idx zero_glyph) (drop (b.idx + 1) b.info.items) (drop_more b.info.items b.idx zero_glyph within) deletes (known_ahead c.settle.new.self.known b.out_info.items b.info.items b.idx b.idx refl known) in
+    let whole : length info.items ≡ length b.info.items = rest_long b.info c.deref_mut.result.now c.delete_first-marked.new.input b.idx in_info c.deref_mut.ensures.value c.self.invariant.cursor long in
+    let same : length out.items ≡ length b.out_info.items = sym (ap length behind) ∙ wide in
+    let cursor : b.idx + 1 ≤ length info.items = omega (arith, within, whole) in
+    let input_within : length info.items ≤ b.max_len = omega (arith, whole, c.self.invariant.input_within) in
+    let output_within : length out.items ≤ b.max_len = omega (arith, same, c.self.invariant.output_within) in
     record {
-      cursor = first_of (search rules, grind (arith, common_steps));
-      input_within = first_of (search rules, grind (arith, common_steps));
-      output_within = first_of (search rules, grind (arith, common_steps));
-      closed = first_of (search rules, grind (arith, common_steps));
-      placed = first_of (search rules, grind (arith, common_steps));
+      cursor = cursor;
+      input_within = input_within;
+      output_within = output_within;
+      closed = rw open_now tt;
+      placed = rw open_now tt;
       ordered = rw open_now (none_lent c.settle.new.self.known c.settle.new.self.lent out.items info.items (b.idx + 1) c.settle.ensures.back (known_back c.settle.new.self.known out.items info.items (b.idx + 1) (b.idx + 1) refl after));
     }

@@ -1,4 +1,4 @@
-use Rattle.std.proofs.Common.{◌≡◌, ◌++◌, not, true, length, drop, arith, ap, ◌∙◌}
+use Rattle.std.proofs.Common.{◌≡◌, ◌++◌, not, true, drop, arith, ap, ◌∙◌}
 use Rattle.glyph_buffer.specs.Sides.{synced}
 use Rattle.glyph_buffer.proofs.Ordered.{none_lent, order_joined}
 use Rattle.glyph_buffer.proofs.Room.{joined_places, joined_view, joined_within}

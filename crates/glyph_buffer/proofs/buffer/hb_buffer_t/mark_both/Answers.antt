@@ -5,7 +5,7 @@ use Rattle.std.specs.Prelude.{slice_range}
 use borrow.Rule.Slice.PartMut.{put_mid}
 use Rattle.std.proofs.Common.{List, ◌≡◌, ◌≤◌, ◌-◌, ◌++◌, ◌∙◌, true, length, map, take, drop, rules, arith, ap}
 use Rattle.std.proofs.lemmas.Grind.{common_steps}
-use Rattle.std.proofs.lemmas.List.{drop_at, length-drop, length-map, length-take-le, take_rest}
+use Rattle.std.proofs.lemmas.List.{drop_at, length-append, length-drop, length-map, length-take-le, take_rest}
 use Rattle.glyph_lists.specs.Items.{clusters}
 use Rattle.glyph_lists.specs.Glyphs.{marked_outside, tells_apart}
 use Rattle.glyph_lists.specs.Merges.{least_number}
@@ -85,16 +85,31 @@ returns c = record {
       ∙ ap (λ (s : Sides). with_marked c.args.flags c.args.start (index_in_all c.args.end s) s) c.self.view_is;
 }
 
+info_long : (c : After-self-3-1) → length (new_info c).items ≡ length (old_info c)
+info_long c =
+    let b = c.self.inside in
+    let range = slice_range b.info.items b.idx c.args.end in
+    let rest = drop (c.args.end - b.idx) (drop b.idx b.info.items) in
+    ap length (info_is c) ∙ omega (arith, length-append (take b.idx b.info.items) (map (mark c) range ++ rest), length-append (map (mark c) range) rest, length-map range (mark c), length-take-le b.idx b.info.items c.self.invariant.cursor, length-take-le (c.args.end - b.idx) (drop b.idx b.info.items) (omega (arith, length-drop b.idx b.info.items, ends c)), length-drop (c.args.end - b.idx) (drop b.idx b.info.items), length-drop b.idx b.info.items, begins c, ends c)
+
+out_long : (c : After-self-3-1) → length (new_out c).items ≡ length (old_out c)
+out_long c =
+    let rest = drop c.args.start (old_out c) in
+    ap length (out_is c) ∙ omega (arith, length-append (take c.args.start (old_out c)) (map (mark c) rest), length-map rest (mark c), length-take-le c.args.start (old_out c) (there c), length-drop c.args.start (old_out c), there c)
+
 pub invariant_of-self : goal.invariant_of-self
 invariant_of-self c =
     let b = c.self.inside in
     let kept_info = ap clusters (info_is c) ∙ part_kept (mark c) (cluster_marked c.args.flags _) b.idx (c.args.end - b.idx) b.info.items in
     let kept_out = ap clusters (out_is c) ∙ rest_kept (mark c) (cluster_marked c.args.flags _) c.args.start b.out_info.items in
+    let cursor : b.idx ≤ length (new_info c).items = omega (arith, info_long c, c.self.invariant.cursor) in
+    let input_within : length (new_info c).items ≤ b.max_len = omega (arith, info_long c, c.self.invariant.input_within) in
+    let output_within : length (new_out c).items ≤ b.max_len = omega (arith, out_long c, c.self.invariant.output_within) in
     record {
-      cursor = first_of (search rules, grind (arith, common_steps));
-      input_within = first_of (search rules, grind (arith, common_steps));
-      output_within = first_of (search rules, grind (arith, common_steps));
-      closed = first_of (search rules, grind (arith, common_steps));
-      placed = first_of (search rules, grind (arith, common_steps));
+      cursor = cursor;
+      input_within = input_within;
+      output_within = output_within;
+      closed = rw (open_now c) tt;
+      placed = rw (open_now c) tt;
       ordered = rw (kept_info, kept_out) c.self.invariant.ordered;
     }

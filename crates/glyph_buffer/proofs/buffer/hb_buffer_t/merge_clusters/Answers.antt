@@ -1,6 +1,7 @@
+use Rattle.std.specs.Bool.{OnFalse}
 use Rattle.std.specs.Vec.{with_items}
 use borrow.Rule.Slice.PartMut.{put_mid}
-use Rattle.std.proofs.Common.{◌≡◌, ◌≤◌, ◌-◌, rules, arith, length, drop, sym, ap, ◌∙◌}
+use Rattle.std.proofs.Common.{◌≡◌, ◌≤◌, ◌-◌, rules, arith, length, drop, sym, subst, ap, ◌∙◌}
 use Rattle.std.proofs.lemmas.Grind.{common_steps}
 use Rattle.std.proofs.lemmas.List.{length-drop, take_rest}
 use Rattle.glyph_lists.specs.Items.{clusters}
@@ -13,7 +14,8 @@ use Rattle.glyph_buffer.specs.Merging.{index_in_all, telling_flags, with_merged}
 use Rattle.glyph_buffer.proofs.Marked.{start_within}
 use Rattle.glyph_buffer.proofs.Merged.{merged_view, merged_items}
 use Rattle.glyph_buffer.proofs.Ordered.{known_ordered, known_ahead, known_back, none_lent, order_merged}
-use Rattle.glyph_buffer.proofs.Slices.{all_put, rest_is}
+use Rattle.glyph_buffer.proofs.Room.{empty_kept}
+use Rattle.glyph_buffer.proofs.Slices.{all_put, rest_is, rest_long}
 use Rattle.glyph_buffer.proofs.buffer.hb_buffer_t.merge_clusters.Goals as goal
 use Rattle.glyph_buffer.proofs.MergedOrigins.{merged_origins}
 
@@ -76,11 +78,16 @@ invariant_of-self c =
     let out = with_items b.out_info c.merge_input-marked.new.output in
     let after = order_merged c.settle.new.self.known b.cluster_level (c.args.start - from) (c.args.end - from) b.out_info.items rest out.items (drop from info.items) le behind ahead known in
     let walked = (rw (c.deref-3.ensures.value, c.deref-4.ensures.value, take_rest info.items from) at c.walked-self-inside.ensures) after in
+    let wide : length info.items ≡ length b.info.items = rest_long b.info c.deref_mut-2.result.now c.merge_input-marked.new.input from in_info c.deref_mut-2.ensures.value within (omega (arith, ap length input, length_merged_at b.cluster_level (c.args.start - from) (c.args.end - from) rest le, length-drop from b.info.items, count)) in
+    let long : length out.items ≡ length b.out_info.items = ap length behind ∙ length_beside b.cluster_level range b.out_info.items in
+    let cursor : b.idx ≤ length info.items = omega (arith, wide, c.self.invariant.cursor) in
+    let input_within : length info.items ≤ b.max_len = omega (arith, wide, c.self.invariant.input_within) in
+    let output_within : length out.items ≤ b.max_len = omega (arith, long, c.self.invariant.output_within) in
     record {
-      cursor = first_of (search rules, grind (arith, common_steps));
-      input_within = first_of (search rules, grind (arith, common_steps));
-      output_within = first_of (search rules, grind (arith, common_steps));
-      closed = first_of (search rules, grind (arith, common_steps));
-      placed = first_of (search rules, grind (arith, common_steps));
+      cursor = cursor;
+      input_within = input_within;
+      output_within = output_within;
+      closed = empty_kept b.have_output b.out_info.items out.items long c.self.invariant.closed;
+      placed = subst (λ n. OnFalse b.have_output (length b.pos.items ≡ n)) (sym wide) c.self.invariant.placed;
       ordered = none_lent c.walked-self-inside.result c.settle.new.self.lent out.items info.items (start_of b) c.settle.ensures.back (known_back c.walked-self-inside.result out.items info.items from (start_of b) begins walked);
     }

@@ -12,7 +12,7 @@ use Rattle.glyph_buffer.specs.Sides.{Sides, all_glyphs}
 use Rattle.glyph_buffer.specs.Merging.{with_glyphs}
 use Rattle.glyph_buffer.proofs.Across.{order_output_merged, output_merged_view}
 use Rattle.glyph_buffer.proofs.Ordered.{known_ordered, known_ahead, known_back, none_lent}
-use Rattle.glyph_buffer.proofs.Slices.{all_put, rest_is}
+use Rattle.glyph_buffer.proofs.Slices.{all_put, rest_is, rest_long}
 use Rattle.glyph_buffer.proofs.buffer.hb_buffer_t.merge_output.Goals as goal
 
 pub merge_output-requires-clause-known : goal.merge_output-requires-clause-known
@@ -41,12 +41,17 @@ invariant_of-self c =
     let out = with_items b.out_info c.merge_output.new.output in
     let after = order_output_merged c.settle.new.self.known c.args.start c.args.end b.out_info.items b.info.items out.items info.items b.idx c.requires.ordered there behind ahead known in
     let walked = (rw (c.deref-3.ensures.value, c.deref-4.ensures.value, take_rest info.items b.idx) at c.walked-self-inside.ensures) after in
+    let wide : length info.items ≡ length b.info.items = rest_long b.info c.deref_mut.result.now c.merge_output.new.input b.idx in_info c.deref_mut.ensures.value c.self.invariant.cursor (omega (arith, ap length input, length-map (drop b.idx b.info.items) f, length-drop b.idx b.info.items, count)) in
+    let long : length out.items ≡ length b.out_info.items = ap length behind ∙ length-map b.out_info.items f in
+    let cursor : b.idx ≤ length info.items = omega (arith, wide, c.self.invariant.cursor) in
+    let input_within : length info.items ≤ b.max_len = omega (arith, wide, c.self.invariant.input_within) in
+    let output_within : length out.items ≤ b.max_len = omega (arith, long, c.self.invariant.output_within) in
     record {
-      cursor = first_of (search rules, grind (arith, common_steps));
-      input_within = first_of (search rules, grind (arith, common_steps));
-      output_within = first_of (search rules, grind (arith, common_steps));
-      closed = first_of (search rules, grind (arith, common_steps));
-      placed = first_of (search rules, grind (arith, common_steps));
+      cursor = cursor;
+      input_within = input_within;
+      output_within = output_within;
+      closed = rw open_now tt;
+      placed = rw open_now tt;
       ordered = rw open_now (none_lent c.walked-self-inside.result c.settle.new.self.lent out.items info.items b.idx c.settle.ensures.back (known_back c.walked-self-inside.result out.items info.items b.idx b.idx refl walked));
     }
 

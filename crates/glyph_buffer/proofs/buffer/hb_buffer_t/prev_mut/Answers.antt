@@ -25,8 +25,8 @@ invariant_of-self-lent c w =
     record {
       cursor = first_of (search rules, grind (arith, common_steps));
       input_within = first_of (search rules, grind (arith, common_steps));
-      output_within = first_of (search rules, grind (arith, common_steps));
-      closed = first_of (search rules, grind (arith, common_steps));
+      output_within = c.self.invariant.output_within;
+      closed = c.self.invariant.closed;
       placed = first_of (search rules, grind (arith, common_steps));
       ordered = rw c.index.ensures (rw back at known);
     }
@@ -50,10 +50,10 @@ invariant_of-self-lent-2 c w =
     let known = (rw (c.deref.ensures.value, c.deref-2.ensures.value) at (c.settle.ensures.order b.idx)) before in
     let back = clusters_back b.out_info.items (c.len-last.result - 1) w c.index-2.result.now lt in
     record {
-      cursor = first_of (search rules, grind (arith, common_steps));
-      input_within = first_of (search rules, grind (arith, common_steps));
+      cursor = c.self.invariant.cursor;
+      input_within = c.self.invariant.input_within;
       output_within = first_of (search rules, grind (arith, common_steps));
-      closed = first_of (search rules, grind (arith, common_steps));
-      placed = first_of (search rules, grind (arith, common_steps));
+      closed = rw open_now tt;
+      placed = rw open_now tt;
       ordered = rw (open_now, c.index-2.ensures) (rw back at known);
     }

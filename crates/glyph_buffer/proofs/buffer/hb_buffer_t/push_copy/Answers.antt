@@ -13,6 +13,20 @@ returns-clause-put c =
     let items = rw (c.in_ok-reserve.ensures.items, c.deref-3.ensures.value, take_rest b.info.items b.idx) at c.push_copies.ensures in
     copied_view b c.push_copies.new.output c.settle.new.self c.args.glyph_index open_now items ∙ ap (with_copy c.args.glyph_index) c.self.view_is
 
+pub invariant_of-self : goal.invariant_of-self
+invariant_of-self c =
+    let b = c.self.inside in
+    let open_now : b.have_output ≡ true = rw (← c.self.view_is) at c.requires.open in
+    let same : c.reserve.new.self.items ≡ b.out_info.items = c.in_err-reserve.ensures.items in
+    record {
+      cursor = c.self.invariant.cursor;
+      input_within = c.self.invariant.input_within;
+      output_within = rw same c.self.invariant.output_within;
+      closed = rw open_now tt;
+      placed = rw open_now tt;
+      ordered = rw same c.self.invariant.ordered;
+    }
+
 pub invariant_of-self-2 : goal.invariant_of-self-2
 invariant_of-self-2 c =
     let open_now : c.self.inside.have_output ≡ true = rw (← c.self.view_is) at c.requires.open in

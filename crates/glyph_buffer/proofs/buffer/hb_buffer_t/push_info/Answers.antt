@@ -5,6 +5,20 @@ use Rattle.glyph_buffer.proofs.Ordered.{none_lent, known_ahead, order_put}
 use Rattle.glyph_buffer.proofs.Room.{put_within}
 use Rattle.glyph_buffer.proofs.buffer.hb_buffer_t.push_info.Goals as goal
 
+pub invariant_of-self : goal.invariant_of-self
+invariant_of-self c =
+    let b = c.self.inside in
+    let open_now : b.have_output ≡ true = rw (← c.self.view_is) at c.requires.open in
+    let same : c.reserve.new.self.items ≡ b.out_info.items = c.in_err-reserve.ensures.items in
+    record {
+      cursor = c.self.invariant.cursor;
+      input_within = c.self.invariant.input_within;
+      output_within = rw same c.self.invariant.output_within;
+      closed = rw open_now tt;
+      placed = rw open_now tt;
+      ordered = rw same c.self.invariant.ordered;
+    }
+
 pub invariant_of-self-2 : goal.invariant_of-self-2
 invariant_of-self-2 c =
     let b = c.self.inside in

@@ -44,6 +44,20 @@ merge_input-marked-requires-clause-known c e =
     let known = known_ahead c.settle.new.self.known b.out_info.items b.info.items b.idx b.idx refl ((rw (c.deref.ensures.value, c.deref-2.ensures.value, kept) at (c.settle.ensures.order b.idx)) (rw open_now at c.self.invariant.ordered)) in
     rw (c.deref_mut.ensures.value, c.deref_mut-2.ensures.value, take_rest b.info.items b.idx, kept) (known_ordered c.settle.new.self.known _ known (sym c.is_known.ensures ∙ e))
 
+pub invariant_of-self : goal.invariant_of-self
+invariant_of-self c =
+    let b = c.self.inside in
+    let open_now : b.have_output ≡ true = rw (← c.self.view_is) at c.requires.open in
+    let same : c.reserve.new.self.items ≡ b.out_info.items = c.in_err-reserve.ensures.items in
+    record {
+      cursor = c.self.invariant.cursor;
+      input_within = c.self.invariant.input_within;
+      output_within = rw same c.self.invariant.output_within;
+      closed = rw open_now tt;
+      placed = rw open_now tt;
+      ordered = rw same c.self.invariant.ordered;
+    }
+
 pub invariant_of-self-2 : goal.invariant_of-self-2
 invariant_of-self-2 c =
     let b = c.self.inside in

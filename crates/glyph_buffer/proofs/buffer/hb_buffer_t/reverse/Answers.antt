@@ -1,5 +1,5 @@
-use Rattle.std.proofs.Common.{rules, arith, [], ◌≡◌, false, ap, ◌∙◌}
-use Rattle.std.proofs.lemmas.Grind.{common_steps}
+use Rattle.std.proofs.Common.{[], ◌≡◌, false, length, sym, ap, ◌∙◌}
+use Rattle.std.proofs.lemmas.List.{length-reverse}
 use Rattle.glyph_lists.specs.Items.{clusters}
 use Rattle.glyph_buffer.proofs.Ordered.{clusters_reversed}
 use Rattle.glyph_buffer.specs.Inside.{sides_of}
@@ -26,11 +26,12 @@ invariant_of-self c =
     let before = rw closed at c.self.invariant.ordered in
     let settled = (rw (c.deref.ensures.value, c.deref-2.ensures.value) at (c.settle.ensures.order 0)) before in
     let known = c.reversed-self-inside.ensures (clusters c.self.inside.info.items) (rw none at settled) in
+    let even : length c.self.inside.pos.items ≡ length c.self.inside.info.items = rw closed at c.self.invariant.placed in
     record {
-      cursor = first_of (search rules, grind (arith, common_steps));
-      input_within = first_of (search rules, grind (arith, common_steps));
-      output_within = first_of (search rules, grind (arith, common_steps));
-      closed = first_of (search rules, grind (arith, common_steps));
-      placed = first_of (search rules, grind (arith, common_steps));
+      cursor = rw (c.reverse.ensures.items, length-reverse) c.self.invariant.cursor;
+      input_within = rw (c.reverse.ensures.items, length-reverse) c.self.invariant.input_within;
+      output_within = c.self.invariant.output_within;
+      closed = c.self.invariant.closed;
+      placed = rw closed (ap length c.reverse-2.ensures.items ∙ length-reverse c.self.inside.pos.items ∙ even ∙ sym (length-reverse c.self.inside.info.items) ∙ sym (ap length c.reverse.ensures.items));
       ordered = rw (closed, none, c.reverse.ensures.items, c.settle.ensures.back, ← clusters_reversed c.self.inside.info.items) known;
     }

@@ -1,8 +1,5 @@
 use Rattle.std.proofs.Common.{[], ◌≡◌, false}
 use Rattle.std.proofs.lemmas.List.{take-append-drop}
-use Rattle.glyph_lists.specs.Items.{clusters}
-use Rattle.glyph_buffer.specs.Sides.{Sides, all_glyphs}
-use Rattle.buffer_lists.specs.Known.{HasOrder}
 use Rattle.glyph_buffer.proofs.buffer.hb_buffer_t.walked_order.Goals as goal
 
 pub returns-clause-order : goal.returns-clause-order
