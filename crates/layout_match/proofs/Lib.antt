@@ -1,0 +1,5 @@
+pub mod Indexed
+pub mod Nearest
+pub mod Each
+pub mod Own
+pub mod Law

@@ -1,0 +1,14 @@
+use Rattle.std.proofs.Common.{◌≡◌, ◌≤◌, ◌<◌, ◌+◌, ◌++◌, ◌∷◌, length, drop}
+use Rattle.std.specs.List.{All}
+use Rattle.glyph_lists.specs.Items.{strip}
+use Rattle.layout_match.specs.Matches.{asks_of, indices, reached}
+use Rattle.layout_match.specs.Searches.{search_of}
+use Rattle.layout_match.specs.Sequences.{tests_of}
+use Rattle.layout_match.proofs.matching.match_from_first.Given as goal
+
+-- what is left decides
+abbrev pub invariant-loop-k : goal.invariant-loop-k
+invariant-loop-k l = (l.from ≤ length l.buffer.ahead) × (length l.match_positions.items ≡ l.k + 1)
+    × (reached (drop l.k (asks_of (search_of l.search) (tests_of l.sequence))) l.from (strip l.buffer.ahead) ≡ reached (asks_of (search_of l.search) (tests_of l.sequence)) 1 (strip l.buffer.ahead))
+    × (l.match_positions.items ++ indices (drop l.k (asks_of (search_of l.search) (tests_of l.sequence))) l.from (strip l.buffer.ahead) ≡ 0 ∷ indices (asks_of (search_of l.search) (tests_of l.sequence)) 1 (strip l.buffer.ahead))
+    × All (λ q. q < length l.buffer.ahead) l.match_positions.items

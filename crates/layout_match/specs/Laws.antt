@@ -1,0 +1,34 @@
+-- What is found and read.
+use Rattle.std.specs.Prelude.{ℕ, ◌≡◌, ◌≤◌, ◌<◌, ◌-◌, ◌⊎◌, List, length, Ok, Err, Some, option_map, slice_get}
+use Rattle.glyph_lists.specs.Items.{Item}
+use Rattle.layout_match.specs.declared.search.match_t.{match_t}
+use Rattle.layout_match.specs.declared.search.match_t.TheVariants.{MATCH, SKIP, NOT_MATCH}
+use Rattle.layout_match.specs.Matches.{nearest_from, reached, indices}
+
+-- an item is there, and this is said of it
+abbrev pub Says : (Item → match_t) → List Item → ℕ → match_t → Type 0
+Says ask xs k m = option_map ask (slice_get xs k) ≡ Some m
+
+-- all from an index up to before another are passed over
+abbrev pub ArePassed : (Item → match_t) → List Item → ℕ → ℕ → Type 0
+ArePassed ask xs from to = (k : ℕ) → from ≤ k → k < to → Says ask xs k SKIP
+
+-- an item is taken, and all before it are passed over
+pub record IsNearest (ask : Item → match_t) (from : ℕ) (xs : List Item) (at : ℕ) : Type 0 where
+  pub there : from ≤ at
+  pub taken : Says ask xs at MATCH
+  pub passed : ArePassed ask xs from at
+
+abbrev pub NearestIsTaken : Type 0
+NearestIsTaken = (ask : Item → match_t) (from at : ℕ) (xs : List Item) → nearest_from ask from xs ≡ Ok at → IsNearest ask from xs at
+
+-- a search that failed passed over all to the end, or over all before the last item that it read, which isn't taken
+abbrev pub HasRead : (Item → match_t) → ℕ → List Item → ℕ → Type 0
+HasRead ask from xs end = (ArePassed ask xs from (length xs) × (end ≡ length xs)) ⊎ (ArePassed ask xs from (end - 1) × Says ask xs (end - 1) NOT_MATCH)
+
+abbrev pub FailedSearchesRead : Type 0
+FailedSearchesRead = (ask : Item → match_t) (from end : ℕ) (xs : List Item) → from ≤ length xs → nearest_from ask from xs ≡ Err end → HasRead ask from xs end
+
+-- one index for each item asked for
+abbrev pub MatchesAreWhole : Type 0
+MatchesAreWhole = (asks : List (Item → match_t)) (from end : ℕ) (xs : List Item) → reached asks from xs ≡ Ok end → length (indices asks from xs) ≡ length asks

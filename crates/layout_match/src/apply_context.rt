@@ -1,0 +1,129 @@
+ghost use Rattle.std.specs.Prelude.{◌≡◌, ◌<◌, not, length};
+ghost use Rattle.glyph_lists.specs.Items.{item_of};
+ghost use Rattle.layout_rules.specs.Buffers.{cut_of};
+ghost use Rattle.layout_match.specs.Searches.{is_left_out, search_of};
+ghost use Rattle.layout_match.specs.Applied.{applied_of, context_search, drawn, own_search, own_syllable, positions_glyphs};
+
+use crate::search::{GlyphSearch, is_left_out};
+use font_face::Face;
+use glyph_buffer::buffer::hb_buffer_t;
+use glyph_types::info::hb_glyph_info_t;
+use map_features::per_table::TableIndex;
+
+/// With what a lookup is applied.
+#[derive(Clone, Copy, Debug)]
+pub struct hb_ot_apply_context_t<'a> {
+    pub table_index: TableIndex,
+    pub face: &'a Face,
+    lookup_mask: u32,
+    /// The lookup's flag, and above its 16 bits the index of its mark filtering set.
+    pub lookup_props: u32,
+    pub auto_zwnj: bool,
+    pub auto_zwj: bool,
+    /// Whether a match stays within a syllable.
+    pub per_syllable: bool,
+    /// Whether an alternate may be drawn at random.
+    pub random: bool,
+    /// The number that was drawn last, 1 at first.
+    pub random_state: u32,
+}
+
+fn positions_glyphs(table: TableIndex) -> bool
+    ensures { result ≡ positions_glyphs table }
+{
+    match table {
+        TableIndex::GSUB => false,
+        TableIndex::GPOS => true,
+    }
+}
+
+impl<'a> hb_ot_apply_context_t<'a> {
+    /// A context for the lookups of a table, which have all bits of features, no flag, and pass over joiners by themselves.
+    pub fn new(table_index: TableIndex, face: &'a Face) -> hb_ot_apply_context_t<'a> {
+        hb_ot_apply_context_t {
+            table_index,
+            face,
+            lookup_mask: 1,
+            lookup_props: 0,
+            auto_zwnj: true,
+            auto_zwj: true,
+            per_syllable: false,
+            random: false,
+            random_state: 1,
+        }
+    }
+
+    /// The feature bits of which a glyph needs one for the lookup to act on it.
+    pub fn lookup_mask(&self) -> u32
+        ensures { result ≡ self.now.lookup_mask }
+    {
+        self.lookup_mask
+    }
+
+    /// Sets these bits.
+    pub fn set_lookup_mask(&mut self, mask: u32)
+        ensures { self.new ≡ record self.old { lookup_mask = mask } }
+    {
+        self.lookup_mask = mask;
+    }
+
+    /// Whether a lookup's flag lets it meet a glyph; above its 16 bits the flag has the index of a mark filtering set.
+    pub fn check_glyph_property(&self, info: &hb_glyph_info_t, match_props: u32) -> bool
+        ensures { result ≡ not (is_left_out match_props self.now.face.now.gdef.sets (item_of info.now)) }
+    {
+        !is_left_out(self.face, match_props, info)
+    }
+
+    /// Draws a number.
+    pub fn random_number(&mut self) -> u32
+        ensures value { result ≡ drawn self.old.random_state }
+        ensures state { self.new ≡ record self.old { random_state = result } }
+    {
+        self.random_state = (u64::from(self.random_state) * 48271 % 2147483647) as u32;
+        self.random_state
+    }
+
+    fn own_syllable(&self, buffer: &hb_buffer_t) -> Option<u8>
+        requires { 0 < length buffer.now.ahead }
+        ensures { result ≡ own_syllable (applied_of self.now) (cut_of buffer.now) }
+    {
+        if self.per_syllable {
+            return Some(buffer.cur(0).syllable);
+        }
+        None
+    }
+
+    /// How the lookup searches its input at the buffer's cursor.
+    pub fn own_search(&self, buffer: &hb_buffer_t) -> GlyphSearch<'a>
+        requires { 0 < length buffer.now.ahead }
+        ensures { search_of result ≡ own_search (applied_of self.now) (cut_of buffer.now) }
+    {
+        let positions = positions_glyphs(self.table_index);
+        GlyphSearch {
+            face: self.face,
+            lookup_props: self.lookup_props,
+            ignore_zwnj: positions,
+            ignore_zwj: self.auto_zwj,
+            ignore_hidden: positions,
+            mask: Some(self.lookup_mask),
+            syllable: self.own_syllable(buffer),
+        }
+    }
+
+    /// How it searches what stands around the input.
+    pub fn context_search(&self, buffer: &hb_buffer_t) -> GlyphSearch<'a>
+        requires { 0 < length buffer.now.ahead }
+        ensures { search_of result ≡ context_search (applied_of self.now) (cut_of buffer.now) }
+    {
+        let positions = positions_glyphs(self.table_index);
+        GlyphSearch {
+            face: self.face,
+            lookup_props: self.lookup_props,
+            ignore_zwnj: positions || self.auto_zwnj,
+            ignore_zwj: true,
+            ignore_hidden: positions,
+            mask: None,
+            syllable: self.own_syllable(buffer),
+        }
+    }
+}

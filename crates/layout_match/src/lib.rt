@@ -1,0 +1,17 @@
+//! Matching: the glyphs that a rule asks for, with glyphs between that its lookup passes over.
+#![tactic(auto)]
+
+pub mod apply_context;
+pub mod laws;
+pub mod matching;
+pub mod search;
+pub mod sequence;
+pub mod skipping;
+
+pub use apply_context::hb_ot_apply_context_t;
+pub use matching::{
+    MAX_CONTEXT_LENGTH, MatchPositions, match_backtrack, match_input, match_lookahead,
+};
+pub use search::{GlyphSearch, match_t};
+pub use sequence::{MatchSequence, match_class, match_coverage, match_glyph};
+pub use skipping::skipping_iterator_t;

@@ -1,0 +1,227 @@
+ghost use Rattle.std.specs.Prelude.{◌≡◌, ◌<◌, ◌≤◌, ◌∷◌, Some, length, reverse, slice_get, IfOk, IfErr};
+ghost use Rattle.std.specs.List.{All};
+ghost use Rattle.glyph_lists.specs.Items.{strip};
+ghost use Rattle.layout_rules.specs.Buffers.{cut_of};
+ghost use Rattle.layout_match.specs.Applied.{applied_of, context_search, own_search};
+ghost use Rattle.layout_match.specs.Searches.{answer, search_of, test_of};
+ghost use Rattle.layout_match.specs.Sequences.{tests_of};
+ghost use Rattle.layout_match.specs.Matches.{asks_of, backtrack_end, input_end, indices, input_indices, lookahead_end, nearest_from, reached};
+
+use crate::apply_context::hb_ot_apply_context_t;
+use crate::search::{GlyphSearch, match_t};
+use crate::sequence::MatchSequence;
+use arrayvec::ArrayVec;
+use glyph_buffer::buffer::hb_buffer_t;
+use glyph_types::info::hb_glyph_info_t;
+
+/// How many glyphs a rule may ask for, its first among them.
+pub const MAX_CONTEXT_LENGTH: usize = 64;
+
+/// The indices of a match, counted from the cursor.
+pub type MatchPositions = ArrayVec<usize, MAX_CONTEXT_LENGTH>;
+
+#[tactic(auto, using(crate::proofs::Nearest::taken_there, crate::proofs::Nearest::refused_there, crate::proofs::Nearest::passed_there, crate::proofs::Nearest::ended_there))]
+/// The nearest glyph from an index ahead on that is the k-th of a sequence.
+pub(crate) fn nearest_ahead<'a>(
+    search: &GlyphSearch<'a>,
+    sequence: Option<MatchSequence<'a>>,
+    k: usize,
+    from: usize,
+    buffer: &hb_buffer_t,
+) -> Result<usize, usize>
+    requires { from ≤ length buffer.now.ahead }
+    ensures found { result
+        ≡ nearest_from (answer (search_of search.now) (test_of (search_of search.now) sequence.entry k)) from
+        (strip buffer.now.ahead) }
+    ensures inside { IfOk result (λ at. at < length buffer.now.ahead) }
+    ensures read { IfErr result (λ end. end ≤ length buffer.now.ahead) }
+{
+    let end = buffer.len() - buffer.idx();
+    for at in from..end {
+        match search.match_(sequence, k, buffer.cur(at)) {
+            match_t::MATCH => return Ok(at),
+            match_t::NOT_MATCH => return Err(at + 1),
+            match_t::SKIP => {}
+        }
+    }
+    Err(end)
+}
+
+/// The glyph behind the cursor with so many between.
+fn behind(buffer: &hb_buffer_t, at: usize) -> &hb_glyph_info_t
+    requires { at < length buffer.now.behind }
+    ensures { slice_get (reverse buffer.now.behind) at ≡ Some result.now }
+{
+    let index = buffer.out_len() - 1 - at;
+    &buffer.out_info()[index]
+}
+
+#[tactic(auto, using(crate::proofs::Nearest::taken_before, crate::proofs::Nearest::refused_before, crate::proofs::Nearest::passed_before, crate::proofs::Nearest::ended_before))]
+/// As `nearest_ahead`, backward from the cursor.
+pub(crate) fn nearest_behind<'a>(
+    search: &GlyphSearch<'a>,
+    sequence: Option<MatchSequence<'a>>,
+    k: usize,
+    from: usize,
+    buffer: &hb_buffer_t,
+) -> Result<usize, usize>
+    requires { from ≤ length buffer.now.behind }
+    ensures found { result
+        ≡ nearest_from (answer (search_of search.now) (test_of (search_of search.now) sequence.entry k)) from
+        (reverse (strip buffer.now.behind)) }
+    ensures inside { IfOk result (λ at. at < length buffer.now.behind) }
+    ensures read { IfErr result (λ end. end ≤ length buffer.now.behind) }
+{
+    let end = buffer.out_len();
+    for at in from..end {
+        match search.match_(sequence, k, behind(buffer, at)) {
+            match_t::MATCH => return Ok(at),
+            match_t::NOT_MATCH => return Err(at + 1),
+            match_t::SKIP => {}
+        }
+    }
+    Err(end)
+}
+
+#[tactic(auto, using(crate::proofs::Each::one_reached, crate::proofs::Each::one_failed, crate::proofs::Each::all_reached, crate::proofs::Each::noted_first, crate::proofs::Each::noted_one, crate::proofs::Each::noted_all, crate::proofs::Each::all_indices))]
+/// Matches the input of a rule: its first glyph is the one at the cursor, and each further glyph the nearest behind the
+/// one before it that the sequence asks for, with only such between as are passed over. It answers where the last ends,
+/// or how far the search read that failed: behind the glyph that ended it, or at the end of the text. The indices found
+/// are noted, also before a failure.
+pub fn match_input(
+    ctx: &hb_ot_apply_context_t,
+    sequence: &MatchSequence,
+    buffer: &hb_buffer_t,
+    match_positions: &mut MatchPositions,
+) -> Result<usize, usize>
+    requires there { 0 < length buffer.now.ahead }
+    requires fits { length (tests_of sequence.now) < 64 }
+    ensures end { result
+        ≡ input_end (own_search (applied_of ctx.now) (cut_of buffer.now)) (tests_of sequence.now)
+        (cut_of buffer.now) }
+    ensures inside { IfOk result (λ end. end ≤ length buffer.now.ahead) }
+    ensures read { IfErr result (λ end. end ≤ length buffer.now.ahead) }
+    ensures positions { match_positions.new.items
+        ≡ input_indices (own_search (applied_of ctx.now) (cut_of buffer.now)) (tests_of sequence.now)
+        (cut_of buffer.now) }
+    ensures ahead { All (λ q. q < length buffer.now.ahead) match_positions.new.items }
+{
+    let search = ctx.own_search(buffer);
+    match_from_first(&search, sequence, buffer, match_positions)
+}
+
+#[tactic(auto, using(crate::proofs::Each::one_reached, crate::proofs::Each::one_failed, crate::proofs::Each::all_reached, crate::proofs::Each::noted_first, crate::proofs::Each::noted_one, crate::proofs::Each::noted_all, crate::proofs::Each::all_indices))]
+fn match_from_first<'a>(
+    search: &GlyphSearch<'a>,
+    sequence: &MatchSequence<'a>,
+    buffer: &hb_buffer_t,
+    match_positions: &mut MatchPositions,
+) -> Result<usize, usize>
+    requires there { 0 < length buffer.now.ahead }
+    requires fits { length (tests_of sequence.now) < 64 }
+    ensures end { result ≡ reached (asks_of (search_of search.now) (tests_of sequence.now)) 1 (strip buffer.now.ahead) }
+    ensures inside { IfOk result (λ end. end ≤ length buffer.now.ahead) }
+    ensures read { IfErr result (λ end. end ≤ length buffer.now.ahead) }
+    ensures positions { match_positions.new.items
+        ≡ 0 ∷ indices (asks_of (search_of search.now) (tests_of sequence.now)) 1 (strip buffer.now.ahead) }
+    ensures ahead { All (λ q. q < length buffer.now.ahead) match_positions.new.items }
+{
+    let _end = buffer.len();
+    match_positions.clear();
+    match_positions.push(0);
+    let mut from = 1;
+    for k in 0..sequence.len() {
+        match nearest_ahead(search, Some(*sequence), k, from, buffer) {
+            Ok(at) => {
+                match_positions.push(at);
+                from = at + 1;
+            }
+            Err(end) => return Err(end),
+        }
+    }
+    Ok(from)
+}
+
+#[tactic(auto, using(crate::proofs::Each::one_reached, crate::proofs::Each::one_failed, crate::proofs::Each::all_reached))]
+fn match_ahead<'a>(
+    search: &GlyphSearch<'a>,
+    sequence: &MatchSequence<'a>,
+    start: usize,
+    buffer: &hb_buffer_t,
+) -> Result<usize, usize>
+    requires { start ≤ length buffer.now.ahead }
+    ensures end { result
+        ≡ reached (asks_of (search_of search.now) (tests_of sequence.now)) start (strip buffer.now.ahead) }
+    ensures inside { IfOk result (λ end. end ≤ length buffer.now.ahead) }
+    ensures read { IfErr result (λ end. end ≤ length buffer.now.ahead) }
+{
+    let _end = buffer.len();
+    let mut from = start;
+    for k in 0..sequence.len() {
+        match nearest_ahead(search, Some(*sequence), k, from, buffer) {
+            Ok(at) => from = at + 1,
+            Err(end) => return Err(end),
+        }
+    }
+    Ok(from)
+}
+
+#[tactic(auto, using(crate::proofs::Each::one_reached, crate::proofs::Each::one_failed, crate::proofs::Each::all_reached))]
+fn match_behind<'a>(
+    search: &GlyphSearch<'a>,
+    sequence: &MatchSequence<'a>,
+    buffer: &hb_buffer_t,
+) -> Result<usize, usize>
+    ensures end { result
+        ≡ reached (asks_of (search_of search.now) (tests_of sequence.now)) 0 (reverse (strip buffer.now.behind)) }
+    ensures inside { IfOk result (λ end. end ≤ length buffer.now.behind) }
+    ensures read { IfErr result (λ end. end ≤ length buffer.now.behind) }
+{
+    let _end = buffer.out_len();
+    let mut from = 0;
+    for k in 0..sequence.len() {
+        match nearest_behind(search, Some(*sequence), k, from, buffer) {
+            Ok(at) => from = at + 1,
+            Err(end) => return Err(end),
+        }
+    }
+    Ok(from)
+}
+
+/// Matches what a rule asks for behind its input, which ends at the index `start`. It answers where the last glyph ends, or
+/// how far the search read that failed.
+pub fn match_lookahead(
+    ctx: &hb_ot_apply_context_t,
+    sequence: &MatchSequence,
+    start: usize,
+    buffer: &hb_buffer_t,
+) -> Result<usize, usize>
+    requires there { 0 < length buffer.now.ahead }
+    requires within { start ≤ length buffer.now.ahead }
+    ensures end { result
+        ≡ lookahead_end (context_search (applied_of ctx.now) (cut_of buffer.now)) (tests_of sequence.now) start
+        (cut_of buffer.now) }
+    ensures inside { IfOk result (λ end. end ≤ length buffer.now.ahead) }
+    ensures read { IfErr result (λ end. end ≤ length buffer.now.ahead) }
+{
+    let search = ctx.context_search(buffer);
+    match_ahead(&search, sequence, start, buffer)
+}
+
+/// Matches what a rule asks for before the cursor, the nearest first. It answers how many glyphs back the last one is, it
+/// included, or how far back the search read that failed.
+pub fn match_backtrack(
+    ctx: &hb_ot_apply_context_t,
+    sequence: &MatchSequence,
+    buffer: &hb_buffer_t,
+) -> Result<usize, usize>
+    requires { 0 < length buffer.now.ahead }
+    ensures end { result
+        ≡ backtrack_end (context_search (applied_of ctx.now) (cut_of buffer.now)) (tests_of sequence.now)
+        (cut_of buffer.now) }
+    ensures inside { IfOk result (λ end. end ≤ length buffer.now.behind) }
+    ensures read { IfErr result (λ end. end ≤ length buffer.now.behind) }
+{
+    let search = ctx.context_search(buffer);
+    match_behind(&search, sequence, buffer)
+}

@@ -1,0 +1,128 @@
+ghost use Rattle.std.specs.Prelude.{◌≡◌};
+ghost use Rattle.glyph_lists.specs.Items.{item_of};
+ghost use Rattle.layout_match.specs.Searches.{answer, has_mask, is_ignorable, is_in_syllable, is_left_out, is_other_mark, is_skippable, is_wanted, search_of, test_of};
+
+use crate::sequence::MatchSequence;
+use font_face::Face;
+use glyph_types::flags::{GlyphPropsFlags, UnicodeProps};
+use glyph_types::info::{DEFINED, hb_glyph_info_t};
+use layout_common::flags::{IGNORE_FLAGS, MARK_ATTACHMENT_TYPE_MASK, USE_MARK_FILTERING_SET};
+
+/// What a search says of a glyph.
+#[derive(Clone, Copy, PartialEq, Eq, Debug)]
+pub enum match_t {
+    /// It is what is asked for.
+    MATCH,
+    /// It isn't, and ends the search.
+    NOT_MATCH,
+    /// It is passed over.
+    SKIP,
+}
+
+/// How glyphs are searched: which are passed over, and what each that is taken needs beside its test.
+#[derive(Clone, Copy, Debug)]
+pub struct GlyphSearch<'a> {
+    pub face: &'a Face,
+    /// The lookup's flag, and above its 16 bits the index of its mark filtering set.
+    pub lookup_props: u32,
+    pub ignore_zwnj: bool,
+    pub ignore_zwj: bool,
+    pub ignore_hidden: bool,
+    /// The feature bits of which a glyph needs one, where such are asked for.
+    pub mask: Option<u32>,
+    /// The syllable that a glyph has to be of, where one is asked for.
+    pub syllable: Option<u8>,
+}
+
+fn is_other_mark(face: &Face, lookup_props: u32, info: &hb_glyph_info_t) -> bool
+    ensures { result ≡ is_other_mark lookup_props face.now.gdef.sets (item_of info.now) }
+{
+    if lookup_props & u32::from(USE_MARK_FILTERING_SET) != 0 {
+        let set = (lookup_props / 0x1_0000) as u16;
+        return !(info.glyph_id <= 65535 && face.is_in_mark_set(set, info.glyph_id as u16));
+    }
+    let attachment = lookup_props & u32::from(MARK_ATTACHMENT_TYPE_MASK);
+    attachment != 0
+        && attachment != u32::from(info.glyph_props.0) & u32::from(MARK_ATTACHMENT_TYPE_MASK)
+}
+
+/// Whether a lookup's flag leaves out a glyph.
+pub fn is_left_out(face: &Face, lookup_props: u32, info: &hb_glyph_info_t) -> bool
+    ensures { result ≡ is_left_out lookup_props face.now.gdef.sets (item_of info.now) }
+{
+    let glyph_props = u32::from(info.glyph_props.0);
+    glyph_props & (lookup_props & u32::from(IGNORE_FLAGS)) != 0
+        || (info.glyph_props.0 & GlyphPropsFlags::MARK.0 != 0
+            && is_other_mark(face, lookup_props, info))
+}
+
+fn is_ignorable(info: &hb_glyph_info_t) -> bool
+    ensures { result ≡ is_ignorable (item_of info.now) }
+{
+    info.unicode_props.0 & UnicodeProps::IGNORABLE.0 != 0
+        && info.glyph_props.0 & GlyphPropsFlags::SUBSTITUTED.0 == 0
+}
+
+impl<'a> GlyphSearch<'a> {
+    fn is_skippable(&self, info: &hb_glyph_info_t) -> bool
+        ensures { result ≡ is_skippable (search_of self.now) (item_of info.now) }
+    {
+        let props = info.unicode_props.0;
+        is_ignorable(info)
+            && (self.ignore_hidden || props & UnicodeProps::HIDDEN.0 == 0)
+            && (self.ignore_zwnj || props & UnicodeProps::CF_ZWNJ.0 == 0)
+            && (self.ignore_zwj || props & UnicodeProps::CF_ZWJ.0 == 0)
+    }
+
+    fn has_mask(&self, info: &hb_glyph_info_t) -> bool
+        ensures { result ≡ has_mask (search_of self.now).mask (item_of info.now) }
+    {
+        // A mask of features has none of the glyph flags.
+        let features = info.mask - (info.mask & DEFINED);
+        match self.mask {
+            None => true,
+            Some(bits) => features & bits != 0,
+        }
+    }
+
+    fn is_in_syllable(&self, info: &hb_glyph_info_t) -> bool
+        ensures { result ≡ is_in_syllable (search_of self.now).syllable (item_of info.now) }
+    {
+        match self.syllable {
+            None => true,
+            Some(syllable) => info.syllable == syllable,
+        }
+    }
+
+    fn fits(&self, sequence: Option<MatchSequence<'a>>, k: usize, info: &hb_glyph_info_t) -> bool
+        ensures { result ≡ test_of (search_of self.now) sequence.entry k (item_of info.now) }
+    {
+        match sequence {
+            None => !self.is_skippable(info),
+            Some(sequence) => sequence.fits(k, info),
+        }
+    }
+
+    /// What the search says of a glyph where the k-th glyph of a sequence is asked for; without a sequence any glyph that
+    /// can't be passed over.
+    pub fn match_(
+        &self,
+        sequence: Option<MatchSequence<'a>>,
+        k: usize,
+        info: &hb_glyph_info_t,
+    ) -> match_t
+        ensures { result
+            ≡ answer (search_of self.now) (test_of (search_of self.now) sequence.entry k) (item_of info.now) }
+    {
+        if is_left_out(self.face, self.lookup_props, info) {
+            return match_t::SKIP;
+        }
+        if self.has_mask(info) && self.is_in_syllable(info) && self.fits(sequence, k, info) {
+            return match_t::MATCH;
+        }
+        if self.is_skippable(info) {
+            return match_t::SKIP;
+        }
+        match_t::NOT_MATCH
+    }
+}
