@@ -4,7 +4,8 @@ use Rattle.std.specs.Ordering.{nat_cmp}
 use Rattle.serde_json.specs.Data.{Data, Items}
 use Rattle.json_values.specs.declared.fault.JsonFault.{JsonFault}
 use Rattle.json_values.specs.Cell.{and_then, word}
-use Rattle.face_json.specs.Lists.{array_of, number_below, part_list, rows_at, rows_in_turn}
+use Rattle.json_values.specs.Parts.{list_of}
+use Rattle.face_json.specs.Lists.{number_below, part_list, rows_at, rows_in_turn}
 use Rattle.face_json.specs.Row.{first_and_rest, only, row_of}
 use Rattle.face_json.specs.Sorted.{rows_by_key, sorted_part}
 use Rattle.layout_common.specs.Coverage.{in_order}
@@ -40,7 +41,7 @@ abbrev pub classes_in : ℕ → Items → Result ClassDefinition JsonFault
 classes_in limit ds = and_then (glyph_rows (only (number_below limit)) ds) (λ rows. Ok (record { rows = rows }))
 
 abbrev pub class_definition : ℕ → Data → Result ClassDefinition JsonFault
-class_definition limit d = and_then (array_of d) (classes_in limit)
+class_definition limit d = and_then (list_of d) (classes_in limit)
 
 -- the subtables of a lookup in turn
 abbrev pub subtables_of : {A : Type 0} → (Data → Result A JsonFault) → Data → Result (List A) JsonFault

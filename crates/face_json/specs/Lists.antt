@@ -6,6 +6,7 @@ use Rattle.serde_json.specs.Find.{get, as_array, as_object}
 use Rattle.json_values.specs.declared.fault.JsonFault.{JsonFault}
 use Rattle.json_values.specs.declared.fault.JsonFault.TheVariants.{WrongShape, OutOfRange}
 use Rattle.json_values.specs.Cell.{and_then, first_fault, word}
+use Rattle.json_values.specs.Parts.{list_of, list_at}
 use Rattle.json_values.specs.Rows.{behind}
 
 -- ---- numbers
@@ -34,17 +35,6 @@ or_null read (object ms) = some_of (read (object ms))
 
 -- ---- lists
 
-abbrev pub array_of : Data → Result Items JsonFault
-array_of d = ok_or (as_array d) WrongShape
-
-abbrev pub array_or_none : Option Data → Result Items JsonFault
-array_or_none None = Ok no_items
-array_or_none (Some d) = array_of d
-
--- the list of a key, which is empty where the key is missing
-abbrev pub array_at : List ℕ → Data → Result Items JsonFault
-array_at key d = array_or_none (get key d)
-
 abbrev pub is_object : Data → Result ⊤ JsonFault
 is_object d = if is_some (as_object d) then Ok tt else Err WrongShape
 
@@ -67,7 +57,7 @@ behind_all (Err e) (Ok a) = Err e
 behind_all (Err e) (Err f) = Err (first_fault e f)
 
 abbrev pub part_list : {A : Type 0} → (Data → Result A JsonFault) → Data → Result (List A) JsonFault
-part_list read d = and_then (array_of d) (parts_of read)
+part_list read d = and_then (list_of d) (parts_of read)
 
 -- a list of rows: the fault of the first faulty row
 abbrev pub rows_in_turn : {A : Type 0} → (Data → Result A JsonFault) → Items → Result (List A) JsonFault
@@ -76,7 +66,7 @@ rows_in_turn read (item d ds) = and_then (read d) (λ r. behind (r ∷ []) (rows
 
 -- the rows of a key
 abbrev pub rows_at : {A : Type 0} → List ℕ → (Items → Result A JsonFault) → Data → Result A JsonFault
-rows_at key read d = and_then (array_at key d) read
+rows_at key read d = and_then (list_at key d) read
 
 -- ---- lengths
 

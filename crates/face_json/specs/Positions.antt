@@ -6,7 +6,8 @@ use Rattle.serde_json.specs.Data.{Data, Items}
 use Rattle.serde_json.specs.Find.{as_object}
 use Rattle.json_values.specs.declared.fault.JsonFault.{JsonFault}
 use Rattle.json_values.specs.Cell.{and_then, signed_word}
-use Rattle.face_json.specs.Lists.{array_of, number_below, or_null, part_list, rows_at, rows_in_turn, count_at}
+use Rattle.json_values.specs.Parts.{list_of}
+use Rattle.face_json.specs.Lists.{number_below, or_null, part_list, rows_at, rows_in_turn, count_at}
 use Rattle.face_json.specs.Row.{first_and_rest, no_more, only, row_of_two, row_of_four}
 use Rattle.face_json.specs.Sorted.{rows_by_key}
 use Rattle.face_json.specs.Lengths.{items_at, least_length}
@@ -35,7 +36,7 @@ value_record d =
 
 -- rows of a glyph and its adjustment
 abbrev pub single_pos : Data → Result SinglePos JsonFault
-single_pos d = and_then (and_then (array_of d) (glyph_rows (only value_record))) (λ rows. Ok (record { rows = rows }))
+single_pos d = and_then (and_then (list_of d) (glyph_rows (only value_record))) (λ rows. Ok (record { rows = rows }))
 
 -- ---- pairs
 
@@ -74,7 +75,7 @@ abbrev pub pair_pos : ℕ → Data → Result PairPos JsonFault
 pair_pos limit d =
     if is_some (as_object d)
     then and_then (class_pairs limit d) (λ p. Ok (Classes p))
-    else and_then (and_then (array_of d) (pair_rows limit)) (λ rows. Ok (Glyphs (record { rows = rows })))
+    else and_then (and_then (list_of d) (pair_rows limit)) (λ rows. Ok (Glyphs (record { rows = rows })))
 
 -- ---- cursive attachment
 
@@ -85,4 +86,4 @@ entry_exit ds =
 
 -- rows of a glyph, its entry and its exit
 abbrev pub cursive_pos : Data → Result CursivePos JsonFault
-cursive_pos d = and_then (and_then (array_of d) (glyph_rows entry_exit)) (λ rows. Ok (record { rows = rows }))
+cursive_pos d = and_then (and_then (list_of d) (glyph_rows entry_exit)) (λ rows. Ok (record { rows = rows }))

@@ -4,7 +4,7 @@ use Rattle.serde_json.specs.Data.{Data, Items, no_items, item}
 use Rattle.json_values.specs.declared.fault.JsonFault.{JsonFault}
 use Rattle.json_values.specs.declared.fault.JsonFault.TheVariants.{WrongShape}
 use Rattle.json_values.specs.Cell.{and_then, both}
-use Rattle.face_json.specs.Lists.{array_of}
+use Rattle.json_values.specs.Parts.{list_of}
 
 -- the row ends
 abbrev pub no_more : Items → Result ⊤ JsonFault
@@ -25,7 +25,7 @@ only read ds = and_then (first_and_rest read no_more ds) (λ p. Ok p.0)
 
 -- a list of exactly these parts
 abbrev pub row_of : {A : Type 0} → (Items → Result A JsonFault) → Data → Result A JsonFault
-row_of parts d = and_then (array_of d) parts
+row_of parts d = and_then (list_of d) parts
 
 abbrev pub row_of_two : {A B : Type 0} → (Data → Result A JsonFault) → (Data → Result B JsonFault) → Data → Result (A × (B × ⊤)) JsonFault
 row_of_two a b d = row_of (first_and_rest a (first_and_rest b no_more)) d

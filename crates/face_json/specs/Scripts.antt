@@ -13,7 +13,7 @@ use Rattle.face_json.specs.Sorted.{rows_by_key}
 use Rattle.layout_font.specs.Keyed.{is_rising}
 use Rattle.layout_font.specs.Layout.{LangSysTable, LangSysEntry, ScriptTable, FeatureTable, LayoutLists}
 use Rattle.shaping_text.specs.declared.tag.Tag.{Tag}
-use Rattle.face_json.specs.Tags.{tag}
+use Rattle.json_values.specs.Parts.{tag}
 
 -- ---- scripts, in a table with as many features as the limit says
 

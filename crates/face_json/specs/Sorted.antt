@@ -5,15 +5,13 @@ use Rattle.serde_json.specs.Data.{Data, Items, no_items, item}
 use Rattle.json_values.specs.declared.fault.JsonFault.{JsonFault}
 use Rattle.json_values.specs.declared.fault.JsonFault.TheVariants.{OutOfOrder}
 use Rattle.json_values.specs.Cell.{and_then}
-use Rattle.json_values.specs.Rows.{behind}
+use Rattle.json_values.specs.Rows.{rows_after}
 use Rattle.sorted_rows.specs.Keys.{is_above, is_rising}
 use Rattle.face_json.specs.Lists.{part_list}
 
 -- a list of rows whose keys rise strictly: the fault of the first faulty row, of which the order comes last
-abbrev pub rows_by_key : {R K : Type 0} → (K → K → Ordering) → (R → K) → (Data → Result R JsonFault) → Option K → Items → Result (List R) JsonFault
-rows_by_key order key read before no_items = Ok []
-rows_by_key order key read before (item d ds) =
-    and_then (read d) (λ r. if is_above order before (key r) then behind (r ∷ []) (rows_by_key order key read (Some (key r)) ds) else Err OutOfOrder)
+unfoldable pub rows_by_key : {R K : Type 0} → (K → K → Ordering) → (R → K) → (Data → Result R JsonFault) → Option K → Items → Result (List R) JsonFault
+rows_by_key order key read before ds = rows_after (is_above order) key read before ds
 
 abbrev pub if_rising : {R K : Type 0} → (K → K → Ordering) → (R → K) → List R → Result (List R) JsonFault
 if_rising order key rows = if is_rising order key None rows then Ok rows else Err OutOfOrder

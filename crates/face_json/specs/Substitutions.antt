@@ -5,7 +5,8 @@ use Rattle.serde_json.specs.Data.{Data, Items, no_items, item}
 use Rattle.serde_json.specs.Find.{as_number}
 use Rattle.json_values.specs.declared.fault.JsonFault.{JsonFault}
 use Rattle.json_values.specs.Cell.{and_then}
-use Rattle.face_json.specs.Lists.{array_of, number_below, parts_of, part_list}
+use Rattle.json_values.specs.Parts.{list_of}
+use Rattle.face_json.specs.Lists.{number_below, parts_of, part_list}
 use Rattle.face_json.specs.Row.{only, row_of_two, row_of_three}
 use Rattle.face_json.specs.Sorted.{rows_by_key}
 use Rattle.face_json.specs.Glyphs.{glyph_rows, glyph_row_list, coverage}
@@ -18,7 +19,7 @@ use Rattle.layout_substitutions.specs.declared.reverse.ReverseChainSubst.{Revers
 
 -- rows of a glyph and its substitute
 abbrev pub single : ℕ → Data → Result SingleSubst JsonFault
-single limit d = and_then (and_then (array_of d) (glyph_rows (only (number_below limit)))) (λ rows. Ok (record { rows = rows }))
+single limit d = and_then (and_then (list_of d) (glyph_rows (only (number_below limit)))) (λ rows. Ok (record { rows = rows }))
 
 -- a glyph, and a list of glyphs
 abbrev pub sequence_row : ℕ → Data → Result SequenceRow JsonFault
@@ -26,7 +27,7 @@ sequence_row limit d =
     and_then (row_of_two (number_below limit) (part_list (number_below limit)) d) (λ p. Ok (record { glyph = p.0; glyphs = p.1.0 }))
 
 abbrev pub sequence_rows : ℕ → Data → Result (List SequenceRow) JsonFault
-sequence_rows limit d = and_then (array_of d) (rows_by_key nat_cmp (λ r. r.glyph) (sequence_row limit) None)
+sequence_rows limit d = and_then (list_of d) (rows_by_key nat_cmp (λ r. r.glyph) (sequence_row limit) None)
 
 -- rows of a glyph and its sequence
 abbrev pub multiple : ℕ → Data → Result MultipleSubst JsonFault
@@ -52,7 +53,7 @@ is_ligature (item a (item b (item c ds))) = false
 
 -- one ligature, or a list of them
 abbrev pub ligatures : ℕ → Data → Result (List LigatureTable) JsonFault
-ligatures limit d = and_then (array_of d) (λ ds.
+ligatures limit d = and_then (list_of d) (λ ds.
     if is_ligature ds then and_then (ligature limit d) (λ l. Ok (l ∷ [])) else parts_of (ligature limit) ds)
 
 -- a first glyph, and its ligatures
@@ -62,7 +63,7 @@ ligature_set limit d =
 
 -- sets by rising first glyphs
 abbrev pub ligature_subst : ℕ → Data → Result (List LigatureSetTable) JsonFault
-ligature_subst limit d = and_then (array_of d) (rows_by_key nat_cmp (λ s. s.first) (ligature_set limit) None)
+ligature_subst limit d = and_then (list_of d) (rows_by_key nat_cmp (λ s. s.first) (ligature_set limit) None)
 
 -- ---- reverse chaining
 

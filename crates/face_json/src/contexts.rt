@@ -16,7 +16,7 @@ use sorted_rows::SortedRows;
 use std::alloc::Global;
 
 /// The formats of a context: what the items of its rules are.
-#[derive(Clone, Copy, PartialEq, Eq, Debug)]
+#[derive(Clone, Copy)]
 pub enum ContextFormat {
     Glyphs,
     Classes,

@@ -3,11 +3,12 @@ ghost use Rattle.std.specs.Prelude.{◌≡◌, ◌≢◌, IfOk, IfErr, Ok, Err};
 ghost use Rattle.serde_json.specs.View.{view};
 ghost use Rattle.face_json.specs.Scripts.{feature, layout_of};
 
-use crate::objects::{array_at, count_at, read_in_turn_at};
+use crate::objects::{count_at, read_in_turn_at};
 use crate::rising::read_rising;
 use crate::rows::read_row;
 use crate::value::Part;
 use json_values::fault::JsonFault;
+use json_values::parts::list_at;
 use layout_common::array::Array;
 use layout_font::table::{FeatureRecord, LayoutTable};
 use serde_json::Value;
@@ -32,7 +33,7 @@ pub fn read_layout(alloc: Global, value: &Value) -> Result<LayoutTable, JsonFaul
 {
     let feature_count = count_at(value, "features");
     let lookup_count = count_at(value, "lookups");
-    let scripts = read_rising(alloc, array_at(value, "scripts")?, feature_count)?;
+    let scripts = read_rising(alloc, list_at(value, "scripts")?, feature_count)?;
     let features: Array<FeatureRecord> = read_in_turn_at(alloc, value, "features", lookup_count)?;
     Ok(LayoutTable::new(scripts, features.into_vec()))
 }

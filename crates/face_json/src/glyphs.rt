@@ -4,12 +4,13 @@ ghost use Rattle.serde_json.specs.View.{view, items_view};
 ghost use Rattle.face_json.specs.Lists.{rows_at};
 ghost use Rattle.face_json.specs.Glyphs.{glyph_row, coverage, coverage_at, class_definition, classes_in};
 
-use crate::objects::{array, array_at, read_in_turn_at};
+use crate::objects::read_in_turn_at;
 use crate::rising::read_by_key;
 use crate::rows::{Parts, split_row};
 use crate::value::Part;
 use json_values::cell::{Cell, pair};
 use json_values::fault::JsonFault;
+use json_values::parts::{list, list_at};
 use layout_common::array::Array;
 use layout_common::class_definition::ClassDefinition;
 use layout_common::coverage::Coverage;
@@ -46,7 +47,7 @@ impl Part for ClassDefinition {
     ghost part = { class_definition };
 
     fn read_part(alloc: Global, value: &Value, limit: usize) -> Result<ClassDefinition, JsonFault> {
-        read_classes(alloc, array(value)?, limit)
+        read_classes(alloc, list(value)?, limit)
     }
 }
 
@@ -75,7 +76,7 @@ pub fn read_classes_at(
     ensures refused { IfErr result (λ e. e ≢ JsonFault.OutOfMemory
         → rows_at key.now (classes_in limit) (view value.now) ≡ Err e) }
 {
-    read_classes(alloc, array_at(value, key)?, limit)
+    read_classes(alloc, list_at(value, key)?, limit)
 }
 
 /// The set of glyphs of a key.

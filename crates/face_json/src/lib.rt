@@ -18,7 +18,6 @@ mod rows;
 mod scripts;
 mod substitution_table;
 mod substitutions;
-mod tags;
 mod value;
 
 pub use face::read_face;

@@ -4,10 +4,10 @@ ghost use Rattle.std.specs.Result.{result_map_both};
 ghost use Rattle.serde_json.specs.View.{items_view};
 ghost use Rattle.face_json.specs.Lists.{behind_all, parts_of, part_list, rows_in_turn};
 
-use crate::objects::array;
 use crate::value::Part;
 use json_values::cell::first_fault;
 use json_values::fault::JsonFault;
+use json_values::parts::list;
 use layout_common::array::Array;
 use serde_json::Value;
 use std::alloc::Global;
@@ -17,7 +17,7 @@ impl<P: Part> Part for Array<P> {
     ghost part = { λ limit. part_list (P.part limit) };
 
     fn read_part(alloc: Global, value: &Value, limit: usize) -> Result<Array<P>, JsonFault> {
-        let parts = read_list(alloc, array(value)?, limit)?;
+        let parts = read_list(alloc, list(value)?, limit)?;
         Ok(Array::new(parts))
     }
 }

@@ -1,11 +1,13 @@
-//! Numbers.
+//! Numbers and tags.
 ghost use Rattle.json_values.specs.Cell.{signed_word, character};
+ghost use Rattle.json_values.specs.Parts.{tag};
 ghost use Rattle.face_json.specs.Lists.{number_below};
 
 use crate::value::Part;
 use json_values::cell::Cell;
 use json_values::fault::JsonFault;
 use serde_json::Value;
+use shaping_text::tag::Tag;
 use std::alloc::Global;
 
 impl Part for u16 {
@@ -34,5 +36,13 @@ impl Part for char {
 
     fn read_part(_alloc: Global, value: &Value, _limit: usize) -> Result<char, JsonFault> {
         char::read(value)
+    }
+}
+
+impl Part for Tag {
+    ghost part = { λ _. tag };
+
+    fn read_part(_alloc: Global, value: &Value, _limit: usize) -> Result<Tag, JsonFault> {
+        Tag::read(value)
     }
 }

@@ -1,9 +1,9 @@
-//! Lists and objects, and the lists of an object's keys.
+//! Objects, and the lists of an object's keys.
 ghost use Rattle.std.specs.Prelude.{◌≡◌, ◌≢◌, IfOk, IfErr, Ok, Err, None};
 ghost use Rattle.serde_json.specs.Find.{get};
-ghost use Rattle.serde_json.specs.View.{view, items_view};
+ghost use Rattle.serde_json.specs.View.{view};
 ghost use Rattle.json_values.specs.Objects.{read_if_there};
-ghost use Rattle.face_json.specs.Lists.{array_of, array_at, rows_at, rows_in_turn, parts_of, count_at, is_object};
+ghost use Rattle.face_json.specs.Lists.{rows_at, rows_in_turn, parts_of, count_at, is_object};
 ghost use Rattle.face_json.specs.Sorted.{rows_by_key};
 ghost use Rattle.face_json.specs.Glyphs.{glyph_limit, subtables_of};
 
@@ -12,21 +12,11 @@ use crate::lists::{read_in_turn, read_list};
 use crate::rising::read_by_key;
 use crate::value::Part;
 use json_values::fault::JsonFault;
+use json_values::parts::list_at;
 use layout_common::array::Array;
 use serde_json::Value;
 use sorted_rows::{Keyed, SortedRows};
 use std::alloc::Global;
-
-/// The items of a list.
-pub fn array(value: &Value) -> Result<&[Value], JsonFault>
-    ensures ok { IfOk result (λ vs. array_of (view value.entry.now) ≡ Ok (items_view vs.now)) }
-    ensures refused { IfErr result (λ e. array_of (view value.entry.now) ≡ Err e) }
-{
-    match value.as_array() {
-        Some(values) => Ok(values),
-        None => Err(JsonFault::WrongShape),
-    }
-}
 
 /// Refuses what is no object.
 pub fn object(value: &Value) -> Result<(), JsonFault>
@@ -36,17 +26,6 @@ pub fn object(value: &Value) -> Result<(), JsonFault>
         Ok(())
     } else {
         Err(JsonFault::WrongShape)
-    }
-}
-
-/// The items of the list of a key, none where the key is missing.
-pub fn array_at<'a>(value: &'a Value, key: &str) -> Result<&'a [Value], JsonFault>
-    ensures ok { IfOk result (λ vs. array_at key.now (view value.entry.now) ≡ Ok (items_view vs.now)) }
-    ensures refused { IfErr result (λ e. array_at key.now (view value.entry.now) ≡ Err e) }
-{
-    match value.get(key) {
-        Some(value) => array(value),
-        None => Ok(&[]),
     }
 }
 
@@ -62,7 +41,7 @@ pub fn read_in_turn_at<P: Part>(
     ensures refused { IfErr result (λ e. e ≢ JsonFault.OutOfMemory
         → rows_at key.now (rows_in_turn (P.part limit)) (view value.now) ≡ Err e) }
 {
-    read_in_turn(alloc, array_at(value, key)?, limit)
+    read_in_turn(alloc, list_at(value, key)?, limit)
 }
 
 /// The rows of a key in turn, whose keys rise strictly.
@@ -77,7 +56,7 @@ pub fn read_by_key_at<R: Part + Keyed>(
     ensures refused { IfErr result (λ e. e ≢ JsonFault.OutOfMemory
         → rows_at key.now (rows_by_key R.Key.cmp R.key_of (R.part limit) None) (view value.now) ≡ Err e) }
 {
-    read_by_key(alloc, array_at(value, key)?, limit)
+    read_by_key(alloc, list_at(value, key)?, limit)
 }
 
 /// The list of a key, as a list inside a row.
@@ -92,7 +71,7 @@ pub fn read_list_at<P: Part>(
     ensures refused { IfErr result (λ e. e ≢ JsonFault.OutOfMemory
         → rows_at key.now (parts_of (P.part limit)) (view value.now) ≡ Err e) }
 {
-    read_list(alloc, array_at(value, key)?, limit)
+    read_list(alloc, list_at(value, key)?, limit)
 }
 
 /// The value of a key, none where the key is missing.

@@ -14,7 +14,7 @@ use serde_json::Value;
 use std::alloc::Global;
 
 /// The types of positioning lookups.
-#[derive(Clone, Copy, PartialEq, Eq, Debug)]
+#[derive(Clone, Copy)]
 pub enum PositioningType {
     Single,
     Pair,

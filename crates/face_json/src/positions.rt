@@ -7,11 +7,12 @@ ghost use Rattle.face_json.specs.Positions.{anchor, value_record, single_pos, pa
 
 use crate::glyphs::{read_classes_at, read_coverage_at};
 use crate::lengths::{items_at, least_length};
-use crate::objects::{array, count_at, read_in_turn_at};
+use crate::objects::{count_at, read_in_turn_at};
 use crate::rising::read_by_key;
 use crate::rows::{Parts, read_only, read_row};
 use crate::value::Part;
 use json_values::fault::JsonFault;
+use json_values::parts::list;
 use layout_positions::cursive::{CursivePos, EntryExit};
 use layout_positions::pair::{Class1Record, ClassPairs, GlyphPairs, PairPos, PairRow, PairValues};
 use layout_positions::single::SinglePos;
@@ -57,7 +58,7 @@ impl Part for SinglePos {
     ghost part = { λ _. single_pos };
 
     fn read_part(alloc: Global, value: &Value, limit: usize) -> Result<SinglePos, JsonFault> {
-        let rows = read_by_key(alloc, array(value)?, limit)?;
+        let rows = read_by_key(alloc, list(value)?, limit)?;
         Ok(SinglePos { rows })
     }
 }
@@ -103,7 +104,7 @@ impl Part for PairPos {
         if value.is_object() {
             return Ok(PairPos::Classes(read_class_pairs(alloc, value, limit)?));
         }
-        let rows = read_by_key(alloc, array(value)?, limit)?;
+        let rows = read_by_key(alloc, list(value)?, limit)?;
         Ok(PairPos::Glyphs(GlyphPairs { rows }))
     }
 }
@@ -143,7 +144,7 @@ impl Part for CursivePos {
     ghost part = { λ _. cursive_pos };
 
     fn read_part(alloc: Global, value: &Value, limit: usize) -> Result<CursivePos, JsonFault> {
-        let rows = read_by_key(alloc, array(value)?, limit)?;
+        let rows = read_by_key(alloc, list(value)?, limit)?;
         Ok(CursivePos { rows })
     }
 }

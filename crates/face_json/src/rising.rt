@@ -1,23 +1,25 @@
 //! Rows whose keys rise strictly.
 ghost use Rattle.std.specs.Prelude.{◌≡◌, ◌≢◌, IfOk, IfErr, Ok, Err, None, true};
 ghost use Rattle.serde_json.specs.View.{items_view};
-ghost use Rattle.sorted_rows.specs.Keys.{is_rising};
+ghost use Rattle.sorted_rows.specs.Keys.{is_above, is_rising};
 ghost use Rattle.face_json.specs.Sorted.{rows_by_key, sorted_part};
 
 use crate::lists::read_list;
-use crate::objects::array;
 use crate::value::Part;
 use json_values::fault::JsonFault;
+use json_values::parts::list;
+use json_values::rows::{RowReader, read_rows};
 use serde_json::Value;
 use sorted_rows::{Keyed, SortedRows, is_above, is_rising};
 use std::alloc::Global;
+use std::marker::PhantomData;
 
 /// A list of rows inside a row, whose keys rise strictly.
 impl<R: Part + Keyed> Part for SortedRows<R> {
     ghost part = { λ limit. sorted_part R.Key.cmp R.key_of (R.part limit) };
 
     fn read_part(alloc: Global, value: &Value, limit: usize) -> Result<SortedRows<R>, JsonFault> {
-        let rows = read_list(alloc, array(value)?, limit)?;
+        let rows = read_list(alloc, list(value)?, limit)?;
         if !is_rising(&rows) {
             return Err(JsonFault::OutOfOrder);
         }
@@ -40,7 +42,42 @@ pub fn read_by_key<R: Part + Keyed>(
     Ok(SortedRows::new(read_rising(alloc, values, limit)?))
 }
 
+/// What reads the rows of a list in which an index is below a limit.
+#[derive(Drop)]
+struct ByKey<R> {
+    limit: usize,
+    rows: PhantomData<R>,
+}
+
+impl<R: Part + Keyed> RowReader for ByKey<R> {
+    type Row = R;
+    type Key = R::Key;
+
+    ghost means = { λ reader. R.part reader.limit };
+
+    ghost key_of = { R.key_of };
+
+    ghost may_follow = { is_above R.Key.cmp };
+
+    fn read_row(&self, alloc: Global, value: &Value) -> Result<R, JsonFault> {
+        R::read_part(alloc, value, self.limit)
+    }
+
+    fn key(row: &R) -> R::Key
+        ensures { result ≡ R.key_of row.now }
+    {
+        row.key()
+    }
+
+    fn follows(before: Option<R::Key>, key: R::Key) -> bool
+        ensures { result ≡ is_above R.Key.cmp before key }
+    {
+        is_above(before, key)
+    }
+}
+
 /// The same rows as a vector.
+#[tactic(auto, using(crate::proofs::RisingKeys::keys_rise), unfolding(crate::specs::Sorted::rows_by_key))]
 pub fn read_rising<R: Part + Keyed>(
     alloc: Global,
     values: &[Value],
@@ -52,16 +89,9 @@ pub fn read_rising<R: Part + Keyed>(
         → rows_by_key R.Key.cmp R.key_of (R.part limit) None (items_view values.now) ≡ Err e) }
     ensures rising { IfOk result (λ v. is_rising R.Key.cmp R.key_of None v.items ≡ true) }
 {
-    let mut rows: Vec<R> = Vec::new(alloc);
-    let mut before = None;
-    for value in values {
-        let row = R::read_part(alloc, value, limit)?;
-        let key = row.key();
-        if !is_above(before, key) {
-            return Err(JsonFault::OutOfOrder);
-        }
-        before = Some(key);
-        rows.push(row)?;
-    }
-    Ok(rows)
+    let reader = ByKey::<R> {
+        limit,
+        rows: PhantomData,
+    };
+    read_rows(alloc, values, &reader)
 }

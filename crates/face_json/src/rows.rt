@@ -4,13 +4,14 @@ ghost use Rattle.serde_json.specs.Data.{Items};
 ghost use Rattle.serde_json.specs.View.{view, items_view};
 ghost use Rattle.json_values.specs.declared.fault.JsonFault.{JsonFault};
 ghost use Rattle.json_values.specs.Cell.{and_then, signed_word};
-ghost use Rattle.face_json.specs.Lists.{array_of, number_below};
+ghost use Rattle.json_values.specs.Parts.{list_of};
+ghost use Rattle.face_json.specs.Lists.{number_below};
 ghost use Rattle.face_json.specs.Row.{no_more, only, first_and_rest, first_in, row_of};
 
-use crate::objects::array;
 use crate::value::Part;
 use json_values::cell::pair;
 use json_values::fault::JsonFault;
+use json_values::parts::list;
 use serde_json::Value;
 use std::alloc::Global;
 
@@ -82,16 +83,16 @@ pub fn read_row<R: Parts>(alloc: Global, value: &Value, limit: usize) -> Result<
     ensures refused { IfErr result (λ e. e ≢ JsonFault.OutOfMemory
         → row_of (R.parts limit) (view value.now) ≡ Err e) }
 {
-    R::read_parts(alloc, array(value)?, limit)
+    R::read_parts(alloc, list(value)?, limit)
 }
 
 /// The first item of a row, and the items behind it.
 pub fn split_row(value: &Value) -> Result<(&Value, &[Value]), JsonFault>
-    ensures ok { IfOk result (λ p. and_then (array_of (view value.entry.now)) first_in
+    ensures ok { IfOk result (λ p. and_then (list_of (view value.entry.now)) first_in
         ≡ Ok (view p.0.now, items_view p.1.now)) }
-    ensures refused { IfErr result (λ e. and_then (array_of (view value.entry.now)) first_in ≡ Err e) }
+    ensures refused { IfErr result (λ e. and_then (list_of (view value.entry.now)) first_in ≡ Err e) }
 {
-    split_first(array(value)?)
+    split_first(list(value)?)
 }
 
 #[tactic(auto, using(crate::specs::Split::first_of_some, crate::specs::Split::first_of_none))]

@@ -6,11 +6,11 @@ ghost use Rattle.json_values.specs.Cell.{and_then};
 ghost use Rattle.face_json.specs.Substitutions.{single, sequence_row, multiple, alternate, ligature, is_ligature, ligatures, ligature_set, ligature_subst, reverse};
 
 use crate::lists::read_list;
-use crate::objects::array;
 use crate::rising::{read_by_key, read_rising};
 use crate::rows::read_row;
 use crate::value::Part;
 use json_values::fault::JsonFault;
+use json_values::parts::list;
 use layout_common::array::Array;
 use layout_font::ligature::{Ligature, LigatureSet, LigatureSubst};
 use layout_substitutions::reverse::ReverseChainSubst;
@@ -24,7 +24,7 @@ impl Part for SingleSubst {
     ghost part = { single };
 
     fn read_part(alloc: Global, value: &Value, limit: usize) -> Result<SingleSubst, JsonFault> {
-        let rows = read_by_key(alloc, array(value)?, limit)?;
+        let rows = read_by_key(alloc, list(value)?, limit)?;
         Ok(SingleSubst { rows })
     }
 }
@@ -42,7 +42,7 @@ impl Part for MultipleSubst {
     ghost part = { multiple };
 
     fn read_part(alloc: Global, value: &Value, limit: usize) -> Result<MultipleSubst, JsonFault> {
-        let rows = read_by_key(alloc, array(value)?, limit)?;
+        let rows = read_by_key(alloc, list(value)?, limit)?;
         Ok(MultipleSubst { rows })
     }
 }
@@ -51,7 +51,7 @@ impl Part for AlternateSubst {
     ghost part = { alternate };
 
     fn read_part(alloc: Global, value: &Value, limit: usize) -> Result<AlternateSubst, JsonFault> {
-        let rows = read_by_key(alloc, array(value)?, limit)?;
+        let rows = read_by_key(alloc, list(value)?, limit)?;
         Ok(AlternateSubst { rows })
     }
 }
@@ -84,7 +84,7 @@ impl Part for Ligatures {
     ghost part = { ligatures };
 
     fn read_part(alloc: Global, value: &Value, limit: usize) -> Result<Ligatures, JsonFault> {
-        let values = array(value)?;
+        let values = list(value)?;
         let ligatures = if is_ligature(values) {
             read_one(alloc, value, limit)?
         } else {
@@ -127,7 +127,7 @@ impl Part for LigatureSubst {
     ghost part = { ligature_subst };
 
     fn read_part(alloc: Global, value: &Value, limit: usize) -> Result<LigatureSubst, JsonFault> {
-        let sets = read_rising(alloc, array(value)?, limit)?;
+        let sets = read_rising(alloc, list(value)?, limit)?;
         Ok(LigatureSubst::new(sets))
     }
 }

@@ -2,6 +2,4 @@
 #![tactic(auto)]
 
 pub mod feature;
-#[cfg(test)]
-mod tests;
 pub mod text_parser;

@@ -2,6 +2,7 @@
 #![tactic(auto)]
 
 pub mod face;
+mod names;
 pub mod parts;
 
 pub use face::{Face, Face as hb_font_t};

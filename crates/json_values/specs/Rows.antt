@@ -1,4 +1,4 @@
--- Rows of a key and a value, whose keys rise strictly.
+-- Rows of a list in turn, each of which may stand behind the one before it.
 use Rattle.std.specs.Prelude.{◌&&◌, Bool, true, if◌then◌else◌, List, [], ◌∷◌, ◌++◌, Option, Some, None, Result, Ok, Err}
 use Rattle.std.proofs.Common.{◌≡◌, refl, subst}
 use Rattle.std.specs.declared.cmp.Ordering.{Ordering}
@@ -8,25 +8,40 @@ use Rattle.json_values.specs.declared.fault.JsonFault.{JsonFault}
 use Rattle.json_values.specs.declared.fault.JsonFault.TheVariants.{OutOfOrder}
 use Rattle.json_values.specs.Cell.{and_then}
 
--- key k is above the key before it, if there is one
-abbrev pub is_above : {K : Type 0} → (K → K → Ordering) → Option K → K → Bool
-is_above cmp None k = true
-is_above cmp (Some b) k = is_lt (cmp b k)
-
 -- rows behind others
 abbrev pub behind : {R : Type 0} → List R → Result (List R) JsonFault → Result (List R) JsonFault
 behind front (Ok rows) = Ok (front ++ rows)
 behind front (Err e) = Err e
 
--- the rows of a list, behind a row of the key `before`: the faults of a row itself come before that of its place
-abbrev pub rows_after : {K V : Type 0} → (K → K → Ordering) → (Data → Result (K × V) JsonFault) → Option K → Items → Result (List (K × V)) JsonFault
-rows_after cmp read before no_items = Ok []
-rows_after cmp read before (item d ds) = and_then (read d) (λ r. if is_above cmp before r.0 then behind (r ∷ []) (rows_after cmp read (Some r.0) ds) else Err OutOfOrder)
+-- a row whose key may stand behind the key before it
+abbrev pub in_place : {R K : Type 0} → (Option K → K → Bool) → (R → K) → Option K → R → Result R JsonFault
+in_place follows key before r = if follows before (key r) then Ok r else Err OutOfOrder
+
+-- a row behind a row of the key `before`: the faults of the row itself come before that of its place
+abbrev pub row_after : {R K : Type 0} → (Option K → K → Bool) → (R → K) → (Data → Result R JsonFault) → Option K → Data → Result R JsonFault
+row_after follows key read before d = and_then (read d) (in_place follows key before)
+
+-- the rows of a list, behind a row of the key `before`: the fault of the first faulty row
+abbrev pub rows_after : {R K : Type 0} → (Option K → K → Bool) → (R → K) → (Data → Result R JsonFault) → Option K → Items → Result (List R) JsonFault
+rows_after follows key read before no_items = Ok []
+rows_after follows key read before (item d ds) =
+    and_then (row_after follows key read before d) (λ r. behind (r ∷ []) (rows_after follows key read (Some (key r)) ds))
+
+-- the key of each row may stand behind the one before it
+abbrev pub all_follow : {R K : Type 0} → (Option K → K → Bool) → (R → K) → Option K → List R → Bool
+all_follow follows key before [] = true
+all_follow follows key before (r ∷ rows) = follows before (key r) && all_follow follows key (Some (key r)) rows
+
+-- ---- rows of a key and a value
+
+-- key k is above the key before it, if there is one
+abbrev pub is_above : {K : Type 0} → (K → K → Ordering) → Option K → K → Bool
+is_above cmp None k = true
+is_above cmp (Some b) k = is_lt (cmp b k)
 
 -- each key is above the one before it
 abbrev pub is_rising : {K V : Type 0} → (K → K → Ordering) → Option K → List (K × V) → Bool
-is_rising cmp before [] = true
-is_rising cmp before (r ∷ rows) = is_above cmp before r.0 && is_rising cmp (Some r.0) rows
+is_rising cmp before rows = all_follow (is_above cmp) (λ r. r.0) before rows
 
 -- what holds of each list of rows with this one in front, where the rest was read
 pub ok_cons : {R : Type 0} (r : R) (rest : Result (List R) JsonFault) (rows : List R) (P : List R → Type 0) → behind (r ∷ []) rest ≡ Ok rows → ((xs : List R) → rest ≡ Ok xs → P (r ∷ xs)) → P rows

@@ -6,5 +6,3 @@ pub mod fault;
 pub mod keys;
 pub mod parts;
 pub mod rows;
-#[cfg(test)]
-mod tests;

@@ -1,42 +1,77 @@
-ghost use Rattle.std.specs.Prelude.{◌≡◌, ◌≢◌, IfOk, IfErr, Ok, Err, None, true};
-ghost use Rattle.serde_json.specs.View.{items_view};
-ghost use Rattle.json_values.specs.Cell.{pair_of};
-ghost use Rattle.json_values.specs.Rows.{rows_after, is_above, is_rising};
+//! Rows of a list in turn, each of which may stand behind the one before it.
+ghost use Rattle.std.specs.Prelude.{◌≡◌, ◌≢◌, Bool, IfOk, IfErr, Ok, Err, None, Option, Result, true};
+ghost use Rattle.serde_json.specs.Data.{Data};
+ghost use Rattle.serde_json.specs.View.{view, items_view};
+ghost use Rattle.json_values.specs.declared.fault.JsonFault.{JsonFault};
+ghost use Rattle.json_values.specs.Rows.{rows_after, row_after, all_follow};
 
-use crate::cell::Cell;
 use crate::fault::JsonFault;
 use serde_json::Value;
 use std::alloc::Global;
 
-/// The rows of a list, in their order.
-pub fn read_rows<K: Cell + Ord + Copy, V: Cell>(
+/// What reads the rows of a list and knows in which order they stand.
+pub trait RowReader {
+    type Row: Drop;
+
+    type Key: Copy + Drop;
+
+    ghost means: { Self → Data → Result Self.Row JsonFault };
+
+    ghost key_of: { Self.Row → Self.Key };
+
+    ghost may_follow: { Option Self.Key → Self.Key → Bool };
+
+    /// Reads one row. Of several faults it gives the one that comes first by its kind.
+    fn read_row(&self, alloc: Global, value: &Value) -> Result<Self::Row, JsonFault>
+        ensures ok { IfOk result (λ r. means self.now (view value.now) ≡ Ok r) }
+        ensures refused { IfErr result (λ e. e ≢ JsonFault.OutOfMemory
+            → means self.now (view value.now) ≡ Err e) };
+
+    /// What the place of a row goes by.
+    fn key(row: &Self::Row) -> Self::Key
+        ensures { result ≡ key_of row.now };
+
+    /// Whether a row of a key may stand behind one of the key before, or in front where there is none.
+    fn follows(before: Option<Self::Key>, key: Self::Key) -> bool
+        ensures { result ≡ may_follow before key };
+}
+
+/// The rows of a list: the fault of the first faulty row, of whose faults the order comes last.
+pub fn read_rows<T: RowReader>(
     alloc: Global,
     values: &[Value],
-) -> Result<Vec<(K, V)>, JsonFault>
+    reader: &T,
+) -> Result<Vec<T::Row>, JsonFault>
     ensures ok { IfOk result (λ v.
-        rows_after K.cmp (pair_of K.cell V.cell) None (items_view values.now) ≡ Ok v.items) }
+        rows_after T.may_follow T.key_of (T.means reader.now) None (items_view values.now) ≡ Ok v.items) }
     ensures refused { IfErr result (λ e. e ≢ JsonFault.OutOfMemory
-        → rows_after K.cmp (pair_of K.cell V.cell) None (items_view values.now) ≡ Err e) }
-    ensures rising { IfOk result (λ v. is_rising K.cmp None v.items ≡ true) }
+        → rows_after T.may_follow T.key_of (T.means reader.now) None (items_view values.now) ≡ Err e) }
+    ensures follow { IfOk result (λ v. all_follow T.may_follow T.key_of None v.items ≡ true) }
 {
-    let mut rows: Vec<(K, V)> = Vec::new(alloc);
-    let mut before: Option<K> = None;
+    let mut rows: Vec<T::Row> = Vec::new(alloc);
+    let mut before: Option<T::Key> = None;
     for value in values {
-        let row = <(K, V)>::read(value)?;
-        if !is_after(before, row.0) {
-            return Err(JsonFault::OutOfOrder);
-        }
-        before = Some(row.0);
+        let row = read_row_after(alloc, before, value, reader)?;
+        before = Some(T::key(&row));
         rows.push(row)?;
     }
     Ok(rows)
 }
 
-fn is_after<K: Ord + Copy + Drop>(before: Option<K>, key: K) -> bool
-    ensures { result ≡ is_above K.cmp before key }
+fn read_row_after<T: RowReader>(
+    alloc: Global,
+    before: Option<T::Key>,
+    value: &Value,
+    reader: &T,
+) -> Result<T::Row, JsonFault>
+    ensures ok { IfOk result (λ r.
+        row_after T.may_follow T.key_of (T.means reader.now) before (view value.now) ≡ Ok r) }
+    ensures refused { IfErr result (λ e. e ≢ JsonFault.OutOfMemory
+        → row_after T.may_follow T.key_of (T.means reader.now) before (view value.now) ≡ Err e) }
 {
-    match before {
-        Some(before) => before.cmp(&key).is_lt(),
-        None => true,
+    let row = reader.read_row(alloc, value)?;
+    if !T::follows(before, T::key(&row)) {
+        return Err(JsonFault::OutOfOrder);
     }
+    Ok(row)
 }

@@ -3,5 +3,3 @@
 
 pub mod fault;
 pub mod options;
-#[cfg(test)]
-mod tests;

@@ -3,7 +3,5 @@
 
 mod command;
 mod options;
-#[cfg(test)]
-mod tests;
 
 pub use options::{CommandLine, parse_options};

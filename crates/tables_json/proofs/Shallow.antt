@@ -9,13 +9,13 @@ use Rattle.json_values.specs.declared.fault.JsonFault.{JsonFault}
 use Rattle.json_values.specs.declared.fault.JsonFault.TheVariants.{WrongShape, FloatNumber, UnknownName, OutOfOrder, OutOfRange, SplitDepth}
 use Rattle.json_values.specs.Cell.{and_then, both, character, first_fault, in_characters, integer, integer_of, is_scalar_value, rank_of}
 use Rattle.json_values.specs.Parts.{four_in, in_natural_numbers_below, list_at, list_of, list_or_none, natural_number_below, row_of_four, row_of_three, row_of_two, text, three_in, two_in}
-use Rattle.json_values.specs.Rows.{behind}
+use Rattle.json_values.specs.Rows.{behind, in_place, row_after, rows_after}
 use Rattle.script_constants.specs.Indic.{ot_categories, ot_positions}
 use Rattle.script_constants.specs.Joining.{joining_type_names}
 use Rattle.script_constants.specs.Names.{number_of}
 use Rattle.script_constants.specs.Thai.{thai_actions}
 use Rattle.script_constants.specs.Universal.{universal_categories}
-use Rattle.tables_json.specs.Rows.{named, number_named, rows_after, rows_at}
+use Rattle.tables_json.specs.Rows.{named, number_named, rows_at}
 use Rattle.tables_json.specs.Unicode.{character_class, character_range, counterpart, indic_row, joining_row, pair, split, tables_keys, thai_row, universal_row}
 use Rattle.unicode_rows.specs.Keys.{follows}
 
@@ -135,16 +135,19 @@ row_4 f g h k hf hg hh hk d =
 
 -- ---- lists of rows
 
+list_or_none_shallow : (o : Option Data) → Shallow (list_or_none o)
+list_or_none_shallow None = tt
+list_or_none_shallow (Some d) = list_shallow d
+
 module _ {R : Type 0} (high low : R → ℕ) (row : Data → Result R JsonFault) (h : (d : Data) → Shallow (row d)) where
-  rows_shallow : (before : Option R) (ds : Items) → Shallow (rows_after high low row before ds)
+  place_shallow : (before : Option R) (r : R) → Shallow (in_place (follows high low) (λ x. x) before r)
+  place_shallow before r = if_shallow (follows high low before r) (Ok r) (Err OutOfOrder) tt out_of_order
+
+  rows_shallow : (before : Option R) (ds : Items) → Shallow (rows_after (follows high low) (λ x. x) row before ds)
   rows_shallow before no_items = tt
   rows_shallow before (item d ds) =
-      then_shallow (row d) _ (h d)
-      (λ r. if_shallow (follows high low before r) _ _ (behind_shallow (r ∷ []) (rows_after high low row (Some r) ds) (rows_shallow (Some r) ds)) out_of_order)
-
-  list_or_none_shallow : (o : Option Data) → Shallow (list_or_none o)
-  list_or_none_shallow None = tt
-  list_or_none_shallow (Some d) = list_shallow d
+      then_shallow (row_after (follows high low) (λ x. x) row before d) _ (then_shallow (row d) _ (h d) (place_shallow before))
+      (λ r. behind_shallow (r ∷ []) (rows_after (follows high low) (λ x. x) row (Some r) ds) (rows_shallow (Some r) ds))
 
   at_shallow : (key : List ℕ) (d : Data) → Shallow (rows_at key high low row d)
   at_shallow key d = then_shallow (list_at key d) _ (list_or_none_shallow (get key d)) (rows_shallow None)

@@ -11,7 +11,7 @@ use Rattle.serde_json.specs.declared.value.Value.{Value}
 use Rattle.json_values.specs.declared.fault.JsonFault.{JsonFault}
 use Rattle.json_values.specs.declared.fault.JsonFault.TheVariants.{WrongShape}
 use Rattle.json_values.specs.Rows.{behind, is_above, is_rising, rows_after}
-use Rattle.json_values.proofs.Rising.{rows_rise}
+use Rattle.json_values.proofs.Rising.{rows_follow}
 use Rattle.serde_json.specs.Data.{Data, Items, item}
 use Rattle.shaping_text.specs.declared.language_tags.LanguageRow.{LanguageRow}
 use Rattle.shaping_text.specs.LanguageRows.{row_text, is_before, TextsRise}
@@ -73,20 +73,20 @@ items_step (x ∷ vs) zero v h e = ap (λ w. item (view w) (items_view vs)) (sym
 items_step (x ∷ vs) (suc i) v h e = let low : i < length vs = omega (arith, h) in rw add-one (rw add-one at (items_step vs i v low e))
 
 one_taken : (row : Data → Result Language JsonFault) (before : Option (List ℕ)) (d : Data) (ds : Items) (l : Language) → row d ≡ Ok l → is_above (slice_cmp nat_cmp) before l.0 ≡ true
-    → rows_after (slice_cmp nat_cmp) row before (item d ds) ≡ behind (l ∷ []) (rows_after (slice_cmp nat_cmp) row (Some l.0) ds)
+    → rows_after (is_above (slice_cmp nat_cmp)) (λ x. x.0) row before (item d ds) ≡ behind (l ∷ []) (rows_after (is_above (slice_cmp nat_cmp)) (λ x. x.0) row (Some l.0) ds)
 one_taken row before d ds l e above = rw e (rw above refl)
 
 -- a row that follows the one before it
 pub language_taken : (vs : List Value) (i : ℕ) (v : Value) (rows next : List LanguageRow) (r : LanguageRow) → i < length vs → v ≡ get_or vs i v
     → language (view v) ≡ Ok (language_in r) → is_above (slice_cmp nat_cmp) (last_text rows) (row_text r) ≡ true → next ≡ rows ++ r ∷ []
-    → behind (map language_in rows) (rows_after (slice_cmp nat_cmp) language (last_text rows) (items_view (drop i vs)))
-    ≡ behind (map language_in next) (rows_after (slice_cmp nat_cmp) language (last_text next) (items_view (drop (i + 1) vs)))
+    → behind (map language_in rows) (rows_after (is_above (slice_cmp nat_cmp)) (λ x. x.0) language (last_text rows) (items_view (drop i vs)))
+    ≡ behind (map language_in next) (rows_after (is_above (slice_cmp nat_cmp)) (λ x. x.0) language (last_text next) (items_view (drop (i + 1) vs)))
 language_taken vs i v rows next r h e read above pushed =
-    ap (λ ds. behind (map language_in rows) (rows_after (slice_cmp nat_cmp) language (last_text rows) ds)) (items_step vs i v h e)
+    ap (λ ds. behind (map language_in rows) (rows_after (is_above (slice_cmp nat_cmp)) (λ x. x.0) language (last_text rows) ds)) (items_step vs i v h e)
     ∙ ap (λ o. behind (map language_in rows) o) (one_taken language (last_text rows) (view v) (items_view (drop (i + 1) vs)) (language_in r) read above)
-    ∙ sym (row_pushed rows r (rows_after (slice_cmp nat_cmp) language (Some (row_text r)) (items_view (drop (i + 1) vs))))
-    ∙ ap (λ t. behind (map language_in (rows ++ r ∷ [])) (rows_after (slice_cmp nat_cmp) language t (items_view (drop (i + 1) vs)))) (sym (last_pushed rows r))
-    ∙ ap (λ xs. behind (map language_in xs) (rows_after (slice_cmp nat_cmp) language (last_text xs) (items_view (drop (i + 1) vs)))) (sym pushed)
+    ∙ sym (row_pushed rows r (rows_after (is_above (slice_cmp nat_cmp)) (λ x. x.0) language (Some (row_text r)) (items_view (drop (i + 1) vs))))
+    ∙ ap (λ t. behind (map language_in (rows ++ r ∷ [])) (rows_after (is_above (slice_cmp nat_cmp)) (λ x. x.0) language t (items_view (drop (i + 1) vs)))) (sym (last_pushed rows r))
+    ∙ ap (λ xs. behind (map language_in xs) (rows_after (is_above (slice_cmp nat_cmp)) (λ x. x.0) language (last_text xs) (items_view (drop (i + 1) vs)))) (sym pushed)
 
 texts_rise_from : (before : Option (List ℕ)) (rows : List LanguageRow) (k : ℕ) (d : LanguageRow) → is_rising (slice_cmp nat_cmp) before (map language_in rows) ≡ true
     → k + 1 < length rows → is_before (slice_index_or rows k d) (slice_index_or rows (k + 1) d) ≡ true
@@ -98,4 +98,4 @@ texts_rise_from before (r ∷ rows) (suc k) d h i =
     rw add-one (rw add-one at (texts_rise_from (Some (row_text r)) rows k d ((and_parts _ _ h).1) low))
 
 pub texts_rise : (ds : Items) (rows : List LanguageRow) → languages_in_order ds ≡ Ok (map language_in rows) → TextsRise rows
-texts_rise ds rows e = λ k d i. texts_rise_from None rows k d (rows_rise (slice_cmp nat_cmp) language None ds (map language_in rows) e) i
+texts_rise ds rows e = λ k d i. texts_rise_from None rows k d (rows_follow (is_above (slice_cmp nat_cmp)) (λ x. x.0) language None ds (map language_in rows) e) i

@@ -57,7 +57,7 @@ follows before row = is_above (slice_cmp nat_cmp) (option_map row_text before) (
 
 -- the languages of a list, whose texts rise by their bytes
 abbrev pub languages_in_order : Items → Result (List Language) JsonFault
-languages_in_order ds = rows_after (slice_cmp nat_cmp) language None ds
+languages_in_order ds = rows_after (is_above (slice_cmp nat_cmp)) (λ l. l.0) language None ds
 
 abbrev pub languages_key : Data → Result (List Language) JsonFault
 languages_key d = and_then (list_at (codes "languages") d) languages_in_order

@@ -1,5 +1,6 @@
-use crate::feature::{Feature, InvalidFeature};
-use crate::text_parser::TextParser;
+//! Requests of features as they are written.
+use feature_text::feature::{Feature, InvalidFeature};
+use feature_text::text_parser::TextParser;
 use shaping_text::tag::Tag;
 use std::ops::Bound;
 
@@ -98,26 +99,39 @@ fn ranges(rt: HostRuntime) {
     }
 }
 
+/// A tag between quotes, a signed number, an unsigned one, a word for true or false, and how much is left.
+type Parts = (Option<Tag>, Option<i32>, Option<u32>, Option<bool>, usize);
+
+fn parts_of(text: &'static str) -> Parts {
+    let mut parser = TextParser::new(text);
+    parser.skip_spaces();
+    let _quote = parser.consume_quote();
+    let tag = parser.consume_tag();
+    let _closed = parser.consume_byte(b'\'');
+    let signed = parser.consume_i32();
+    parser.advance(1);
+    let number = parser.consume_u32();
+    let word = parser.consume_bool();
+    (
+        tag,
+        signed,
+        number,
+        word,
+        parser.consume_bytes(|byte| byte == b'!').len(),
+    )
+}
+
 #[test]
 fn parts_of_a_text(rt: HostRuntime) {
-    let mut parser = TextParser::new(" 'liga'-12 007 oN!");
-    assert_eq!(rt; parser.curr_byte(), Some(b' '));
-    parser.skip_spaces();
-    assert_eq!(rt; parser.consume_quote(), Some(b'\''));
-    assert_eq!(rt; parser.consume_quote(), None);
-    assert_eq!(rt; parser.consume_tag(), Some(Tag::from_bytes(b"liga")));
-    assert_eq!(rt; parser.consume_tag(), None);
-    assert_eq!(rt; parser.consume_byte(b'"'), None);
-    assert_eq!(rt; parser.consume_byte(b'\''), Some(()));
-    assert_eq!(rt; parser.consume_u32(), None);
-    assert_eq!(rt; parser.consume_i32(), Some(-12));
-    parser.advance(1);
-    assert_eq!(rt; parser.consume_bool(), None);
-    assert_eq!(rt; parser.consume_u32(), Some(7));
-    assert_eq!(rt; parser.consume_bool(), Some(true));
-    assert!(rt; !parser.at_end());
-    assert_eq!(rt; parser.consume_bytes(|byte| byte == b'!'), b"!".as_slice());
-    assert!(rt; parser.at_end());
-    parser.advance(5);
-    assert!(rt; parser.at_end());
+    let liga = Some(Tag::from_bytes(b"liga"));
+    for (text, want) in [
+        (
+            " 'liga'-12 007 oN!",
+            (liga, Some(-12), Some(7), Some(true), 1),
+        ),
+        ("liga!!", (liga, None, None, None, 1)),
+        ("'", (None, None, None, None, 0)),
+    ] {
+        assert_eq!(rt; parts_of(text), want, "{text}");
+    }
 }

@@ -1,0 +1,73 @@
+//! The printed names of faults, and the statuses with which the program ends.
+use glyph_types::cause::ShapeCause;
+use json_values::fault::JsonFault;
+use run_options::fault::RunFault;
+use std::alloc::{AllocError, AllocFailed};
+use std::test::Fail;
+
+const FAULTS: [(RunFault, &str, u8); 17] = [
+    (RunFault::Words, "words", 2),
+    (RunFault::Read, "Read", 6),
+    (RunFault::ReadLimit, "ReadLimit", 6),
+    (RunFault::Json(JsonFault::NotJson), "J1 NotJson", 3),
+    (RunFault::Json(JsonFault::WrongShape), "J2 WrongShape", 3),
+    (RunFault::Json(JsonFault::FloatNumber), "J3 FloatNumber", 3),
+    (RunFault::Json(JsonFault::UnknownName), "J4 UnknownName", 3),
+    (RunFault::Json(JsonFault::OutOfOrder), "U1 OutOfOrder", 3),
+    (RunFault::Json(JsonFault::OutOfRange), "U2 OutOfRange", 3),
+    (RunFault::Json(JsonFault::SplitDepth), "U3 SplitDepth", 3),
+    (RunFault::NotUtf8, "NotUtf8", 4),
+    (RunFault::NotYet, "NotYet", 5),
+    (RunFault::Shape(ShapeCause::TooLong), "S2 TooLong", 5),
+    (
+        RunFault::Shape(ShapeCause::StretchRange),
+        "S3 StretchRange",
+        5,
+    ),
+    (
+        RunFault::Shape(ShapeCause::UnknownSyllableKind),
+        "S4 UnknownSyllableKind",
+        5,
+    ),
+    (RunFault::Write, "Write", 6),
+    (RunFault::OutOfMemory, "OutOfMemory", 5),
+];
+
+#[test]
+fn names_and_statuses(rt: HostRuntime) -> Result<(), Fail> {
+    for (fault, name, status) in FAULTS {
+        let printed = format!(in rt.alloc(); "{fault}")?;
+        assert_eq!(rt; (printed.as_str(), fault.status()), (name, status));
+    }
+    Ok(())
+}
+
+// Want of memory is one fault, wherever it showed.
+#[test]
+fn faults_of_the_calls_below(rt: HostRuntime) {
+    for (fault, want) in [
+        (
+            RunFault::from(JsonFault::FloatNumber),
+            RunFault::Json(JsonFault::FloatNumber),
+        ),
+        (
+            RunFault::from(ShapeCause::TooLong),
+            RunFault::Shape(ShapeCause::TooLong),
+        ),
+        (
+            RunFault::from(JsonFault::from(AllocError)),
+            RunFault::OutOfMemory,
+        ),
+        (
+            RunFault::from(ShapeCause::from(AllocError)),
+            RunFault::OutOfMemory,
+        ),
+        (RunFault::from(AllocError), RunFault::OutOfMemory),
+        (
+            RunFault::from(AllocFailed { value: 0u8 }),
+            RunFault::OutOfMemory,
+        ),
+    ] {
+        assert_eq!(rt; fault, want);
+    }
+}
