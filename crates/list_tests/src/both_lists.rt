@@ -1,5 +1,5 @@
-use crate::merges::{merge_input, merge_output};
-use crate::moves::put_in_front;
+use buffer_lists::merges::{merge_input, merge_output};
+use buffer_lists::moves::put_in_front;
 use glyph_types::info::hb_glyph_info_t;
 use glyph_types::level::BufferClusterLevel;
 use std::alloc::{AllocError, Global};
