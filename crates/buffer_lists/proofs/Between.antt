@@ -4,24 +4,13 @@ use Rattle.glyph_lists.specs.Order.{AllFrom, IsChain, IsInOrder}
 use Rattle.buffer_lists.specs.declared.order.KnownOrder.{KnownOrder}
 use Rattle.buffer_lists.specs.declared.order.KnownOrder.TheVariants.{Unknown, Rising, Falling}
 use Rattle.buffer_lists.specs.Known.{HasOrder}
+use Rattle.glyph_lists.specs.Lemmas.Merges.{chain_left, chain_right}
 
 -- what keeps rising clusters rising, and falling ones falling
 pub order_if_kept : (o : KnownOrder) (old new : List ℕ) → ((falls : Bool) → IsInOrder falls old → IsInOrder falls new) → HasOrder o old → HasOrder o new
 order_if_kept Unknown old new keeps h = tt
 order_if_kept Rising old new keeps h = keeps false h
 order_if_kept Falling old new keeps h = keeps true h
-
-all_first : (R : ℕ → ℕ → Type 0) (m : ℕ) (xs ys : List ℕ) → AllFrom R m (xs ++ ys) → AllFrom R m xs
-all_first R m [] ys h = tt
-all_first R m (x ∷ xs) ys h = (h.0, all_first R m xs ys h.1)
-
-pub chain_first : (R : ℕ → ℕ → Type 0) (xs ys : List ℕ) → IsChain R (xs ++ ys) → IsChain R xs
-chain_first R [] ys h = tt
-chain_first R (x ∷ xs) ys h = (all_first R x xs ys h.0, chain_first R xs ys h.1)
-
-chain_second : (R : ℕ → ℕ → Type 0) (xs ys : List ℕ) → IsChain R (xs ++ ys) → IsChain R ys
-chain_second R [] ys h = h
-chain_second R (x ∷ xs) ys h = chain_second R xs ys h.1
 
 all_between : (R : ℕ → ℕ → Type 0) (m n : ℕ) (xs ys : List ℕ) → AllFrom R m (xs ++ n ∷ []) → AllFrom R m (xs ++ ys) → AllFrom R m (xs ++ n ∷ ys)
 all_between R m n [] ys h k = (h.0, k)
@@ -34,13 +23,13 @@ chain_between R n (x ∷ xs) ys h before after = (all_between R x n xs ys before
 
 pub known_first : (o : KnownOrder) (xs ys : List ℕ) → HasOrder o (xs ++ ys) → HasOrder o xs
 known_first Unknown xs ys h = tt
-known_first Rising xs ys h = chain_first (λ m n. m ≤ n) xs ys h
-known_first Falling xs ys h = chain_first (λ m n. n ≤ m) xs ys h
+known_first Rising xs ys h = chain_left (λ m n. m ≤ n) xs ys h
+known_first Falling xs ys h = chain_left (λ m n. n ≤ m) xs ys h
 
 pub known_second : (o : KnownOrder) (xs ys : List ℕ) → HasOrder o (xs ++ ys) → HasOrder o ys
 known_second Unknown xs ys h = tt
-known_second Rising xs ys h = chain_second (λ m n. m ≤ n) xs ys h
-known_second Falling xs ys h = chain_second (λ m n. n ≤ m) xs ys h
+known_second Rising xs ys h = chain_right (λ m n. m ≤ n) xs ys h
+known_second Falling xs ys h = chain_right (λ m n. n ≤ m) xs ys h
 
 pub known_between : (o : KnownOrder) (n : ℕ) (xs ys : List ℕ) → HasOrder o (xs ++ ys) → HasOrder o (xs ++ n ∷ []) → HasOrder o (n ∷ ys) → HasOrder o (xs ++ n ∷ ys)
 known_between Unknown n xs ys h before after = tt

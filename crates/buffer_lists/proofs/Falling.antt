@@ -1,11 +1,12 @@
 -- Clusters that are seen to fall, one after another.
-use Rattle.std.proofs.Common.{ℕ, zero, suc, ◌≡◌, ◌≤◌, ◌<◌, ◌+◌, ◌-◌, List, [], ◌∷◌, ◌++◌, length, take, get_or, arith, refl, ap, sym, subst, ◌∙◌}
+use Rattle.std.proofs.Common.{ℕ, suc, ◌≡◌, ◌≤◌, ◌<◌, ◌+◌, ◌-◌, List, [], ◌∷◌, ◌++◌, length, take, get_or, arith, ap, subst, ◌∙◌}
 use Rattle.std.proofs.lemmas.List.{take_more, map-append}
 use Rattle.glyph_types.specs.declared.info.hb_glyph_info_t.{hb_glyph_info_t}
 use Rattle.glyph_lists.specs.Items.{clusters}
 use Rattle.glyph_lists.specs.Parts.{last_from}
 use Rattle.glyph_lists.specs.Order.{AllFrom, IsFalling}
 use Rattle.buffer_lists.specs.Known.{IsFallingTo}
+use Rattle.buffer_lists.proofs.Known.{last_got, last_append}
 
 all_most : (m n : ℕ) (ns : List ℕ) → n ≤ m → AllFrom (λ x y. y ≤ x) m ns → AllFrom (λ x y. y ≤ x) m (ns ++ n ∷ [])
 all_most m n [] le h = (le, tt)
@@ -24,10 +25,6 @@ falling_push x n (y ∷ ys) h le =
     let last : last_from y ys ≤ y = down_to y ys h.1 in
     (all_most x n (y ∷ ys) (omega (arith, first, last, le)) h.0, rest)
 
-last_got : (g : hb_glyph_info_t) (gs : List hb_glyph_info_t) (d : hb_glyph_info_t) → (get_or (g ∷ gs) (length gs) d).cluster ≡ last_from g.cluster (clusters gs)
-last_got g [] d = refl
-last_got g (h ∷ hs) d = last_got h hs d
-
 pub falls_behind : (gs : List hb_glyph_info_t) (d : hb_glyph_info_t) (c : ℕ) → 1 ≤ length gs → c ≤ (get_or gs (length gs - 1) d).cluster → IsFalling (clusters gs) → IsFalling (clusters gs ++ c ∷ [])
 falls_behind [] d c le last h = absurd (omega arith)
 falls_behind (g ∷ gs) d c le last h =
@@ -43,10 +40,6 @@ from_front c n (m ∷ ms) le h = (omega (arith, le, h.0), from_front c n ms le h
 pub falls_front : (gs : List hb_glyph_info_t) (d : hb_glyph_info_t) (c : ℕ) → 1 ≤ length gs → (get_or gs 0 d).cluster ≤ c → IsFalling (clusters gs) → IsFalling (c ∷ clusters gs)
 falls_front [] d c le first h = absurd (omega arith)
 falls_front (g ∷ gs) d c le first h = ((first, from_front c g.cluster (clusters gs) first h.0), h)
-
-last_append : (x n : ℕ) (xs : List ℕ) → last_from x (xs ++ n ∷ []) ≡ n
-last_append x n [] = refl
-last_append x n (y ∷ ys) = last_append y n ys
 
 -- one number more
 falling_to_more : (start m n : ℕ) (xs : List ℕ) → IsFallingTo start xs m → n ≤ m → IsFallingTo start (xs ++ n ∷ []) n

@@ -1,5 +1,5 @@
 -- What is known of the order of clusters, and stays known.
-use Rattle.std.proofs.Common.{ℕ, zero, suc, ◌≡◌, ◌≤◌, ◌<◌, ◌+◌, ◌-◌, true, false, List, [], ◌∷◌, ◌++◌, length, take, reverse, get_or, set, arith, refl, ap, sym, subst, ◌∙◌}
+use Rattle.std.proofs.Common.{ℕ, suc, ◌≡◌, ◌≤◌, ◌<◌, ◌+◌, ◌-◌, true, false, List, [], ◌∷◌, ◌++◌, length, take, reverse, get_or, set, arith, refl, ap, sym, subst, ◌∙◌}
 use Rattle.std.proofs.lemmas.List.{set-get_or, get_or-map, take_more, map-append}
 use Rattle.glyph_types.specs.declared.info.hb_glyph_info_t.{hb_glyph_info_t}
 use Rattle.glyph_lists.specs.Items.{clusters}
@@ -44,7 +44,7 @@ rising_push x n (y ∷ ys) h le =
     up_to z [] k = omega arith
     up_to z (w ∷ ws) k = let there = up_to w ws k.1 in omega (arith, k.0.0, there)
 
-last_got : (g : hb_glyph_info_t) (gs : List hb_glyph_info_t) (d : hb_glyph_info_t) → (get_or (g ∷ gs) (length gs) d).cluster ≡ last_from g.cluster (clusters gs)
+pub last_got : (g : hb_glyph_info_t) (gs : List hb_glyph_info_t) (d : hb_glyph_info_t) → (get_or (g ∷ gs) (length gs) d).cluster ≡ last_from g.cluster (clusters gs)
 last_got g [] d = refl
 last_got g (h ∷ hs) d = last_got h hs d
 
@@ -78,7 +78,7 @@ rises_behind (g ∷ gs) d c le last h =
     let seen : last_from g.cluster (clusters gs) ≤ c = subst (λ (n : ℕ). n ≤ c) (last_got g gs d) (subst (λ (n : ℕ). (get_or (g ∷ gs) n d).cluster ≤ c) less last) in
     rising_push g.cluster c (clusters gs) h seen
 
-last_append : (x n : ℕ) (xs : List ℕ) → last_from x (xs ++ n ∷ []) ≡ n
+pub last_append : (x n : ℕ) (xs : List ℕ) → last_from x (xs ++ n ∷ []) ≡ n
 last_append x n [] = refl
 last_append x n (y ∷ ys) = last_append y n ys
 

@@ -2,7 +2,7 @@
 use Rattle.std.specs.Prelude.{ℕ, ◌-◌, ◌==◌, ◌&&◌, ◌||◌, Bool, nat_le, nat_lt, if◌then◌else◌, List, [], ◌∷◌, bit_and}
 use Rattle.std.specs.Int.RustNames.{bit_or}
 use Rattle.glyph_types.specs.declared.info.hb_glyph_info_t.{hb_glyph_info_t}
-use Rattle.glyph_lists.specs.Items.{Item, glyph_flags, without_flags}
+use Rattle.glyph_lists.specs.Items.{Item, without_flags}
 pub use Rattle.glyph_lists.specs.Items.{glyph_masked, item_masked}
 
 -- the bits of a mask under another become those of a value; the other bits stay
@@ -26,7 +26,3 @@ abbrev pub items_set : ℕ → ℕ → ℕ → ℕ → List ℕ → List Item �
 items_set value under start end [] xs = xs
 items_set value under start end (n ∷ ns) [] = []
 items_set value under start end (n ∷ ns) (x ∷ xs) = (if is_within start end n then item_set value under x else x) ∷ items_set value under start end ns xs
-
--- the three flags of such a glyph
-abbrev pub flags_set : ℕ → ℕ → ℕ → ℕ → hb_glyph_info_t → ℕ
-flags_set value under start end g = if is_within start end g.cluster then bit_and (bits_set value under g.mask) 7 else glyph_flags g

@@ -7,5 +7,3 @@ pub mod merges;
 pub mod moves;
 pub mod order;
 pub mod replacement;
-#[cfg(test)]
-mod tests;

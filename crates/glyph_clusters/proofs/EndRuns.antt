@@ -1,9 +1,9 @@
 -- The run at the end of a list.
-use Rattle.std.proofs.Common.{ℕ, suc, zero, ◌≡◌, ◌≢◌, ◌≤◌, ◌<◌, ◌+◌, ◌-◌, ◌==◌, ◌&&◌, true, false, List, [], ◌∷◌, ◌++◌, Some, length, map, take, drop, get_or, arith, refl, ap, sym, ◌∙◌}
+use Rattle.std.proofs.Common.{ℕ, suc, zero, ◌≡◌, ◌≢◌, ◌≤◌, ◌<◌, ◌-◌, ◌==◌, ◌&&◌, true, false, List, [], ◌∷◌, ◌++◌, Some, length, map, take, drop, get_or, arith, refl, ap, sym}
 use Rattle.std.specs.List.{list_all}
 use borrow.Rule.Slice.PartMut.{put_mid}
 use Rattle.std.proofs.lemmas.Grind.{common_steps}
-use Rattle.std.proofs.lemmas.List.{drop_more, drop_all, take_all, length-drop, append-nil}
+use Rattle.std.proofs.lemmas.List.{drop_all, take_all, length-drop, append-nil}
 use Rattle.glyph_types.specs.declared.info.hb_glyph_info_t.{hb_glyph_info_t as Glyph}
 use Rattle.glyph_lists.specs.Items.{clusters}
 use Rattle.glyph_lists.specs.Parts.{last_of}
@@ -38,11 +38,3 @@ end_put p at g gs range le last run e =
 pub end_of_none : (g : Glyph) (gs : List Glyph) → length gs ≡ 0 → gs ≡ end_recast g gs
 end_of_none g [] e = refl
 end_of_none g (h ∷ hs) e = cc
-
--- one glyph more of the cluster
-pub run_longer : (p at i : ℕ) (gs : List Glyph) (d : Glyph) → i + 1 ≡ at → at ≤ length gs → (get_or gs i d).cluster ≡ p → list_all (λ (k : Glyph). k.cluster == p) (drop at gs) ≡ true → list_all (λ (k : Glyph). k.cluster == p) (drop i gs) ≡ true
-run_longer p at i gs d one le e before =
-    let lt : i < length gs = omega arith in
-    let cut : drop i gs ≡ get_or gs i d ∷ drop at gs = drop_more gs i d lt ∙ ap (λ n. get_or gs i d ∷ drop n gs) one in
-    let same : ((get_or gs i d).cluster == p) ≡ true = grind (arith, common_steps, e) in
-    rw (cut, same) before

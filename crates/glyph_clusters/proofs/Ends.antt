@@ -13,6 +13,7 @@ use Rattle.glyph_lists.specs.Lemmas.Parts.{Stands, stands_self}
 use Rattle.glyph_lists.specs.Lemmas.Ends.{from_first, from_has}
 use Rattle.glyph_lists.specs.Lemmas.Merges.{chain_left, chain_right, chain_across}
 use Rattle.glyph_lists.specs.Lemmas.Numbers.{Has, has_here, has_more, has_right, has_cases}
+use Rattle.glyph_lists.specs.Lemmas.Glyphs.{same_cluster}
 
 -- a relation by which no two numbers stand on both sides of each other
 abbrev pub IsAnti : (ℕ → ℕ → Type 0) → Type 0
@@ -21,10 +22,6 @@ IsAnti R = (m n : ℕ) → R m n → R n m → m ≡ n
 pub stands_anti : (falls : Bool) → IsAnti (Stands falls)
 stands_anti false m n h k = omega arith
 stands_anti true m n h k = omega arith
-
--- a glyph in its own cluster
-pub same_cluster : (g : hb_glyph_info_t) → in_cluster g.cluster g ≡ g
-same_cluster g = let yes : (g.cluster == g.cluster) ≡ true = grind (arith, common_steps) in rw yes refl
 
 in_its_cluster : (c : ℕ) (g : hb_glyph_info_t) → (g.cluster == c) ≡ true → in_cluster c g ≡ g
 in_its_cluster c g e = rw e refl

@@ -10,12 +10,12 @@ use Rattle.glyph_lists.specs.Merges.{least_number}
 use Rattle.glyph_lists.specs.Glyphs.{in_cluster, glyphs_merged, renamed}
 use Rattle.glyph_lists.specs.Lemmas.Parts.{Stands, stands_self}
 use Rattle.glyph_lists.specs.Lemmas.Ends.{from_first, to_last}
-use Rattle.glyph_lists.specs.Lemmas.Glyphs.{cut_out}
+use Rattle.glyph_lists.specs.Lemmas.Glyphs.{cut_out, nothing_merged}
 use Rattle.glyph_lists.specs.Lemmas.Deletions.{last_is}
 use Rattle.glyph_lists.specs.Lemmas.Merges.{chain_left, chain_right, chain_across}
 use Rattle.glyph_lists.specs.Lemmas.Numbers.{Has, has_here, has_last_from}
 use Rattle.glyph_clusters.proofs.Parts.{merged_parts}
-use Rattle.glyph_clusters.proofs.Ends.{Turned, merged_end, stands_anti, turned_anti, by_order, same_cluster}
+use Rattle.glyph_clusters.proofs.Ends.{Turned, merged_end, stands_anti, turned_anti, by_order}
 
 pub first_cluster_is : (gs : List hb_glyph_info_t) (d : hb_glyph_info_t) → 0 < length gs → first_of (clusters gs) ≡ Some (get_or gs 0 d).cluster
 first_cluster_is [] d lt = absurd (omega arith)
@@ -137,10 +137,6 @@ joined_parts gs i j low first last front range back le o f l is fe re be =
     (fe ∙ ap (λ n. renamed first n (take i gs)) is ∙ merged_front ns first (take i gs) f near)
     (re ∙ ap (λ n. map (in_cluster n) (slice_range gs i j)) is)
     (be ∙ ap (λ n. renamed last n (drop (j - i) (drop i gs))) is ∙ ap (renamed last (least_number ns)) behind ∙ merged_back ns first last (drop j gs) f l far ∙ ap (glyphs_merged ns) (sym behind))
-
-pub nothing_merged : (gs : List hb_glyph_info_t) → glyphs_merged [] gs ≡ gs
-nothing_merged [] = refl
-nothing_merged (g ∷ gs) = rw (same_cluster g, nothing_merged gs) refl
 
 pub none_merged : (i j : ℕ) (gs : List hb_glyph_info_t) → i ≡ j → gs ≡ glyphs_merged (stretch i j (clusters gs)) gs
 none_merged i j gs e = let none : j - i ≡ 0 = omega arith in rw none (sym (nothing_merged gs))

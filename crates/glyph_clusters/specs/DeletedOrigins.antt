@@ -14,7 +14,7 @@ use Rattle.glyph_lists.specs.Origins.{Origin, origin_of, origins, cast, end_cast
 use Rattle.glyph_lists.specs.Lemmas.Origins.{numbers_origins, origins_of_merged_at}
 use Rattle.glyph_clusters.specs.Deleting.{Left, recast, end_recast_from, end_recast, glyphs_deleted_alone, glyphs_deleted}
 
-pub flags_taken : (m n : ℕ) → bit_and (without_flags m + bit_and n 7) 7 ≡ bit_and n 7
+flags_taken : (m n : ℕ) → bit_and (without_flags m + bit_and n 7) 7 ≡ bit_and n 7
 flags_taken m n =
     let low = and_mask m 3 in
     let put = and_mask n 3 in

@@ -5,7 +5,7 @@ use Rattle.std.specs.Int.RustNames.{bit_or}
 use Rattle.glyph_types.specs.declared.info.hb_glyph_info_t.{hb_glyph_info_t}
 use Rattle.glyph_types.specs.declared.level.BufferClusterLevel.{BufferClusterLevel}
 use Rattle.glyph_lists.specs.Levels.{InList, Manner, Unites, Marks, Keeps, manner}
-use Rattle.glyph_lists.specs.Items.{clusters, without_flags, glyph_flags, flags_of}
+use Rattle.glyph_lists.specs.Items.{clusters, without_flags}
 use Rattle.glyph_lists.specs.Parts.{stretch}
 use Rattle.glyph_lists.specs.Merges.{least_number, merged}
 
@@ -61,28 +61,6 @@ is_marked_as Keeps from to ns = false
 abbrev pub is_marked_at : BufferClusterLevel → ℕ → ℕ → List ℕ → Bool
 is_marked_at level from to ns = is_marked_as (manner InList level) from to ns
 
--- the glyph flags after a merge: a glyph whose cluster changes has none
-abbrev pub flags_merged : List ℕ → List hb_glyph_info_t → List ℕ
-flags_merged range gs = map (λ (g : hb_glyph_info_t). if g.cluster == merged range g.cluster then glyph_flags g else 0) gs
-
--- the glyph flags of a glyph that is marked where it is outside a cluster
-abbrev pub flags_outside : ℕ → ℕ → hb_glyph_info_t → ℕ
-flags_outside bits low g = if g.cluster == low then glyph_flags g else bit_or (glyph_flags g) bits
-
--- the glyph flags after some indices were marked outside the least cluster among them
-abbrev pub flags_marked : ℕ → ℕ → ℕ → List hb_glyph_info_t → List ℕ
-flags_marked bits from to gs = take from (flags_of gs) ++ map (flags_outside bits (least_number (stretch from to (clusters gs)))) (slice_range gs from to) ++ drop to (flags_of gs)
-
--- the glyph flags where such indices are to merge
-abbrev pub flags_merged_as : Manner → ℕ → ℕ → List hb_glyph_info_t → List ℕ
-flags_merged_as Unites from to gs = flags_merged (stretch from to (clusters gs)) gs
-flags_merged_as Marks from to gs = flags_marked 3 from to gs
-flags_merged_as Keeps from to gs = flags_of gs
-
--- the glyph flags after a merge of such indices
-abbrev pub flags_merged_at : BufferClusterLevel → ℕ → ℕ → List hb_glyph_info_t → List ℕ
-flags_merged_at level from to gs = flags_merged_as (manner InList level) from to gs
-
 -- a glyph with flags set
 abbrev pub flagged : ℕ → hb_glyph_info_t → hb_glyph_info_t
 flagged bits g = record g { mask = bit_or g.mask bits }
@@ -90,7 +68,3 @@ flagged bits g = record g { mask = bit_or g.mask bits }
 -- the indices from `from` up to before `to` have flags set
 abbrev pub glyphs_flagged : ℕ → ℕ → ℕ → List hb_glyph_info_t → List hb_glyph_info_t
 glyphs_flagged bits from to gs = take from gs ++ map (flagged bits) (slice_range gs from to) ++ drop to gs
-
--- their glyph flags
-abbrev pub flags_flagged : ℕ → ℕ → ℕ → List hb_glyph_info_t → List ℕ
-flags_flagged bits from to gs = take from (flags_of gs) ++ map (λ (g : hb_glyph_info_t). bit_or (glyph_flags g) bits) (slice_range gs from to) ++ drop to (flags_of gs)

@@ -1,6 +1,5 @@
 -- Lemmas on lists, for loops that go over one or write to it.
-use Rattle.std.specs.Prelude.{slice_range}
-use Rattle.std.proofs.Common.{ℕ, suc, zero, ◌≡◌, ◌<◌, ◌≤◌, ◌-◌, ◌+◌, List, [], ◌∷◌, ◌++◌, length, map, take, drop, get_or, set, arith, refl, ap, add-one, Some, slice_get, ◌∙◌}
+use Rattle.std.proofs.Common.{ℕ, suc, zero, ◌≡◌, ◌<◌, ◌+◌, List, [], ◌∷◌, ◌++◌, length, map, take, drop, get_or, set, arith, refl, ap, add-one, Some, slice_get, ◌∙◌}
 use Rattle.std.proofs.lemmas.List.{get_or_default, drop_more, drop-drop, map-set, length-map, length-append, take-append-drop}
 use Rattle.std.proofs.lemmas.Option.{get_or_from_slice_get, slice_get_within}
 use Rattle.std.proofs.lemmas.List.Edits.{map_over_more}
@@ -22,12 +21,6 @@ take_next xs i = rw add-one (take_suc xs i)
 -- all but the first of what is left
 pub drop_next : {X : Type 0} (xs : List X) (i : ℕ) → drop 1 (drop i xs) ≡ drop (i + 1) xs
 drop_next xs i = drop-drop 1 i xs
-
--- a range within what is left is a range of the list
-pub range_beyond : {X : Type 0} (xs : List X) (n i j : ℕ) → n ≤ i → take (j - i) (drop (i - n) (drop n xs)) ≡ slice_range xs i j
-range_beyond xs n i j le =
-    let there : n + (i - n) ≡ i = omega arith in
-    rw (drop-drop (i - n) n xs, there) refl
 
 -- a loop that puts f of each element in its place: one step
 pub map_step : {X : Type 0} (f : X → X) (xs ys : List X) (i : ℕ) (d z : X) → i < length xs → length ys ≡ length xs

@@ -1,8 +1,8 @@
 -- What a merge of a range does to cluster numbers.
-use Rattle.std.specs.Prelude.{ℕ, ◌≡◌, ◌+◌, min, if◌then◌else◌, IsTrue, List, [], ◌∷◌, map, fold}
+use Rattle.std.specs.Prelude.{ℕ, ◌≡◌, min, if◌then◌else◌, IsTrue, List, [], ◌∷◌, map, fold}
 use Rattle.glyph_types.specs.declared.level.BufferClusterLevel.{BufferClusterLevel}
 use Rattle.glyph_lists.specs.Levels.{InList, Manner, Unites, Marks, Keeps, manner}
-use Rattle.glyph_lists.specs.Parts.{replaced, stretch}
+use Rattle.glyph_lists.specs.Parts.{stretch}
 use Rattle.glyph_lists.specs.Order.{has_number}
 
 -- the least of the numbers, or 0 where there is none
@@ -27,10 +27,6 @@ numbers_merged_as Keeps from to ns = ns
 -- what a merge of the indices from `from` up to before `to` leaves
 abbrev pub merged_at : BufferClusterLevel → ℕ → ℕ → List ℕ → List ℕ
 merged_at level from to ns = numbers_merged_as (manner InList level) from to ns
-
--- what is left where so many items at a place are merged and make room for others of the cluster of the first
-abbrev pub replaced_at : BufferClusterLevel → ℕ → ℕ → ℕ → List ℕ → List ℕ
-replaced_at level at taken given ns = replaced at taken given (merged_at level at (at + taken) ns)
 
 -- f makes the numbers of a range one
 abbrev pub IsOneOn : List ℕ → (ℕ → ℕ) → Type 0

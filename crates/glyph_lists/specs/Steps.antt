@@ -1,16 +1,11 @@
 -- One stage after another.
-use Rattle.std.proofs.Common.{ℕ, ◌≡◌, ◌+◌, List, [], ◌++◌, Ok, Err, refl, sym, ap, subst, ◌∙◌, append_assoc}
+use Rattle.std.proofs.Common.{◌≡◌, List, [], ◌++◌, Ok, Err, refl, sym, ap, subst, ◌∙◌, append_assoc}
 use Rattle.std.proofs.lemmas.List.{append-nil}
 use Rattle.std.proofs.lemmas.List.Sums.{fold-append}
 use Rattle.glyph_types.specs.declared.cause.ShapeCause.{ShapeCause}
 use Rattle.glyph_types.specs.declared.level.BufferClusterLevel.{BufferClusterLevel}
 use Rattle.glyph_lists.specs.Origins.{Origin, Asks}
 use Rattle.glyph_lists.specs.Events.{Event, origins_after_event, origins_after}
-use Rattle.glyph_lists.specs.Order.{BringsNone}
-use Rattle.glyph_lists.specs.Merges.{merged_at, replaced_at}
-use Rattle.glyph_lists.specs.Lemmas.Merges.{merged_at_brings}
-use Rattle.glyph_lists.specs.Lemmas.Drawn.{drawn_replaced}
-use Rattle.glyph_lists.specs.Lemmas.Numbers.{drawn_brings}
 use Rattle.glyph_lists.specs.Readings.{View, Read, Reading, Stage, then_read, then_reading, and_then, with_events, as_it_is, always, Run, run_after, Follows, read_of}
 
 -- some events, and then others
@@ -96,12 +91,6 @@ follows_from (Ok s) old other new origins level asks f =
     ∙ ap (λ a. record { view = s.view; origins = origins_after a other.level (s.events other.level) old.origins; level = other.level; asks = a }) asks
     ∙ ap (λ os. record { view = s.view; origins = origins_after other.asks other.level (s.events other.level) os; level = other.level; asks = other.asks }) origins
 follows_from (Err e) old other new origins level asks f = absurd f
-
--- a replacement brings no number
-pub replacement_brings : (level : BufferClusterLevel) (at taken given : ℕ) (ns : List ℕ) → BringsNone ns (replaced_at level at taken given ns)
-replacement_brings level at taken given ns n h =
-    let mid = merged_at level at (at + taken) ns in
-    merged_at_brings level at (at + taken) ns n (drawn_brings (drawn_replaced at taken given mid) n h)
 
 -- a reading leaves one run
 pub follows_once : (r : Reading) (old new other : Run) → Follows r old new → Follows r old other → new ≡ other

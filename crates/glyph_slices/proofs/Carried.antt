@@ -18,8 +18,8 @@ use Rattle.std.specs.List.{list_all}
 use Rattle.glyph_clusters.specs.Merging.{direction_merged}
 use Rattle.glyph_clusters.specs.Deleting.{IsEndRun}
 use Rattle.glyph_lists.specs.Lemmas.Ends.{from_first}
-use Rattle.glyph_lists.specs.Lemmas.Glyphs.{without_flags_again, cut_out, stretch_is, cluster_in_cluster}
-use Rattle.glyph_lists.specs.Lemmas.Merges.{least_number_is, chain_left, chain_right, chain_across}
+use Rattle.glyph_lists.specs.Lemmas.Glyphs.{without_flags_again, cut_out, stretch_is, cluster_in_cluster, same_cluster}
+use Rattle.glyph_lists.specs.Lemmas.Merges.{least_number_is, chain_left, chain_right, chain_across, merged_in}
 use Rattle.glyph_lists.specs.Lemmas.Numbers.{Has, has_here, has_more, has_cases, has_left, has_right, has_either}
 use Rattle.glyph_slices.specs.declared.due.falling.Stretch.{Stretch}
 use Rattle.glyph_slices.specs.Sorting.{Spanned, span_merged}
@@ -31,9 +31,6 @@ carried_put d gs range le e =
     let behind : drop (d.to - d.from) (drop d.from gs) ≡ drop d.to gs = drop-drop (d.to - d.from) d.from gs ∙ ap (λ n. drop n gs) there in
     rw (e, behind) (sym (append_assoc (take d.from gs) (map (in_cluster d.cluster) (slice_range gs d.from d.to)) (drop d.to gs)))
 
-same_in : (g : Glyph) → in_cluster g.cluster g ≡ g
-same_in g = let yes : (g.cluster == g.cluster) ≡ true = grind (arith, common_steps) in rw yes refl
-
 -- each glyph goes to what becomes of its cluster
 abbrev gone : (ℕ → ℕ) → List Glyph → List Glyph
 gone f gs = map (λ (g : Glyph). in_cluster (f g.cluster) g) gs
@@ -41,7 +38,7 @@ gone f gs = map (λ (g : Glyph). in_cluster (f g.cluster) g) gs
 all_stay : (f : ℕ → ℕ) (gs : List Glyph) → ((n : ℕ) → Has (clusters gs) n → f n ≡ n) → gone f gs ≡ gs
 all_stay f [] same = refl
 all_stay f (g ∷ gs) same =
-    let first : in_cluster (f g.cluster) g ≡ g = ap (λ n. in_cluster n g) (same g.cluster (has_here g.cluster (clusters gs))) ∙ same_in g in
+    let first : in_cluster (f g.cluster) g ≡ g = ap (λ n. in_cluster n g) (same g.cluster (has_here g.cluster (clusters gs))) ∙ same_cluster g in
     ap (λ (h : Glyph). h ∷ gone f gs) first ∙ ap (λ hs. g ∷ hs) (all_stay f gs (λ n h. same n (has_more g.cluster n (clusters gs) h)))
 
 all_go : (f : ℕ → ℕ) (z : ℕ) (gs : List Glyph) → ((n : ℕ) → Has (clusters gs) n → f n ≡ z) → gone f gs ≡ map (in_cluster z) gs
@@ -49,9 +46,6 @@ all_go f z [] same = refl
 all_go f z (g ∷ gs) same =
     let first : in_cluster (f g.cluster) g ≡ in_cluster z g = ap (λ n. in_cluster n g) (same g.cluster (has_here g.cluster (clusters gs))) in
     ap (λ (h : Glyph). h ∷ gone f gs) first ∙ ap (λ hs. in_cluster z g ∷ hs) (all_go f z gs (λ n h. same n (has_more g.cluster n (clusters gs) h)))
-
-merged_in : (range : List ℕ) (n : ℕ) → Has range n → merged range n ≡ least_number range
-merged_in range n h = rw h refl
 
 -- a number that is no greater than any of a range
 low_stays : (x : ℕ) (xs : List ℕ) (n : ℕ) → ((k : ℕ) → Has (x ∷ xs) k → n ≤ k) → merged (x ∷ xs) n ≡ n

@@ -13,8 +13,9 @@ use Rattle.glyph_slices.specs.declared.due.falling.Stretch.{Stretch}
 use Rattle.glyph_lists.specs.Levels.{IsMonotone}
 use Rattle.glyph_slices.specs.Turning.{range_reversed}
 use Rattle.glyph_slices.specs.Falling.{carried, IsDueBefore, IsRound}
-use Rattle.glyph_slices.specs.Lemmas.Turned.{map-reverse, part_front, part_behind, clusters_part}
+use Rattle.glyph_slices.specs.Lemmas.Turned.{part_front, part_behind, clusters_part}
 use Rattle.glyph_slices.proofs.Carried.{two_ranges, take_to, drop_beyond, take_carried, drop_carried, same_range, front_long}
+use Rattle.glyph_lists.specs.Lemmas.EventParts.{map-reverse}
 
 -- as long as before
 pub carried_long : (d : Stretch) (gs : List Glyph) → d.from ≤ d.to → d.to ≤ length gs → length (carried d gs) ≡ length gs

@@ -1,12 +1,11 @@
 -- A run that takes the cluster of one glyph after another takes that of the last.
-use Rattle.std.proofs.Common.{ℕ, ◌≡◌, ◌≢◌, ◌≤◌, ◌<◌, ◌+◌, ◌-◌, ◌==◌, ◌&&◌, inl, inr, Bool, true, false, if◌then◌else◌, List, [], ◌∷◌, ◌++◌, Option, Some, None, length, map, arith, refl, ap, sym, subst, ◌∙◌}
+use Rattle.std.proofs.Common.{ℕ, ◌≡◌, ◌≢◌, ◌≤◌, ◌<◌, ◌+◌, ◌==◌, ◌&&◌, inl, inr, Bool, true, false, if◌then◌else◌, List, [], ◌∷◌, ◌++◌, Option, Some, None, length, map, arith, refl, ap, sym, subst, ◌∙◌}
 use Rattle.std.specs.List.{list_all}
 use Rattle.std.proofs.lemmas.Grind.{common_steps}
-use Rattle.std.proofs.lemmas.Nat.{and_mask}
 use Rattle.std.proofs.lemmas.List.{length-map}
 use Rattle.std.specs.Int.RustNames.{bit_and}
 use Rattle.glyph_types.specs.declared.info.hb_glyph_info_t.{hb_glyph_info_t as Glyph}
-use Rattle.glyph_lists.specs.Items.{clusters, without_flags}
+use Rattle.glyph_lists.specs.Items.{clusters}
 use Rattle.glyph_lists.specs.Parts.{last_of, last_from}
 use Rattle.glyph_lists.specs.Order.{IsOrdered}
 use Rattle.glyph_lists.specs.Lemmas.Numbers.{Has, has_here, has_more, has_last_from}
@@ -15,7 +14,7 @@ use Rattle.glyph_lists.specs.Lemmas.Ends.{to_last}
 use Rattle.glyph_lists.specs.Lemmas.Merges.{chain_left, chain_across}
 use Rattle.glyph_lists.specs.Lemmas.Deletions.{last_is}
 use Rattle.glyph_clusters.specs.Deleting.{recast, end_recast_from, end_recast}
-use Rattle.glyph_clusters.specs.Deleted.{recast_cluster}
+use Rattle.glyph_clusters.specs.Deleted.{recast_cluster, flags_put}
 use Rattle.glyph_slices.specs.DeletionWalk.{IsDue, settled}
 use Rattle.glyph_clusters.specs.OneDeleted.{has_last}
 use Rattle.glyph_slices.proofs.Walking.{last_recast}
@@ -36,13 +35,6 @@ recast_twice c d k m h off away apart =
     let two : (h.cluster == d) ≡ false = apart_test h.cluster d away in
     let three : (c == d) ≡ false = apart_test c d apart in
     rw (one, two, three) (ap (λ (n : ℕ). record h { cluster = d; mask = n + bit_and m 7 }) (flags_put h.mask k))
-  where
-    flags_put : (a b : ℕ) → without_flags (without_flags a + bit_and b 7) ≡ without_flags a
-    flags_put a b =
-        let low = and_mask a 3 in
-        let put = and_mask b 3 in
-        let both = and_mask (a - bit_and a 7 + bit_and b 7) 3 in
-        omega (arith, low, put, both)
 
 all_recast : (p : ℕ) (g d : Glyph) (hs : List Glyph) → list_all (λ (k : Glyph). k.cluster == p) hs ≡ true → d.cluster < p → g.cluster < d.cluster
     → map (recast g.cluster g.mask) (map (recast d.cluster d.mask) hs) ≡ map (recast g.cluster g.mask) hs

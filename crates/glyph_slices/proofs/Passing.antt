@@ -11,10 +11,6 @@ use Rattle.glyph_clusters.specs.Deleting.{Deletes}
 use Rattle.glyph_slices.specs.DeletionWalk.{IsDue, IsWalk, Passed, all_passed, many_passed, settled, passed_at, passed_of, first_passed, with_glyph, without_glyph}
 use Rattle.glyph_slices.specs.Lemmas.Neighbours.{no_glyph}
 
-pub or_false : (b : Bool) → (b || false) ≡ b
-or_false true = refl
-or_false false = refl
-
 pub passed_without : (level : Level) (at : ℕ) (w v : Walk) (gs new : List Glyph) (ps : List Position) (g : Glyph) (back : List Glyph) (m : Bool)
     → Deletes level (settled w.due (take w.kept gs)) (drop at gs) (settled v.due (take v.kept new)) (drop (at + 1) new) m → v.kept ≡ w.kept → v.marked ≡ (w.marked || m) → drop at gs ≡ g ∷ back
     → passed_at (at + 1) v new ps ≡ without_glyph level (passed_at at w gs ps) g back

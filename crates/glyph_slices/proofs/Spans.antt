@@ -8,7 +8,7 @@ use Rattle.stable_order.specs.Keys.{key_order}
 use Rattle.std.proofs.lemmas.Bool.Decides.{nat_tests}
 use Rattle.std.proofs.lemmas.Grind.{common_steps}
 use Rattle.std.proofs.lemmas.List.{drop_more, drop-drop, take_more, map-append, length-append, length-map, length-take-le, length-drop, take-append-drop, get_or_at, get_or-set_same}
-use Rattle.std.proofs.Math.Seq.{set-append_seam, map-set_same, take-append_seam, drop-append_seam}
+use Rattle.std.proofs.Math.Seq.{set-append_seam, map-set_same}
 use Rattle.glyph_lists.specs.Items.{clusters}
 use Rattle.glyph_lists.specs.Lists.{seen_at}
 use Rattle.glyph_types.specs.declared.info.hb_glyph_info_t.{hb_glyph_info_t as Glyph}
@@ -147,16 +147,3 @@ put_same start n mid range e =
     map-append f (take start mid) (range ++ back)
     ∙ ap (λ ns. clusters (take start mid) ++ ns) (map-append f range back ∙ ap (λ ns. ns ++ clusters back) e ∙ sym (map-append f (take n (drop start mid)) back) ∙ ap clusters (take-append-drop n (drop start mid)))
     ∙ sym (map-append f (take start mid) (drop start mid)) ∙ ap clusters (take-append-drop start mid)
-
--- and the other way round
-pub same_put : (start n : ℕ) (mid range : List Glyph) → length range ≡ length (take n (drop start mid)) → clusters (put_mid start n mid range) ≡ clusters mid → clusters range ≡ clusters (take n (drop start mid))
-same_put start n mid range long e =
-    let f : Glyph → ℕ = λ g. g.cluster in
-    let back : List Glyph = drop n (drop start mid) in
-    let parts : clusters (take start mid) ++ (clusters range ++ clusters back) ≡ clusters (take start mid) ++ (clusters (take n (drop start mid)) ++ clusters back) =
-    sym (map-append f (take start mid) (range ++ back) ∙ ap (λ ns. clusters (take start mid) ++ ns) (map-append f range back)) ∙ e
-    ∙ sym (sym (map-append f (take start mid) (take n (drop start mid) ++ back) ∙ ap (λ ns. clusters (take start mid) ++ ns) (map-append f (take n (drop start mid)) back)) ∙ ap clusters (ap (λ hs. take start mid ++ hs) (take-append-drop n (drop start mid)) ∙ take-append-drop start mid)) in
-    let behind : clusters range ++ clusters back ≡ clusters (take n (drop start mid)) ++ clusters back =
-    sym (drop-append_seam (clusters (take start mid)) (clusters range ++ clusters back)) ∙ ap (drop (length (clusters (take start mid)))) parts ∙ drop-append_seam (clusters (take start mid)) (clusters (take n (drop start mid)) ++ clusters back) in
-    let wide : length (clusters range) ≡ length (clusters (take n (drop start mid))) = length-map range f ∙ long ∙ sym (length-map (take n (drop start mid)) f) in
-    sym (take-append_seam (clusters range) (clusters back)) ∙ ap (take (length (clusters range))) behind ∙ ap (λ m. take m (clusters (take n (drop start mid)) ++ clusters back)) wide ∙ take-append_seam (clusters (take n (drop start mid))) (clusters back)

@@ -8,5 +8,3 @@ pub mod groups;
 pub mod laws;
 pub mod reversal;
 pub mod sorting;
-#[cfg(test)]
-mod tests;

@@ -20,7 +20,7 @@ use Rattle.glyph_lists.specs.Events.{Event, StaysInSpans, Merge, Replace, Circle
 use Rattle.glyph_lists.specs.EventParts.{joins_of, span_joins, parts_of_event, parts_of, IsEven, AreEvenRuns, HaveNoConcat}
 use Rattle.glyph_lists.specs.Lemmas.Drawn.{drawn_replaced, drawn_doubled}
 use Rattle.glyph_lists.specs.Lemmas.Numbers.{Has, has_here, has_more, has_cases, has_either, has_take, has_drop, has_map, has_reverse, drawn_brings}
-use Rattle.glyph_lists.specs.Lemmas.Parts.{stays_ordered}
+use Rattle.glyph_lists.specs.Lemmas.Parts.{stays_ordered, numbers_through}
 use Rattle.glyph_lists.specs.Levels.{IsUniting}
 use Rattle.glyph_lists.specs.Lemmas.Sorts.{spans_united, sorted_alike}
 use Rattle.glyph_lists.specs.Lemmas.Merges.{merge_joins, merged_at_brings, merged_in}
@@ -28,7 +28,7 @@ use Rattle.glyph_lists.specs.Lemmas.Deletions.{deletion_is_event, deletion_bring
 use Rattle.glyph_lists.specs.Lemmas.Replacements.{among_seen}
 use Rattle.glyph_lists.specs.Lemmas.Origins.{numbers_listed, numbers_merged, numbers_marked, numbers_flagged, numbers_deleted}
 
-map-reverse : {X Y : Type 0} (f : X → Y) (xs : List X) → map f (reverse xs) ≡ reverse (map f xs)
+pub map-reverse : {X Y : Type 0} (f : X → Y) (xs : List X) → map f (reverse xs) ≡ reverse (map f xs)
 map-reverse f [] = refl
 map-reverse f (x ∷ xs) = rw (reverse_onto xs x [], map-append, map-reverse f xs, reverse_onto (map f xs) (f x) []) refl
 
@@ -81,9 +81,6 @@ numbers_tatweel false from to os = numbers_marked 3 from to os
 
 -- ---- no number is new
 
-through : (old mid new : List ℕ) → BringsNone old mid → BringsNone mid new → BringsNone old new
-through old mid new h k n has = h n (k n has)
-
 same_brings : (old new : List ℕ) → new ≡ old → BringsNone old new
 same_brings old new e = λ n h. subst (λ (ns : List ℕ). Has ns n) e h
 
@@ -131,24 +128,24 @@ spans_bring : (m : Manner) (at : ℕ) (ss : List Span) (os : List Origin) → Br
 spans_bring m at [] os = λ n h. h
 spans_bring m at (s ∷ ss) os =
     let mid = merged_as m (at + s.from) (at + s.to) os in
-    through (numbers os) (numbers mid) _ (merged_brings m (at + s.from) (at + s.to) os) (spans_bring m at ss mid)
+    numbers_through (numbers os) (numbers mid) _ (merged_brings m (at + s.from) (at + s.to) os) (spans_bring m at ss mid)
 
 pub event_brings : (asks : Asks) (level : BufferClusterLevel) (os : List Origin) (e : Event) → BringsNone (numbers os) (numbers (origins_after_event asks level os e))
 event_brings asks level os (Merge how from to) = merged_brings (manner how level) from to os
 event_brings asks level os (Replace at taken given) =
     let mid = merged_as (manner InList level) at (at + taken) os in
-    through (numbers os) (numbers mid) _ (merged_brings (manner InList level) at (at + taken) os)
+    numbers_through (numbers os) (numbers mid) _ (merged_brings (manner InList level) at (at + taken) os)
     (λ n h. drawn_brings (drawn_replaced at taken given (numbers mid)) n (subst (λ (ns : List ℕ). Has ns n) (among_seen (λ (o : Origin). o.cluster) at taken given mid) h))
 event_brings asks level os (Circle after beside like) = λ n h. drawn_brings (drawn_doubled beside (numbers os)) n (subst (λ (ns : List ℕ). Has ns n) (numbers_with_circle after beside like os) h)
 event_brings asks level os (Delete at) = deleted_brings level at os
 event_brings asks level os (Move how from order) =
     let mid = merged_as (manner how level) from (from + length order) os in
-    through (numbers os) (numbers mid) _ (merged_brings (manner how level) from (from + length order) os)
+    numbers_through (numbers os) (numbers mid) _ (merged_brings (manner how level) from (from + length order) os)
     (λ n h. arranged_brings from order (numbers mid) n (subst (λ (ns : List ℕ). Has ns n) (numbers_arranged from order mid) h))
 event_brings asks level os (Arrange from order) = λ n h. arranged_brings from order (numbers os) n (subst (λ (ns : List ℕ). Has ns n) (numbers_arranged from order os) h)
 event_brings asks level os (Sort from order) =
     let mid = spans_merged (manner InList level) from (spans order) os in
-    through (numbers os) (numbers mid) _ (spans_bring (manner InList level) from (spans order) os)
+    numbers_through (numbers os) (numbers mid) _ (spans_bring (manner InList level) from (spans order) os)
     (λ n h. arranged_brings from order (numbers mid) n (subst (λ (ns : List ℕ). Has ns n) (numbers_arranged from order mid) h))
 event_brings asks level os Reverse = λ n h. sym (has_reverse n (numbers os)) ∙ subst (λ (ns : List ℕ). Has ns n) (map-reverse (λ (o : Origin). o.cluster) os) h
 event_brings asks level os (Break from to) = same_brings (numbers os) _ (numbers_marked 3 from to os)
@@ -159,7 +156,7 @@ event_brings asks level os Reset = same_brings (numbers os) _ (numbers_reset os)
 
 pub origins_keep_numbers : (asks : Asks) (level : BufferClusterLevel) (es : List Event) (os : List Origin) → BringsNone (numbers os) (numbers (origins_after asks level es os))
 origins_keep_numbers asks level [] os = λ n h. h
-origins_keep_numbers asks level (e ∷ es) os = through (numbers os) (numbers (origins_after_event asks level os e)) _ (event_brings asks level os e) (origins_keep_numbers asks level es (origins_after_event asks level os e))
+origins_keep_numbers asks level (e ∷ es) os = numbers_through (numbers os) (numbers (origins_after_event asks level os e)) _ (event_brings asks level os e) (origins_keep_numbers asks level es (origins_after_event asks level os e))
 
 -- ---- in order, at a monotone level, events are those of the parts
 

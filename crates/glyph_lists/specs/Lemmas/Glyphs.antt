@@ -10,10 +10,10 @@ use Rattle.std.proofs.Math.Seq.{take-append-add, drop-append-add}
 use Rattle.glyph_types.specs.declared.info.hb_glyph_info_t.{hb_glyph_info_t}
 use Rattle.glyph_types.specs.declared.level.BufferClusterLevel.{BufferClusterLevel}
 use Rattle.glyph_types.specs.declared.level.BufferClusterLevel.TheVariants.{MonotoneGraphemes, MonotoneCharacters, Characters}
-use Rattle.glyph_lists.specs.Items.{item_of, strip, clusters, without_flags, glyph_flags, flags_of}
+use Rattle.glyph_lists.specs.Items.{item_of, strip, clusters, without_flags, glyph_flags}
 use Rattle.glyph_lists.specs.Parts.{stretch}
 use Rattle.glyph_lists.specs.Merges.{least_number, merged, merged_numbers, merged_at}
-use Rattle.glyph_lists.specs.Glyphs.{in_cluster, glyphs_merged, marked_outside, glyphs_marked, glyphs_merged_at, beside_merged, flags_merged, flags_outside, flags_marked, flags_merged_at, flagged, glyphs_flagged, flags_flagged}
+use Rattle.glyph_lists.specs.Glyphs.{in_cluster, glyphs_merged, marked_outside, glyphs_marked, glyphs_merged_at, beside_merged, flagged, glyphs_flagged}
 
 -- the three flags are gone once
 pub without_flags_again : (m : ℕ) → without_flags (without_flags m) ≡ without_flags m
@@ -70,10 +70,6 @@ pub clusters_merged : (range : List ℕ) (gs : List hb_glyph_info_t) → cluster
 clusters_merged range [] = refl
 clusters_merged range (g ∷ gs) = rw (cluster_in_cluster (merged range g.cluster) g, clusters_merged range gs) refl
 
-pub flags_of_merged : (range : List ℕ) (gs : List hb_glyph_info_t) → flags_of (glyphs_merged range gs) ≡ flags_merged range gs
-flags_of_merged range [] = refl
-flags_of_merged range (g ∷ gs) = rw (flags_in_cluster (merged range g.cluster) g, flags_of_merged range gs) refl
-
 -- a list is cut in three
 pub cut_out : {X : Type 0} (from to : ℕ) (xs : List X) → from ≤ to → take from xs ++ slice_range xs from to ++ drop to xs ≡ xs
 cut_out from to xs le =
@@ -89,11 +85,6 @@ item_marked bits low g lt =
 pub cluster_marked : (bits low : ℕ) (g : hb_glyph_info_t) → (marked_outside bits low g).cluster ≡ g.cluster
 cluster_marked bits low g = elim (g.cluster == low) as (λ t. (if t then g else record g { mask = bit_or g.mask bits }).cluster ≡ g.cluster) [ true ↦ refl | false ↦ refl ]
 
-pub flags_of_outside : (bits low : ℕ) (g : hb_glyph_info_t) → bits < 8 → glyph_flags (marked_outside bits low g) ≡ flags_outside bits low g
-flags_of_outside bits low g lt =
-    elim (g.cluster == low) as (λ t. glyph_flags (if t then g else record g { mask = bit_or g.mask bits }) ≡ (if t then glyph_flags g else bit_or (glyph_flags g) bits))
-    [ true ↦ refl | false ↦ flags_set g.mask bits lt ]
-
 -- what is seen of each glyph stays, so it stays for all
 seen_marked : {Y : Type 0} (v : hb_glyph_info_t → Y) (bits low : ℕ) (gs : List hb_glyph_info_t) → ((g : hb_glyph_info_t) → v (marked_outside bits low g) ≡ v g) → map v (map (marked_outside bits low) gs) ≡ map v gs
 seen_marked v bits low [] same = refl
@@ -106,16 +97,6 @@ stays_marked v bits from to gs le same =
     let kept = seen_marked v bits low range (same low) in
     rw (map-append v (take from gs ++ map (marked_outside bits low) range) (drop to gs), map-append v (take from gs) (map (marked_outside bits low) range), kept, ← map-append v (take from gs) range, ← map-append v (take from gs ++ range) (drop to gs), cut_out from to gs le) refl
 
-outside_of_range : (bits low : ℕ) (gs : List hb_glyph_info_t) → bits < 8 → flags_of (map (marked_outside bits low) gs) ≡ map (flags_outside bits low) gs
-outside_of_range bits low [] lt = refl
-outside_of_range bits low (g ∷ gs) lt = rw (flags_of_outside bits low g lt, outside_of_range bits low gs lt) refl
-
-pub flags_of_marked : (bits from to : ℕ) (gs : List hb_glyph_info_t) → bits < 8 → flags_of (glyphs_marked bits from to gs) ≡ flags_marked bits from to gs
-flags_of_marked bits from to gs lt =
-    let low = least_number (stretch from to (clusters gs)) in
-    let range = slice_range gs from to in
-    rw (map-append glyph_flags (take from gs ++ map (marked_outside bits low) range) (drop to gs), map-append glyph_flags (take from gs) (map (marked_outside bits low) range), outside_of_range bits low range lt, take-map glyph_flags from gs, drop-map glyph_flags to gs) refl
-
 -- a merge changes no item
 pub strip_merged_at : (level : BufferClusterLevel) (from to : ℕ) (gs : List hb_glyph_info_t) → from ≤ to → strip (glyphs_merged_at level from to gs) ≡ strip gs
 strip_merged_at MonotoneGraphemes from to gs le = strip_merged (stretch from to (clusters gs)) gs
@@ -127,11 +108,6 @@ pub clusters_merged_at : (level : BufferClusterLevel) (from to : ℕ) (gs : List
 clusters_merged_at MonotoneGraphemes from to gs le = clusters_merged (stretch from to (clusters gs)) gs
 clusters_merged_at MonotoneCharacters from to gs le = clusters_merged (stretch from to (clusters gs)) gs
 clusters_merged_at Characters from to gs le = stays_marked (λ (g : hb_glyph_info_t). g.cluster) 3 from to gs le (λ low g. cluster_marked 3 low g)
-
-pub flags_of_merged_at : (level : BufferClusterLevel) (from to : ℕ) (gs : List hb_glyph_info_t) → flags_of (glyphs_merged_at level from to gs) ≡ flags_merged_at level from to gs
-flags_of_merged_at MonotoneGraphemes from to gs = flags_of_merged (stretch from to (clusters gs)) gs
-flags_of_merged_at MonotoneCharacters from to gs = flags_of_merged (stretch from to (clusters gs)) gs
-flags_of_merged_at Characters from to gs = flags_of_marked 3 from to gs (omega arith)
 
 -- as many glyphs as before
 pub length_merged_at : (level : BufferClusterLevel) (from to : ℕ) (gs : List hb_glyph_info_t) → from ≤ to → length (glyphs_merged_at level from to gs) ≡ length gs
@@ -178,11 +154,6 @@ merged_at_beyond MonotoneGraphemes xs ys i j = merged_beyond xs ys i j
 merged_at_beyond MonotoneCharacters xs ys i j = merged_beyond xs ys i j
 merged_at_beyond Characters xs ys i j = marked_beyond 3 xs ys i j
 
-pub length_marked : (bits from to : ℕ) (gs : List hb_glyph_info_t) → from ≤ to → length (glyphs_marked bits from to gs) ≡ length gs
-length_marked bits from to gs le =
-    let cluster_of : hb_glyph_info_t → ℕ = λ g. g.cluster in
-    sym (length-map (glyphs_marked bits from to gs) cluster_of) ∙ ap length (stays_marked cluster_of bits from to gs le (λ low g. cluster_marked bits low g)) ∙ length-map gs cluster_of
-
 pub strip_marked : (bits from to : ℕ) (gs : List hb_glyph_info_t) → bits < 8 → from ≤ to → strip (glyphs_marked bits from to gs) ≡ strip gs
 strip_marked bits from to gs lt le = stays_marked item_of bits from to gs le (λ low g. item_marked bits low g lt)
 
@@ -205,17 +176,16 @@ strip_flagged bits from to gs lt le = stays_flagged item_of bits from to gs le (
 pub clusters_flagged : (bits from to : ℕ) (gs : List hb_glyph_info_t) → from ≤ to → clusters (glyphs_flagged bits from to gs) ≡ clusters gs
 clusters_flagged bits from to gs le = stays_flagged (λ (g : hb_glyph_info_t). g.cluster) bits from to gs le (λ g. refl)
 
-flags_of_range : (bits : ℕ) (gs : List hb_glyph_info_t) → bits < 8 → flags_of (map (flagged bits) gs) ≡ map (λ (g : hb_glyph_info_t). bit_or (glyph_flags g) bits) gs
-flags_of_range bits [] lt = refl
-flags_of_range bits (g ∷ gs) lt = rw (flags_set g.mask bits lt, flags_of_range bits gs lt) refl
-
-pub flags_of_flagged : (bits from to : ℕ) (gs : List hb_glyph_info_t) → bits < 8 → flags_of (glyphs_flagged bits from to gs) ≡ flags_flagged bits from to gs
-flags_of_flagged bits from to gs lt =
-    let range = slice_range gs from to in
-    rw (map-append glyph_flags (take from gs ++ map (flagged bits) range) (drop to gs), map-append glyph_flags (take from gs) (map (flagged bits) range), flags_of_range bits range lt, take-map glyph_flags from gs, drop-map glyph_flags to gs) refl
-
 pub flagged_beyond : (bits : ℕ) (xs ys : List hb_glyph_info_t) (i j : ℕ) → glyphs_flagged bits (length xs + i) (length xs + j) (xs ++ ys) ≡ xs ++ glyphs_flagged bits i j ys
 flagged_beyond bits xs ys i j =
     rw (slice_beyond xs ys i j, take-append-add xs ys i, drop-append-add xs ys j)
     (append_assoc (xs ++ take i ys) (map (flagged bits) (slice_range ys i j)) (drop j ys) ∙ append_assoc xs (take i ys) (map (flagged bits) (slice_range ys i j) ++ drop j ys)
     ∙ ap (λ zs. xs ++ zs) (sym (append_assoc (take i ys) (map (flagged bits) (slice_range ys i j)) (drop j ys))))
+
+-- a glyph stays where it goes to its own cluster, and so do all where nothing merges
+pub same_cluster : (g : hb_glyph_info_t) → in_cluster g.cluster g ≡ g
+same_cluster g = let yes : (g.cluster == g.cluster) ≡ true = grind (arith, common_steps) in rw yes refl
+
+pub nothing_merged : (gs : List hb_glyph_info_t) → glyphs_merged [] gs ≡ gs
+nothing_merged [] = refl
+nothing_merged (g ∷ gs) = rw (same_cluster g, nothing_merged gs) refl

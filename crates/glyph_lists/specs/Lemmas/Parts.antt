@@ -81,7 +81,7 @@ numbers_united ns m n hm hn k h =
 numbers_unite : (ns : List ℕ) → Unites (BringsNone ns) ns
 numbers_unite ns = record { same = λ n h. h; union = numbers_united ns }
 
-numbers_through : (old mid new : List ℕ) → BringsNone old mid → BringsNone mid new → BringsNone old new
+pub numbers_through : (old mid new : List ℕ) → BringsNone old mid → BringsNone mid new → BringsNone old new
 numbers_through old mid new h k n has = h n (k n has)
 
 -- one event brings no number

@@ -2,7 +2,7 @@
 use Rattle.std.proofs.Common.{ℕ, zero, suc, ◌≡◌, ◌+◌, ◌-◌, slice_get, List, [], ◌∷◌, ◌++◌, Option, Some, None, length, map, take, drop, replicate, refl, ap, sym, ◌∙◌}
 use Rattle.std.proofs.lemmas.List.{map-append, take-map, drop-map, length-map, length-replicate}
 use Rattle.glyph_types.specs.declared.info.hb_glyph_info_t.{hb_glyph_info_t}
-use Rattle.glyph_lists.specs.Items.{item_of, strip, clusters, glyph_flags, flags_of}
+use Rattle.glyph_lists.specs.Items.{item_of, strip, clusters}
 use Rattle.glyph_lists.specs.Parts.{first_of, last_of, or, copies, replaced, replaced_among}
 use Rattle.glyph_lists.specs.Replacements.{copied, replaced_by, glyph_numbered, item_numbered, glyphs_replaced, items_replaced}
 
@@ -73,6 +73,3 @@ strip_replaced at taken ns gs = replaced_seen item_of glyph_numbered item_number
 
 pub clusters_replaced : (at taken : ℕ) (ns : List ℕ) (gs : List hb_glyph_info_t) → clusters (glyphs_replaced at taken ns gs) ≡ replaced at taken (length ns) (clusters gs)
 clusters_replaced at taken ns gs = replaced_seen (λ (g : hb_glyph_info_t). g.cluster) glyph_numbered (λ x n. x) at taken ns gs (λ g n. refl) ∙ replaced_alike at taken ns (clusters gs)
-
-pub flags_of_replaced : (at taken : ℕ) (ns : List ℕ) (gs : List hb_glyph_info_t) → flags_of (glyphs_replaced at taken ns gs) ≡ replaced at taken (length ns) (flags_of gs)
-flags_of_replaced at taken ns gs = replaced_seen glyph_flags glyph_numbered (λ x n. x) at taken ns gs (λ g n. refl) ∙ replaced_alike at taken ns (flags_of gs)

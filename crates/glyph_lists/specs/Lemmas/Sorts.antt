@@ -4,10 +4,10 @@ use Rattle.std.specs.Prelude.{slice_get, unwrap_or, slice_index_or as get_or, na
 use Rattle.std.specs.List.{list_all}
 use Rattle.std.proofs.lemmas.Bool.Decides.{nat_tests}
 use Rattle.std.proofs.lemmas.Grind.{common_steps}
-use Rattle.std.proofs.lemmas.List.{take-append-drop, take_all}
+use Rattle.std.proofs.lemmas.List.{take-append-drop}
 use Rattle.std.proofs.lemmas.Option.{slice_get_within, slice_get-get_or}
 use Rattle.glyph_lists.specs.Parts.{stretch}
-use Rattle.glyph_lists.specs.Merges.{least_number, merged, merged_numbers}
+use Rattle.glyph_lists.specs.Merges.{merged, merged_numbers}
 use Rattle.glyph_lists.specs.Origins.{Span, is_seam, spans_from, spans, picked, arranged}
 use Rattle.glyph_lists.specs.Events.{StaysInSpans}
 use Rattle.glyph_lists.specs.Lemmas.Numbers.{Has, has_here, has_more}

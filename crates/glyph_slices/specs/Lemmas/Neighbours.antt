@@ -62,6 +62,3 @@ grapheme_from i n xs d lt e =
 -- past the end there is none
 pub none_from : {X : Type 0} (key : X → ℕ) (i : ℕ) (xs : List X) → length xs ≤ i → i ≡ i + run_length key (drop i xs)
 none_from key i xs le = let none : drop i xs ≡ [] = drop_all i xs le in rw none (omega arith)
-
-pub no_grapheme_from : (i : ℕ) (xs : List Glyph) → length xs ≤ i → i ≡ i + grapheme_length (drop i xs)
-no_grapheme_from i xs le = let none : drop i xs ≡ [] = drop_all i xs le in rw none (omega arith)

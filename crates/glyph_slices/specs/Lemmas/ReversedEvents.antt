@@ -21,7 +21,8 @@ use Rattle.glyph_slices.specs.Turning.{range_reversed, merged_if, beside_if, all
 use Rattle.glyph_slices.specs.Lemmas.Picked.{AreAt, arranged_as, are_all, are_reversed}
 use Rattle.glyph_slices.specs.Lemmas.Regrouped.{of_items, few_ahead, lengths_ahead}
 use Rattle.glyph_slices.specs.Lemmas.Stretches.{joined_within}
-use Rattle.glyph_slices.specs.Lemmas.Turned.{map-reverse, placed_glyphs, all_idle}
+use Rattle.glyph_slices.specs.Lemmas.Turned.{placed_glyphs, all_idle}
+use Rattle.glyph_lists.specs.Lemmas.EventParts.{map-reverse}
 
 pub length_reversed_indices : (n : ℕ) → length (indices_reversed n) ≡ n
 length_reversed_indices n = length-reverse (range_with_len 0 n) ∙ length-range_with_len 0 n

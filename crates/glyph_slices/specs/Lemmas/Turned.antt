@@ -1,9 +1,8 @@
 -- A walk that turns round group after group.
 use Rattle.std.specs.Prelude.{slice_range}
 use borrow.Rule.Slice.PartMut.{put_mid}
-use Rattle.std.proofs.Common.{ℕ, suc, zero, ◌≡◌, ◌≤◌, ◌<◌, ◌+◌, ◌-◌, ◌||◌, ◌==◌, Bool, true, false, List, [], ◌∷◌, ◌++◌, length, map, take, drop, reverse, arith, refl, ap, sym, subst, ◌∙◌, append_assoc}
+use Rattle.std.proofs.Common.{ℕ, suc, zero, ◌≡◌, ◌≤◌, ◌<◌, ◌+◌, ◌-◌, ◌||◌, Bool, true, false, List, [], ◌∷◌, ◌++◌, length, map, take, drop, reverse, arith, refl, ap, sym, subst, ◌∙◌, append_assoc}
 use Rattle.std.proofs.lemmas.List.{drop-drop, take-map, drop-map, length-append, take-append-drop, length-take-le, length-drop, length-reverse, reverse-append, reverse-reverse, map-append, drop_all, take_all}
-use Rattle.std.proofs.lemmas.Grind.{reverse_onto, common_steps}
 use Rattle.std.proofs.Math.Seq.{take-append_seam, drop-append_seam}
 use Rattle.glyph_types.specs.declared.info.hb_glyph_info_t.{hb_glyph_info_t as Glyph}
 use Rattle.glyph_types.specs.declared.level.BufferClusterLevel.{BufferClusterLevel}
@@ -15,10 +14,11 @@ use Rattle.glyph_lists.specs.Order.{IsOrdered}
 use Rattle.glyph_lists.specs.Levels.{IsMonotone}
 use Rattle.glyph_lists.specs.Lemmas.Merges.{map_alike}
 use Rattle.glyph_clusters.specs.Merging.{order_merged}
-use Rattle.glyph_lists.specs.Glyphs.{in_cluster, glyphs_merged_at, beside_merged, glyphs_merged, tells_apart}
-use Rattle.glyph_lists.specs.Lemmas.Glyphs.{merged_at_beyond, stretch_is, length_beside, length_merged_at, clusters_merged, cut_out}
+use Rattle.glyph_lists.specs.Glyphs.{glyphs_merged_at, beside_merged, glyphs_merged, tells_apart}
+use Rattle.glyph_lists.specs.Lemmas.Glyphs.{merged_at_beyond, stretch_is, length_beside, length_merged_at, clusters_merged, cut_out, nothing_merged}
 use Rattle.glyph_slices.specs.Groups.{group_length}
 use Rattle.glyph_slices.specs.Turning.{Turning, range_reversed, merged_if, is_marked_if, beside_if, first_turned, group_turned, turning_at, all_turned, turned}
+use Rattle.glyph_lists.specs.Lemmas.EventParts.{map-reverse}
 
 pub turned_put : {X : Type 0} (start end : ℕ) (xs range : List X) → start ≤ end → range ≡ reverse (slice_range xs start end) → put_mid start (end - start) xs range ≡ range_reversed start end xs
 turned_put start end xs range le e =
@@ -43,10 +43,6 @@ part_behind start end xs le within =
     let long : length front ≡ end = part_front start end xs le within in
     let there : start + (end - start) ≡ end = omega arith in
     ap (λ n. drop n (front ++ drop end xs)) (sym long) ∙ drop-append_seam front (drop end xs) ∙ ap (λ n. drop n xs) (sym there) ∙ sym (drop-drop (end - start) start xs)
-
-pub map-reverse : {X Y : Type 0} (f : X → Y) (xs : List X) → map f (reverse xs) ≡ reverse (map f xs)
-map-reverse f [] = refl
-map-reverse f (x ∷ xs) = rw (reverse_onto xs x [], map-append, map-reverse f xs, reverse_onto (map f xs) (f x) []) refl
 
 beside_reverse : (level : BufferClusterLevel) (range : List ℕ) (gs : List Glyph) → reverse (beside_merged level range gs) ≡ beside_merged level range (reverse gs)
 beside_reverse MonotoneGraphemes range gs = sym (map-reverse _ gs)
@@ -157,14 +153,7 @@ group_ordered true level start end gs mid new le m n asked mono o =
     let P : List ℕ → Type 0 = IsOrdered in
     subst P (sym (ap clusters n ∙ clusters_part level start end gs mid mono le m)) (order_merged level start end gs mid le m o)
 
-same_cluster : (g : Glyph) → in_cluster g.cluster g ≡ g
-same_cluster g = let same : (g.cluster == g.cluster) ≡ true = grind (arith, common_steps) in rw same refl
-
-pub nothing_merged : (gs : List Glyph) → glyphs_merged [] gs ≡ gs
-nothing_merged [] = refl
-nothing_merged (g ∷ gs) = rw (same_cluster g, nothing_merged gs) refl
-
-or_false : (b : Bool) → (b || false) ≡ b
+pub or_false : (b : Bool) → (b || false) ≡ b
 or_false true = refl
 or_false false = refl
 

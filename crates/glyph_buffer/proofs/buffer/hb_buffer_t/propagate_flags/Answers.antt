@@ -1,16 +1,15 @@
 use Rattle.std.specs.Vec.{with_items}
 use Rattle.std.specs.Prelude.{bit_and}
-use Rattle.std.proofs.Common.{◌≡◌, ◌==◌, false, [], length, map, List, refl, rules, arith, ap, sym, ◌∙◌}
+use Rattle.std.proofs.Common.{◌≡◌, ◌==◌, false, length, map, refl, rules, arith, ap, ◌∙◌}
 use Rattle.std.proofs.lemmas.Grind.{common_steps}
-use Rattle.glyph_types.specs.declared.info.hb_glyph_info_t.{hb_glyph_info_t as Glyph}
-use Rattle.glyph_lists.specs.Items.{clusters, item_masked, strip}
+use Rattle.glyph_lists.specs.Items.{item_masked, strip}
 use Rattle.glyph_lists.specs.Origins.{Asks, origins, origins_spread}
 use Rattle.glyph_buffer.specs.Sides.{Sides}
 use Rattle.glyph_buffer.specs.Inside.{sides_of}
 use Rattle.glyph_buffer.specs.Merging.{with_glyphs}
 use Rattle.glyph_buffer.specs.Sides.{all_glyphs}
 use Rattle.glyph_buffer.proofs.Slices.{all_put}
-use Rattle.glyph_buffer.proofs.Spread.{all_closed, asks_are, clusters_spread, glyphs_same, glyphs_view, spread_items, spread_origins}
+use Rattle.glyph_buffer.proofs.Spread.{asks_are, clusters_spread, glyphs_same, glyphs_view, spread_items, spread_origins}
 use Rattle.glyph_buffer.proofs.buffer.hb_buffer_t.propagate_flags.Goals as goal
 
 closed : (c : goal.After-self-1) → c.self.inside.have_output ≡ false

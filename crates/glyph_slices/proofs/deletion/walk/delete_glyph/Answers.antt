@@ -1,6 +1,7 @@
 use Rattle.std.proofs.Common.{None, ◌||◌, refl, sym, ◌∙◌}
-use Rattle.glyph_slices.proofs.Passing.{passed_without, walk_without, front_deletes, or_false}
+use Rattle.glyph_slices.proofs.Passing.{passed_without, walk_without, front_deletes}
 use Rattle.glyph_slices.proofs.deletion.walk.delete_glyph.Goals as goal
+use Rattle.glyph_slices.specs.Lemmas.Turned.{or_false}
 
 pub returns-then-walk-eq0 : goal.returns-then-walk-eq0
 returns-then-walk-eq0 c =
