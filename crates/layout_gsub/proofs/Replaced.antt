@@ -1,21 +1,20 @@
 -- What a glyph in the place of another does to a buffer.
-use Rattle.std.proofs.Common.{ℕ, ◌≡◌, ◌≤◌, ◌<◌, ◌+◌, true, nat_le, Bool, List, [], ◌∷◌, ◌++◌, length, map, take, drop, refl, sym, ap, ◌∙◌, arith, Some, None, slice_get}
-use Rattle.std.specs.Prelude.{slice_set, Option}
-use Rattle.std.proofs.lemmas.List.{map-append, length-map, length-append}
+use Rattle.std.proofs.Common.{ℕ, ◌≡◌, ◌≤◌, ◌<◌, ◌+◌, true, nat_le, Bool, List, [], ◌∷◌, ◌++◌, length, map, take, drop, refl, sym, ap, ◌∙◌, arith, Some, slice_get}
+use Rattle.std.specs.Prelude.{slice_set}
+use Rattle.std.proofs.lemmas.List.{map-append, length-append}
 use Rattle.std.proofs.lemmas.Bool.Decides.{nat_tests}
 use Rattle.glyph_types.specs.declared.flags.GlyphPropsFlags.{GlyphPropsFlags}
 use Rattle.glyph_types.specs.declared.info.hb_glyph_info_t.{hb_glyph_info_t}
 use Rattle.glyph_lists.specs.Items.{Item, item_of, strip}
 use Rattle.glyph_lists.specs.Origins.{origins, origin_of}
-use Rattle.glyph_lists.specs.Parts.{first_of}
 use Rattle.glyph_lists.specs.Replacements.{glyph_numbered}
 use Rattle.glyph_buffer.specs.Sides.{Sides, items_of, origins_of}
 use Rattle.glyph_buffer.specs.Lending.{with_glyph_ahead}
 use Rattle.glyph_buffer.specs.Merging.{with_renumbered}
 use Rattle.font_face.specs.declared.parts.GlyphDefinition.{GlyphDefinition}
-use Rattle.layout_rules.specs.Actions.{Cut, Outcome, Passes, Acts, whole}
-use Rattle.layout_rules.specs.Buffers.{cut_of, are_glyphs, frame_of, IsRead, IsActed, Does}
-use Rattle.layout_rules.specs.Lemmas.Glyphs.{and_both, all_of_both, all_of_front, all_of_back, all_dropped, first_item}
+use Rattle.layout_rules.specs.Actions.{whole}
+use Rattle.layout_rules.specs.Buffers.{cut_of, are_glyphs, frame_of, IsRead, IsActed}
+use Rattle.layout_rules.specs.Lemmas.Glyphs.{and_both, all_of_both, all_of_front, all_of_back, all_dropped}
 use Rattle.layout_gsub.specs.Replacements.{substituted_item, substituted_props, substituted_cut}
 
 -- the glyph at the cursor with other properties

@@ -1,4 +1,4 @@
-ghost use Rattle.std.specs.Prelude.{◌≡◌, ◌<◌, true, [], length, IfOk, IfErr};
+ghost use Rattle.std.specs.Prelude.{◌≡◌, ◌<◌, true, length, IfOk, IfErr};
 ghost use Rattle.glyph_buffer.specs.Sides.{items_of};
 ghost use Rattle.layout_rules.specs.Buffers.{Does, are_glyphs, cut_of};
 ghost use Rattle.layout_gsub.specs.Replacements.{single_subtable};

@@ -1,4 +1,4 @@
-use Rattle.std.proofs.Common.{ℕ, ◌≡◌, ◌<◌, ◌%◌, length, get_or, refl, ap, ◌∙◌, arith}
+use Rattle.std.proofs.Common.{ℕ, ◌<◌, ◌%◌, length, get_or, refl, ap, ◌∙◌, arith}
 use Rattle.layout_match.specs.declared.apply_context.hb_ot_apply_context_t.{hb_ot_apply_context_t}
 use Rattle.layout_gsub.proofs.Drawn.{alternate_drawn}
 use Rattle.layout_gsub.proofs.alternate.draw_alternate.Goals as goal

@@ -1,4 +1,4 @@
-use Rattle.std.proofs.Common.{ℕ, ◌≡◌, ◌≤◌, Ok, ap, ◌∙◌, arith}
+use Rattle.std.proofs.Common.{ℕ, ◌≤◌, Ok, ap, ◌∙◌, arith}
 use Rattle.glyph_buffer.specs.Merging.{with_renumbered}
 use Rattle.layout_gsub.proofs.Replaced.{glyph_replaced}
 use Rattle.layout_gsub.proofs.replacement.replace_glyph.Goals as goal
