@@ -1,11 +1,11 @@
 -- One wanted glyph after another.
-use Rattle.std.proofs.Common.{ℕ, ◌≡◌, ◌≤◌, ◌<◌, ◌+◌, zero, suc, add-one, Bool, false, List, [], ◌∷◌, ◌++◌, length, drop, map, Result, Ok, Err, get_or, refl, sym, ap, subst, ◌∙◌}
-use Rattle.std.proofs.lemmas.List.{drop_more, drop_all, length-map, drop-map, append-nil, append_assoc}
+use Rattle.std.proofs.Common.{ℕ, ◌≡◌, ◌≤◌, ◌<◌, ◌+◌, Bool, false, List, [], ◌∷◌, ◌++◌, length, drop, map, Ok, Err, refl, sym, ap, subst, ◌∙◌}
+use Rattle.std.proofs.lemmas.List.{drop_more, drop_all, drop-map, append-nil, append_assoc}
 use Rattle.std.specs.List.{All}
 use Rattle.std.proofs.lemmas.List.Elements.{All-nil, All-cons, All-append}
 use Rattle.glyph_lists.specs.Items.{Item}
 use Rattle.layout_match.specs.Searches.{Search, answer}
-use Rattle.layout_match.specs.Matches.{by_answer, nearest, nearest_from, then_reached, reached, with_index, indices, asks_of}
+use Rattle.layout_match.specs.Matches.{nearest_from, reached, indices, asks_of}
 use Rattle.layout_match.specs.Sequences.{test_at}
 
 -- what is asked for from the k-th on

@@ -1,5 +1,5 @@
 -- The tests of a sequence by their indices.
-use Rattle.std.proofs.Common.{ℕ, ◌≡◌, zero, suc, Bool, false, List, [], ◌∷◌, map, Some, None, slice_get, get_or, refl}
+use Rattle.std.proofs.Common.{ℕ, ◌≡◌, zero, suc, Bool, false, List, [], ◌∷◌, map, Some, None, slice_get, refl}
 use Rattle.glyph_lists.specs.Items.{Item}
 use Rattle.layout_match.specs.Sequences.{test_at}
 

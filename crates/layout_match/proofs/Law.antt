@@ -1,12 +1,12 @@
 -- What is found and read.
-use Rattle.std.proofs.Common.{ℕ, ◌≡◌, ◌≤◌, ◌<◌, ◌+◌, ◌-◌, zero, suc, add-one, List, [], ◌∷◌, length, drop, Result, Ok, Err, Some, None, ◌⊎◌, inl, inr, slice_get, refl, sym, ap, ◌∙◌, arith}
+use Rattle.std.proofs.Common.{ℕ, ◌≡◌, ◌≤◌, ◌<◌, ◌+◌, ◌-◌, zero, suc, List, [], ◌∷◌, length, drop, Result, Ok, Err, Some, inl, inr, slice_get, refl, sym, ap, ◌∙◌, arith}
 use Rattle.std.specs.Prelude.{option_map}
 use Rattle.std.proofs.lemmas.List.{length-drop}
 use Rattle.glyph_lists.specs.Items.{Item}
 use Rattle.layout_match.specs.declared.search.match_t.{match_t}
 use Rattle.layout_match.specs.declared.search.match_t.TheVariants.{MATCH, SKIP, NOT_MATCH}
 use Rattle.layout_match.specs.Matches.{by_answer, nearest, nearest_from, then_reached, reached, with_index, indices}
-use Rattle.layout_match.specs.Laws.{Says, ArePassed, IsNearest, HasRead, NearestIsTaken, FailedSearchesRead, MatchesAreWhole}
+use Rattle.layout_match.specs.Laws.{Says, HasRead, NearestIsTaken, FailedSearchesRead, MatchesAreWhole}
 
 one_more : (r : Result ℕ ℕ) (end n : ℕ) (next : ℕ → Result ℕ ℕ) (rest : ℕ → List ℕ) → ((at : ℕ) → next at ≡ Ok end → length (rest at) ≡ n) → then_reached r next ≡ Ok end → length (with_index r rest) ≡ n + 1
 one_more (Ok at) end n next rest h e = rw (h (at + 1) e) (omega arith)

@@ -1,5 +1,5 @@
 -- The syllable of the glyph at the cursor.
-use Rattle.std.proofs.Common.{◌≡◌, true, Some, slice_get, sym, ap, ◌∙◌}
+use Rattle.std.proofs.Common.{◌≡◌, true, Some, slice_get, ap}
 use Rattle.std.specs.Prelude.{option_map}
 use Rattle.glyph_types.specs.declared.info.hb_glyph_info_t.{hb_glyph_info_t}
 use Rattle.glyph_lists.specs.Items.{Item}

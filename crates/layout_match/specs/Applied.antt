@@ -1,6 +1,5 @@
 -- With what a lookup is applied, and how it searches.
-use Rattle.std.specs.Prelude.{ℕ, ◌*◌, ◌%◌, ◌&&◌, ◌||◌, Bool, true, false, if◌then◌else◌, Option, Some, None, option_map}
-use Rattle.glyph_lists.specs.Items.{Item}
+use Rattle.std.specs.Prelude.{ℕ, ◌*◌, ◌%◌, ◌||◌, Bool, true, false, if◌then◌else◌, Option, Some, None, option_map}
 use Rattle.glyph_lists.specs.Parts.{first_of}
 use Rattle.font_face.specs.declared.parts.FaceParts.{FaceParts}
 use Rattle.map_features.specs.declared.per_table.TableIndex.{TableIndex}

@@ -1,4 +1,4 @@
-ghost use Rattle.std.specs.Prelude.{◌≡◌, ◌<◌, not, length};
+ghost use Rattle.std.specs.Prelude.{◌≡◌, ◌<◌, not, length, true, false};
 ghost use Rattle.glyph_lists.specs.Items.{item_of};
 ghost use Rattle.layout_rules.specs.Buffers.{cut_of};
 ghost use Rattle.layout_match.specs.Searches.{is_left_out, search_of};
@@ -38,8 +38,21 @@ fn positions_glyphs(table: TableIndex) -> bool
 }
 
 impl<'a> hb_ot_apply_context_t<'a> {
-    /// A context for the lookups of a table, which have all bits of features, no flag, and pass over joiners by themselves.
-    pub fn new(table_index: TableIndex, face: &'a Face) -> hb_ot_apply_context_t<'a> {
+    /// A context for the lookups of a table: no flag, the lowest bit as mask, joiners passed over, syllables not looked at,
+    /// and nothing drawn yet.
+    pub fn new(table_index: TableIndex, face: &'a Face) -> hb_ot_apply_context_t<'a>
+        ensures applied { applied_of result ≡ record {
+          table = table_index;
+          font = face.entry.now;
+          props = 0;
+          mask = 1;
+          auto_zwnj = true;
+          auto_zwj = true;
+          per_syllable = false;
+          random = false;
+        } }
+        ensures state { result.random_state ≡ 1 }
+    {
         hb_ot_apply_context_t {
             table_index,
             face,

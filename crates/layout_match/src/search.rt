@@ -1,6 +1,6 @@
 ghost use Rattle.std.specs.Prelude.{◌≡◌};
 ghost use Rattle.glyph_lists.specs.Items.{item_of};
-ghost use Rattle.layout_match.specs.Searches.{answer, has_mask, is_ignorable, is_in_syllable, is_left_out, is_other_mark, is_skippable, is_wanted, search_of, test_of};
+ghost use Rattle.layout_match.specs.Searches.{answer, has_mask, is_ignorable, is_in_syllable, is_left_out, is_other_mark, is_skippable, search_of, test_of};
 
 use crate::sequence::MatchSequence;
 use font_face::Face;

@@ -2,7 +2,7 @@ ghost use Rattle.std.specs.Prelude.{◌≡◌, ◌<◌, ◌≤◌, length, rever
 ghost use Rattle.glyph_lists.specs.Items.{item_of, strip};
 ghost use Rattle.layout_rules.specs.Buffers.{cut_of};
 ghost use Rattle.layout_match.specs.Applied.{applied_of, context_search, own_search};
-ghost use Rattle.layout_match.specs.Searches.{answer, search_of, test_of};
+ghost use Rattle.layout_match.specs.Searches.{search_of};
 ghost use Rattle.layout_match.specs.Matches.{nearest_from};
 ghost use Rattle.layout_match.specs.Walks.{asked_by, behind_found};
 

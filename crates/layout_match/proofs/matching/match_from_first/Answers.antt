@@ -1,7 +1,7 @@
-use Rattle.std.proofs.Common.{◌≡◌, ◌+◌, ◌≤◌, ◌∷◌, Ok, Err, length, drop, sym, ap, ◌∙◌, arith, ℕ, ◌<◌}
+use Rattle.std.proofs.Common.{◌≡◌, ◌+◌, ◌∷◌, Ok, length, sym, ap, ◌∙◌, arith, ◌<◌}
 use Rattle.glyph_lists.specs.Items.{strip}
 use Rattle.layout_match.specs.Searches.{answer, search_of}
-use Rattle.layout_match.specs.Matches.{asks_of, indices, nearest_from, reached}
+use Rattle.layout_match.specs.Matches.{asks_of, indices, nearest_from}
 use Rattle.layout_match.specs.Sequences.{test_at, tests_of}
 use Rattle.layout_match.proofs.Each.{noted_all, noted_low, noted_one, one_reached}
 use Rattle.layout_match.proofs.matching.match_from_first.Goals as goal

@@ -1,0 +1,83 @@
+-- What a glyph in the place of another does to a buffer.
+use Rattle.std.proofs.Common.{ℕ, ◌≡◌, ◌≤◌, ◌<◌, ◌+◌, true, nat_le, Bool, List, [], ◌∷◌, ◌++◌, length, map, take, drop, refl, sym, ap, ◌∙◌, arith, Some, slice_get}
+use Rattle.std.specs.Prelude.{slice_set}
+use Rattle.std.proofs.lemmas.List.{map-append, length-append}
+use Rattle.std.proofs.lemmas.Bool.Decides.{nat_tests}
+use Rattle.glyph_types.specs.declared.flags.GlyphPropsFlags.{GlyphPropsFlags}
+use Rattle.glyph_types.specs.declared.info.hb_glyph_info_t.{hb_glyph_info_t}
+use Rattle.glyph_lists.specs.Items.{Item, item_of, strip}
+use Rattle.glyph_lists.specs.Origins.{origins, origin_of}
+use Rattle.glyph_lists.specs.Replacements.{glyph_numbered}
+use Rattle.glyph_buffer.specs.Sides.{Sides, items_of, origins_of}
+use Rattle.glyph_buffer.specs.Lending.{with_glyph_ahead}
+use Rattle.glyph_buffer.specs.Merging.{with_renumbered}
+use Rattle.font_face.specs.declared.parts.GlyphDefinition.{GlyphDefinition}
+use Rattle.layout_rules.specs.Actions.{whole}
+use Rattle.layout_rules.specs.Buffers.{cut_of, are_glyphs, frame_of, IsRead, IsActed}
+use Rattle.layout_rules.specs.Lemmas.Glyphs.{and_both, all_of_both, all_of_front, all_of_back, all_dropped}
+use Rattle.layout_gsub.specs.Replacements.{substituted_item, substituted_props, substituted_cut}
+
+-- the glyph at the cursor with other properties
+abbrev pub recast : GlyphPropsFlags → hb_glyph_info_t → hb_glyph_info_t
+recast p g = record g { glyph_props = p }
+
+taken_item : (gdef : GlyphDefinition) (n : ℕ) (p : GlyphPropsFlags) (gs : List hb_glyph_info_t) (g : hb_glyph_info_t) → slice_get gs 0 ≡ Some g → p.0 ≡ substituted_props gdef n g.glyph_props.0
+    → strip (map (λ (h : hb_glyph_info_t). glyph_numbered h n) (take 1 (slice_set gs 0 (recast p g)))) ≡ map (substituted_item gdef n) (take 1 (strip gs))
+taken_item gdef n p [] g at is = cc
+taken_item gdef n p (h ∷ gs) g at is =
+    let same : h ≡ g = cc in
+    rw (same) (ap (λ k. record (item_of g) { number = n; glyph_props = k } ∷ []) is)
+
+left_items : (p : GlyphPropsFlags) (gs : List hb_glyph_info_t) (g : hb_glyph_info_t) → strip (drop 1 (slice_set gs 0 (recast p g))) ≡ drop 1 (strip gs)
+left_items p [] g = refl
+left_items p (h ∷ gs) g = refl
+
+left_count : (p : GlyphPropsFlags) (gs : List hb_glyph_info_t) (g : hb_glyph_info_t) → 0 < length gs → length (drop 1 (slice_set gs 0 (recast p g))) + 1 ≡ length gs
+left_count p [] g lt = absurd (omega (arith, lt))
+left_count p (h ∷ gs) g lt = omega arith
+
+taken_count : (n : ℕ) (gs : List hb_glyph_info_t) → length (map (λ (h : hb_glyph_info_t). glyph_numbered h n) (take 1 gs)) ≤ 1
+taken_count n [] = omega arith
+taken_count n (h ∷ gs) = omega arith
+
+same_origins : (p : GlyphPropsFlags) (gs : List hb_glyph_info_t) (g : hb_glyph_info_t) → slice_get gs 0 ≡ Some g → origins (slice_set gs 0 (recast p g)) ≡ origins gs
+same_origins p [] g at = cc
+same_origins p (h ∷ gs) g at = let same : h ≡ g = cc in rw same refl
+
+substituted_numbers : (gdef : GlyphDefinition) (n : ℕ) (xs : List Item) → n ≤ 65535 → are_glyphs (map (substituted_item gdef n) (take 1 xs)) ≡ true
+substituted_numbers gdef n [] le = refl
+substituted_numbers gdef n (x ∷ xs) le = and_both (nat_le n 65535) true (grind (arith, nat_tests, le)) refl
+
+numbers_kept : (gdef : GlyphDefinition) (n : ℕ) (front rest : List Item) → n ≤ 65535 → are_glyphs (front ++ rest) ≡ true → are_glyphs ((front ++ map (substituted_item gdef n) (take 1 rest)) ++ drop 1 rest) ≡ true
+numbers_kept gdef n front rest le e =
+    let p : Item → Bool = λ x. nat_le x.number 65535 in
+    all_of_both p (front ++ map (substituted_item gdef n) (take 1 rest)) (drop 1 rest) (all_of_both p front (map (substituted_item gdef n) (take 1 rest)) (all_of_front p front rest e) (substituted_numbers gdef n rest le)) (all_dropped p 1 rest (all_of_back p front rest e))
+
+replaced_cut : (gdef : GlyphDefinition) (n : ℕ) (p : GlyphPropsFlags) (s : Sides) (g : hb_glyph_info_t) → slice_get s.ahead 0 ≡ Some g → p.0 ≡ substituted_props gdef n g.glyph_props.0
+    → cut_of (with_renumbered n (with_glyph_ahead 0 (recast p g) s)) ≡ substituted_cut gdef n (cut_of s)
+replaced_cut gdef n p s g at is =
+    let put = map (λ (h : hb_glyph_info_t). glyph_numbered h n) (take 1 (slice_set s.ahead 0 (recast p g))) in
+    let front : strip (s.behind ++ put) ≡ strip s.behind ++ map (substituted_item gdef n) (take 1 (strip s.ahead)) = map-append item_of s.behind put ∙ ap (λ xs. strip s.behind ++ xs) (taken_item gdef n p s.ahead g at is) in
+    ap (λ (xs : List Item). record (cut_of s) { front = xs; rest = strip (drop 1 (slice_set s.ahead 0 (recast p g))) }) front
+    ∙ ap (λ (xs : List Item). record (cut_of s) { front = strip s.behind ++ map (substituted_item gdef n) (take 1 (strip s.ahead)); rest = xs }) (left_items p s.ahead g)
+
+pub glyph_replaced : (gdef : GlyphDefinition) (n : ℕ) (p : GlyphPropsFlags) (s mid new : Sides) (g : hb_glyph_info_t) → slice_get s.ahead 0 ≡ Some g → 0 < length s.ahead → n ≤ 65535 → p.0 ≡ substituted_props gdef n g.glyph_props.0
+    → mid ≡ with_glyph_ahead 0 (recast p g) s → new ≡ with_renumbered n mid → origins_of new ≡ origins_of mid → IsActed (substituted_cut gdef n (cut_of s)) [] s new
+glyph_replaced gdef n p s mid new g at some le is there after followed =
+    let same : new ≡ with_renumbered n (with_glyph_ahead 0 (recast p g) s) = after ∙ ap (with_renumbered n) there in
+    let cut = replaced_cut gdef n p s g at is in
+    let ahead = slice_set s.ahead 0 (recast p g) in
+    let put = map (λ (h : hb_glyph_info_t). glyph_numbered h n) (take 1 ahead) in
+    let left = left_count p s.ahead g some in
+    let more = taken_count n ahead in
+    let long = length-append s.behind put in
+    let counts : IsRead s (with_renumbered n (with_glyph_ahead 0 (recast p g) s)) = record { forth = omega arith; total = omega (arith, left); front = omega (arith, more, long) } in
+    let start : origins_of mid ≡ origins_of s = ap origins_of there ∙ map-append origin_of s.behind ahead ∙ ap (λ os. origins s.behind ++ os) (same_origins p s.ahead g at) ∙ sym (map-append origin_of s.behind s.ahead) in
+    let items : items_of new ≡ (strip s.behind ++ map (substituted_item gdef n) (take 1 (strip s.ahead))) ++ drop 1 (strip s.ahead) = map-append item_of new.behind new.ahead ∙ ap whole (ap cut_of same ∙ cut) in
+    record {
+      cut_is = ap cut_of same ∙ cut;
+      happened = followed ∙ start;
+      still = ap frame_of same;
+      counts = rw same counts;
+      numbers = λ e. ap are_glyphs items ∙ numbers_kept gdef n (strip s.behind) (strip s.ahead) le (ap are_glyphs (sym (map-append item_of s.behind s.ahead)) ∙ e);
+    }

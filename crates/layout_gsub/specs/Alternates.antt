@@ -1,0 +1,39 @@
+-- Alternate substitution (OpenType, GSUB lookup type 3): one of several glyphs takes the place of another.
+use Rattle.std.specs.Prelude.{ℕ, ◌-◌, ◌/◌, ◌%◌, ◌^◌, ◌==◌, ◌&&◌, Bool, not, if◌then◌else◌, List, [], ◌∷◌, length, Option, Some, None, slice_get}
+use Rattle.std.specs.Int.{trailing_zeros, w32}
+use Rattle.std.specs.Int.RustNames.{bit_and}
+use Rattle.glyph_lists.specs.Parts.{first_of}
+use Rattle.glyph_lists.specs.Events.{Break}
+use Rattle.font_face.specs.declared.parts.GlyphDefinition.{GlyphDefinition}
+use Rattle.layout_substitutions.specs.declared.sequence.SequenceRow.{SequenceRow}
+use Rattle.layout_substitutions.specs.Substitutions.{glyphs_of}
+use Rattle.layout_rules.specs.Actions.{Passes, Action, whole, later, at_first}
+use Rattle.layout_match.specs.Applied.{drawn}
+use Rattle.layout_gsub.specs.Replacements.{substituted}
+
+-- the value that a glyph's mask gives the feature whose bits are those of a lookup's mask
+abbrev pub feature_value : ℕ → ℕ → ℕ
+feature_value bits mask = bit_and mask bits / 2 ^ trailing_zeros w32 bits
+
+-- the alternate of a value, the first of them 1
+abbrev pub alternate_of_value : ℕ → List ℕ → Option ℕ
+alternate_of_value value glyphs = if value == 0 then None else slice_get glyphs (value - 1)
+
+-- an alternate is drawn at the greatest value that a feature can have, by a lookup that may draw, where there is one
+abbrev pub is_drawn : Bool → ℕ → List ℕ → Bool
+is_drawn random value glyphs = random && value == 255 && not (length glyphs == 0)
+
+-- the state goes on, and since it hangs on the whole text no part of it may be shaped by itself
+abbrev pub drawn_alternate : GlyphDefinition → List ℕ → Action
+drawn_alternate gdef glyphs c = later (Break 0 (length (whole c)) ∷ []) (substituted gdef (slice_get glyphs (drawn c.random % length glyphs)) (record c { random = drawn c.random }))
+
+abbrev pub alternate_of : GlyphDefinition → Bool → ℕ → List ℕ → Action
+alternate_of gdef random value glyphs c = if is_drawn random value glyphs then drawn_alternate gdef glyphs c else substituted gdef (alternate_of_value value glyphs) c
+
+abbrev pub alternate_set : GlyphDefinition → Bool → ℕ → Option (List ℕ) → Action
+alternate_set gdef random value None c = Passes []
+alternate_set gdef random value (Some glyphs) c = alternate_of gdef random value glyphs c
+
+-- each covered glyph has a set of alternates
+abbrev pub alternate_subtable : GlyphDefinition → Bool → ℕ → List SequenceRow → Action
+alternate_subtable gdef random bits rows c = at_first (λ x. alternate_set gdef random (feature_value bits x.mask) (glyphs_of x.number rows)) (first_of c.rest) c

@@ -1,0 +1,40 @@
+-- A glyph in the place of another (OpenType, GSUB lookup types 1 and 3; GDEF, glyph class definition).
+use Rattle.std.specs.Prelude.{ℕ, ◌+◌, ◌*◌, ◌%◌, ◌==◌, if◌then◌else◌, List, [], ◌++◌, map, take, drop, Option, Some, None, is_some}
+use Rattle.std.specs.Int.RustNames.{bit_and, bit_or}
+use Rattle.glyph_lists.specs.Items.{Item}
+use Rattle.glyph_lists.specs.Parts.{first_of}
+use Rattle.layout_common.specs.Classes.{class_of}
+use Rattle.layout_common.specs.Rows.{value_of}
+use Rattle.layout_common.specs.declared.glyph_row.GlyphRow.{GlyphRow}
+use Rattle.font_face.specs.Glyphs.{glyph_class}
+use Rattle.font_face.specs.declared.parts.GlyphDefinition.{GlyphDefinition}
+use Rattle.layout_rules.specs.Actions.{Cut, Passes, Acts, Action, at_first}
+
+-- the properties that GDEF gives a glyph: the bit of its class, of a mark its attachment class in the second byte too
+abbrev pub props_of_class : ℕ → ℕ → ℕ
+props_of_class class attachment = if class == 1 then 2 else if class == 2 then 4 else if class == 3 then 8 + attachment % 256 * 256 else 0
+
+abbrev pub glyph_props_of : GlyphDefinition → ℕ → ℕ
+glyph_props_of gdef glyph = props_of_class (glyph_class glyph gdef.classes) (class_of glyph gdef.attach)
+
+-- a glyph that comes in is marked as substituted, and keeps the marks of what became of the one before it; its class is GDEF's
+-- where GDEF has classes, else it stays
+abbrev pub substituted_props : GlyphDefinition → ℕ → ℕ → ℕ
+substituted_props gdef glyph old = if is_some gdef.classes then bit_or (bit_and (bit_or old 16) 112) (glyph_props_of gdef glyph) else bit_or old 16
+
+-- an item with another glyph
+abbrev pub substituted_item : GlyphDefinition → ℕ → Item → Item
+substituted_item gdef glyph x = record x { number = glyph; glyph_props = substituted_props gdef glyph x.glyph_props }
+
+-- the item at the cut has another glyph, and is done
+abbrev pub substituted_cut : GlyphDefinition → ℕ → Cut → Cut
+substituted_cut gdef glyph c = record c { front = c.front ++ map (substituted_item gdef glyph) (take 1 c.rest); rest = drop 1 c.rest }
+
+-- where there is a glyph for the item at the cut, it takes its place
+abbrev pub substituted : GlyphDefinition → Option ℕ → Action
+substituted gdef None c = Passes []
+substituted gdef (Some glyph) c = Acts (substituted_cut gdef glyph c) []
+
+-- single substitution: each covered glyph has one substitute
+abbrev pub single_subtable : GlyphDefinition → List (GlyphRow ℕ) → Action
+single_subtable gdef rows c = at_first (λ x. substituted gdef (value_of x.number rows)) (first_of c.rest) c

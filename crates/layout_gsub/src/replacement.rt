@@ -1,0 +1,77 @@
+ghost use Rattle.std.specs.Prelude.{◌≡◌, ◌<◌, true, Some, [], length, slice_get, OnOk, IfErr};
+ghost use Rattle.glyph_types.specs.declared.info.hb_glyph_info_t.{hb_glyph_info_t as Glyph};
+ghost use Rattle.glyph_buffer.specs.Lending.{with_glyph_ahead};
+ghost use Rattle.layout_rules.specs.Buffers.{IsActed, cut_of};
+ghost use Rattle.layout_gsub.specs.Replacements.{glyph_props_of, props_of_class, substituted_cut, substituted_props};
+
+use font_face::Face;
+use glyph_buffer::buffer::hb_buffer_t;
+use glyph_types::cause::ShapeCause;
+use glyph_types::flags::GlyphPropsFlags;
+use layout_match::hb_ot_apply_context_t;
+
+fn props_of_class(class: u16, attachment: u16) -> GlyphPropsFlags
+    ensures { result.0 ≡ props_of_class class attachment }
+{
+    match class {
+        1 => GlyphPropsFlags::BASE_GLYPH,
+        2 => GlyphPropsFlags::LIGATURE,
+        3 => GlyphPropsFlags(GlyphPropsFlags::MARK.0 + attachment % 256 * 256),
+        _ => GlyphPropsFlags(0),
+    }
+}
+
+/// The properties that GDEF gives a glyph: its class, and of a mark its attachment class in the second byte.
+pub fn glyph_props(face: &Face, glyph: u16) -> GlyphPropsFlags
+    ensures { result.0 ≡ glyph_props_of face.now.gdef glyph }
+{
+    props_of_class(face.glyph_class(glyph), face.mark_attachment_class(glyph))
+}
+
+/// The properties of a glyph that comes in where one with the properties `old` was.
+fn substituted_props(face: &Face, glyph: u16, old: GlyphPropsFlags) -> GlyphPropsFlags
+    ensures { result.0 ≡ substituted_props face.now.gdef glyph old.0 }
+{
+    let props = old.0 | GlyphPropsFlags::SUBSTITUTED.0;
+    if face.has_glyph_classes() {
+        GlyphPropsFlags(props & GlyphPropsFlags::PRESERVE.0 | glyph_props(face, glyph).0)
+    } else {
+        GlyphPropsFlags(props)
+    }
+}
+
+/// Gives the glyph at the cursor other properties.
+fn set_glyph_props(buffer: &mut hb_buffer_t, props: GlyphPropsFlags)
+    requires { 0 < length buffer.old.ahead }
+    ensures set { (g : Glyph) → slice_get buffer.old.ahead 0 ≡ Some g →
+        buffer.new ≡ with_glyph_ahead 0 (record g { glyph_props = props }) buffer.old }
+    ensures open { buffer.new.is_open ≡ buffer.old.is_open }
+    ensures behind { buffer.new.behind ≡ buffer.old.behind }
+    ensures limit { buffer.new.max_len ≡ buffer.old.max_len }
+    ensures count { length buffer.new.ahead ≡ length buffer.old.ahead }
+{
+    buffer.cur_mut(0).glyph_props = props;
+}
+
+/// Puts another glyph in the place of the one at the cursor, behind which it goes. Its class is GDEF's, where GDEF has classes.
+/// Its one error is want of memory.
+pub fn replace_glyph(
+    ctx: &hb_ot_apply_context_t,
+    glyph: u16,
+    buffer: &mut hb_buffer_t,
+) -> Result<(), ShapeCause>
+    requires open { buffer.old.is_open ≡ true }
+    requires there { 0 < length buffer.old.ahead }
+    requires room { length buffer.old.behind < buffer.old.max_len }
+    ensures ok { OnOk result
+        (IsActed (substituted_cut ctx.now.face.now.gdef glyph (cut_of buffer.old)) [] buffer.old buffer.new) }
+    ensures err { IfErr result (λ e. e ≡ ShapeCause.OutOfMemory) }
+{
+    let props = substituted_props(ctx.face, glyph, buffer.cur(0).glyph_props);
+    set_glyph_props(buffer, props);
+    let held = buffer.replace_glyph(u32::from(glyph))?;
+    if held {
+        return Ok(());
+    }
+    Err(ShapeCause::TooLong)
+}
