@@ -58,4 +58,4 @@ abbrev pub layout_of : Data → Result LayoutLists JsonFault
 layout_of d =
     and_then (rows_at (codes "scripts") (rows_by_key nat_cmp (λ s. s.tag.0) (script (count_at (codes "features") d)) None) d) (λ scripts.
     and_then (rows_at (codes "features") (rows_in_turn (feature (count_at (codes "lookups") d))) d) (λ features.
-    Ok (record { scripts = scripts; features = features; lookups = [] })))
+    Ok (record { scripts = scripts; features = features })))

@@ -34,5 +34,5 @@ pub fn read_layout(alloc: Global, value: &Value) -> Result<LayoutTable, JsonFaul
     let lookup_count = count_at(value, "lookups");
     let scripts = read_rising(alloc, array_at(value, "scripts")?, feature_count)?;
     let features: Array<FeatureRecord> = read_in_turn_at(alloc, value, "features", lookup_count)?;
-    Ok(LayoutTable::new(scripts, features.into_vec(), Vec::new(alloc)))
+    Ok(LayoutTable::new(scripts, features.into_vec()))
 }

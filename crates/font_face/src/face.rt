@@ -6,7 +6,7 @@ ghost use Rattle.layout_common.specs.Rows.{value_of};
 ghost use Rattle.font_face.specs.Indices.{indices_fit};
 ghost use Rattle.font_face.specs.Glyphs.{nominal_glyph, variation_glyph, width_of, height_of, origin_of, name_of, has_mark, glyph_class};
 
-use crate::parts::FaceParts;
+use crate::parts::{FaceParts, GlyphDefinition};
 use glyph_types::names::hb_glyph_extents_t;
 use layout_common::glyph_row::find_value;
 use layout_lookups::positioning::PositioningTable;
@@ -175,6 +175,13 @@ impl Face {
             Some(marks) => marks.contains(glyph),
             None => false,
         }
+    }
+
+    /// The glyph definition table: classes of glyphs, and sets of marks.
+    pub fn gdef(&self) -> &GlyphDefinition
+        ensures { result.now ≡ self.now.gdef }
+    {
+        &self.parts.gdef
     }
 
     /// The table of glyph substitution, where the font has one.

@@ -1,4 +1,4 @@
--- The layout tables of a font (OpenType, chapter 2): scripts with their language systems, features, lookups.
+-- What the layout tables of a font have in common (OpenType, chapter 2): scripts with their language systems, and features; and sets of ligatures (GSUB lookup type 4).
 use Rattle.std.specs.Prelude.{ℕ, ◌==◌, List, Option, find}
 use Rattle.shaping_text.specs.declared.tag.Tag.{Tag}
 
@@ -32,19 +32,10 @@ pub record LigatureSetTable : Type 0 where
   pub first : ℕ
   pub ligatures : List LigatureTable
 
--- the subtables of a lookup, which are of one type
-pub data SubtableList : Type 0 where
-  ligature_subtables : List (List LigatureSetTable) → SubtableList
-
-pub record LookupTable : Type 0 where
-  pub flags : ℕ
-  pub mark_filtering_set : Option ℕ
-  pub subtables : SubtableList
-
+-- scripts and features of a table; its lookups are of types of their own
 pub record LayoutLists : Type 0 where
   pub scripts : List ScriptTable
   pub features : List FeatureTable
-  pub lookups : List LookupTable
 
 -- ---- look-ups
 

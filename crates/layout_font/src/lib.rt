@@ -1,10 +1,9 @@
-// The parsed layout tables of a font and the look-ups in them: scripts, features and lookups.
+// What the two layout tables of a font have in common: scripts, language systems and features; and sets of ligatures.
 #![tactic(auto)]
 
 mod indices;
 mod keyed;
 pub mod ligature;
-pub mod lookup;
 pub mod script;
 pub mod table;
 #[cfg(test)]

@@ -5,7 +5,6 @@ ghost use Rattle.layout_font.specs.Keyed.{is_rising};
 ghost use Rattle.layout_font.specs.Layout.{FeatureTable, LayoutLists, script_with};
 
 use crate::keyed::{find_first, find_keyed};
-use crate::lookup::Lookup;
 use crate::script::{LangSys, ScriptRecord};
 use shaping_text::tag::{Tag, TagExt};
 use std::marker::Model;
@@ -56,12 +55,11 @@ pub struct SelectedScript<'a> {
     pub script: &'a ScriptRecord,
 }
 
-/// A layout table: scripts by rising tags, features and lookups in the order of their indices.
+/// What a layout table has beside its lookups: scripts by rising tags, and features in the order of their indices.
 #[derive(Debug, Drop)]
 pub struct LayoutTable {
     scripts: Vec<ScriptRecord>,
     features: Vec<FeatureRecord>,
-    lookups: Vec<Lookup>,
 }
 
 impl Model for LayoutTable {
@@ -71,30 +69,18 @@ impl Model for LayoutTable {
 
     ghost Value = { LayoutLists };
 
-    ghost view = { λ t. record {
-      scripts = t.scripts.items;
-      features = t.features.items;
-      lookups = t.lookups.items;
-    } };
+    ghost view = { λ t. record { scripts = t.scripts.items; features = t.features.items } };
 
     ghost invariant = { λ t. is_rising (λ s. s.tag.0) None t.scripts.items ≡ true };
 }
 
 impl LayoutTable {
     /// Of scripts whose tags rise strictly, as numbers.
-    pub fn new(
-        scripts: Vec<ScriptRecord>,
-        features: Vec<FeatureRecord>,
-        lookups: Vec<Lookup>,
-    ) -> LayoutTable
+    pub fn new(scripts: Vec<ScriptRecord>, features: Vec<FeatureRecord>) -> LayoutTable
         requires { is_rising (λ s. s.tag.0) None scripts.items ≡ true }
-        ensures { result ≡ record { scripts = scripts.items; features = features.items; lookups = lookups.items } }
+        ensures { result ≡ record { scripts = scripts.items; features = features.items } }
     {
-        LayoutTable {
-            scripts,
-            features,
-            lookups,
-        }
+        LayoutTable { scripts, features }
     }
 
     /// The script of a tag.
@@ -123,20 +109,6 @@ impl LayoutTable {
         ensures { option_copied result ≡ slice_get self.now.features index }
     {
         self.features.get(usize::from(index))
-    }
-
-    /// The lookups, in the order of their indices.
-    pub fn lookups(&self) -> &[Lookup]
-        ensures { result.now ≡ self.now.lookups }
-    {
-        &self.lookups
-    }
-
-    /// The lookup at a place of the list of lookups.
-    pub fn lookup(&self, index: u16) -> Option<&Lookup>
-        ensures { option_copied result ≡ slice_get self.now.lookups index }
-    {
-        self.lookups.get(usize::from(index))
     }
 
     /// The first wanted script that the table has, else the script of the first of the tags `DFLT`, `dflt` and `latn` that

@@ -1,7 +1,6 @@
 //! Look-ups of present and missing keys, and lists out of order.
 use crate::is_rising;
 use crate::ligature::{Ligature, LigatureSet, LigatureSubst};
-use crate::lookup::{Lookup, Subtables};
 use crate::script::{LangSys, LangSysRecord, ScriptRecord};
 use crate::table::{FeatureRecord, LayoutTable};
 use shaping_text::tag::Tag;
@@ -60,16 +59,13 @@ fn tables_are_asked(rt: HostRuntime) -> Result<(), Fail> {
         sets.push(LigatureSet::new(first, ligatures))?;
     }
     assert!(rt; is_rising(&sets));
-    let mut subtables = Vec::new(rt.alloc());
-    subtables.push(LigatureSubst::new(sets))?;
-    let mut lookups = Vec::new(rt.alloc());
-    lookups.push(Lookup::new(16, Some(1), Subtables::Ligature(subtables)))?;
+    let subtable = LigatureSubst::new(sets);
     let mut features = Vec::new(rt.alloc());
     features.push(FeatureRecord::new(Tag::from_bytes(b"liga"), [0].to_vec(rt.alloc())?))?;
     let mut scripts = Vec::new(rt.alloc());
     scripts.push(script(rt.alloc(), b"DFLT", None, &[])?.ok_or("not rising")?)?;
     assert!(rt; is_rising(&scripts));
-    let table = LayoutTable::new(scripts, features, lookups);
+    let table = LayoutTable::new(scripts, features);
     let found = table.script(Tag::from_bytes(b"DFLT")).ok_or("no script")?;
     assert_eq!(rt; found.tag(), Tag::from_bytes(b"DFLT"));
     assert!(rt; table.script(Tag::from_bytes(b"latn")).is_none());
@@ -77,12 +73,6 @@ fn tables_are_asked(rt: HostRuntime) -> Result<(), Fail> {
     assert_eq!(rt; feature.tag(), Tag::from_bytes(b"liga"));
     assert_eq!(rt; feature.lookups(), [0].as_slice());
     assert!(rt; table.feature(1).is_none());
-    assert!(rt; table.lookup(1).is_none());
-    let lookup = table.lookup(0).ok_or("no lookup")?;
-    assert_eq!(rt; lookup.flags(), 16);
-    assert_eq!(rt; lookup.mark_filtering_set(), Some(1));
-    let Subtables::Ligature(subtables) = lookup.subtables();
-    let subtable = subtables.first().ok_or("no subtable")?;
     for (glyph, ligature) in [(3, Some(53)), (4, None), (9, Some(59)), (65535, None)] {
         let set = subtable.set_of(glyph);
         assert_eq!(rt;
@@ -109,7 +99,7 @@ fn scripts_of(alloc: Global, tags: &[&[u8; 4]]) -> Result<Option<LayoutTable>, A
     if !is_rising(&scripts) {
         return Ok(None);
     }
-    Ok(Some(LayoutTable::new(scripts, Vec::new(alloc), Vec::new(alloc))))
+    Ok(Some(LayoutTable::new(scripts, Vec::new(alloc))))
 }
 
 // Scripts of a table, wanted scripts, and the script that is selected, with whether it was wanted.
@@ -223,7 +213,7 @@ fn features_of_a_system_are_found(rt: HostRuntime) -> Result<(), Fail> {
     for tag in [b"liga", b"kern", b"liga", b"ccmp"] {
         features.push(FeatureRecord::new(Tag::from_bytes(tag), Vec::new(rt.alloc())))?;
     }
-    let table = LayoutTable::new(Vec::new(rt.alloc()), features, Vec::new(rt.alloc()));
+    let table = LayoutTable::new(Vec::new(rt.alloc()), features);
     let system = LangSys::new(Some(3), [9, 2, 1, 0].to_vec(rt.alloc())?);
     let cases: [(&[u8; 4], Option<u16>); 4] = [
         (b"liga", Some(2)),

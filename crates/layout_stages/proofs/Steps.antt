@@ -7,7 +7,7 @@ use Rattle.glyph_lists.specs.Events.{Event}
 use Rattle.glyph_lists.specs.Readings.{View, Reading, Run, Follows, then_reading, with_events}
 use Rattle.glyph_lists.specs.Steps.{follows_happened}
 use Rattle.glyph_buffer.specs.Sides.{Sides, all_glyphs, run_of, moved_on}
-use Rattle.layout_font.specs.Layout.{LookupTable}
+use Rattle.layout_lookups.specs.declared.substitution.SubstLookup.{SubstLookup}
 use Rattle.layout_rules.specs.Actions.{Cut, view_at, past_item, Outcome, Passes, Acts, Refuses, Action}
 use Rattle.layout_rules.specs.Buffers.{cut_of, are_glyphs, IsStill, Happened, IsPassed, Does}
 use Rattle.layout_rules.specs.Lemmas.Frames.{still_settings, same_level, same_asks, same_lengths, same_numbers}
@@ -28,7 +28,7 @@ then_tried act v n es w c s new final is at still happened f =
     subst P (sym is) (follows_happened es w (tried act v n c) (run_of s) (run_of new) final happened (same_level s new settings) (same_asks s new settings) (subst Q at f))
 
 -- at the end no lookup acts, and nothing is passed
-pub step_ended : (mask : ℕ) (l : LookupTable) (s : Sides) → length s.ahead ≡ 0 → IsStep (lookup_action mask l) s s
+pub step_ended : (mask : ℕ) (l : SubstLookup) (s : Sides) → length s.ahead ≡ 0 → IsStep (lookup_action mask l) s s
 step_ended mask l s e =
     let none : s.ahead ≡ [] = empty s.ahead e in
     let passes : lookup_action mask l (cut_of s) ≡ Passes [] = rw none refl in
@@ -55,7 +55,7 @@ moved_all : (s : Sides) → all_glyphs (moved_on 1 s) ≡ all_glyphs s
 moved_all s = append_assoc s.behind (take 1 s.ahead) (drop 1 s.ahead) ∙ ap (λ gs. s.behind ++ gs) (take-append-drop 1 s.ahead)
 
 -- a glyph at which the lookup doesn't act is passed
-pub step_passed : (mask : ℕ) (l : LookupTable) (s mid new : Sides) → 0 < length s.ahead → Does (lookup_action mask l (cut_of s)) false s mid → new ≡ moved_on 1 mid → IsStep (lookup_action mask l) s new
+pub step_passed : (mask : ℕ) (l : SubstLookup) (s mid new : Sides) → 0 < length s.ahead → Does (lookup_action mask l (cut_of s)) false s mid → new ≡ moved_on 1 mid → IsStep (lookup_action mask l) s new
 step_passed mask l s mid new lt d is =
     let p = passes_of (lookup_action mask l) s mid (lookup_action mask l (cut_of s)) refl d in
     let P : Sides → Type 0 = λ t. IsStep (lookup_action mask l) s t in
@@ -97,5 +97,5 @@ acted_step act s new (Acts cut es) e d =
     }
 
 -- a lookup that acts
-pub step_acted : (mask : ℕ) (l : LookupTable) (s new : Sides) → Does (lookup_action mask l (cut_of s)) true s new → IsStep (lookup_action mask l) s new
+pub step_acted : (mask : ℕ) (l : SubstLookup) (s new : Sides) → Does (lookup_action mask l (cut_of s)) true s new → IsStep (lookup_action mask l) s new
 step_acted mask l s new d = acted_step (lookup_action mask l) s new (lookup_action mask l (cut_of s)) refl d

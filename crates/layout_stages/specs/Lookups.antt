@@ -4,23 +4,31 @@ use Rattle.glyph_lists.specs.Items.{Item}
 use Rattle.glyph_lists.specs.Parts.{first_of}
 use Rattle.glyph_lists.specs.Readings.{View, Read, Reading, Stage, then_reading, and_then, with_events, always, as_it_is}
 use Rattle.glyph_buffer.specs.Sides.{zero_positions}
-use Rattle.layout_font.specs.Layout.{SubtableList, ligature_subtables, LookupTable}
-use Rattle.layout_map.specs.declared.stage.lookup_map_t.{lookup_map_t}
+use Rattle.layout_lookups.specs.declared.substitution.SubstLookup.{SubstLookup}
+use Rattle.layout_lookups.specs.declared.substitution.SubstitutionSubtables.{SubstitutionSubtables}
+use Rattle.layout_lookups.specs.declared.substitution.SubstitutionSubtables.TheVariants.{Single, Multiple, Alternate, Ligature, Context, ChainContext, ReverseChainSingle}
+use Rattle.map_features.specs.declared.lookup.lookup_map_t.{lookup_map_t}
 use Rattle.layout_rules.specs.Masks.{shares_mask}
 use Rattle.layout_rules.specs.Actions.{Cut, view_at, uncut, past_item, Outcome, Passes, Acts, Refuses, Action, first_rule, at_first}
 use Rattle.layout_gsub.specs.Ligatures.{ligature_subtable}
 
 -- ---- at a cut
 
--- the first subtable that acts
-abbrev pub subtables : ℕ → SubtableList → Action
-subtables mask (ligature_subtables tables) c = first_rule (ligature_subtable mask) tables c
+-- the first subtable that acts; of the types of substitution only ligatures act yet
+abbrev pub first_subtable : ℕ → SubstitutionSubtables → Action
+first_subtable mask (Ligature subtables) c = first_rule (ligature_subtable mask) subtables c
+first_subtable mask (Single subtables) c = Passes []
+first_subtable mask (Multiple subtables) c = Passes []
+first_subtable mask (Alternate subtables) c = Passes []
+first_subtable mask (Context subtables) c = Passes []
+first_subtable mask (ChainContext subtables) c = Passes []
+first_subtable mask (ReverseChainSingle subtables) c = Passes []
 
 -- a lookup acts at items that have its mask
-abbrev pub lookup_at : ℕ → LookupTable → Item → Action
-lookup_at mask lookup x c = if shares_mask mask x.mask then subtables mask lookup.subtables c else Passes []
+abbrev pub lookup_at : ℕ → SubstLookup → Item → Action
+lookup_at mask lookup x c = if shares_mask mask x.mask then first_subtable mask lookup.subtables c else Passes []
 
-abbrev pub lookup_action : ℕ → LookupTable → Action
+abbrev pub lookup_action : ℕ → SubstLookup → Action
 lookup_action mask lookup c = at_first (lookup_at mask lookup) (first_of c.rest) c
 
 -- ---- at all indices
@@ -45,11 +53,11 @@ abbrev pub looked_up : Action → Stage
 looked_up act v = and_then (tried act v (length v.items) (uncut v)) (always unplaced)
 
 -- a lookup with a mask; an index without a lookup does nothing
-abbrev pub lookup_stage : Option LookupTable → ℕ → Stage
+abbrev pub lookup_stage : Option SubstLookup → ℕ → Stage
 lookup_stage None mask v = as_it_is v
 lookup_stage (Some lookup) mask v = looked_up (lookup_action mask lookup) v
 
 -- lookups of a table, one after another
-abbrev pub lookups_stage : List LookupTable → List lookup_map_t → Stage
+abbrev pub lookups_stage : List SubstLookup → List lookup_map_t → Stage
 lookups_stage table [] v = as_it_is v
 lookups_stage table (m ∷ maps) v = and_then (lookup_stage (slice_get table m.index) m.mask v) (lookups_stage table maps)

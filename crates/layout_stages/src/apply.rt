@@ -8,14 +8,16 @@ ghost use Rattle.layout_stages.specs.Steps.{IsStep};
 use crate::lookup::apply_lookup;
 use glyph_buffer::buffer::hb_buffer_t;
 use glyph_types::cause::ShapeCause;
-use layout_font::lookup::Lookup;
-use layout_font::table::LayoutTable;
-use layout_map::map::hb_ot_map_t;
-use layout_map::stage::lookup_map_t;
+use layout_lookups::substitution::{SubstLookup, SubstitutionTable};
+use map_features::lookup::lookup_map_t;
 
 /// Tries a lookup at the cursor, and goes on over the glyph where it doesn't act; at the end it does nothing.
 #[tactic(auto, using(crate::proofs::Steps::step_ended, crate::proofs::Steps::step_passed, crate::proofs::Steps::step_acted))]
-fn apply_next(lookup: &Lookup, mask: u32, buffer: &mut hb_buffer_t) -> Result<(), ShapeCause>
+fn apply_next(
+    lookup: &SubstLookup,
+    mask: u32,
+    buffer: &mut hb_buffer_t,
+) -> Result<(), ShapeCause>
     requires open { buffer.old.is_open ≡ true }
     requires no_positions { buffer.old.positions ≡ [] }
     requires front { length buffer.old.behind ≤ buffer.old.read }
@@ -38,7 +40,11 @@ fn apply_next(lookup: &Lookup, mask: u32, buffer: &mut hb_buffer_t) -> Result<()
 
 /// Tries a lookup at each glyph once, from the left.
 #[tactic(auto, using(crate::proofs::Passage::begun))]
-fn apply_forward(lookup: &Lookup, mask: u32, buffer: &mut hb_buffer_t) -> Result<(), ShapeCause>
+fn apply_forward(
+    lookup: &SubstLookup,
+    mask: u32,
+    buffer: &mut hb_buffer_t,
+) -> Result<(), ShapeCause>
     requires ready { IsReady buffer.old }
     requires numbers { are_glyphs (items_of buffer.old) ≡ true }
     ensures ok { OnOk result (IsDone (looked_up (lookup_action mask lookup.now)) buffer.old buffer.new) }
@@ -57,7 +63,7 @@ fn apply_forward(lookup: &Lookup, mask: u32, buffer: &mut hb_buffer_t) -> Result
 
 /// Does what the lookup at an index of the table does; an index without one does nothing.
 fn apply_mapped(
-    table: &LayoutTable,
+    table: &SubstitutionTable,
     lookup_map: &lookup_map_t,
     buffer: &mut hb_buffer_t,
 ) -> Result<(), ShapeCause>
@@ -68,27 +74,27 @@ fn apply_mapped(
         (slice_get table.now.lookups lookup_map.now.index) lookup_map.now.mask) buffer.old buffer.new) }
     ensures err { IfErr result (λ e. e ≡ ShapeCause.OutOfMemory) }
 {
-    let Some(lookup) = table.lookup(lookup_map.index) else {
+    let Some(lookup) = table.get_lookup(lookup_map.index) else {
         return Ok(());
     };
     apply_forward(lookup, lookup_map.mask, buffer)?;
     Ok(())
 }
 
-/// Does the lookups of a map one after another, each at all glyphs: a lookup is tried at each glyph once, from the left,
+/// Does lookups of a table one after another, each at all glyphs: a lookup is tried at each glyph once, from the left,
 /// and goes on after what it made. Its one error is want of memory.
 #[tactic(auto, using(crate::proofs::Stages::none_done, crate::proofs::Stages::all_done))]
 pub fn apply_lookups(
-    table: &LayoutTable,
-    map: &hb_ot_map_t,
+    table: &SubstitutionTable,
+    lookups: &[lookup_map_t],
     buffer: &mut hb_buffer_t,
 ) -> Result<(), ShapeCause>
     requires ready { IsReady buffer.old }
     requires numbers { are_glyphs (items_of buffer.old) ≡ true }
-    ensures ok { OnOk result (IsDone (lookups_stage table.now.lookups map.now.lookups) buffer.old buffer.new) }
+    ensures ok { OnOk result (IsDone (lookups_stage table.now.lookups lookups.now) buffer.old buffer.new) }
     ensures err { IfErr result (λ e. e ≡ ShapeCause.OutOfMemory) }
 {
-    for lookup_map in map.lookups() {
+    for lookup_map in lookups {
         apply_mapped(table, lookup_map, buffer)?;
     }
     Ok(())

@@ -3,6 +3,8 @@ use Rattle.std.specs.Prelude.{ℕ, ◌==◌, nat_lt, if◌then◌else◌, List, 
 use Rattle.std.specs.Option.{option_map, option_map_or, option_and_then}
 use Rattle.shaping_text.specs.declared.tag.Tag.{Tag}
 use Rattle.layout_font.specs.Layout.{LayoutLists, FeatureTable, LangSysTable}
+use Rattle.layout_lookups.specs.declared.substitution.SubstitutionTable.{SubstitutionTable}
+use Rattle.layout_lookups.specs.declared.positioning.PositioningTable.{PositioningTable}
 use Rattle.layout_font.specs.Choice.{ChosenScript, chosen_script, chosen_lang_sys, language_feature, required_language_feature}
 
 -- a layout table, as far as features are concerned, with the script and the language system that serve a text
@@ -16,20 +18,27 @@ pub record ChosenTable : Type 0 where
 abbrev pub features_of : Option LayoutLists → List FeatureTable
 features_of table = option_map_or (λ (t : LayoutLists). t.features) table []
 
-abbrev pub lookup_count_of : Option LayoutLists → ℕ
-lookup_count_of table = option_map_or (λ (t : LayoutLists). length t.lookups) table 0
-
 abbrev pub script_of : List Tag → Option LayoutLists → Option ChosenScript
 script_of scripts table = option_and_then (λ (t : LayoutLists). chosen_script scripts t.scripts) table
 
--- the table for the wanted scripts and languages, the best first
-abbrev pub chosen_table : List Tag → List Tag → Option LayoutLists → ChosenTable
-chosen_table scripts languages table = record {
+-- the table, with so many lookups, for the wanted scripts and languages, the best first
+abbrev pub chosen_table : List Tag → List Tag → Option LayoutLists → ℕ → ChosenTable
+chosen_table scripts languages table lookup_count = record {
   script = script_of scripts table;
   system = option_and_then (λ (c : ChosenScript). chosen_lang_sys languages c.script) (script_of scripts table);
   features = features_of table;
-  lookup_count = lookup_count_of table;
+  lookup_count = lookup_count;
 }
+
+-- the table of substitution, where a font has it
+abbrev pub chosen_substitution : List Tag → List Tag → Option SubstitutionTable → ChosenTable
+chosen_substitution scripts languages None = chosen_table scripts languages None 0
+chosen_substitution scripts languages (Some t) = chosen_table scripts languages (Some t.inner) (length t.lookups)
+
+-- the table of positioning, where a font has it
+abbrev pub chosen_positioning : List Tag → List Tag → Option PositioningTable → ChosenTable
+chosen_positioning scripts languages None = chosen_table scripts languages None 0
+chosen_positioning scripts languages (Some t) = chosen_table scripts languages (Some t.inner) (length t.lookups)
 
 -- ---- what is found there
 

@@ -3,7 +3,8 @@ use Rattle.std.specs.Prelude.{ℕ, ◌==◌, ◌&&◌, nat_le, Bool, if◌then�
 use Rattle.std.specs.List.{flat_map}
 use Rattle.std.specs.Option.{option_map_or}
 use Rattle.shaping_text.specs.declared.tag.Tag.{Tag}
-use Rattle.layout_font.specs.Layout.{LayoutLists}
+use Rattle.layout_lookups.specs.declared.substitution.SubstitutionTable.{SubstitutionTable}
+use Rattle.layout_lookups.specs.declared.positioning.PositioningTable.{PositioningTable}
 use Rattle.map_features.specs.declared.per_table.TableIndex.{TableIndex}
 use Rattle.map_features.specs.declared.per_table.TableIndex.TheVariants.{GSUB, GPOS}
 use Rattle.map_features.specs.declared.per_table.PerTable.{PerTable}
@@ -14,7 +15,7 @@ use Rattle.map_features.specs.Requests.{merged_requests}
 use Rattle.map_builder.specs.declared.features.feature_map_t.{feature_map_t}
 use Rattle.map_features.specs.declared.lookup.lookup_map_t.{lookup_map_t}
 use Rattle.map_builder.specs.declared.stages.StageMap.{StageMap}
-use Rattle.map_builder.specs.Chosen.{ChosenTable, chosen_table, is_script_found, script_tag}
+use Rattle.map_builder.specs.Chosen.{ChosenTable, chosen_substitution, chosen_positioning, is_script_found, script_tag}
 use Rattle.map_builder.specs.Features.{wanted_requests, kept_features, global_mask}
 use Rattle.map_builder.specs.Lookups.{Stage, required_in, stage_lookups, stages_from, stage_ends}
 
@@ -27,9 +28,9 @@ pub record MapRequests : Type 0 where
   pub pauses : PerTable (List ℕ)
 
 -- nothing is asked yet
-abbrev pub no_requests : List Tag → List Tag → Option LayoutLists → Option LayoutLists → MapRequests
+abbrev pub no_requests : List Tag → List Tag → Option SubstitutionTable → Option PositioningTable → MapRequests
 no_requests scripts languages gsub gpos = record {
-  tables = record { gsub = chosen_table scripts languages gsub; gpos = chosen_table scripts languages gpos };
+  tables = record { gsub = chosen_substitution scripts languages gsub; gpos = chosen_positioning scripts languages gpos };
   requests = [];
   pauses = record { gsub = []; gpos = [] };
 }

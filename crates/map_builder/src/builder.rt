@@ -14,7 +14,8 @@ use crate::features::{
 };
 use crate::map::{TableMap, hb_ot_map_t};
 use crate::stages::{RequiredFeature, TableFeatures, all_stages};
-use layout_font::table::LayoutTable;
+use layout_lookups::positioning::PositioningTable;
+use layout_lookups::substitution::SubstitutionTable;
 use map_features::flags::{F_GLOBAL, hb_ot_map_feature_flags_t};
 use map_features::kept::kept_fields;
 use map_features::merge::merged_requests;
@@ -49,8 +50,8 @@ impl<'a> hb_ot_map_builder_t<'a> {
     /// A builder for the layout tables that a font has, and for the wanted scripts and languages, the best first.
     pub fn new(
         alloc: Global,
-        gsub: Option<&'a LayoutTable>,
-        gpos: Option<&'a LayoutTable>,
+        gsub: Option<&'a SubstitutionTable>,
+        gpos: Option<&'a PositioningTable>,
         scripts: &[Tag],
         languages: &[Tag],
     ) -> hb_ot_map_builder_t<'a>
@@ -59,8 +60,8 @@ impl<'a> hb_ot_map_builder_t<'a> {
     {
         hb_ot_map_builder_t {
             tables: FontTables {
-                gsub: ChosenTable::new(gsub, scripts, languages),
-                gpos: ChosenTable::new(gpos, scripts, languages),
+                gsub: ChosenTable::of_substitution(gsub, scripts, languages),
+                gpos: ChosenTable::of_positioning(gpos, scripts, languages),
             },
             requests: Vec::new(alloc),
             gsub_pauses: Vec::new(alloc),

@@ -2,10 +2,12 @@ ghost use Rattle.std.specs.Prelude.{◌≡◌, ◌==◌, position};
 ghost use Rattle.std.specs.Option.{option_and_then, option_copied, option_map};
 ghost use Rattle.layout_font.specs.Choice.{chosen_lang_sys};
 ghost use Rattle.map_features.specs.Tables.{for_table};
-ghost use Rattle.map_builder.specs.Chosen.{chosen_table, is_script_found, listed_feature, lookups_at, required_feature, script_of, script_tag, system_feature};
+ghost use Rattle.map_builder.specs.Chosen.{chosen_positioning, chosen_substitution, chosen_table, is_script_found, listed_feature, lookups_at, required_feature, script_of, script_tag, system_feature};
 
 use layout_font::script::LangSys;
 use layout_font::table::{FeatureRecord, LayoutTable, SelectedScript};
+use layout_lookups::positioning::PositioningTable;
+use layout_lookups::substitution::SubstitutionTable;
 use map_features::per_table::TableIndex;
 use shaping_text::tag::Tag;
 use std::marker::Model;
@@ -14,13 +16,14 @@ use std::marker::Model;
 #[derive(Debug, Drop)]
 pub struct ChosenTable<'a> {
     table: Option<&'a LayoutTable>,
+    lookup_count: usize,
     script: Option<SelectedScript<'a>>,
     system: Option<&'a LangSys>,
 }
 
 impl<'a> Model for ChosenTable<'a> {
     ghost use Rattle.std.specs.Option.{option_copied, option_map};
-    ghost use Rattle.map_builder.specs.Chosen.{ChosenTable, features_of, lookup_count_of};
+    ghost use Rattle.map_builder.specs.Chosen.{ChosenTable, features_of};
 
     ghost Value = { ChosenTable };
 
@@ -28,22 +31,51 @@ impl<'a> Model for ChosenTable<'a> {
       script = option_map (λ s. record { found = s.found; script = s.script.now }) t.script;
       system = option_copied t.system;
       features = features_of (option_copied t.table);
-      lookup_count = lookup_count_of (option_copied t.table);
+      lookup_count = t.lookup_count;
     } };
 }
 
 impl<'a> ChosenTable<'a> {
-    /// The table for the wanted scripts and languages, the best first.
-    pub fn new(
-        table: Option<&'a LayoutTable>,
+    /// The table of substitution, where a font has it, for the wanted scripts and languages, the best first.
+    pub fn of_substitution(
+        table: Option<&'a SubstitutionTable>,
         scripts: &[Tag],
         languages: &[Tag],
     ) -> ChosenTable<'a>
-        ensures { result ≡ chosen_table scripts.now languages.now (option_copied table.entry) }
+        ensures { result ≡ chosen_substitution scripts.now languages.now (option_copied table.entry) }
+    {
+        match table {
+            Some(table) => Self::new(Some(&table.inner), table.lookups.len(), scripts, languages),
+            None => Self::new(None, 0, scripts, languages),
+        }
+    }
+
+    /// The table of positioning, the same way.
+    pub fn of_positioning(
+        table: Option<&'a PositioningTable>,
+        scripts: &[Tag],
+        languages: &[Tag],
+    ) -> ChosenTable<'a>
+        ensures { result ≡ chosen_positioning scripts.now languages.now (option_copied table.entry) }
+    {
+        match table {
+            Some(table) => Self::new(Some(&table.inner), table.lookups.len(), scripts, languages),
+            None => Self::new(None, 0, scripts, languages),
+        }
+    }
+
+    fn new(
+        table: Option<&'a LayoutTable>,
+        lookup_count: usize,
+        scripts: &[Tag],
+        languages: &[Tag],
+    ) -> ChosenTable<'a>
+        ensures { result ≡ chosen_table scripts.now languages.now (option_copied table.entry) lookup_count }
     {
         let script = selected_script(table, scripts);
         ChosenTable {
             table,
+            lookup_count,
             script,
             system: selected_system(script, languages),
         }
@@ -108,10 +140,7 @@ impl<'a> ChosenTable<'a> {
     pub fn lookup_count(&self) -> usize
         ensures { result ≡ self.now.lookup_count }
     {
-        match self.table {
-            Some(table) => table.lookups().len(),
-            None => 0,
-        }
+        self.lookup_count
     }
 }
 

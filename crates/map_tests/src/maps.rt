@@ -1,9 +1,11 @@
 //! Maps that builders compile: features with their bits, and the lookups of stages.
 use Asked::{Feature, Pause};
+use layout_common::array::Array;
 use layout_font::is_rising;
-use layout_font::lookup::{Lookup, Subtables};
 use layout_font::script::{LangSys, LangSysRecord, ScriptRecord};
 use layout_font::table::{FeatureRecord, LayoutTable};
+use layout_lookups::positioning::{PositioningLookup, PositioningSubtables, PositioningTable};
+use layout_lookups::substitution::{SubstLookup, SubstitutionSubtables, SubstitutionTable};
 use map_builder::builder::hb_ot_map_builder_t;
 use map_builder::features::feature_map_t;
 use map_builder::map::hb_ot_map_t;
@@ -380,24 +382,58 @@ fn layout_table(alloc: Global, table: &Table) -> Result<Option<LayoutTable>, All
     for (tag, lookups) in table.features {
         features.push(FeatureRecord::new(Tag::from_bytes(tag), lookups.to_vec(alloc)?))?;
     }
-    let mut lookups = Vec::new(alloc);
-    for _ in 0..table.lookups {
-        lookups.push(Lookup::new(0, None, Subtables::Ligature(Vec::new(alloc))))?;
-    }
     if !is_rising(&scripts) {
         return Ok(None);
     }
-    Ok(Some(LayoutTable::new(scripts, features, lookups)))
+    Ok(Some(LayoutTable::new(scripts, features)))
 }
 
-fn layout_table_if(
+fn substitution_table(
     alloc: Global,
     table: &Option<Table>,
-) -> Result<Option<LayoutTable>, AllocError> {
-    match table {
-        Some(table) => layout_table(alloc, table),
-        None => Ok(None),
+) -> Result<Option<SubstitutionTable>, AllocError> {
+    let Some(table) = table else {
+        return Ok(None);
+    };
+    let Some(inner) = layout_table(alloc, table)? else {
+        return Ok(None);
+    };
+    let mut lookups = Vec::new(alloc);
+    for _ in 0..table.lookups {
+        lookups.push(SubstLookup {
+            flags: 0,
+            mark_filtering_set: None,
+            subtables: SubstitutionSubtables::Single(Array::new(Vec::new(alloc))),
+        })?;
     }
+    Ok(Some(SubstitutionTable {
+        inner,
+        lookups: Array::new(lookups),
+    }))
+}
+
+fn positioning_table(
+    alloc: Global,
+    table: &Option<Table>,
+) -> Result<Option<PositioningTable>, AllocError> {
+    let Some(table) = table else {
+        return Ok(None);
+    };
+    let Some(inner) = layout_table(alloc, table)? else {
+        return Ok(None);
+    };
+    let mut lookups = Vec::new(alloc);
+    for _ in 0..table.lookups {
+        lookups.push(PositioningLookup {
+            flags: 0,
+            mark_filtering_set: None,
+            subtables: PositioningSubtables::Single(Array::new(Vec::new(alloc))),
+        })?;
+    }
+    Ok(Some(PositioningTable {
+        inner,
+        lookups: Array::new(lookups),
+    }))
 }
 
 fn tags(alloc: Global, texts: &[Text]) -> Result<Vec<Tag>, AllocError> {
@@ -423,8 +459,8 @@ fn ask(builder: &mut hb_ot_map_builder_t, asked: &[Asked]) -> Result<(), AllocEr
 fn asked_builder<'a>(
     alloc: Global,
     case: &Case,
-    gsub: Option<&'a LayoutTable>,
-    gpos: Option<&'a LayoutTable>,
+    gsub: Option<&'a SubstitutionTable>,
+    gpos: Option<&'a PositioningTable>,
 ) -> Result<hb_ot_map_builder_t<'a>, AllocError> {
     let scripts = [Tag::from_bytes(b"grek")];
     let languages = tags(alloc, case.languages)?;
@@ -519,8 +555,8 @@ fn is_as_wanted(builder: &hb_ot_map_builder_t, map: &hb_ot_map_t, case: &Case) -
 }
 
 fn is_mapped(alloc: Global, case: &Case) -> Result<bool, AllocError> {
-    let gsub = layout_table_if(alloc, &case.gsub)?;
-    let gpos = layout_table_if(alloc, &case.gpos)?;
+    let gsub = substitution_table(alloc, &case.gsub)?;
+    let gpos = positioning_table(alloc, &case.gpos)?;
     let builder = asked_builder(alloc, case, gsub.as_ref(), gpos.as_ref())?;
     let map = builder.compile(alloc)?;
     Ok(is_as_wanted(&builder, &map, case))

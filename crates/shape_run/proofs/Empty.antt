@@ -6,15 +6,16 @@ use Rattle.shaping_text.specs.Direction.{is_backward, opposite}
 use Rattle.shaping_text.specs.declared.direction.Direction.{Direction}
 use Rattle.glyph_types.specs.declared.flags.SerializeFlags.{SerializeFlags}
 use Rattle.glyph_types.specs.declared.level.BufferClusterLevel.TheVariants.{MonotoneGraphemes}
-use Rattle.font_json.specs.Keys.{FontKeys}
+use Rattle.font_face.specs.declared.parts.FaceParts.{FaceParts}
 use Rattle.glyph_lists.specs.Parts.{or}
 use Rattle.glyph_lists.specs.Events.{Reverse, Reset}
 use Rattle.glyph_buffer.specs.Segment.{guessed_direction}
 use Rattle.glyph_lists.specs.Readings.{View, Read, Stage, with_events, then_read, then_reading, always, and_then}
 use Rattle.glyph_lists.specs.Steps.{nothing_then}
-use Rattle.layout_font.specs.Layout.{LayoutLists, LookupTable}
-use Rattle.layout_map.specs.declared.stage.lookup_map_t.{lookup_map_t}
-use Rattle.layout_map.specs.Map.{OtMap}
+use Rattle.layout_lookups.specs.declared.substitution.SubstLookup.{SubstLookup}
+use Rattle.layout_lookups.specs.declared.substitution.SubstitutionTable.{SubstitutionTable}
+use Rattle.map_features.specs.declared.lookup.lookup_map_t.{lookup_map_t}
+use Rattle.map_builder.specs.Compiled.{OtMapValue, lookups_of_stage}
 use Rattle.layout_stages.specs.Lookups.{lookup_stage, lookups_stage}
 use Rattle.glyph_text.specs.Printed.{printed_text}
 use Rattle.shape_run.specs.Path.{substituted, substitution_map, is_turned, reversed_view, masked, mapped, after_substitution}
@@ -30,24 +31,24 @@ abbrev empty_view : Direction → View
 empty_view d = record { items = []; positions = []; lig_id = 0; max_ops = pos 0x1FFF_FFFF; random = 1; max_len = 0x3FFF_FFFF; direction = d; told = 0 }
 
 -- no lookup finds an index in no items
-lookup_empty : (o : Option LookupTable) (mask : ℕ) (d : Direction) → lookup_stage o mask (empty_view d) ≡ Ok (with_events [] (empty_view d))
+lookup_empty : (o : Option SubstLookup) (mask : ℕ) (d : Direction) → lookup_stage o mask (empty_view d) ≡ Ok (with_events [] (empty_view d))
 lookup_empty None mask d = refl
 lookup_empty (Some lookup) mask d = refl
 
-lookups_empty : (table : List LookupTable) (maps : List lookup_map_t) (d : Direction) → lookups_stage table maps (empty_view d) ≡ Ok (with_events [] (empty_view d))
+lookups_empty : (table : List SubstLookup) (maps : List lookup_map_t) (d : Direction) → lookups_stage table maps (empty_view d) ≡ Ok (with_events [] (empty_view d))
 lookups_empty table [] d = refl
 lookups_empty table (m ∷ maps) d = ap (λ r. and_then r (lookups_stage table maps)) (lookup_empty (slice_get table m.index) m.mask d) ∙ nothing_then (empty_view d) (lookups_stage table maps (empty_view d)) ∙ lookups_empty table maps d
 
-substituted_empty : (table : Option LayoutLists) (m : OtMap) (d : Direction) → substituted table m (empty_view d) ≡ Ok (with_events [] (empty_view d))
+substituted_empty : (table : Option SubstitutionTable) (m : OtMapValue) (d : Direction) → substituted table m (empty_view d) ≡ Ok (with_events [] (empty_view d))
 substituted_empty None m d = refl
-substituted_empty (Some table) m d = lookups_empty table.lookups m.lookups d
+substituted_empty (Some table) m d = lookups_empty table.lookups (lookups_of_stage m.tables.gsub 0) d
 
 -- the list in native order
 abbrev ordered_read : Bool → Direction → Read
 ordered_read turned d = if turned then with_events (Reverse ∷ []) (record (reversed_view (empty_view d)) { direction = opposite d }) else with_events [] (empty_view d)
 
 -- advances and the order on the line, of no items
-empty_placed : (font : FontKeys) (flags : SerializeFlags) (d : Direction) (turned backward : Bool) (e : Direction) → line_of_reading flags (text_run MonotoneGraphemes nothing_asked d [])
+empty_placed : (font : FaceParts) (flags : SerializeFlags) (d : Direction) (turned backward : Bool) (e : Direction) → line_of_reading flags (text_run MonotoneGraphemes nothing_asked d [])
     (then_reading (record { view = empty_view e; events = λ level. Reset ∷ (if turned then Reverse ∷ [] else []) }) (Ok (if backward then with_events (Reverse ∷ []) (empty_view e) else with_events [] (empty_view e)))) ≡ Ok (10 ∷ [])
 empty_placed font flags d true true e = ap Ok (empty_printed flags)
 empty_placed font flags d true false e = ap Ok (empty_printed flags)
@@ -55,7 +56,7 @@ empty_placed font flags d false true e = ap Ok (empty_printed flags)
 empty_placed font flags d false false e = ap Ok (empty_printed flags)
 
 -- no items on the way, whichever way the line runs
-empty_read : (font : FontKeys) (flags : SerializeFlags) (mask : ℕ) (stage : Stage) (turned : Bool) (d : Direction) → ((e : Direction) → stage (empty_view e) ≡ Ok (with_events [] (empty_view e))) →
+empty_read : (font : FaceParts) (flags : SerializeFlags) (mask : ℕ) (stage : Stage) (turned : Bool) (d : Direction) → ((e : Direction) → stage (empty_view e) ≡ Ok (with_events [] (empty_view e))) →
     line_of_reading flags (text_run MonotoneGraphemes nothing_asked d [])
     (and_then (and_then (and_then (Ok (then_read (masked mask (empty_view d)) (ordered_read turned d))) (always (mapped font))) stage) (after_substitution font)) ≡ Ok (10 ∷ [])
 empty_read font flags mask stage true d none = rw (none (opposite d)) (empty_placed font flags d true (is_backward (opposite d)) (opposite d))
@@ -65,5 +66,5 @@ pub empty_text_gives_empty_line : EmptyTextGivesEmptyLine
 empty_text_gives_empty_line options font here =
     let script = or options.script None in
     let direction = guessed_direction options.direction script in
-    let m = substitution_map font.gsub script options.features.items in
+    let m = substitution_map font script options.features.items in
     rw (chars-nil, here) (empty_read font options.flags m.global_mask (substituted font.gsub m) (is_turned script direction []) direction (substituted_empty font.gsub m))

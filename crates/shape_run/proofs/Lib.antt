@@ -1,4 +1,5 @@
 pub mod Stripped
+pub mod Mapped
 pub mod Steps
 pub mod Turned
 pub mod Whole

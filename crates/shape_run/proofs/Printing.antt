@@ -15,7 +15,7 @@ use Rattle.shape_run.specs.Output.{glyph_of, glyphs_of}
 use Rattle.shape_run.specs.Stages.{is_glyph_number, text_buffer}
 use Rattle.shape_run.specs.Path.{shaping}
 use Rattle.shape_run.specs.Waiting.{waits}
-use Rattle.font_json.specs.Keys.{FontKeys}
+use Rattle.font_face.specs.declared.parts.FaceParts.{FaceParts}
 use Rattle.run_options.specs.declared.fault.RunFault.TheVariants.{NotYet}
 use Rattle.run_options.specs.declared.options.Options.{Options}
 use Rattle.glyph_buffer.specs.Sides.{Sides, all_glyphs, items_of, run_of, empty_buffer}
@@ -50,14 +50,14 @@ line_follows flags (Ok r) old s f = ap (λ (run : Run). Ok (line_of_run flags ru
 line_follows flags (Err e) old s f = absurd f
 
 -- the line of a text that fits and does not wait
-pub line_of_fitting : (options : Options) (font : FontKeys) (text : List ℕ) → fits_text text empty_buffer ≡ true
+pub line_of_fitting : (options : Options) (font : FaceParts) (text : List ℕ) → fits_text text empty_buffer ≡ true
     → waits options.features.items (text_buffer options text).script (text_buffer options text).direction (items_of (text_buffer options text)) ≡ false
     → line_of options font text
     ≡ line_of_reading options.flags (run_of (text_buffer options text)) (read_of (shaping font options.features.items (text_buffer options text).script) (run_of (text_buffer options text)))
 line_of_fitting options font text fits here = rw (fits, here) refl
 
 -- the same, once it is shaped
-pub line_shaped : (options : Options) (font : FontKeys) (text : List ℕ) (b : Sides) (line : List ℕ) → fits_text text empty_buffer ≡ true
+pub line_shaped : (options : Options) (font : FaceParts) (text : List ℕ) (b : Sides) (line : List ℕ) → fits_text text empty_buffer ≡ true
     → waits options.features.items (text_buffer options text).script (text_buffer options text).direction (items_of (text_buffer options text)) ≡ false
     → Follows (read_of (shaping font options.features.items (text_buffer options text).script) (run_of (text_buffer options text))) (run_of (text_buffer options text)) (run_of b)
     → line ≡ printed_line options.flags (all_glyphs b) b.positions
@@ -68,7 +68,7 @@ line_shaped options font text b line fits here f e =
     line_of_fitting options font text fits here ∙ line_follows options.flags r (run_of s) b f ∙ ap Ok (sym e)
 
 -- the line of a text that fits and waits
-pub line_waits : (options : Options) (font : FontKeys) (text : List ℕ) → fits_text text empty_buffer ≡ true
+pub line_waits : (options : Options) (font : FaceParts) (text : List ℕ) → fits_text text empty_buffer ≡ true
     → waits options.features.items (text_buffer options text).script (text_buffer options text).direction (items_of (text_buffer options text)) ≡ true
     → line_of options font text ≡ Err NotYet
 line_waits options font text fits here = rw (fits, here) refl

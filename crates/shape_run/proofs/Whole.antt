@@ -5,7 +5,7 @@ use Rattle.std.proofs.lemmas.List.{take-append-drop, length-map, length-replicat
 use Rattle.std.specs.List.{list_all}
 use Rattle.shaping_text.specs.Direction.{opposite, is_backward}
 use Rattle.glyph_types.specs.declared.info.hb_glyph_info_t.{hb_glyph_info_t}
-use Rattle.font_json.specs.Keys.{FontKeys}
+use Rattle.font_face.specs.declared.parts.FaceParts.{FaceParts}
 use Rattle.glyph_lists.specs.Items.{Item, item_of, strip}
 use Rattle.glyph_lists.specs.Origins.{origin_of, origins, without_marks}
 use Rattle.glyph_lists.specs.Events.{Reverse, Reset}
@@ -13,7 +13,7 @@ use Rattle.glyph_lists.specs.Readings.{Reading, Run, Stage, Follows, with_events
 use Rattle.glyph_lists.specs.Steps.{follows_then, follows_events}
 use Rattle.glyph_buffer.specs.Sides.{Sides, all_glyphs, items_of, view_of, run_of, reversed, zero_position, zero_positions}
 use Rattle.glyph_buffer.specs.Masks.{with_masks, glyph_masked, item_masked}
-use Rattle.layout_map.specs.Map.{OtMap}
+use Rattle.map_builder.specs.Compiled.{OtMapValue}
 use Rattle.layout_rules.specs.Buffers.{are_glyphs}
 use Rattle.layout_rules.specs.Ready.{IsReady, IsDone}
 use Rattle.shape_run.specs.Path.{is_turned, reversed_view, native_order, mapped, mapped_item, advanced, advance_position, drawn_order, masked, substituted, before_substitution, after_substitution, shaped_with}
@@ -41,26 +41,26 @@ ordered_follows s =
     (run_of (if t then record (reversed s) { direction = opposite s.direction } else s)))
     [ true ↦ ap (λ (run : Run). record run { view = record run.view { direction = opposite s.direction } }) (reversed_follows s) | false ↦ refl ]
 
-mapped_items : (font : FontKeys) (gs : List hb_glyph_info_t) → strip (map (mapped_glyph font) gs) ≡ map (mapped_item font) (strip gs)
+mapped_items : (font : FaceParts) (gs : List hb_glyph_info_t) → strip (map (mapped_glyph font) gs) ≡ map (mapped_item font) (strip gs)
 mapped_items font [] = refl
 mapped_items font (g ∷ gs) = rw (mapped_items font gs) refl
 
-mapped_origins : (font : FontKeys) (gs : List hb_glyph_info_t) → origins (map (mapped_glyph font) gs) ≡ origins gs
+mapped_origins : (font : FaceParts) (gs : List hb_glyph_info_t) → origins (map (mapped_glyph font) gs) ≡ origins gs
 mapped_origins font [] = refl
 mapped_origins font (g ∷ gs) = rw (mapped_origins font gs) refl
 
-mapped_follows : (font : FontKeys) (s : Sides) → Follows (read_of (always (mapped font)) (run_of s)) (run_of s) (run_of (with_mapped font s))
+mapped_follows : (font : FaceParts) (s : Sides) → Follows (read_of (always (mapped font)) (run_of s)) (run_of s) (run_of (with_mapped font s))
 mapped_follows font s =
     let v = (mapped font (view_of s)).view in
     let items = ap (λ xs. record v { items = xs; positions = zero_positions (length (all_glyphs s)) }) (mapped_items font (all_glyphs s)) in
     let places = ap (λ n. record v { positions = zero_positions n }) (sym (length-map (all_glyphs s) item_of)) in
     follows_events [] v (run_of s) (run_of (with_mapped font s)) (items ∙ places) (mapped_origins font (all_glyphs s)) refl refl
 
-advanced_items : (font : FontKeys) (gs : List hb_glyph_info_t) → advance_positions font gs ≡ map (λ (x : Item). advance_position font x.number) (strip gs)
+advanced_items : (font : FaceParts) (gs : List hb_glyph_info_t) → advance_positions font gs ≡ map (λ (x : Item). advance_position font x.number) (strip gs)
 advanced_items font [] = refl
 advanced_items font (g ∷ gs) = rw (advanced_items font gs) refl
 
-advanced_follows : (font : FontKeys) (s : Sides) → Follows (read_of (always (advanced font)) (run_of s)) (run_of s) (run_of (with_advances font s))
+advanced_follows : (font : FaceParts) (s : Sides) → Follows (read_of (always (advanced font)) (run_of s)) (run_of s) (run_of (with_advances font s))
 advanced_follows font s =
     let v = (advanced font (view_of s)).view in
     let all = append-nil (all_glyphs s) in
@@ -95,13 +95,13 @@ masked_follows m s none =
 
 -- ---- what the stages leave, one after another
 
-abbrev pub glyphs_made : FontKeys → ℕ → Sides → Sides
+abbrev pub glyphs_made : FaceParts → ℕ → Sides → Sides
 glyphs_made font m s = with_mapped font (ordered (with_masks m s))
 
-abbrev pub placed : FontKeys → Sides → Sides
+abbrev pub placed : FaceParts → Sides → Sides
 placed font s = drawn (with_advances font s)
 
-before_follows : (font : FontKeys) (m : ℕ) (s : Sides) → bit_and m 7 ≡ 0 → Follows (read_of (before_substitution font m s.script) (run_of s)) (run_of s) (run_of (glyphs_made font m s))
+before_follows : (font : FaceParts) (m : ℕ) (s : Sides) → bit_and m 7 ≡ 0 → Follows (read_of (before_substitution font m s.script) (run_of s)) (run_of s) (run_of (glyphs_made font m s))
 before_follows font m s none =
     let s₁ = with_masks m s in
     let s₂ = ordered s₁ in
@@ -109,11 +109,11 @@ before_follows font m s none =
     let f₂ = follows_then r₁ (always (native_order s.script)) (run_of s) (run_of s₁) (run_of s₂) (masked_follows m s none) (ordered_follows s₁) in
     follows_then (and_then r₁ (always (native_order s.script))) (always (mapped font)) (run_of s) (run_of s₂) (run_of (with_mapped font s₂)) f₂ (mapped_follows font s₂)
 
-after_follows : (font : FontKeys) (s : Sides) → Follows (read_of (after_substitution font) (run_of s)) (run_of s) (run_of (placed font s))
+after_follows : (font : FaceParts) (s : Sides) → Follows (read_of (after_substitution font) (run_of s)) (run_of s) (run_of (placed font s))
 after_follows font s = follows_then (Ok (advanced font (view_of s))) (always drawn_order) (run_of s) (run_of (with_advances font s)) (run_of (placed font s)) (advanced_follows font s) (drawn_follows (with_advances font s))
 
 -- the whole way, where the substitutions were done between
-pub shaped_follows : (font : FontKeys) (m : OtMap) (s now : Sides) → bit_and m.global_mask 7 ≡ 0 → IsDone (substituted font.gsub m) (glyphs_made font m.global_mask s) now
+pub shaped_follows : (font : FaceParts) (m : OtMapValue) (s now : Sides) → bit_and m.global_mask 7 ≡ 0 → IsDone (substituted font.gsub m) (glyphs_made font m.global_mask s) now
     → Follows (read_of (shaped_with font m s.script) (run_of s)) (run_of s) (run_of (placed font now))
 shaped_follows font m s now none done =
     let mid = glyphs_made font m.global_mask s in
@@ -131,7 +131,7 @@ drawn_all p s =
     elim (is_backward s.direction) as (λ t. list_all p (all_glyphs (if t then reversed s else s)) ≡ list_all p (all_glyphs s))
     [ true ↦ reversed_all p s | false ↦ refl ]
 
-pub placed_all : (p : hb_glyph_info_t → Bool) (font : FontKeys) (s : Sides) → list_all p (all_glyphs (placed font s)) ≡ list_all p (all_glyphs s)
+pub placed_all : (p : hb_glyph_info_t → Bool) (font : FaceParts) (s : Sides) → list_all p (all_glyphs (placed font s)) ≡ list_all p (all_glyphs s)
 placed_all p font s = drawn_all p (with_advances font s) ∙ ap (list_all p) (append-nil (all_glyphs s))
 
 -- numbers of glyphs, seen one by one
@@ -149,7 +149,7 @@ ordered_open : (s : Sides) → (ordered s).is_open ≡ s.is_open
 ordered_open s = elim (is_turned s.script s.direction (items_of s)) as (λ t. (if t then record (reversed s) { direction = opposite s.direction } else s).is_open ≡ s.is_open) [ true ↦ refl | false ↦ refl ]
 
 -- characters that became glyphs are ready for substitution
-pub made_ready : (font : FontKeys) (m : ℕ) (s : Sides) → s.is_open ≡ false → s.has_refused ≡ false → IsReady (glyphs_made font m s)
+pub made_ready : (font : FaceParts) (m : ℕ) (s : Sides) → s.is_open ≡ false → s.has_refused ≡ false → IsReady (glyphs_made font m s)
 made_ready font m s closed unrefused = record {
   closed = ordered_open (with_masks m s) ∙ closed;
   front = refl;
@@ -161,5 +161,5 @@ made_ready font m s closed unrefused = record {
 drawn_closed : (s : Sides) → s.is_open ≡ false → (drawn s).is_open ≡ false
 drawn_closed s h = elim (is_backward s.direction) as (λ t. (if t then reversed s else s).is_open ≡ false) [ true ↦ h | false ↦ h ]
 
-pub placed_closed : (font : FontKeys) (s : Sides) → s.is_open ≡ false → (placed font s).is_open ≡ false
+pub placed_closed : (font : FaceParts) (s : Sides) → s.is_open ≡ false → (placed font s).is_open ≡ false
 placed_closed font s h = drawn_closed (with_advances font s) h

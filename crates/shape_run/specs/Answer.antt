@@ -9,26 +9,29 @@ use Rattle.feature_text.specs.declared.feature.Feature.{Feature}
 use Rattle.shaping_text.specs.declared.direction.Direction.{Direction}
 use Rattle.shaping_text.specs.declared.script.Script.{Script}
 use Rattle.json_values.specs.declared.fault.JsonFault.{JsonFault}
-use Rattle.json_values.specs.declared.fault.JsonFault.TheVariants.{NotJson}
+use Rattle.json_values.specs.declared.fault.JsonFault.TheVariants.{NotJson, WrongShape}
 use Rattle.glyph_types.specs.declared.cause.ShapeCause.TheVariants.{TooLong}
 use Rattle.run_options.specs.declared.fault.RunFault.{RunFault}
 use Rattle.run_options.specs.declared.fault.RunFault.TheVariants.{Json, NotUtf8, NotYet, Shape}
 use Rattle.run_options.specs.declared.options.Options.{Options}
 use Rattle.run_options.specs.Fault.{run_fault_of, fault_of_cause}
-use Rattle.font_json.specs.Keys.{FontKeys, face_of, tables_of}
+use Rattle.font_face.specs.declared.parts.FaceParts.{FaceParts}
+use Rattle.face_json.specs.Face.{face_of}
+use Rattle.shape_run.specs.Tables.{tables_of}
 use Rattle.glyph_types.specs.declared.level.BufferClusterLevel.{BufferClusterLevel}
 use Rattle.glyph_types.specs.declared.level.BufferClusterLevel.TheVariants.{MonotoneGraphemes}
 use Rattle.glyph_lists.specs.Items.{Position, strip}
 use Rattle.glyph_lists.specs.Parts.{or}
 use Rattle.glyph_lists.specs.Origins.{Asks, origins}
 use Rattle.glyph_lists.specs.Readings.{Reading, Run, run_after, read_of}
+use Rattle.json_values.specs.Cell.{and_then}
 use Rattle.glyph_text.specs.Printed.{printed_text}
 use Rattle.glyph_buffer.specs.Sides.{empty_buffer, zero_positions}
 use Rattle.glyph_buffer.specs.Segment.{first_script, guessed_direction}
 use Rattle.glyph_buffer.specs.Text.{added_text, fits_text}
 use Rattle.shape_run.specs.Path.{shaping}
 use Rattle.shape_run.specs.Output.{glyphs_of}
-use Rattle.shape_run.specs.Waiting.{waits}
+use Rattle.shape_run.specs.Waiting.{waits, font_waits}
 
 -- one step after another; the first fault ends them
 abbrev pub then_run : {A B : Type 0} → Result A RunFault → (A → Result B RunFault) → Result B RunFault
@@ -57,6 +60,14 @@ text_of bytes = if is_utf8 bytes then Ok (without_line_feed bytes) else Err NotU
 abbrev pub of_json : {A : Type 0} → Result A JsonFault → Result A RunFault
 of_json (Ok a) = Ok a
 of_json (Err e) = Err (run_fault_of e)
+
+-- a font that shaping acts on in full; another is refused, once the font is of its format
+abbrev pub acted_on : FaceParts → Result FaceParts JsonFault
+acted_on font = if font_waits font then Err WrongShape else Ok font
+
+-- the font of a JSON value
+abbrev pub font_of : Data → Result FaceParts JsonFault
+font_of d = and_then (face_of d) acted_on
 
 -- ---- glyphs
 
@@ -92,7 +103,7 @@ line_of_reading flags run (Ok r) = Ok (line_of_run flags (run_after r run))
 line_of_reading flags run (Err e) = Err (fault_of_cause e)
 
 -- the line of a text that is not shaped yet, or of what shaping makes of it
-abbrev pub line_of_text : FontKeys → SerializeFlags → List Feature → Option Script → Run → Result (List ℕ) RunFault
+abbrev pub line_of_text : FaceParts → SerializeFlags → List Feature → Option Script → Run → Result (List ℕ) RunFault
 line_of_text font flags features script run = if waits features script run.view.direction run.view.items then Err NotYet
     else line_of_reading flags run (read_of (shaping font features script) run)
 
@@ -101,11 +112,11 @@ abbrev pub nothing_asked : Asks
 nothing_asked = record { concat = false; tatweel = false }
 
 -- the line of characters that were added, where a direction that was not asked for is guessed
-abbrev pub line_of_guess : FontKeys → Options → Option Script → List hb_glyph_info_t → Result (List ℕ) RunFault
+abbrev pub line_of_guess : FaceParts → Options → Option Script → List hb_glyph_info_t → Result (List ℕ) RunFault
 line_of_guess font options script gs = line_of_text font options.flags options.features.items script (text_run MonotoneGraphemes nothing_asked (guessed_direction options.direction script) gs)
 
 -- the line of a text
-abbrev pub line_of : Options → FontKeys → List ℕ → Result (List ℕ) RunFault
+abbrev pub line_of : Options → FaceParts → List ℕ → Result (List ℕ) RunFault
 line_of options font text = if fits_text text empty_buffer
     then line_of_guess font options (or options.script (first_script (added_text text))) (added_text text)
     else Err (Shape TooLong)
@@ -118,6 +129,6 @@ answer_of options tables font text =
     then_run (json_of tables) (λ t.
     then_run (of_json (tables_of t)) (λ _.
     then_run (json_of font) (λ f.
-    then_run (of_json (face_of f)) (λ face.
+    then_run (of_json (font_of f)) (λ face.
     then_run (text_of text) (λ chars.
     line_of options face chars)))))

@@ -1,7 +1,7 @@
 -- What holds of every run.
 use Rattle.std.specs.Prelude.{◌≡◌, false, [], ◌∷◌, Ok, None}
 use Rattle.run_options.specs.declared.options.Options.{Options}
-use Rattle.font_json.specs.Keys.{FontKeys}
+use Rattle.font_face.specs.declared.parts.FaceParts.{FaceParts}
 use Rattle.glyph_lists.specs.Parts.{or}
 use Rattle.glyph_buffer.specs.Segment.{guessed_direction}
 use Rattle.shape_run.specs.Waiting.{waits}
@@ -9,6 +9,6 @@ use Rattle.shape_run.specs.Answer.{line_of}
 
 -- no glyphs and a line feed, where neither the script nor the direction waits
 abbrev pub EmptyTextGivesEmptyLine : Type 0
-EmptyTextGivesEmptyLine = (options : Options) (font : FontKeys)
+EmptyTextGivesEmptyLine = (options : Options) (font : FaceParts)
     → waits options.features.items (or options.script None) (guessed_direction options.direction (or options.script None)) [] ≡ false
     → line_of options font [] ≡ Ok (10 ∷ [])

@@ -1,5 +1,5 @@
 -- The reading of a text: its order, its glyphs, the substitutions of its font, and advances.
-use Rattle.std.specs.Prelude.{ℕ, pos, ◌&&◌, ◌||◌, Bool, true, false, not, nat_le, if◌then◌else◌, List, [], ◌∷◌, map, reverse, length, Option, Some, None, unwrap_or, codes}
+use Rattle.std.specs.Prelude.{ℕ, pos, ◌&&◌, ◌||◌, Bool, true, false, not, nat_le, if◌then◌else◌, List, [], ◌∷◌, map, fold, reverse, length, Option, Some, None, unwrap_or, codes}
 use Rattle.std.specs.List.{list_any}
 use lib.Utf8.{scalar}
 use Rattle.unicode.specs.GeneralCategory.{general_category}
@@ -10,16 +10,18 @@ use Rattle.shaping_text.specs.declared.tag.Tag.{Tag}
 use Rattle.shaping_text.specs.Tag.{tag_of}
 use Rattle.shaping_text.specs.ScriptTags.{wanted_tags}
 use Rattle.feature_text.specs.declared.feature.Feature.{Feature}
-use Rattle.layout_font.specs.Layout.{LayoutLists}
-use Rattle.layout_map.specs.Requests.{asked_value}
-use Rattle.layout_map.specs.Map.{OtMap, no_features, map_for}
+use Rattle.feature_text.specs.Feature.{is_global}
+use Rattle.layout_lookups.specs.declared.substitution.SubstitutionTable.{SubstitutionTable}
+use Rattle.map_features.specs.declared.flags.TheConstants.{F_NONE, F_GLOBAL}
+use Rattle.map_builder.specs.Compiled.{MapRequests, no_requests, with_request, OtMapValue, compiled, lookups_of_stage}
 use Rattle.layout_stages.specs.Lookups.{lookups_stage}
 use Rattle.glyph_buffer.specs.Masks.{item_masked}
 use Rattle.shaping_text.specs.Direction.{direction_of_script, opposite, is_backward}
 use Rattle.shaping_text.specs.declared.direction.Direction.{Direction}
 use Rattle.shaping_text.specs.declared.direction.Direction.TheVariants.{Invalid, LeftToRight, RightToLeft, BottomToTop}
 use Rattle.shaping_text.specs.declared.script.Script.{Script}
-use Rattle.font_json.specs.Keys.{FontKeys, glyph_of, advance_of}
+use Rattle.font_face.specs.declared.parts.FaceParts.{FaceParts}
+use Rattle.font_face.specs.Glyphs as Glyphs
 use Rattle.glyph_lists.specs.Items.{Item, Position}
 use Rattle.glyph_lists.specs.Events.{Reverse, Reset}
 use Rattle.glyph_lists.specs.Readings.{View, Read, Stage, and_then, with_events, always, as_it_is}
@@ -87,25 +89,25 @@ native_order script v = if is_turned script v.direction v.items
 -- ---- glyphs
 
 -- the font's glyph of a character, glyph 0 where it has none or the number is no character
-abbrev pub nominal_glyph : FontKeys → ℕ → ℕ
-nominal_glyph font n = if scalar n then unwrap_or (glyph_of font n) 0 else 0
+abbrev pub nominal_glyph : FaceParts → ℕ → ℕ
+nominal_glyph font n = if scalar n then unwrap_or (Glyphs.nominal_glyph n font) 0 else 0
 
 -- a character as its glyph
-abbrev pub mapped_item : FontKeys → Item → Item
+abbrev pub mapped_item : FaceParts → Item → Item
 mapped_item font x = record x { number = nominal_glyph font x.number; glyph_index = nominal_glyph font x.number }
 
 -- each character becomes its glyph
-abbrev pub mapped : FontKeys → View → Read
+abbrev pub mapped : FaceParts → View → Read
 mapped font v = with_events [] (record v { items = map (mapped_item font) v.items; positions = zero_positions (length v.items) })
 
 -- ---- positions
 
 -- a place that moves the pen by the glyph's advance
-abbrev pub advance_position : FontKeys → ℕ → Position
-advance_position font glyph = record zero_position { x_advance = pos (advance_of font glyph) }
+abbrev pub advance_position : FaceParts → ℕ → Position
+advance_position font glyph = record zero_position { x_advance = pos (Glyphs.width_of glyph font) }
 
 -- each glyph gets its advance
-abbrev pub advanced : FontKeys → View → Read
+abbrev pub advanced : FaceParts → View → Read
 advanced font v = with_events [] (record v { positions = map (λ (x : Item). advance_position font x.number) v.items })
 
 -- ---- order on the line
@@ -124,29 +126,36 @@ masked mask v = with_events (Reset ∷ []) (record v { items = map (item_masked 
 abbrev pub liga : Tag
 liga = tag_of (codes "liga")
 
--- what the font's substitutions do for a script and what was asked: the feature for ligatures is on unless switched off
-abbrev pub substitution_map : Option LayoutLists → Option Script → List Feature → OtMap
-substitution_map None script features = no_features
-substitution_map (Some table) script features = map_for table (wanted_tags script) [] liga (asked_value liga 1 features)
+-- a feature that was asked for: for every glyph, or for a range
+abbrev pub with_asked : MapRequests → Feature → MapRequests
+with_asked b f = with_request f.tag (if is_global f then F_GLOBAL else F_NONE) f.value b
 
--- the font's lookups, in order
-abbrev pub substituted : Option LayoutLists → OtMap → Stage
+-- what is asked of a font for a script: ligatures for every glyph, and then what was asked, in order
+abbrev pub requests : FaceParts → Option Script → List Feature → MapRequests
+requests font script features = fold with_asked (with_request liga F_GLOBAL 1 (no_requests (wanted_tags script) [] font.gsub font.gpos)) features
+
+-- what the font does for that
+unfoldable pub substitution_map : FaceParts → Option Script → List Feature → OtMapValue
+substitution_map font script features = compiled (requests font script features)
+
+-- the lookups of the first stage of substitution, in order; without pauses there is no other stage
+abbrev pub substituted : Option SubstitutionTable → OtMapValue → Stage
 substituted None m v = as_it_is v
-substituted (Some table) m v = lookups_stage table.lookups m.lookups v
+substituted (Some table) m v = lookups_stage table.lookups (lookups_of_stage m.tables.gsub 0) v
 
 -- ---- all of it
 
 -- characters in the order of their writing become glyphs
-abbrev pub before_substitution : FontKeys → ℕ → Option Script → Stage
+abbrev pub before_substitution : FaceParts → ℕ → Option Script → Stage
 before_substitution font mask script v = and_then (and_then (always (masked mask) v) (always (native_order script))) (always (mapped font))
 
 -- glyphs get their advances, and stand as they are drawn
-abbrev pub after_substitution : FontKeys → Stage
+abbrev pub after_substitution : FaceParts → Stage
 after_substitution font v = and_then (always (advanced font) v) (always drawn_order)
 
 -- the stages, where the substitutions are known
-abbrev pub shaped_with : FontKeys → OtMap → Option Script → Stage
+abbrev pub shaped_with : FaceParts → OtMapValue → Option Script → Stage
 shaped_with font m script v = and_then (and_then (before_substitution font m.global_mask script v) (substituted font.gsub m)) (after_substitution font)
 
-abbrev pub shaping : FontKeys → List Feature → Option Script → Stage
-shaping font features script v = shaped_with font (substitution_map font.gsub script features) script v
+abbrev pub shaping : FaceParts → List Feature → Option Script → Stage
+shaping font features script v = shaped_with font (substitution_map font script features) script v

@@ -1,6 +1,17 @@
 -- What is not shaped yet.
-use Rattle.std.specs.Prelude.{◌||◌, Bool, false, not, nat_le, List, [], ◌∷◌, Option, Some, None}
+use Rattle.std.specs.Prelude.{ℕ, ◌||◌, ◌&&◌, ◌==◌, Bool, true, false, not, nat_le, List, [], ◌∷◌, length, codes, bit_and, Option, Some, None}
 use Rattle.std.specs.List.{list_any}
+use Rattle.std.specs.Option.{option_map_or}
+use Rattle.shaping_text.specs.declared.tag.Tag.{Tag}
+use Rattle.shaping_text.specs.Tag.{tag_of}
+use Rattle.layout_common.specs.declared.class_definition.ClassDefinition.{ClassDefinition}
+use Rattle.layout_font.specs.Layout.{FeatureTable}
+use Rattle.layout_lookups.specs.declared.substitution.SubstLookup.{SubstLookup}
+use Rattle.layout_lookups.specs.declared.substitution.SubstitutionSubtables.{SubstitutionSubtables}
+use Rattle.layout_lookups.specs.declared.substitution.SubstitutionSubtables.TheVariants.{Single, Multiple, Alternate, Ligature, Context, ChainContext, ReverseChainSingle}
+use Rattle.layout_lookups.specs.declared.substitution.SubstitutionTable.{SubstitutionTable}
+use Rattle.layout_lookups.specs.declared.positioning.PositioningTable.{PositioningTable}
+use Rattle.font_face.specs.declared.parts.FaceParts.{FaceParts}
 use Rattle.feature_text.specs.declared.feature.Feature.{Feature}
 use Rattle.feature_text.specs.Feature.{is_global}
 use Rattle.shaping_text.specs.Direction.{is_among, is_vertical}
@@ -137,3 +148,68 @@ has_ranges features = list_any (λ f. not (is_global f)) features
 -- a text waits for its characters, its direction, its script or the ranges of its features
 abbrev pub waits : List Feature → Option Script → Direction → List Item → Bool
 waits features s direction xs = has_later_characters xs || is_vertical direction || script_waits s || has_ranges features
+
+-- ---- fonts
+
+-- features that are on for every horizontal text (as HarfBuzz asks for them), but ligatures, which are asked for
+abbrev pub waiting_features : List (List ℕ)
+waiting_features =
+    codes "rvrn" ∷
+    codes "ltra" ∷
+    codes "ltrm" ∷
+    codes "rtla" ∷
+    codes "rtlm" ∷
+    codes "rand" ∷
+    codes "trak" ∷
+    codes "Harf" ∷
+    codes "HARF" ∷
+    codes "Buzz" ∷
+    codes "BUZZ" ∷
+    codes "abvm" ∷
+    codes "blwm" ∷
+    codes "ccmp" ∷
+    codes "locl" ∷
+    codes "mark" ∷
+    codes "mkmk" ∷
+    codes "rlig" ∷
+    codes "calt" ∷
+    codes "clig" ∷
+    codes "curs" ∷
+    codes "dist" ∷
+    codes "kern" ∷
+    codes "rclt" ∷
+    []
+
+abbrev pub is_waiting_feature : Tag → Bool
+is_waiting_feature tag = list_any (λ text. (tag_of text).0 == tag.0) waiting_features
+
+-- the font has lookups for such a feature
+abbrev pub feature_waits : FeatureTable → Bool
+feature_waits f = is_waiting_feature f.tag && not (length f.lookups == 0)
+
+abbrev pub is_ligature : SubstitutionSubtables → Bool
+is_ligature (Ligature subtables) = true
+is_ligature (Single subtables) = false
+is_ligature (Multiple subtables) = false
+is_ligature (Alternate subtables) = false
+is_ligature (Context subtables) = false
+is_ligature (ChainContext subtables) = false
+is_ligature (ReverseChainSingle subtables) = false
+
+-- a lookup is no ligature substitution, or skips base glyphs (2) or ligatures (4); a font has no marks for the other flags to skip
+abbrev pub lookup_waits : SubstLookup → Bool
+lookup_waits l = not (is_ligature l.subtables) || not (bit_and l.flags 6 == 0)
+
+abbrev pub substitution_waits : Option SubstitutionTable → Bool
+substitution_waits table = option_map_or (λ t. list_any (λ f. feature_waits f) t.inner.features || list_any (λ l. lookup_waits l) t.lookups) table false
+
+abbrev pub positioning_waits : Option PositioningTable → Bool
+positioning_waits table = option_map_or (λ t. not (length t.lookups == 0)) table false
+
+-- a glyph has the class of marks, 3 (OpenType, GDEF): the advance of a mark is 0, and lookups may skip it
+abbrev pub has_marks : Option ClassDefinition → Bool
+has_marks classes = option_map_or (λ c. list_any (λ r. r.value == 3) c.rows) classes false
+
+-- a font waits for its marks, for features and for types of lookups that are not acted on
+abbrev pub font_waits : FaceParts → Bool
+font_waits font = has_marks font.gdef.classes || substitution_waits font.gsub || positioning_waits font.gpos

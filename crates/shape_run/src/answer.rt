@@ -7,14 +7,18 @@ ghost use Rattle.std.specs.List.{list_all};
 ghost use Rattle.glyph_buffer.specs.Sides.{all_glyphs, empty_buffer};
 ghost use Rattle.glyph_buffer.specs.Segment.{with_segment};
 ghost use Rattle.glyph_buffer.specs.Text.{fits_text};
-ghost use Rattle.shape_run.specs.Answer.{answer_of, json_of, line_of, printed_line, text_of, without_line_feed};
+ghost use Rattle.shape_run.specs.Answer.{answer_of, font_of, json_of, line_of, printed_line, text_of, without_line_feed};
 ghost use Rattle.shape_run.specs.Run.{IsOfRun};
 ghost use Rattle.shape_run.specs.Stages.{is_glyph_number, text_buffer};
 
 use crate::path::shape;
-use font_json::{FontFace, read_face, read_tables};
+use crate::tables::read_tables;
+use crate::waiting_font::font_waits;
+use face_json::read_face;
+use font_face::Face;
 use glyph_types::cause::ShapeCause;
 use glyph_types::flags::SerializeFlags;
+use glyph_types::names::{GlyphId, GlyphNames, hb_glyph_extents_t};
 use json_values::fault::JsonFault;
 use run_options::fault::RunFault;
 use run_options::options::Options;
@@ -104,11 +108,29 @@ fn text_buffer(alloc: Global, options: &Options, text: &str) -> Result<UnicodeBu
     Ok(buffer)
 }
 
+// Glyphs are printed by their numbers.
+struct Nameless;
+
+impl GlyphNames for Nameless {
+    ghost use Rattle.std.specs.Prelude.{None};
+
+    ghost name_of = { λ _ _. None };
+
+    ghost extents_of = { λ _ _. None };
+
+    fn glyph_name(&self, _glyph: GlyphId) -> Option<&str> {
+        None
+    }
+
+    fn glyph_extents(&self, _glyph: GlyphId) -> Option<hb_glyph_extents_t> {
+        None
+    }
+}
+
 /// The printed text of glyphs, and a line feed.
 #[tactic(auto, using(crate::proofs::Printing::glyph_numbers))]
 fn print(
     alloc: Global,
-    face: &FontFace,
     flags: SerializeFlags,
     glyphs: &GlyphBuffer,
 ) -> Result<String, AllocError>
@@ -116,13 +138,25 @@ fn print(
     ensures { IfOk result (λ line.
         string_bytes line ≡ printed_line flags (all_glyphs glyphs.now) glyphs.now.positions) }
 {
-    let mut line = glyphs.serialize(alloc, face, flags)?;
+    let mut line = glyphs.serialize(alloc, &Nameless, flags)?;
     line.push_str("\n")?;
     Ok(line)
 }
 
+/// A font, of which shaping has to act on all that would change the text.
+fn read_font(alloc: Global, value: &Value) -> Result<Face, JsonFault>
+    ensures ok { IfOk result (λ face. font_of (view value.now) ≡ Ok face) }
+    ensures refused { IfErr result (λ e. e ≢ JsonFault.OutOfMemory → font_of (view value.now) ≡ Err e) }
+{
+    let face = read_face(alloc, value)?;
+    if font_waits(&face) {
+        return Err(JsonFault::WrongShape);
+    }
+    Ok(face)
+}
+
 /// The line of a text in a font.
-fn line(alloc: Global, options: &Options, face: &FontFace, text: &str) -> Result<String, RunFault>
+fn line(alloc: Global, options: &Options, face: &Face, text: &str) -> Result<String, RunFault>
     ensures ok { IfOk result (λ line. line_of options.now face.now text.now ≡ Ok (string_bytes line)) }
     ensures refused { IfErr result (λ e. e ≢ RunFault.OutOfMemory
         → line_of options.now face.now text.now ≡ Err e) }
@@ -130,7 +164,7 @@ fn line(alloc: Global, options: &Options, face: &FontFace, text: &str) -> Result
 {
     let text = text_buffer(alloc, options, text)?;
     let glyphs = shape(alloc, face, &options.features, text)?;
-    let line = print(alloc, face, options.flags, &glyphs)?;
+    let line = print(alloc, options.flags, &glyphs)?;
     Ok(line)
 }
 
@@ -152,7 +186,7 @@ pub(crate) fn answer(
     let tables = read_json(alloc, tables)?;
     read_tables(&tables)?;
     let font = read_json(alloc, font)?;
-    let face = read_face(alloc, &font)?;
+    let face = read_font(alloc, &font)?;
     let text = read_text(text)?;
     line(alloc, options, &face, text)
 }

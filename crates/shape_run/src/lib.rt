@@ -2,11 +2,14 @@
 #![tactic(auto)]
 
 mod answer;
+mod feature_map;
 pub mod laws;
 mod path;
 mod read;
 pub mod run;
+mod tables;
 #[cfg(test)]
 mod tests;
 mod waiting;
+mod waiting_font;
 mod write;

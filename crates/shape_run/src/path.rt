@@ -9,27 +9,25 @@ ghost use Rattle.layout_rules.specs.Ready.{IsDone, IsReady};
 ghost use Rattle.std.specs.Option.{option_copied};
 ghost use Rattle.std.specs.List.{list_any, list_all};
 ghost use Rattle.unicode.specs.GeneralCategory.{general_category};
-ghost use Rattle.shape_run.specs.Path.{advance_position, is_decimal_number, is_letter, is_regional_indicator, is_number_text, is_numeral, native_direction, nominal_glyph, runs_against, script_direction, shaping, substituted, substitution_map, with_numbers, written_direction};
+ghost use Rattle.shape_run.specs.Path.{advance_position, is_decimal_number, is_letter, is_regional_indicator, is_number_text, is_numeral, native_direction, nominal_glyph, runs_against, script_direction, shaping, substituted, with_numbers, written_direction};
 ghost use Rattle.shape_run.specs.Waiting.{waits};
 ghost use Rattle.shape_run.specs.Stages.{drawn, is_glyph_number, mapped_glyph, ordered, with_advances, with_mapped, with_next_advanced, with_next_mapped};
 
+use crate::feature_map::substitution_map;
 use crate::waiting::waits;
 use feature_text::feature::Feature;
-use font_json::FontFace;
+use font_face::Face;
 use glyph_buffer::buffer::hb_buffer_t;
 use glyph_types::cause::ShapeCause;
 use glyph_types::info::hb_glyph_info_t;
 use glyph_types::position::GlyphPosition;
-use layout_font::table::LayoutTable;
-use layout_map::map::hb_ot_map_t;
-use layout_map::request::asked_value;
+use layout_lookups::substitution::SubstitutionTable;
 use layout_stages::apply::apply_lookups;
+use map_builder::map::hb_ot_map_t;
+use map_features::per_table::TableIndex;
 use run_options::fault::RunFault;
 use shaping_text::direction::Direction;
-use shaping_text::language_tags::LanguageTable;
 use shaping_text::script::Script;
-use shaping_text::script_tags::tags_from_script_and_language;
-use shaping_text::tag::Tag;
 use std::alloc::{AllocError, Global};
 use text_buffers::glyphs::GlyphBuffer;
 use text_buffers::unicode_buffer::UnicodeBuffer;
@@ -128,7 +126,7 @@ fn ensure_native_direction(buffer: &mut hb_buffer_t)
     }
 }
 
-fn nominal_glyph(face: &FontFace, number: u32) -> u16
+fn nominal_glyph(face: &Face, number: u32) -> u16
     ensures { result ≡ nominal_glyph face.now number }
 {
     match char::from_u32(number) {
@@ -137,7 +135,7 @@ fn nominal_glyph(face: &FontFace, number: u32) -> u16
     }
 }
 
-fn map_glyph(face: &FontFace, info: &mut hb_glyph_info_t)
+fn map_glyph(face: &Face, info: &mut hb_glyph_info_t)
     ensures mapped { info.new ≡ mapped_glyph face.now info.old }
     ensures number { info.new.glyph_id ≤ 65535 }
 {
@@ -148,7 +146,7 @@ fn map_glyph(face: &FontFace, info: &mut hb_glyph_info_t)
 
 /// Puts the glyph of the character at the cursor in its place, and goes on to the next.
 #[tactic(auto, using(crate::proofs::Steps::mapped_next))]
-fn map_next(face: &FontFace, buffer: &mut hb_buffer_t) -> Result<bool, AllocError>
+fn map_next(face: &Face, buffer: &mut hb_buffer_t) -> Result<bool, AllocError>
     requires { 0 < length buffer.old.ahead }
     ensures held { IfOk result (λ b. b ≡ fits_next 1 buffer.old) }
     ensures mapped { result ≡ Ok true → buffer.new ≡ with_next_mapped face.now buffer.old }
@@ -161,7 +159,7 @@ fn map_next(face: &FontFace, buffer: &mut hb_buffer_t) -> Result<bool, AllocErro
 
 /// Puts each character's glyph in its place.
 #[tactic(auto, using(crate::proofs::Steps::mapped_fits, crate::proofs::Steps::mapped_joins, crate::proofs::Steps::mapped_whole))]
-fn map_glyphs(face: &FontFace, buffer: &mut hb_buffer_t) -> Result<(), ShapeCause>
+fn map_glyphs(face: &Face, buffer: &mut hb_buffer_t) -> Result<(), ShapeCause>
     requires closed { buffer.old.is_open ≡ false }
     requires unrefused { buffer.old.has_refused ≡ false }
     ensures ok { OnOk result (buffer.new ≡ with_mapped face.now buffer.old) }
@@ -181,18 +179,18 @@ fn map_glyphs(face: &FontFace, buffer: &mut hb_buffer_t) -> Result<(), ShapeCaus
     Ok(())
 }
 
-fn advance_position(face: &FontFace, glyph: u16) -> GlyphPosition
+fn advance_position(face: &Face, glyph: u16) -> GlyphPosition
     ensures { result ≡ advance_position face.now glyph }
 {
     GlyphPosition {
-        x_advance: i32::from(face.glyph_h_advance(glyph)),
+        x_advance: face.glyph_h_advance(glyph),
         ..GlyphPosition::default()
     }
 }
 
 /// Gives the glyph at the cursor its advance, and goes on to the next.
 #[tactic(auto)]
-fn advance_next(face: &FontFace, buffer: &mut hb_buffer_t)
+fn advance_next(face: &Face, buffer: &mut hb_buffer_t)
     requires closed { buffer.old.is_open ≡ false }
     requires there { 0 < length buffer.old.ahead }
     requires number { list_all is_glyph_number (take 1 buffer.old.ahead) ≡ true }
@@ -205,7 +203,7 @@ fn advance_next(face: &FontFace, buffer: &mut hb_buffer_t)
 }
 
 /// Gives each glyph its advance.
-fn position_glyphs(face: &FontFace, buffer: &mut hb_buffer_t)
+fn position_glyphs(face: &Face, buffer: &mut hb_buffer_t)
     requires closed { buffer.old.is_open ≡ false }
     requires front { buffer.old.behind ≡ [] }
     requires unread { buffer.old.read ≡ 0 }
@@ -231,7 +229,7 @@ fn draw(buffer: &mut hb_buffer_t)
 }
 
 /// Puts the characters of a text in the order of their writing, each as its glyph, with the mask.
-fn map_text(face: &FontFace, mask: u32, buffer: &mut hb_buffer_t) -> Result<(), ShapeCause>
+fn map_text(face: &Face, mask: u32, buffer: &mut hb_buffer_t) -> Result<(), ShapeCause>
     requires closed { buffer.old.is_open ≡ false }
     requires unrefused { buffer.old.has_refused ≡ false }
     ensures ok { OnOk result (buffer.new ≡ with_mapped face.now (ordered (with_masks mask buffer.old))) }
@@ -244,32 +242,13 @@ fn map_text(face: &FontFace, mask: u32, buffer: &mut hb_buffer_t) -> Result<(), 
     Ok(())
 }
 
-/// What the font's substitutions do for a script and what was asked: ligatures are on unless switched off.
-fn substitution_map(
-    alloc: Global,
-    table: Option<&LayoutTable>,
-    script: Option<Script>,
-    features: &[Feature],
-) -> Result<hb_ot_map_t, AllocError>
-    ensures { IfOk result (λ map. map ≡ substitution_map (option_copied table.entry) script features.now) }
-{
-    let Some(table) = table else {
-        return Ok(hb_ot_map_t::empty(alloc));
-    };
-    let languages = LanguageTable::new(Vec::new(alloc));
-    let (scripts, _) = tags_from_script_and_language(script, None, &languages);
-    let liga = Tag::from_bytes(b"liga");
-    let value = asked_value(liga, 1, features);
-    let map = hb_ot_map_t::with_feature(alloc, table, scripts.as_slice(), &[], liga, value)?;
-    Ok(map)
-}
-
-/// Does the font's lookups, in order.
+/// Does the lookups of the map's first stage of substitution, in order.
 fn substitute(
-    table: Option<&LayoutTable>,
+    table: Option<&SubstitutionTable>,
     map: &hb_ot_map_t,
     buffer: &mut hb_buffer_t,
 ) -> Result<(), ShapeCause>
+    requires staged { 0 < length map.now.tables.gsub.stages }
     requires ready { IsReady buffer.old }
     requires numbers { are_glyphs (items_of buffer.old) ≡ true }
     ensures ok { OnOk result (IsDone (substituted (option_copied table.entry) map.now) buffer.old buffer.new) }
@@ -278,12 +257,12 @@ fn substitute(
     let Some(table) = table else {
         return Ok(());
     };
-    apply_lookups(table, map, buffer)?;
+    apply_lookups(table, map.stage_lookups(TableIndex::GSUB, 0), buffer)?;
     Ok(())
 }
 
 /// Gives each glyph its advance, and puts the glyphs in the order in which they are drawn.
-fn place_glyphs(face: &FontFace, buffer: &mut hb_buffer_t)
+fn place_glyphs(face: &Face, buffer: &mut hb_buffer_t)
     requires ready { IsReady buffer.old }
     requires numbers { list_all is_glyph_number (all_glyphs buffer.old) ≡ true }
     ensures { buffer.new ≡ drawn (with_advances face.now buffer.old) }
@@ -296,7 +275,7 @@ fn place_glyphs(face: &FontFace, buffer: &mut hb_buffer_t)
 /// glyph its advance, and puts the glyphs in the order in which they are drawn.
 fn shape_buffer(
     alloc: Global,
-    face: &FontFace,
+    face: &Face,
     features: &[Feature],
     buffer: &mut hb_buffer_t,
 ) -> Result<(), ShapeCause>
@@ -309,7 +288,7 @@ fn shape_buffer(
     ensures still_closed { OnOk result (buffer.new.is_open ≡ false) }
     ensures err { IfErr result (λ e. e ≡ ShapeCause.OutOfMemory) }
 {
-    let map = substitution_map(alloc, face.gsub(), buffer.script(), features)?;
+    let map = substitution_map(alloc, face, buffer.script(), features)?;
     map_text(face, map.get_global_mask(), buffer)?;
     substitute(face.gsub(), &map, buffer)?;
     place_glyphs(face, buffer);
@@ -319,7 +298,7 @@ fn shape_buffer(
 /// Shapes a text. One that waits is not shaped yet.
 pub(crate) fn shape(
     alloc: Global,
-    face: &FontFace,
+    face: &Face,
     features: &[Feature],
     text: UnicodeBuffer,
 ) -> Result<GlyphBuffer, RunFault>

@@ -1,3 +1,4 @@
+//! Runs over memory: bytes in, the line or the fault out.
 use crate::run::run;
 use feature_text::feature::Feature;
 use glyph_types::flags::SerializeFlags;
@@ -12,22 +13,192 @@ use std::io::{ErrorKind, Read, Write};
 use std::str::FromStr;
 use std::test::Fail;
 
+const NUMBERS: SerializeFlags = SerializeFlags(4);
+
 const FONT: &str =
     "{\"upem\":1000,\"ascender\":800,\"cmap\":[[97,1],[98,2],[102,3],[105,4]],\"h\":[[1,500],[2,600],[3,300],[4,250]]}";
 
-const NUMBERS: SerializeFlags = SerializeFlags(4);
+// The keys whose values a horizontal line does not show, and a positioning table without lookups.
+const IDLE: &str =
+    "{\"cmap\":[[97,1]],\"variants\":[[97,65024,9]],\"h\":[[1,500]],\"v\":[[1,900]],\"origins\":[[1,7]],\
+    \"extents\":[[1,0,1,2,3]],\"gdef\":{\"classes\":[[1,1],[9,2]],\"sets\":[[5]]},\"gpos\":{\"features\":[[\"kern\",[]]]}}";
+
+const LIGATURES: &str =
+    "{\"cmap\":[[97,1],[98,2],[102,3],[105,4]],\
+    \"h\":[[1,500],[2,600],[3,300],[4,250],[7,520],[8,530],[9,540]],\
+    \"gsub\":{\"scripts\":[[\"DFLT\",{\"features\":[0]},[]],[\"grek\",null,[]]],\
+    \"features\":[[\"liga\",[1,0]]],\"lookups\":[\
+    {\"type\":\"ligature\",\"flags\":9,\"subtables\":[[[3,[[[3,4],9],[[4],7]]]]]},\
+    {\"type\":\"ligature\",\"subtables\":[[[2,[[[7],8]]]],[[2,[[[2],1]]]]]}]}}";
+
+// Its feature `dlig` is off unless asked for; the required one is always on.
+const REQUIRED: &str =
+    "{\"cmap\":[[97,1],[98,2]],\"gsub\":{\"scripts\":[[\"DFLT\",{\"required\":1,\"features\":[0]},[]]],\
+    \"features\":[[\"dlig\",[0]],[\"xxxx\",[1]],[\"ccmp\",[]]],\"lookups\":[\
+    {\"type\":\"ligature\",\"subtables\":[[[1,[[[2],7]]]]]},\
+    {\"type\":\"ligature\",\"subtables\":[[[2,[[[2],8]]]]]}]}}";
+
+/// Script, direction, features, text, line.
+type Line = (
+    Option<Script>,
+    Direction,
+    &'static [&'static str],
+    &'static str,
+    &'static str,
+);
+
+const PLAIN: [Line; 11] = [
+    (None, Direction::Invalid, &[], "ab", "1=0+500|2=1+600\n"),
+    (None, Direction::Invalid, &[], "ab\n", "1=0+500|2=1+600\n"),
+    (None, Direction::RightToLeft, &[], "ab", "2=1+600|1=0+500\n"),
+    (None, Direction::Invalid, &[], "", "\n"),
+    (None, Direction::Invalid, &[], "\n", "\n"),
+    (None, Direction::Invalid, &[], "a\n\n", "1=0+500|0=1+0\n"),
+    // A script of right to left gives its direction; its letters stand from the right, numbers alone from the left.
+    (Some(THAANA), Direction::Invalid, &[], "ab", "2=1+600|1=0+500\n"),
+    (Some(THAANA), Direction::LeftToRight, &[], "ab", "1=0+500|2=1+600\n"),
+    (Some(THAANA), Direction::LeftToRight, &[], "1a", "0=0+0|1=1+500\n"),
+    (Some(THAANA), Direction::LeftToRight, &[], "12", "0=0+0|0=1+0\n"),
+    (None, Direction::Invalid, &["kern=0"], "b", "2=0+600\n"),
+];
+
+const LIGATED: [Line; 11] = [
+    (None, Direction::Invalid, &[], "afi", "1=0+500|7=1+520\n"),
+    (None, Direction::Invalid, &["-liga"], "fi", "3=0+300|4=1+250\n"),
+    // The first of the list that matches, and what it made is not tried again.
+    (None, Direction::Invalid, &[], "ffifi", "9=0+540|7=3+520\n"),
+    (None, Direction::Invalid, &[], "fif", "7=0+520|3=2+300\n"),
+    // The second lookup sees what the first made; its first subtable is asked before its second.
+    (None, Direction::Invalid, &[], "bfib", "8=0+530|2=3+600\n"),
+    (None, Direction::Invalid, &[], "bba", "1=0+500|1=2+500\n"),
+    // The last request for a feature counts.
+    (None, Direction::Invalid, &["liga=0", "liga=2"], "fi", "7=0+520\n"),
+    // Of 256 no bit fits into a field of eight.
+    (None, Direction::Invalid, &["liga=256"], "fi", "3=0+300|4=1+250\n"),
+    // A script that the font knows has no features but its own.
+    (Some(GREEK), Direction::Invalid, &[], "fi", "3=0+300|4=1+250\n"),
+    (Some(LATIN), Direction::Invalid, &[], "fi", "7=0+520\n"),
+    (None, Direction::RightToLeft, &[], "if", "7=0+520\n"),
+];
+
+const ASKED: [Line; 3] = [
+    (None, Direction::Invalid, &[], "abb", "1=0+0|8=1+0\n"),
+    (None, Direction::Invalid, &["dlig"], "abb", "7=0+0|2=2+0\n"),
+    (None, Direction::Invalid, &["xxxx=0", "ccmp"], "bb", "8=0+0\n"),
+];
+
+const IDLE_LINES: [Line; 1] = [(None, Direction::Invalid, &[], "a", "1=0+500\n")];
+
+/// Script, direction, features, tables, font, text, fault.
+type Refusal = (
+    Option<Script>,
+    Direction,
+    &'static [&'static str],
+    &'static str,
+    &'static str,
+    &'static [u8],
+    RunFault,
+);
+
+const WRONG_SHAPE: RunFault = RunFault::Json(JsonFault::WrongShape);
+
+const BROKEN: &[u8] = &[0xC3, 0x28];
+
+// Faults of tables come before those of the font, and these before those of the text.
+const REFUSED_BYTES: [Refusal; 9] = [
+    (None, Direction::Invalid, &[], "{", "{", BROKEN, RunFault::Json(JsonFault::NotJson)),
+    (None, Direction::Invalid, &[], "[]", "{", BROKEN, WRONG_SHAPE),
+    (None, Direction::Invalid, &[], "{\"splits\":[]}", FONT, b"a", WRONG_SHAPE),
+    (None, Direction::Invalid, &[], "{}", "{", BROKEN, RunFault::Json(JsonFault::NotJson)),
+    (None, Direction::Invalid, &[], "{}", "{\"upem\":1000.5}", b"", RunFault::Json(JsonFault::FloatNumber)),
+    (None, Direction::Invalid, &[], "{}", "{\"upem\":65536}", BROKEN, RunFault::Json(JsonFault::OutOfRange)),
+    (
+        None,
+        Direction::Invalid,
+        &[],
+        "{}",
+        "{\"cmap\":[[98,1],[97,2]]}",
+        b"a",
+        RunFault::Json(JsonFault::OutOfOrder),
+    ),
+    (None, Direction::Invalid, &[], "{}", FONT, BROKEN, RunFault::NotUtf8),
+    (None, Direction::TopToBottom, &[], "{}", FONT, BROKEN, RunFault::NotUtf8),
+];
+
+const REFUSED_TEXTS: [Refusal; 6] = [
+    (None, Direction::Invalid, &[], "{}", FONT, b"a\xC3\xA9", RunFault::NotYet),
+    (None, Direction::TopToBottom, &[], "{}", FONT, b"a", RunFault::NotYet),
+    (Some(LATIN), Direction::BottomToTop, &[], "{}", FONT, b"a", RunFault::NotYet),
+    (Some(ARABIC), Direction::Invalid, &[], "{}", FONT, b"a", RunFault::NotYet),
+    (Some(HEBREW), Direction::Invalid, &[], "{}", FONT, b"", RunFault::NotYet),
+    (None, Direction::Invalid, &["liga[0:1]"], "{}", LIGATURES, b"fi", RunFault::NotYet),
+];
+
+// Fonts of the format with what is not acted on yet; a fault of the format comes first.
+const REFUSED_FONTS: [Refusal; 6] = [
+    (None, Direction::Invalid, &[], "{}", "{\"gdef\":{\"classes\":[[1,3]]}}", BROKEN, WRONG_SHAPE),
+    (
+        None,
+        Direction::Invalid,
+        &[],
+        "{}",
+        "{\"gpos\":{\"lookups\":[{\"type\":\"single\",\"subtables\":[]}]}}",
+        b"a",
+        WRONG_SHAPE,
+    ),
+    (
+        None,
+        Direction::Invalid,
+        &[],
+        "{}",
+        "{\"gsub\":{\"lookups\":[{\"type\":\"single\",\"subtables\":[]}]}}",
+        b"a",
+        WRONG_SHAPE,
+    ),
+    (
+        None,
+        Direction::Invalid,
+        &[],
+        "{}",
+        "{\"gsub\":{\"lookups\":[{\"type\":\"ligature\",\"flags\":2,\"subtables\":[]}]}}",
+        b"a",
+        WRONG_SHAPE,
+    ),
+    (
+        None,
+        Direction::Invalid,
+        &["ccmp=0"],
+        "{}",
+        "{\"gsub\":{\"features\":[[\"ccmp\",[0]]],\"lookups\":[{\"type\":\"ligature\",\"subtables\":[]}]}}",
+        b"a",
+        WRONG_SHAPE,
+    ),
+    (
+        None,
+        Direction::Invalid,
+        &[],
+        "{}",
+        "{\"gdef\":{\"classes\":[[1,3]]},\"gpos\":{\"lookups\":[{\"type\":\"nothing\"}]}}",
+        b"a",
+        RunFault::Json(JsonFault::UnknownName),
+    ),
+];
 
 fn options(
     alloc: Global,
-    direction: Direction,
     script: Option<Script>,
-    flags: SerializeFlags,
-) -> Result<Options, AllocError> {
+    direction: Direction,
+    features: &[&str],
+) -> Result<Options, Fail> {
+    let mut asked = Vec::new(alloc);
+    for feature in features {
+        asked.push(Feature::from_str(feature)?)?;
+    }
     Ok(Options {
         direction,
         script,
-        features: Vec::new(alloc),
-        flags,
+        features: asked,
+        flags: NUMBERS,
     })
 }
 
@@ -47,163 +218,52 @@ fn ran(
     (answer, out)
 }
 
-#[test]
-fn prints_glyphs(rt: HostRuntime) -> Result<(), Fail> {
-    let plain = Direction::Invalid;
-    let left = Direction::LeftToRight;
-    let right = Direction::RightToLeft;
-    for (text, direction, script, flags, line) in [
-        ("ab", plain, None, NUMBERS, "1=0+500|2=1+600\n"),
-        ("ab\n", plain, None, NUMBERS, "1=0+500|2=1+600\n"),
-        ("ab", right, None, NUMBERS, "2=1+600|1=0+500\n"),
-        ("", plain, None, NUMBERS, "\n"),
-        ("\n", plain, None, NUMBERS, "\n"),
-        ("a\n\n", plain, None, NUMBERS, "1=0+500|0=1+0\n"),
-        (
-            "ab",
-            plain,
-            None,
-            SerializeFlags::DEFAULT,
-            "gid1=0+500|gid2=1+600\n",
-        ),
-        ("ab", plain, Some(GREEK), NUMBERS, "1=0+500|2=1+600\n"),
-        // A script of right to left gives its direction; its letters stand from the right, numbers alone from the left.
-        ("ab", plain, Some(THAANA), NUMBERS, "2=1+600|1=0+500\n"),
-        ("ab", left, Some(THAANA), NUMBERS, "1=0+500|2=1+600\n"),
-        ("1a", left, Some(THAANA), NUMBERS, "0=0+0|1=1+500\n"),
-        ("12", left, Some(THAANA), NUMBERS, "0=0+0|0=1+0\n"),
-    ] {
-        let options = options(rt.alloc(), direction, script, flags)?;
-        let (answer, out) = ran(rt.alloc(), &options, "{}", FONT, text.as_bytes());
-        assert_eq!(rt; answer, Ok(()), "{text:?}");
-        assert_eq!(rt; out.as_slice(), line.as_bytes(), "{text:?}");
+fn is_printed(alloc: Global, font: &str, line: &Line) -> Result<bool, Fail> {
+    let (script, direction, features, text, line) = *line;
+    let options = options(alloc, script, direction, features)?;
+    let (answer, out) = ran(alloc, &options, "{}", font, text.as_bytes());
+    Ok(answer == Ok(()) && out.as_slice() == line.as_bytes())
+}
+
+fn are_printed(alloc: Global, font: &str, lines: &[Line]) -> Result<bool, Fail> {
+    for line in lines {
+        if !is_printed(alloc, font, line)? {
+            return Ok(false);
+        }
     }
+    Ok(true)
+}
+
+fn is_refused(alloc: Global, refusal: &Refusal) -> Result<bool, Fail> {
+    let (script, direction, features, tables, font, text, fault) = *refusal;
+    let options = options(alloc, script, direction, features)?;
+    let (answer, out) = ran(alloc, &options, tables, font, text);
+    Ok(answer == Err(fault) && out.is_empty())
+}
+
+fn are_refused(alloc: Global, refusals: &[Refusal]) -> Result<bool, Fail> {
+    for refusal in refusals {
+        if !is_refused(alloc, refusal)? {
+            return Ok(false);
+        }
+    }
+    Ok(true)
+}
+
+#[test]
+fn lines_are_printed(rt: HostRuntime) -> Result<(), Fail> {
+    assert!(rt; are_printed(rt.alloc(), FONT, &PLAIN)?);
+    assert!(rt; are_printed(rt.alloc(), LIGATURES, &LIGATED)?);
+    assert!(rt; are_printed(rt.alloc(), REQUIRED, &ASKED)?);
+    assert!(rt; are_printed(rt.alloc(), IDLE, &IDLE_LINES)?);
     Ok(())
 }
 
 #[test]
-fn refuses_in_order(rt: HostRuntime) -> Result<(), Fail> {
-    let plain = Direction::Invalid;
-    let down = Direction::TopToBottom;
-    let up = Direction::BottomToTop;
-    let broken = &[0xC3, 0x28];
-    for (direction, script, tables, font, text, fault, status) in [
-        (
-            plain,
-            None,
-            "{}",
-            "{\"upem\":1000.5}",
-            b"ab".as_slice(),
-            RunFault::Json(JsonFault::FloatNumber),
-            3,
-        ),
-        (
-            plain,
-            None,
-            "{}",
-            FONT,
-            broken.as_slice(),
-            RunFault::NotUtf8,
-            4,
-        ),
-        (
-            plain,
-            None,
-            "{",
-            "{",
-            broken.as_slice(),
-            RunFault::Json(JsonFault::NotJson),
-            3,
-        ),
-        (
-            plain,
-            None,
-            "[]",
-            "{",
-            broken.as_slice(),
-            RunFault::Json(JsonFault::WrongShape),
-            3,
-        ),
-        (
-            plain,
-            None,
-            "{\"splits\":[]}",
-            FONT,
-            b"a".as_slice(),
-            RunFault::Json(JsonFault::WrongShape),
-            3,
-        ),
-        (
-            plain,
-            None,
-            "{}",
-            "{",
-            broken.as_slice(),
-            RunFault::Json(JsonFault::NotJson),
-            3,
-        ),
-        (
-            plain,
-            None,
-            "{}",
-            "{\"cmap\":[[98,1],[97,2]]}",
-            b"a".as_slice(),
-            RunFault::Json(JsonFault::OutOfOrder),
-            3,
-        ),
-        (
-            plain,
-            None,
-            "{}",
-            "{\"upem\":65536}",
-            broken.as_slice(),
-            RunFault::Json(JsonFault::OutOfRange),
-            3,
-        ),
-        (
-            plain,
-            None,
-            "{}",
-            FONT,
-            "aé".as_bytes(),
-            RunFault::NotYet,
-            5,
-        ),
-        (down, None, "{}", FONT, b"a".as_slice(), RunFault::NotYet, 5),
-        (
-            up,
-            Some(LATIN),
-            "{}",
-            FONT,
-            b"a".as_slice(),
-            RunFault::NotYet,
-            5,
-        ),
-        (
-            plain,
-            Some(ARABIC),
-            "{}",
-            FONT,
-            b"a".as_slice(),
-            RunFault::NotYet,
-            5,
-        ),
-        (
-            plain,
-            Some(HEBREW),
-            "{}",
-            FONT,
-            b"".as_slice(),
-            RunFault::NotYet,
-            5,
-        ),
-    ] {
-        let options = options(rt.alloc(), direction, script, NUMBERS)?;
-        let (answer, out) = ran(rt.alloc(), &options, tables, font, text);
-        assert_eq!(rt; answer, Err(fault), "{tables} {font}");
-        assert_eq!(rt; fault.status(), status);
-        assert_eq!(rt; out.len(), 0);
-    }
+fn first_faults_are_told(rt: HostRuntime) -> Result<(), Fail> {
+    assert!(rt; are_refused(rt.alloc(), &REFUSED_BYTES)?);
+    assert!(rt; are_refused(rt.alloc(), &REFUSED_TEXTS)?);
+    assert!(rt; are_refused(rt.alloc(), &REFUSED_FONTS)?);
     Ok(())
 }
 
@@ -262,153 +322,79 @@ impl Write for ByteWriter {
     }
 }
 
+fn reader(bytes: &[u8]) -> ByteReader<'_> {
+    ByteReader {
+        rest: bytes,
+        ends: 0,
+    }
+}
+
+// What a run writes into so much room, with its answer; each reader is asked for its end once.
+fn ran_by_bytes(alloc: Global, room: usize) -> Result<(Result<(), RunFault>, Vec<u8>), Fail> {
+    let options = options(alloc, None, Direction::Invalid, &[])?;
+    let (mut tables, mut font, mut text) = (reader(b"{}"), reader(FONT.as_bytes()), reader(b"ab"));
+    let mut out = ByteWriter {
+        taken: Vec::new(alloc),
+        room,
+    };
+    let answer = run(alloc, &options, &mut tables, &mut font, &mut text, &mut out);
+    if (tables.ends, font.ends, text.ends) != (1, 1, 1) {
+        return Err("an end that is asked for twice, or not at all".into());
+    }
+    Ok((answer, out.taken))
+}
+
 #[test]
-fn reads_to_each_end_and_writes_byte_by_byte(rt: HostRuntime) -> Result<(), Fail> {
-    let options = options(rt.alloc(), Direction::Invalid, None, NUMBERS)?;
+fn lines_are_written_byte_by_byte(rt: HostRuntime) -> Result<(), Fail> {
     for (room, answer, written) in [
         (16, Ok(()), "1=0+500|2=1+600\n"),
         (15, Err(RunFault::Write), "1=0+500|2=1+600"),
         (7, Err(RunFault::Write), "1=0+500"),
         (0, Err(RunFault::Write), ""),
     ] {
-        let mut tables = ByteReader {
-            rest: b"{}",
-            ends: 0,
-        };
-        let mut font = ByteReader {
-            rest: FONT.as_bytes(),
-            ends: 0,
-        };
-        let mut text = ByteReader {
-            rest: b"ab",
-            ends: 0,
-        };
-        let mut out = ByteWriter {
-            taken: Vec::new(rt.alloc()),
-            room,
-        };
-        let got = run(
-            rt.alloc(),
-            &options,
-            &mut tables,
-            &mut font,
-            &mut text,
-            &mut out,
-        );
-        assert_eq!(rt; got, answer);
-        assert_eq!(rt; (tables.ends, font.ends, text.ends), (1, 1, 1));
-        assert_eq!(rt; out.taken.as_slice(), written.as_bytes());
+        let (got, taken) = ran_by_bytes(rt.alloc(), room)?;
+        assert!(rt; got == answer && taken.as_slice() == written.as_bytes());
     }
     Ok(())
 }
 
-#[test]
-fn tells_a_read_that_fails(rt: HostRuntime) -> Result<(), Fail> {
-    let options = options(rt.alloc(), Direction::Invalid, None, NUMBERS)?;
-    let mut out = Vec::new(rt.alloc());
+// The answers to a text, and to tables, that can't be read.
+fn failed_reads(alloc: Global) -> Result<[Result<(), RunFault>; 2], Fail> {
+    let options = options(alloc, None, Direction::Invalid, &[])?;
+    let mut out = Vec::new(alloc);
     let (mut tables, mut font, mut text) = (b"{".as_slice(), b"{".as_slice(), FailingReader);
-    let got = run(
-        rt.alloc(),
-        &options,
-        &mut tables,
-        &mut font,
-        &mut text,
-        &mut out,
-    );
-    assert_eq!(rt; got, Err(RunFault::Read));
+    let of_text = run(alloc, &options, &mut tables, &mut font, &mut text, &mut out);
     let (mut tables, mut text) = (FailingReader, b"a".as_slice());
-    let got = run(
-        rt.alloc(),
-        &options,
-        &mut tables,
-        &mut font,
-        &mut text,
-        &mut out,
-    );
-    assert_eq!(rt; got, Err(RunFault::Read));
-    assert_eq!(rt; out.len(), 0);
+    let of_tables = run(alloc, &options, &mut tables, &mut font, &mut text, &mut out);
+    Ok([of_text, of_tables])
+}
+
+#[test]
+fn failed_reads_come_first(rt: HostRuntime) -> Result<(), Fail> {
+    assert_eq!(rt; failed_reads(rt.alloc())?, [Err(RunFault::Read); 2]);
     Ok(())
 }
 
-const LIGATURES: &str = "{\"upem\":1000,\"ascender\":800,\"cmap\":[[97,1],[98,2],[102,3],[105,4]],\
-    \"h\":[[1,500],[2,600],[3,300],[4,250],[7,520],[8,530],[9,540]],\
-    \"gsub\":{\"scripts\":[[\"DFLT\",{\"features\":[0]},[]],[\"grek\",null,[]]],\
-    \"features\":[[\"liga\",[1,0]]],\"lookups\":[\
-    {\"type\":\"ligature\",\"subtables\":[[[3,[[[3,4],9],[[4],7]]]]]},\
-    {\"type\":\"ligature\",\"subtables\":[[[2,[[[7],8]]]],[[2,[[[2],1]]]]]}]}}";
-
-fn featured(alloc: Global, features: &[&str], script: Option<Script>) -> Result<Options, Fail> {
-    let mut options = options(alloc, Direction::Invalid, script, NUMBERS)?;
-    for feature in features {
-        options.features.push(Feature::from_str(feature)?)?;
+// So many times `afi`, and its line.
+fn long_text(alloc: Global, count: u32) -> Result<(String, String), AllocError> {
+    let mut text = String::new(alloc);
+    let mut line = String::new(alloc);
+    for i in 0..count {
+        let start = i.saturating_mul(3);
+        text.push_str("afi")?;
+        line.push_str(if i == 0 { "" } else { "|" })?;
+        line.push_str(&format!(in alloc; "1={start}+500|7={}+520", start.saturating_add(1))?)?;
     }
-    Ok(options)
+    line.push_str("\n")?;
+    Ok((text, line))
 }
 
-#[test]
-fn ligatures_are_made(rt: HostRuntime) -> Result<(), Fail> {
-    for (features, script, text, line) in [
-        ([].as_slice(), None, "afi", "1=0+500|7=1+520\n"),
-        (["-liga"].as_slice(), None, "fi", "3=0+300|4=1+250\n"),
-        // The first of the list that matches, and what it made is not tried again.
-        ([].as_slice(), None, "ffifi", "9=0+540|7=3+520\n"),
-        ([].as_slice(), None, "fif", "7=0+520|3=2+300\n"),
-        // The second lookup sees what the first made; its first subtable is asked before its second.
-        ([].as_slice(), None, "bfib", "8=0+530|2=3+600\n"),
-        ([].as_slice(), None, "bba", "1=0+500|1=2+500\n"),
-        // The last request for a feature counts.
-        (["liga=0", "liga=2"].as_slice(), None, "fi", "7=0+520\n"),
-        (["liga", "kern=0"].as_slice(), None, "fi", "7=0+520\n"),
-        // Of 256 no bit fits into a field of eight.
-        (["liga=256"].as_slice(), None, "fi", "3=0+300|4=1+250\n"),
-        // A script that the font knows has no features but its own.
-        ([].as_slice(), Some(GREEK), "fi", "3=0+300|4=1+250\n"),
-        ([].as_slice(), Some(LATIN), "fi", "7=0+520\n"),
-    ] {
-        let options = featured(rt.alloc(), features, script)?;
-        let (answer, out) = ran(rt.alloc(), &options, "{}", LIGATURES, text.as_bytes());
-        assert_eq!(rt; answer, Ok(()), "{text:?}");
-        assert_eq!(rt; out.as_slice(), line.as_bytes(), "{text:?}");
-    }
-    Ok(())
-}
-
-#[test]
-fn ranges_wait(rt: HostRuntime) -> Result<(), Fail> {
-    let options = featured(rt.alloc(), &["liga[0:1]"], None)?;
-    let (answer, out) = ran(rt.alloc(), &options, "{}", LIGATURES, b"fi");
-    assert_eq!(rt; answer, Err(RunFault::NotYet));
-    assert!(rt; out.is_empty());
-    Ok(())
-}
-
-#[test]
-fn features_that_wait_are_refused(rt: HostRuntime) -> Result<(), Fail> {
-    let font = "{\"gsub\":{\"scripts\":[],\"features\":[[\"kern\",[]]],\"lookups\":[]}}";
-    let options = featured(rt.alloc(), &[], None)?;
-    let (answer, out) = ran(rt.alloc(), &options, "{}", font, b"fi");
-    assert_eq!(rt; answer, Err(RunFault::Json(JsonFault::WrongShape)));
-    assert!(rt; out.is_empty());
-    Ok(())
-}
-
-// A text past 65,536 characters, with and without ligatures.
+// A text past 65,536 characters.
 #[test]
 fn long_texts_are_shaped(rt: HostRuntime) -> Result<(), Fail> {
-    let mut text = String::new(rt.alloc());
-    let mut want = String::new(rt.alloc());
-    for start in 0..25_000u32 {
-        let start = 3 * start;
-        text.push_str("afi")?;
-        if 0 < start {
-            want.push_str("|")?;
-        }
-        want.push_str(&format!(in rt.alloc(); "1={start}+500|7={}+520", start + 1)?)?;
-    }
-    want.push_str("\n")?;
-    let options = featured(rt.alloc(), &[], None)?;
+    let options = options(rt.alloc(), None, Direction::Invalid, &[])?;
+    let (text, line) = long_text(rt.alloc(), 25_000)?;
     let (answer, out) = ran(rt.alloc(), &options, "{}", LIGATURES, text.as_bytes());
-    assert_eq!(rt; answer, Ok(()));
-    assert!(rt; out.as_slice() == want.as_bytes());
+    assert!(rt; answer == Ok(()) && out.as_slice() == line.as_bytes());
     Ok(())
 }

@@ -4,4 +4,4 @@ use Rattle.layout_stages.proofs.apply.apply_lookups.Given as goal
 
 -- the lookups so far were done
 abbrev pub invariant-loop-lookup_map : goal.invariant-loop-lookup_map
-invariant-loop-lookup_map l = AreDone l.table.lookups l.map.lookups (drop l.lookup_map-index l.map.lookups) l.initial.buffer l.buffer
+invariant-loop-lookup_map l = AreDone l.table.lookups l.lookups (drop l.lookup_map-index l.lookups) l.initial.buffer l.buffer

@@ -4,8 +4,8 @@ use Rattle.std.specs.List.{list_all}
 use Rattle.std.specs.Int.RustNames.{bit_and}
 use Rattle.glyph_lists.specs.Readings.{Follows, read_of}
 use Rattle.glyph_buffer.specs.Sides.{Sides, all_glyphs, run_of}
-use Rattle.layout_font.specs.Layout.{LayoutLists}
-use Rattle.layout_map.specs.Map.{OtMap}
+use Rattle.layout_lookups.specs.declared.substitution.SubstitutionTable.{SubstitutionTable}
+use Rattle.map_builder.specs.Compiled.{OtMapValue}
 use Rattle.layout_rules.specs.Ready.{IsReady, IsDone}
 use Rattle.shape_run.specs.Path.{substituted, substitution_map, shaped_with}
 use Rattle.shape_run.specs.Stages.{is_glyph_number}
@@ -30,21 +30,21 @@ done c =
     let face = c.args.face.now in
     let s = c.args.buffer.now in
     let made : c.map_text.new.buffer ≡ glyphs_made face m.global_mask s = c.in_ok-map_text.ensures.ok ∙ ap (λ k. glyphs_made face k s) c.get_global_mask.ensures.value in
-    let P : Option LayoutLists → Type 0 = λ o. IsDone (substituted o m) c.map_text.new.buffer c.substitute.new.buffer in
+    let P : Option SubstitutionTable → Type 0 = λ o. IsDone (substituted o m) c.map_text.new.buffer c.substitute.new.buffer in
     let Q : Sides → Type 0 = λ t. IsDone (substituted face.gsub m) t c.substitute.new.buffer in
-    subst Q made (subst P c.gsub-2.ensures c.in_ok-substitute.ensures.ok)
+    subst Q made (subst P c.gsub.ensures c.in_ok-substitute.ensures.ok)
 
-map_is : (c : goal.After-drop-map-inside-2) → c.in_ok-map.map ≡ substitution_map c.args.face.now.gsub c.args.buffer.now.script c.args.features.now
+map_is : (c : goal.After-drop-map-inside-2) → c.in_ok-map.map ≡ substitution_map c.args.face.now c.args.buffer.now.script c.args.features.now
 map_is c =
     let features = c.args.features.now in
-    c.in_ok-map.ensures ∙ ap (λ o. substitution_map o c.script.result features) c.gsub.ensures ∙ ap (λ script. substitution_map c.args.face.now.gsub script features) c.script.ensures
+    c.in_ok-map.ensures.map ∙ ap (λ script. substitution_map c.args.face.now script features) c.script.ensures
 
 pub returns-clause-ok : goal.returns-clause-ok
 returns-clause-ok c =
     let s = c.args.buffer.now in
     let face = c.args.face.now in
     let flagless : bit_and c.in_ok-map.map.global_mask 7 ≡ 0 = ap (λ k. bit_and k 7) (sym c.get_global_mask.ensures.value) ∙ c.get_global_mask.ensures.flagless in
-    let P : OtMap → Type 0 = λ m. Follows (read_of (shaped_with face m s.script) (run_of s)) (run_of s) (run_of c.place_glyphs.new.buffer) in
+    let P : OtMapValue → Type 0 = λ m. Follows (read_of (shaped_with face m s.script) (run_of s)) (run_of s) (run_of c.place_glyphs.new.buffer) in
     let Q : Sides → Type 0 = λ t. Follows (read_of (shaped_with face c.in_ok-map.map s.script) (run_of s)) (run_of s) (run_of t) in
     subst P (map_is c) (subst Q (sym c.place_glyphs.ensures) (shaped_follows face c.in_ok-map.map s c.substitute.new.buffer flagless (done c)))
 

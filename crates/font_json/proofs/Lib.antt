@@ -1,4 +1,0 @@
-pub mod Search
-pub mod Means
-pub mod RisingKeys
-pub mod Items

@@ -1,4 +1,0 @@
-pub mod Rows
-pub mod Lists
-pub mod Gsub
-pub mod Keys

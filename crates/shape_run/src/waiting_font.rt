@@ -1,0 +1,124 @@
+//! What a font has that shaping does not act on yet.
+ghost use Rattle.std.specs.Prelude.{◌≡◌, false, ◌==◌, not, length, bit_and};
+ghost use Rattle.std.specs.List.{list_any};
+ghost use Rattle.std.specs.Option.{option_copied, option_map_or};
+ghost use Rattle.shape_run.specs.Waiting.{feature_waits, font_waits, has_marks, is_ligature, is_waiting_feature, lookup_waits, positioning_waits, substitution_waits};
+
+use font_face::Face;
+use layout_common::class_definition::ClassDefinition;
+use layout_common::flags::{IGNORE_BASE_GLYPHS, IGNORE_LIGATURES};
+use layout_font::table::FeatureRecord;
+use layout_lookups::positioning::PositioningTable;
+use layout_lookups::substitution::{SubstLookup, SubstitutionSubtables, SubstitutionTable};
+use shaping_text::tag::Tag;
+
+/// The glyph class of marks.
+const MARK_CLASS: u16 = 3;
+
+/// Features that are on for every horizontal text, but ligatures, which are asked for.
+const WAITING_FEATURES: [&[u8; 4]; 24] = [
+    b"rvrn",
+    b"ltra",
+    b"ltrm",
+    b"rtla",
+    b"rtlm",
+    b"rand",
+    b"trak",
+    b"Harf",
+    b"HARF",
+    b"Buzz",
+    b"BUZZ",
+    b"abvm",
+    b"blwm",
+    b"ccmp",
+    b"locl",
+    b"mark",
+    b"mkmk",
+    b"rlig",
+    b"calt",
+    b"clig",
+    b"curs",
+    b"dist",
+    b"kern",
+    b"rclt",
+];
+
+/// Whether a font has what would change a horizontal text below U+0080 and is not acted on yet: marks, whose advances
+/// become 0; lookups of features that are on by default, but ligatures; substitution lookups that are no ligatures or
+/// leave out base glyphs or ligatures; positioning lookups.
+pub fn font_waits(face: &Face) -> bool
+    ensures { result ≡ font_waits face.now }
+{
+    has_marks(face.gdef().classes.as_ref())
+        || substitution_waits(face.gsub())
+        || positioning_waits(face.gpos())
+}
+
+fn has_marks(classes: Option<&ClassDefinition>) -> bool
+    ensures { result ≡ has_marks (option_copied classes.entry) }
+{
+    match classes {
+        Some(classes) => classes
+            .rows
+            .as_slice()
+            .iter()
+            .any(|row| row.value == MARK_CLASS),
+        None => false,
+    }
+}
+
+fn substitution_waits(table: Option<&SubstitutionTable>) -> bool
+    ensures { result ≡ substitution_waits (option_copied table.entry) }
+{
+    match table {
+        Some(table) => any_feature_waits(table.inner.features()) || any_lookup_waits(table.lookups.as_slice()),
+        None => false,
+    }
+}
+
+fn positioning_waits(table: Option<&PositioningTable>) -> bool
+    ensures { result ≡ positioning_waits (option_copied table.entry) }
+{
+    match table {
+        Some(table) => table.lookups.len() != 0,
+        None => false,
+    }
+}
+
+fn any_feature_waits(features: &[FeatureRecord]) -> bool
+    ensures { result ≡ list_any (λ f. feature_waits f) features.now }
+{
+    features.iter().any(|feature| feature_waits(feature))
+}
+
+fn any_lookup_waits(lookups: &[SubstLookup]) -> bool
+    ensures { result ≡ list_any (λ l. lookup_waits l) lookups.now }
+{
+    lookups.iter().any(|lookup| lookup_waits(lookup))
+}
+
+fn feature_waits(feature: &FeatureRecord) -> bool
+    ensures { result ≡ feature_waits feature.now }
+{
+    is_waiting_feature(feature.tag()) && feature.lookups().len() != 0
+}
+
+fn is_waiting_feature(tag: Tag) -> bool
+    ensures { result ≡ is_waiting_feature tag }
+{
+    WAITING_FEATURES
+        .iter()
+        .any(|text| Tag::from_bytes(text) == tag)
+}
+
+fn lookup_waits(lookup: &SubstLookup) -> bool
+    ensures { result ≡ lookup_waits lookup.now }
+{
+    !is_ligature(&lookup.subtables) || lookup.flags & (IGNORE_BASE_GLYPHS | IGNORE_LIGATURES) != 0
+}
+
+fn is_ligature(subtables: &SubstitutionSubtables) -> bool
+    ensures { result ≡ is_ligature subtables.now }
+{
+    matches!(subtables, SubstitutionSubtables::Ligature(_))
+}
