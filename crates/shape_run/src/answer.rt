@@ -129,11 +129,7 @@ impl GlyphNames for Nameless {
 
 /// The printed text of glyphs, and a line feed.
 #[tactic(auto, using(crate::proofs::Printing::glyph_numbers))]
-fn print(
-    alloc: Global,
-    flags: SerializeFlags,
-    glyphs: &GlyphBuffer,
-) -> Result<String, AllocError>
+fn print(alloc: Global, flags: SerializeFlags, glyphs: &GlyphBuffer) -> Result<String, AllocError>
     requires numbers { list_all is_glyph_number (all_glyphs glyphs.now) ≡ true }
     ensures { IfOk result (λ line.
         string_bytes line ≡ printed_line flags (all_glyphs glyphs.now) glyphs.now.positions) }

@@ -84,7 +84,8 @@ fn substitution_waits(table: Option<&SubstitutionTable>) -> bool
     ensures { result ≡ substitution_waits (option_copied table.entry) }
 {
     match table {
-        Some(table) => any_feature_waits(table.inner.features()) || any_lookup_waits(table.lookups.as_slice()),
+        Some(table) => any_feature_waits(table.inner.features())
+            || any_lookup_waits(table.lookups.as_slice()),
         None => false,
     }
 }
