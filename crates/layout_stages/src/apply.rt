@@ -13,11 +13,7 @@ use map_features::lookup::lookup_map_t;
 
 /// Tries a lookup at the cursor, and goes on over the glyph where it doesn't act; at the end it does nothing.
 #[tactic(auto, using(crate::proofs::Steps::step_ended, crate::proofs::Steps::step_passed, crate::proofs::Steps::step_acted))]
-fn apply_next(
-    lookup: &SubstLookup,
-    mask: u32,
-    buffer: &mut hb_buffer_t,
-) -> Result<(), ShapeCause>
+fn apply_next(lookup: &SubstLookup, mask: u32, buffer: &mut hb_buffer_t) -> Result<(), ShapeCause>
     requires open { buffer.old.is_open ≡ true }
     requires no_positions { buffer.old.positions ≡ [] }
     requires front { length buffer.old.behind ≤ buffer.old.read }

@@ -4,6 +4,7 @@ pub mod Steps
 pub mod Turned
 pub mod Whole
 pub mod Bytes
+pub mod Answering
 pub mod Printing
 pub mod Faults
 pub mod Empty

@@ -1,5 +1,5 @@
 -- What is printed for the bytes of tables, a font and a text, or the first fault that is found in them.
-use Rattle.std.specs.Prelude.{ℕ, pos, ◌==◌, ◌-◌, false, if◌then◌else◌, List, [], ◌∷◌, ◌++◌, length, take, slice_index, Option, Some, None, Result, Ok, Err}
+use Rattle.std.specs.Prelude.{ℕ, ⊤, pos, ◌==◌, ◌-◌, false, if◌then◌else◌, List, [], ◌∷◌, ◌++◌, length, take, slice_index, Option, Some, None, Result, Ok, Err}
 use Rattle.std.specs.Str.{is_utf8}
 use Rattle.serde_json.specs.Data.{Data}
 use Rattle.serde_json.specs.Read.{read}
@@ -123,12 +123,18 @@ line_of options font text = if fits_text text empty_buffer
 
 -- ---- all of it
 
+-- the tables of bytes
+unfoldable pub tables_in : List ℕ → Result ⊤ RunFault
+tables_in bytes = then_run (json_of bytes) (λ t. of_json (tables_of t))
+
+-- the font of bytes
+unfoldable pub font_in : List ℕ → Result FaceParts RunFault
+font_in bytes = then_run (json_of bytes) (λ f. of_json (font_of f))
+
+-- the line of a text's bytes
+unfoldable pub line_in : Options → FaceParts → List ℕ → Result (List ℕ) RunFault
+line_in options font bytes = then_run (text_of bytes) (line_of options font)
+
 -- the line for tables, a font and a text: faults of the tables come first, then those of the font, then those of the text
-abbrev pub answer_of : Options → List ℕ → List ℕ → List ℕ → Result (List ℕ) RunFault
-answer_of options tables font text =
-    then_run (json_of tables) (λ t.
-    then_run (of_json (tables_of t)) (λ _.
-    then_run (json_of font) (λ f.
-    then_run (of_json (font_of f)) (λ face.
-    then_run (text_of text) (λ chars.
-    line_of options face chars)))))
+unfoldable pub answer_of : Options → List ℕ → List ℕ → List ℕ → Result (List ℕ) RunFault
+answer_of options tables font text = then_run (tables_in tables) (λ _. then_run (font_in font) (λ face. line_in options face text))

@@ -1,5 +1,5 @@
 -- What is not shaped yet.
-use Rattle.std.specs.Prelude.{ℕ, ◌||◌, ◌&&◌, ◌==◌, Bool, true, false, not, nat_le, List, [], ◌∷◌, length, codes, bit_and, Option, Some, None}
+use Rattle.std.specs.Prelude.{◌||◌, ◌&&◌, ◌==◌, Bool, true, false, not, nat_le, List, [], ◌∷◌, length, codes, bit_and, Option, Some, None}
 use Rattle.std.specs.List.{list_any}
 use Rattle.std.specs.Option.{option_map_or}
 use Rattle.shaping_text.specs.declared.tag.Tag.{Tag}
@@ -152,36 +152,36 @@ waits features s direction xs = has_later_characters xs || is_vertical direction
 -- ---- fonts
 
 -- features that are on for every horizontal text (as HarfBuzz asks for them), but ligatures, which are asked for
-abbrev pub waiting_features : List (List ℕ)
+abbrev pub waiting_features : List Tag
 waiting_features =
-    codes "rvrn" ∷
-    codes "ltra" ∷
-    codes "ltrm" ∷
-    codes "rtla" ∷
-    codes "rtlm" ∷
-    codes "rand" ∷
-    codes "trak" ∷
-    codes "Harf" ∷
-    codes "HARF" ∷
-    codes "Buzz" ∷
-    codes "BUZZ" ∷
-    codes "abvm" ∷
-    codes "blwm" ∷
-    codes "ccmp" ∷
-    codes "locl" ∷
-    codes "mark" ∷
-    codes "mkmk" ∷
-    codes "rlig" ∷
-    codes "calt" ∷
-    codes "clig" ∷
-    codes "curs" ∷
-    codes "dist" ∷
-    codes "kern" ∷
-    codes "rclt" ∷
+    tag_of (codes "rvrn") ∷
+    tag_of (codes "ltra") ∷
+    tag_of (codes "ltrm") ∷
+    tag_of (codes "rtla") ∷
+    tag_of (codes "rtlm") ∷
+    tag_of (codes "rand") ∷
+    tag_of (codes "trak") ∷
+    tag_of (codes "Harf") ∷
+    tag_of (codes "HARF") ∷
+    tag_of (codes "Buzz") ∷
+    tag_of (codes "BUZZ") ∷
+    tag_of (codes "abvm") ∷
+    tag_of (codes "blwm") ∷
+    tag_of (codes "ccmp") ∷
+    tag_of (codes "locl") ∷
+    tag_of (codes "mark") ∷
+    tag_of (codes "mkmk") ∷
+    tag_of (codes "rlig") ∷
+    tag_of (codes "calt") ∷
+    tag_of (codes "clig") ∷
+    tag_of (codes "curs") ∷
+    tag_of (codes "dist") ∷
+    tag_of (codes "kern") ∷
+    tag_of (codes "rclt") ∷
     []
 
 abbrev pub is_waiting_feature : Tag → Bool
-is_waiting_feature tag = list_any (λ text. (tag_of text).0 == tag.0) waiting_features
+is_waiting_feature tag = list_any (λ t. t.0 == tag.0) waiting_features
 
 -- the font has lookups for such a feature
 abbrev pub feature_waits : FeatureTable → Bool

@@ -7,7 +7,7 @@ ghost use Rattle.std.specs.List.{list_all};
 ghost use Rattle.glyph_buffer.specs.Sides.{all_glyphs, empty_buffer};
 ghost use Rattle.glyph_buffer.specs.Segment.{with_segment};
 ghost use Rattle.glyph_buffer.specs.Text.{fits_text};
-ghost use Rattle.shape_run.specs.Answer.{answer_of, font_of, json_of, line_of, printed_line, text_of, without_line_feed};
+ghost use Rattle.shape_run.specs.Answer.{answer_of, font_in, font_of, json_of, line_in, line_of, printed_line, tables_in, text_of, without_line_feed};
 ghost use Rattle.shape_run.specs.Run.{IsOfRun};
 ghost use Rattle.shape_run.specs.Stages.{is_glyph_number, text_buffer};
 
@@ -129,11 +129,7 @@ impl GlyphNames for Nameless {
 
 /// The printed text of glyphs, and a line feed.
 #[tactic(auto, using(crate::proofs::Printing::glyph_numbers))]
-fn print(
-    alloc: Global,
-    flags: SerializeFlags,
-    glyphs: &GlyphBuffer,
-) -> Result<String, AllocError>
+fn print(alloc: Global, flags: SerializeFlags, glyphs: &GlyphBuffer) -> Result<String, AllocError>
     requires numbers { list_all is_glyph_number (all_glyphs glyphs.now) ≡ true }
     ensures { IfOk result (λ line.
         string_bytes line ≡ printed_line flags (all_glyphs glyphs.now) glyphs.now.positions) }
@@ -168,6 +164,38 @@ fn line(alloc: Global, options: &Options, face: &Face, text: &str) -> Result<Str
     Ok(line)
 }
 
+#[tactic(auto, unfolding(crate::specs::Answer::tables_in))]
+fn check_tables(alloc: Global, bytes: &[u8]) -> Result<(), RunFault>
+    ensures ok { IfOk result (λ t. tables_in bytes.now ≡ Ok t) }
+    ensures refused { IfErr result (λ e. e ≢ RunFault.OutOfMemory → tables_in bytes.now ≡ Err e) }
+    ensures kind { IfErr result IsOfRun }
+{
+    let tables = read_json(alloc, bytes)?;
+    read_tables(&tables)?;
+    Ok(())
+}
+
+#[tactic(auto, unfolding(crate::specs::Answer::font_in))]
+fn font_in(alloc: Global, bytes: &[u8]) -> Result<Face, RunFault>
+    ensures ok { IfOk result (λ face. font_in bytes.now ≡ Ok face) }
+    ensures refused { IfErr result (λ e. e ≢ RunFault.OutOfMemory → font_in bytes.now ≡ Err e) }
+    ensures kind { IfErr result IsOfRun }
+{
+    let font = read_json(alloc, bytes)?;
+    let face = read_font(alloc, &font)?;
+    Ok(face)
+}
+
+#[tactic(auto, unfolding(crate::specs::Answer::line_in))]
+fn line_in(alloc: Global, options: &Options, face: &Face, bytes: &[u8]) -> Result<String, RunFault>
+    ensures ok { IfOk result (λ line. line_in options.now face.now bytes.now ≡ Ok (string_bytes line)) }
+    ensures refused { IfErr result (λ e. e ≢ RunFault.OutOfMemory → line_in options.now face.now bytes.now ≡ Err e) }
+    ensures kind { IfErr result IsOfRun }
+{
+    let text = read_text(bytes)?;
+    line(alloc, options, face, text)
+}
+
 /// The line for the bytes of tables, a font and a text.
 #[tactic(auto, unfolding(crate::specs::Answer::answer_of))]
 pub(crate) fn answer(
@@ -183,10 +211,7 @@ pub(crate) fn answer(
         → answer_of options.now tables.now font.now text.now ≡ Err e) }
     ensures kind { IfErr result IsOfRun }
 {
-    let tables = read_json(alloc, tables)?;
-    read_tables(&tables)?;
-    let font = read_json(alloc, font)?;
-    let face = read_font(alloc, &font)?;
-    let text = read_text(text)?;
-    line(alloc, options, &face, text)
+    check_tables(alloc, tables)?;
+    let face = font_in(alloc, font)?;
+    line_in(alloc, options, &face, text)
 }

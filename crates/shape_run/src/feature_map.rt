@@ -32,10 +32,7 @@ fn ask_feature(builder: &mut hb_ot_map_builder_t, feature: &Feature) -> Result<(
     builder.add_feature(feature.tag, request_flags(feature), feature.value)
 }
 
-fn ask_features(
-    builder: &mut hb_ot_map_builder_t,
-    features: &[Feature],
-) -> Result<(), AllocError>
+fn ask_features(builder: &mut hb_ot_map_builder_t, features: &[Feature]) -> Result<(), AllocError>
     ensures { OnOk result (builder.new ≡ fold with_asked builder.old features.now) }
 {
     for feature in features {
@@ -55,8 +52,13 @@ fn requests<'a>(
 {
     let languages = LanguageTable::new(Vec::new(alloc));
     let (scripts, _) = tags_from_script_and_language(script, None, &languages);
-    let mut builder =
-        hb_ot_map_builder_t::new(alloc, face.gsub(), face.gpos(), scripts.as_slice(), &[]);
+    let mut builder = hb_ot_map_builder_t::new(
+        alloc,
+        face.gsub(),
+        face.gpos(),
+        scripts.as_slice(),
+        &[],
+    );
     builder.add_feature(Tag::from_bytes(b"liga"), F_GLOBAL, 1)?;
     ask_features(&mut builder, features)?;
     Ok(builder)

@@ -8,8 +8,6 @@ mod path;
 mod read;
 pub mod run;
 mod tables;
-#[cfg(test)]
-mod tests;
 mod waiting;
 mod waiting_font;
 mod write;

@@ -9,7 +9,7 @@ ghost use Rattle.layout_rules.specs.Ready.{IsDone, IsReady};
 ghost use Rattle.std.specs.Option.{option_copied};
 ghost use Rattle.std.specs.List.{list_any, list_all};
 ghost use Rattle.unicode.specs.GeneralCategory.{general_category};
-ghost use Rattle.shape_run.specs.Path.{advance_position, is_decimal_number, is_letter, is_regional_indicator, is_number_text, is_numeral, native_direction, nominal_glyph, runs_against, script_direction, shaping, substituted, with_numbers, written_direction};
+ghost use Rattle.shape_run.specs.Path.{advance_position, is_decimal_number, is_letter, is_regional_indicator, is_number_text, is_numeral, native_direction, nominal_glyph, runs_against, script_direction, shaped_with, shaping, substituted, with_numbers, written_direction};
 ghost use Rattle.shape_run.specs.Waiting.{waits};
 ghost use Rattle.shape_run.specs.Stages.{drawn, is_glyph_number, mapped_glyph, ordered, with_advances, with_mapped, with_next_advanced, with_next_mapped};
 
@@ -271,8 +271,26 @@ fn place_glyphs(face: &Face, buffer: &mut hb_buffer_t)
     draw(buffer);
 }
 
-/// Shapes a buffer's text: puts it in native order, each character's glyph in its place, does the font's substitutions, gives each
-/// glyph its advance, and puts the glyphs in the order in which they are drawn.
+/// Shapes a buffer's text by a map: puts it in native order, each character's glyph in its place, does the font's
+/// substitutions, gives each glyph its advance, and puts the glyphs in the order in which they are drawn.
+fn shape_with(face: &Face, map: &hb_ot_map_t, buffer: &mut hb_buffer_t) -> Result<(), ShapeCause>
+    requires staged { 0 < length map.now.tables.gsub.stages }
+    requires closed { buffer.old.is_open ≡ false }
+    requires unrefused { buffer.old.has_refused ≡ false }
+    ensures ok { OnOk result (Follows
+        (read_of (shaped_with face.now map.now buffer.old.script) (run_of buffer.old))
+        (run_of buffer.old) (run_of buffer.new)) }
+    ensures numbers { OnOk result (list_all is_glyph_number (all_glyphs buffer.new) ≡ true) }
+    ensures still_closed { OnOk result (buffer.new.is_open ≡ false) }
+    ensures err { IfErr result (λ e. e ≡ ShapeCause.OutOfMemory) }
+{
+    map_text(face, map.get_global_mask(), buffer)?;
+    substitute(face.gsub(), map, buffer)?;
+    place_glyphs(face, buffer);
+    Ok(())
+}
+
+/// Shapes a buffer's text by the map of what was asked.
 fn shape_buffer(
     alloc: Global,
     face: &Face,
@@ -289,10 +307,7 @@ fn shape_buffer(
     ensures err { IfErr result (λ e. e ≡ ShapeCause.OutOfMemory) }
 {
     let map = substitution_map(alloc, face, buffer.script(), features)?;
-    map_text(face, map.get_global_mask(), buffer)?;
-    substitute(face.gsub(), &map, buffer)?;
-    place_glyphs(face, buffer);
-    Ok(())
+    shape_with(face, &map, buffer)
 }
 
 /// Shapes a text. One that waits is not shaped yet.

@@ -7,40 +7,51 @@ ghost use Rattle.shape_run.specs.Waiting.{feature_waits, font_waits, has_marks, 
 use font_face::Face;
 use layout_common::class_definition::ClassDefinition;
 use layout_common::flags::{IGNORE_BASE_GLYPHS, IGNORE_LIGATURES};
+use layout_common::glyph_row::GlyphRow;
 use layout_font::table::FeatureRecord;
 use layout_lookups::positioning::PositioningTable;
 use layout_lookups::substitution::{SubstLookup, SubstitutionSubtables, SubstitutionTable};
 use shaping_text::tag::Tag;
 
+// A constant can't call a function.
+macro_rules! tag {
+    ($text:expr) => {
+        Tag((($text[0] as u32) << 24)
+            | (($text[1] as u32) << 16)
+            | (($text[2] as u32) << 8)
+            | ($text[3] as u32))
+    };
+}
+
 /// The glyph class of marks.
 const MARK_CLASS: u16 = 3;
 
 /// Features that are on for every horizontal text, but ligatures, which are asked for.
-const WAITING_FEATURES: [&[u8; 4]; 24] = [
-    b"rvrn",
-    b"ltra",
-    b"ltrm",
-    b"rtla",
-    b"rtlm",
-    b"rand",
-    b"trak",
-    b"Harf",
-    b"HARF",
-    b"Buzz",
-    b"BUZZ",
-    b"abvm",
-    b"blwm",
-    b"ccmp",
-    b"locl",
-    b"mark",
-    b"mkmk",
-    b"rlig",
-    b"calt",
-    b"clig",
-    b"curs",
-    b"dist",
-    b"kern",
-    b"rclt",
+const WAITING_FEATURES: [Tag; 24] = [
+    tag!(b"rvrn"),
+    tag!(b"ltra"),
+    tag!(b"ltrm"),
+    tag!(b"rtla"),
+    tag!(b"rtlm"),
+    tag!(b"rand"),
+    tag!(b"trak"),
+    tag!(b"Harf"),
+    tag!(b"HARF"),
+    tag!(b"Buzz"),
+    tag!(b"BUZZ"),
+    tag!(b"abvm"),
+    tag!(b"blwm"),
+    tag!(b"ccmp"),
+    tag!(b"locl"),
+    tag!(b"mark"),
+    tag!(b"mkmk"),
+    tag!(b"rlig"),
+    tag!(b"calt"),
+    tag!(b"clig"),
+    tag!(b"curs"),
+    tag!(b"dist"),
+    tag!(b"kern"),
+    tag!(b"rclt"),
 ];
 
 /// Whether a font has what would change a horizontal text below U+0080 and is not acted on yet: marks, whose advances
@@ -58,20 +69,23 @@ fn has_marks(classes: Option<&ClassDefinition>) -> bool
     ensures { result ≡ has_marks (option_copied classes.entry) }
 {
     match classes {
-        Some(classes) => classes
-            .rows
-            .as_slice()
-            .iter()
-            .any(|row| row.value == MARK_CLASS),
+        Some(classes) => has_mark_row(classes.rows.as_slice()),
         None => false,
     }
+}
+
+fn has_mark_row(rows: &[GlyphRow<u16>]) -> bool
+    ensures { result ≡ list_any (λ r. r.value == 3) rows.now }
+{
+    rows.iter().any(|row| row.value == MARK_CLASS)
 }
 
 fn substitution_waits(table: Option<&SubstitutionTable>) -> bool
     ensures { result ≡ substitution_waits (option_copied table.entry) }
 {
     match table {
-        Some(table) => any_feature_waits(table.inner.features()) || any_lookup_waits(table.lookups.as_slice()),
+        Some(table) => any_feature_waits(table.inner.features())
+            || any_lookup_waits(table.lookups.as_slice()),
         None => false,
     }
 }
@@ -106,9 +120,7 @@ fn feature_waits(feature: &FeatureRecord) -> bool
 fn is_waiting_feature(tag: Tag) -> bool
     ensures { result ≡ is_waiting_feature tag }
 {
-    WAITING_FEATURES
-        .iter()
-        .any(|text| Tag::from_bytes(text) == tag)
+    WAITING_FEATURES.contains(&tag)
 }
 
 fn lookup_waits(lookup: &SubstLookup) -> bool

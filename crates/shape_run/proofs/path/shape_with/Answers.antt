@@ -5,12 +5,11 @@ use Rattle.std.specs.Int.RustNames.{bit_and}
 use Rattle.glyph_lists.specs.Readings.{Follows, read_of}
 use Rattle.glyph_buffer.specs.Sides.{Sides, all_glyphs, run_of}
 use Rattle.layout_lookups.specs.declared.substitution.SubstitutionTable.{SubstitutionTable}
-use Rattle.map_builder.specs.Compiled.{OtMapValue}
 use Rattle.layout_rules.specs.Ready.{IsReady, IsDone}
-use Rattle.shape_run.specs.Path.{substituted, substitution_map, shaped_with}
+use Rattle.shape_run.specs.Path.{substituted, shaped_with}
 use Rattle.shape_run.specs.Stages.{is_glyph_number}
 use Rattle.shape_run.proofs.Whole.{glyphs_made, made_ready, numbers_seen, numbers_stay, shaped_follows, placed_all}
-use Rattle.shape_run.proofs.path.shape_buffer.Goals as goal
+use Rattle.shape_run.proofs.path.shape_with.Goals as goal
 
 pub substitute-requires-clause-ready : goal.substitute-requires-clause-ready
 substitute-requires-clause-ready c =
@@ -23,30 +22,18 @@ substitute-requires-clause-numbers c = numbers_seen (all_glyphs c.map_text.new.b
 pub place_glyphs-requires-clause-numbers : goal.place_glyphs-requires-clause-numbers
 place_glyphs-requires-clause-numbers c = numbers_stay _ c.map_text.new.buffer c.substitute.new.buffer c.in_ok-substitute.ensures.ok c.in_ok-map_text.ensures.numbers
 
--- the substitutions, as they are known
-done : (c : goal.After-drop-map-inside-2) → IsDone (substituted c.args.face.now.gsub c.in_ok-map.map) (glyphs_made c.args.face.now c.in_ok-map.map.global_mask c.args.buffer.now) c.substitute.new.buffer
-done c =
-    let m = c.in_ok-map.map in
-    let face = c.args.face.now in
-    let s = c.args.buffer.now in
-    let made : c.map_text.new.buffer ≡ glyphs_made face m.global_mask s = c.in_ok-map_text.ensures.ok ∙ ap (λ k. glyphs_made face k s) c.get_global_mask.ensures.value in
-    let P : Option SubstitutionTable → Type 0 = λ o. IsDone (substituted o m) c.map_text.new.buffer c.substitute.new.buffer in
-    let Q : Sides → Type 0 = λ t. IsDone (substituted face.gsub m) t c.substitute.new.buffer in
-    subst Q made (subst P c.gsub.ensures c.in_ok-substitute.ensures.ok)
-
-map_is : (c : goal.After-drop-map-inside-2) → c.in_ok-map.map ≡ substitution_map c.args.face.now c.args.buffer.now.script c.args.features.now
-map_is c =
-    let features = c.args.features.now in
-    c.in_ok-map.ensures.map ∙ ap (λ script. substitution_map c.args.face.now script features) c.script.ensures
-
 pub returns-clause-ok : goal.returns-clause-ok
 returns-clause-ok c =
     let s = c.args.buffer.now in
     let face = c.args.face.now in
-    let flagless : bit_and c.in_ok-map.map.global_mask 7 ≡ 0 = ap (λ k. bit_and k 7) (sym c.get_global_mask.ensures.value) ∙ c.get_global_mask.ensures.flagless in
-    let P : OtMapValue → Type 0 = λ m. Follows (read_of (shaped_with face m s.script) (run_of s)) (run_of s) (run_of c.place_glyphs.new.buffer) in
-    let Q : Sides → Type 0 = λ t. Follows (read_of (shaped_with face c.in_ok-map.map s.script) (run_of s)) (run_of s) (run_of t) in
-    subst P (map_is c) (subst Q (sym c.place_glyphs.ensures) (shaped_follows face c.in_ok-map.map s c.substitute.new.buffer flagless (done c)))
+    let m = c.args.map.now in
+    let made : c.map_text.new.buffer ≡ glyphs_made face m.global_mask s = c.in_ok-map_text.ensures.ok ∙ ap (λ k. glyphs_made face k s) c.get_global_mask.ensures.value in
+    let P : Option SubstitutionTable → Type 0 = λ o. IsDone (substituted o m) c.map_text.new.buffer c.substitute.new.buffer in
+    let Q : Sides → Type 0 = λ t. IsDone (substituted face.gsub m) t c.substitute.new.buffer in
+    let done = subst Q made (subst P c.gsub.ensures c.in_ok-substitute.ensures.ok) in
+    let flagless : bit_and m.global_mask 7 ≡ 0 = ap (λ k. bit_and k 7) (sym c.get_global_mask.ensures.value) ∙ c.get_global_mask.ensures.flagless in
+    let R : Sides → Type 0 = λ t. Follows (read_of (shaped_with face m s.script) (run_of s)) (run_of s) (run_of t) in
+    subst R (sym c.place_glyphs.ensures) (shaped_follows face m s c.substitute.new.buffer flagless done)
 
 pub returns-clause-numbers : goal.returns-clause-numbers
 returns-clause-numbers c =
