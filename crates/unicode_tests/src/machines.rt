@@ -136,7 +136,7 @@ fn spans(
     for _ in 0..categories.len() {
         if start < categories.len() {
             let (end, kind) = table.next(shaper, categories, start);
-            spans.push((end as u32, kind))?;
+            spans.push((u32::try_from(end).unwrap_or(u32::MAX), kind))?;
             start = end;
         }
     }

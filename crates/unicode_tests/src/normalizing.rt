@@ -2,6 +2,7 @@
 use normal_forms::NormalizationMode;
 use plain_normalizer::{PlainItem, RowNormalizer, items_of_text, normalized};
 use std::alloc::Global;
+use std::process::Abort;
 use std::test::Fail;
 use unicode_tables::{UnicodeRows, UnicodeTables};
 
@@ -287,12 +288,22 @@ fn rows_of_hooks() -> [(Setting, &'static [Row]); 4] {
     ]
 }
 
+fn become_lists(
+    rt: &impl Abort,
+    alloc: Global,
+    setting: Setting,
+    rows: &[Row],
+) -> Result<(), Fail> {
+    for (text, want) in rows {
+        assert_eq!(rt; glyphs_of(alloc, setting, text)?.as_slice(), *want);
+    }
+    Ok(())
+}
+
 #[test]
 fn lists_by_modes(rt: HostRuntime) -> Result<(), Fail> {
     for (setting, rows) in rows_of_modes() {
-        for (text, want) in rows {
-            assert_eq!(rt; glyphs_of(rt.alloc(), setting, text)?.as_slice(), *want);
-        }
+        become_lists(&rt, rt.alloc(), setting, rows)?;
     }
     Ok(())
 }
@@ -300,9 +311,7 @@ fn lists_by_modes(rt: HostRuntime) -> Result<(), Fail> {
 #[test]
 fn lists_by_hooks(rt: HostRuntime) -> Result<(), Fail> {
     for (setting, rows) in rows_of_hooks() {
-        for (text, want) in rows {
-            assert_eq!(rt; glyphs_of(rt.alloc(), setting, text)?.as_slice(), *want);
-        }
+        become_lists(&rt, rt.alloc(), setting, rows)?;
     }
     Ok(())
 }
