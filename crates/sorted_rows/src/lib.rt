@@ -3,8 +3,6 @@
 
 mod keyed;
 mod rows;
-#[cfg(test)]
-mod tests;
 
 pub use keyed::{Keyed, find_row, is_above, is_rising};
 pub use rows::SortedRows;

@@ -1,4 +1,6 @@
 //! What is known of characters, with tables and without.
+ghost use Rattle.std.specs.Char.{IsScalar};
+
 use glyph_properties::info::{clear_continuation, init_unicode_props};
 use glyph_types::flags::UnicodeProps;
 use glyph_types::info::hb_glyph_info_t;
@@ -140,7 +142,9 @@ fn tables(alloc: Global) -> Result<UnicodeTables, Fail> {
     Ok(UnicodeTables::new(alloc, &rows)?)
 }
 
-fn standing_for(u: char) -> hb_glyph_info_t {
+fn standing_for(u: char) -> hb_glyph_info_t
+    ensures { IsScalar result.glyph_id }
+{
     hb_glyph_info_t {
         glyph_id: u32::from(u),
         cluster: 7,

@@ -2,6 +2,7 @@
 use normal_forms::NormalizationMode;
 use plain_normalizer::{PlainItem, RowNormalizer, items_of_text, normalized};
 use std::alloc::Global;
+use std::process::Abort;
 use std::test::Fail;
 use unicode_tables::{UnicodeRows, UnicodeTables};
 
@@ -49,7 +50,7 @@ struct Setting {
 }
 
 /// A shaper that splits and composes as Unicode does, and a font of these glyphs.
-fn setting(mode: NormalizationMode, glyphs: &'static [(char, u32)]) -> Setting {
+fn setting_of(mode: NormalizationMode, glyphs: &'static [(char, u32)]) -> Setting {
     Setting {
         mode,
         glyphs,
@@ -214,7 +215,7 @@ fn balinese() -> Setting {
     let mode = NormalizationMode::ComposedDiacriticsNoShortCircuit;
     Setting {
         composes_on_marks: false,
-        ..setting(mode, &BALINESE_GLYPHS)
+        ..setting_of(mode, &BALINESE_GLYPHS)
     }
 }
 
@@ -226,7 +227,7 @@ fn khmer() -> Setting {
             ('\u{17C1}', None),
         ],
         composes_on_marks: false,
-        ..setting(mode, &[('\u{17B6}', 1), ('\u{17BE}', 2), ('\u{17C1}', 3)])
+        ..setting_of(mode, &[('\u{17B6}', 1), ('\u{17BE}', 2), ('\u{17C1}', 3)])
     }
 }
 
@@ -235,44 +236,44 @@ fn with_selectors() -> Setting {
     Setting {
         variants: &[('a', '\u{FE00}', 11)],
         unjoined_glyph: Some(12),
-        ..setting(NormalizationMode::Decomposed, glyphs)
+        ..setting_of(NormalizationMode::Decomposed, glyphs)
     }
 }
 
 fn without_glyphs() -> Setting {
     Setting {
         invisible: Some(7),
-        ..setting(NormalizationMode::None, &[])
+        ..setting_of(NormalizationMode::None, &[])
     }
 }
 
 fn rows_of_modes() -> [(Setting, &'static [Row]); 6] {
     [
         (
-            setting(NormalizationMode::Decomposed, &THREE_MARKS_GLYPHS),
+            setting_of(NormalizationMode::Decomposed, &THREE_MARKS_GLYPHS),
             &THREE_MARKS,
         ),
         (
-            setting(NormalizationMode::Auto, &[('a', 1), ('\u{E1}', 8)]),
+            setting_of(NormalizationMode::Auto, &[('a', 1), ('\u{E1}', 8)]),
             &WHOLE,
         ),
         (
-            setting(NormalizationMode::Auto, &[('a', 1), ('\u{301}', 9)]),
+            setting_of(NormalizationMode::Auto, &[('a', 1), ('\u{301}', 9)]),
             &PARTS,
         ),
         (
-            setting(NormalizationMode::ComposedDiacritics, &BLOCKED_GLYPHS),
+            setting_of(NormalizationMode::ComposedDiacritics, &BLOCKED_GLYPHS),
             &BLOCKED,
         ),
         (
-            setting(
+            setting_of(
                 NormalizationMode::ComposedDiacriticsNoShortCircuit,
                 &MYANMAR_GLYPHS,
             ),
             &MYANMAR,
         ),
         (
-            setting(NormalizationMode::Auto, &[(' ', 5), ('\u{2010}', 6)]),
+            setting_of(NormalizationMode::Auto, &[(' ', 5), ('\u{2010}', 6)]),
             &MISSING,
         ),
     ]
@@ -287,12 +288,22 @@ fn rows_of_hooks() -> [(Setting, &'static [Row]); 4] {
     ]
 }
 
+fn become_lists(
+    rt: &impl Abort,
+    alloc: Global,
+    setting: Setting,
+    rows: &[Row],
+) -> Result<(), Fail> {
+    for (text, want) in rows {
+        assert_eq!(rt; glyphs_of(alloc, setting, text)?.as_slice(), *want);
+    }
+    Ok(())
+}
+
 #[test]
 fn lists_by_modes(rt: HostRuntime) -> Result<(), Fail> {
     for (setting, rows) in rows_of_modes() {
-        for (text, want) in rows {
-            assert_eq!(rt; glyphs_of(rt.alloc(), setting, text)?.as_slice(), *want);
-        }
+        become_lists(&rt, rt.alloc(), setting, rows)?;
     }
     Ok(())
 }
@@ -300,9 +311,7 @@ fn lists_by_modes(rt: HostRuntime) -> Result<(), Fail> {
 #[test]
 fn lists_by_hooks(rt: HostRuntime) -> Result<(), Fail> {
     for (setting, rows) in rows_of_hooks() {
-        for (text, want) in rows {
-            assert_eq!(rt; glyphs_of(rt.alloc(), setting, text)?.as_slice(), *want);
-        }
+        become_lists(&rt, rt.alloc(), setting, rows)?;
     }
     Ok(())
 }
@@ -329,16 +338,19 @@ fn letter(is_whole: bool) -> &'static [(char, u32)] {
     &[('a', 1), ('\u{301}', 2)]
 }
 
+fn letter_rows(alone: bool, composed: bool) -> [Row; 3] {
+    [
+        (&[], &[]),
+        (&['\u{E1}'], letter(alone)),
+        (&['a', '\u{301}'], letter(composed)),
+    ]
+}
+
 #[test]
 fn modes(rt: HostRuntime) -> Result<(), Fail> {
     for (mode, alone, composed) in MODES {
-        let setting = setting(mode, &LETTER_GLYPHS);
-        let rows: [Row; 3] = [
-            (&[], &[]),
-            (&['\u{E1}'], letter(alone)),
-            (&['a', '\u{301}'], letter(composed)),
-        ];
-        for (text, want) in rows {
+        let setting = setting_of(mode, &LETTER_GLYPHS);
+        for (text, want) in letter_rows(alone, composed) {
             assert_eq!(rt; glyphs_of(rt.alloc(), setting, text)?.as_slice(), want);
         }
     }
@@ -360,7 +372,7 @@ fn marks(alloc: Global, count: usize) -> Result<Vec<char>, Fail> {
 fn long_runs(rt: HostRuntime) -> Result<(), Fail> {
     for (count, second, last) in [(32, '\u{323}', '\u{300}'), (33, '\u{301}', '\u{323}')] {
         let text = marks(rt.alloc(), count)?;
-        let setting = setting(NormalizationMode::Decomposed, &[]);
+        let setting = setting_of(NormalizationMode::Decomposed, &[]);
         let list = list_of(rt.alloc(), setting, &text)?;
         assert_eq!(rt; list.len(), count + 1);
         assert_eq!(rt; list.get(1).map(|item| item.character), Some(second));
@@ -385,7 +397,7 @@ const HIDDEN: u32 = 0x40;
 // A grapheme joiner keeps the acute before the dot below, which would go before it; the other way round it keeps nothing apart.
 #[test]
 fn grapheme_joiners(rt: HostRuntime) -> Result<(), Fail> {
-    let setting = setting(NormalizationMode::Decomposed, &[]);
+    let setting = setting_of(NormalizationMode::Decomposed, &[]);
     for (text, hidden) in [
         (['a', '\u{301}', '\u{34F}', '\u{323}'], HIDDEN),
         (['a', '\u{323}', '\u{34F}', '\u{301}'], 0),
@@ -415,7 +427,7 @@ fn unjoined_selectors(rt: HostRuntime) -> Result<(), Fail> {
 // An em space that the font lacks has the type of an em space.
 #[test]
 fn missing_space(rt: HostRuntime) -> Result<(), Fail> {
-    let setting = setting(NormalizationMode::Auto, &[(' ', 5), ('\u{2010}', 6)]);
+    let setting = setting_of(NormalizationMode::Auto, &[(' ', 5), ('\u{2010}', 6)]);
     let found = properties_at(rt.alloc(), setting, &['\u{2003}'], 0)?;
     assert_eq!(rt; found.map(|(_, class)| class), Some(1));
     Ok(())

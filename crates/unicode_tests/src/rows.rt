@@ -76,15 +76,20 @@ fn refuses_rows(rt: HostRuntime) {
     }
 }
 
-fn range(first: char, last: char) -> CharacterRange
-    ensures { result ≡ record { first = first; last = last } }
-{
-    CharacterRange { first, last }
-}
-
 fn ranges(alloc: Global) -> Result<CharacterRanges, AllocError> {
     let mut rows = Vec::new(alloc);
-    rows.extend_from_slice(&[range('b', 'x'), range('d', 'e'), range('z', 'a')])?;
+    rows.push(CharacterRange {
+        first: 'b',
+        last: 'x',
+    })?;
+    rows.push(CharacterRange {
+        first: 'd',
+        last: 'e',
+    })?;
+    rows.push(CharacterRange {
+        first: 'z',
+        last: 'a',
+    })?;
     CharacterRanges::new(alloc, rows)
 }
 
