@@ -51,6 +51,7 @@ struct ByKey<R> {
 
 impl<R: Part + Keyed> RowReader for ByKey<R> {
     type Row = R;
+
     type Key = R::Key;
 
     ghost means = { λ reader. R.part reader.limit };

@@ -1,0 +1,9 @@
+// Runs of the shaper from bytes to the line or the fault: tests that cross the crates of the program.
+#![tactic(auto)]
+
+#[cfg(test)]
+mod lines;
+#[cfg(test)]
+mod memory;
+#[cfg(test)]
+mod streams;
