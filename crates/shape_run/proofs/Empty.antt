@@ -22,9 +22,9 @@ use Rattle.shape_run.specs.Path.{substituted, substitution_map, is_turned, rever
 use Rattle.shape_run.specs.Answer.{line_of_reading, printed_line, text_run, nothing_asked}
 use Rattle.shape_run.specs.Laws.{EmptyTextGivesEmptyLine}
 
-empty_printed : (flags : SerializeFlags) → printed_line flags [] [] ≡ 10 ∷ []
+empty_printed : (font : FaceParts) (flags : SerializeFlags) → printed_line font flags [] [] ≡ 10 ∷ []
 unfolding printed_text
-empty_printed flags = refl
+empty_printed font flags = refl
 
 -- what is seen of a text without characters
 abbrev empty_view : Direction → View
@@ -48,16 +48,16 @@ abbrev ordered_read : Bool → Direction → Read
 ordered_read turned d = if turned then with_events (Reverse ∷ []) (record (reversed_view (empty_view d)) { direction = opposite d }) else with_events [] (empty_view d)
 
 -- advances and the order on the line, of no items
-empty_placed : (font : FaceParts) (flags : SerializeFlags) (d : Direction) (turned backward : Bool) (e : Direction) → line_of_reading flags (text_run MonotoneGraphemes nothing_asked d [])
+empty_placed : (font : FaceParts) (flags : SerializeFlags) (d : Direction) (turned backward : Bool) (e : Direction) → line_of_reading font flags (text_run MonotoneGraphemes nothing_asked d [])
     (then_reading (record { view = empty_view e; events = λ level. Reset ∷ (if turned then Reverse ∷ [] else []) }) (Ok (if backward then with_events (Reverse ∷ []) (empty_view e) else with_events [] (empty_view e)))) ≡ Ok (10 ∷ [])
-empty_placed font flags d true true e = ap Ok (empty_printed flags)
-empty_placed font flags d true false e = ap Ok (empty_printed flags)
-empty_placed font flags d false true e = ap Ok (empty_printed flags)
-empty_placed font flags d false false e = ap Ok (empty_printed flags)
+empty_placed font flags d true true e = ap Ok (empty_printed font flags)
+empty_placed font flags d true false e = ap Ok (empty_printed font flags)
+empty_placed font flags d false true e = ap Ok (empty_printed font flags)
+empty_placed font flags d false false e = ap Ok (empty_printed font flags)
 
 -- no items on the way, whichever way the line runs
 empty_read : (font : FaceParts) (flags : SerializeFlags) (mask : ℕ) (stage : Stage) (turned : Bool) (d : Direction) → ((e : Direction) → stage (empty_view e) ≡ Ok (with_events [] (empty_view e))) →
-    line_of_reading flags (text_run MonotoneGraphemes nothing_asked d [])
+    line_of_reading font flags (text_run MonotoneGraphemes nothing_asked d [])
     (and_then (and_then (and_then (Ok (then_read (masked mask (empty_view d)) (ordered_read turned d))) (always (mapped font))) stage) (after_substitution font)) ≡ Ok (10 ∷ [])
 empty_read font flags mask stage true d none = rw (none (opposite d)) (empty_placed font flags d true (is_backward (opposite d)) (opposite d))
 empty_read font flags mask stage false d none = rw (none d) (empty_placed font flags d false (is_backward d) d)

@@ -42,30 +42,30 @@ glyphs_again (g ∷ gs) = rw (glyph_again g, glyphs_again gs) refl
 -- ---- the line
 
 -- the line of a buffer is that of its run
-buffer_line : (flags : SerializeFlags) (s : Sides) → line_of_run flags (run_of s) ≡ printed_line flags (all_glyphs s) s.positions
-buffer_line flags s = rw (glyphs_again (all_glyphs s)) refl
+buffer_line : (font : FaceParts) (flags : SerializeFlags) (s : Sides) → line_of_run font flags (run_of s) ≡ printed_line font flags (all_glyphs s) s.positions
+buffer_line font flags s = rw (glyphs_again (all_glyphs s)) refl
 
-pub line_follows : (flags : SerializeFlags) (r : Reading) (old : Run) (s : Sides) → Follows r old (run_of s) → line_of_reading flags old r ≡ Ok (printed_line flags (all_glyphs s) s.positions)
-line_follows flags (Ok r) old s f = ap (λ (run : Run). Ok (line_of_run flags run)) (sym f) ∙ ap Ok (buffer_line flags s)
-line_follows flags (Err e) old s f = absurd f
+pub line_follows : (font : FaceParts) (flags : SerializeFlags) (r : Reading) (old : Run) (s : Sides) → Follows r old (run_of s) → line_of_reading font flags old r ≡ Ok (printed_line font flags (all_glyphs s) s.positions)
+line_follows font flags (Ok r) old s f = ap (λ (run : Run). Ok (line_of_run font flags run)) (sym f) ∙ ap Ok (buffer_line font flags s)
+line_follows font flags (Err e) old s f = absurd f
 
 -- the line of a text that fits and does not wait
 pub line_of_fitting : (options : Options) (font : FaceParts) (text : List ℕ) → fits_text text empty_buffer ≡ true
     → waits options.features.items (text_buffer options text).script (text_buffer options text).direction (items_of (text_buffer options text)) ≡ false
     → line_of options font text
-    ≡ line_of_reading options.flags (run_of (text_buffer options text)) (read_of (shaping font options.features.items (text_buffer options text).script) (run_of (text_buffer options text)))
+    ≡ line_of_reading font options.flags (run_of (text_buffer options text)) (read_of (shaping font options.features.items (text_buffer options text).script) (run_of (text_buffer options text)))
 line_of_fitting options font text fits here = rw (fits, here) refl
 
 -- the same, once it is shaped
 pub line_shaped : (options : Options) (font : FaceParts) (text : List ℕ) (b : Sides) (line : List ℕ) → fits_text text empty_buffer ≡ true
     → waits options.features.items (text_buffer options text).script (text_buffer options text).direction (items_of (text_buffer options text)) ≡ false
     → Follows (read_of (shaping font options.features.items (text_buffer options text).script) (run_of (text_buffer options text))) (run_of (text_buffer options text)) (run_of b)
-    → line ≡ printed_line options.flags (all_glyphs b) b.positions
+    → line ≡ printed_line font options.flags (all_glyphs b) b.positions
     → line_of options font text ≡ Ok line
 line_shaped options font text b line fits here f e =
     let s = text_buffer options text in
     let r = read_of (shaping font options.features.items s.script) (run_of s) in
-    line_of_fitting options font text fits here ∙ line_follows options.flags r (run_of s) b f ∙ ap Ok (sym e)
+    line_of_fitting options font text fits here ∙ line_follows font options.flags r (run_of s) b f ∙ ap Ok (sym e)
 
 -- the line of a text that fits and waits
 pub line_waits : (options : Options) (font : FaceParts) (text : List ℕ) → fits_text text empty_buffer ≡ true

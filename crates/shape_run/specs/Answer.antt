@@ -15,6 +15,8 @@ use Rattle.run_options.specs.declared.fault.RunFault.{RunFault}
 use Rattle.run_options.specs.declared.fault.RunFault.TheVariants.{Json, NotUtf8, NotYet, Shape}
 use Rattle.run_options.specs.declared.options.Options.{Options}
 use Rattle.run_options.specs.Fault.{run_fault_of, fault_of_cause}
+use Rattle.layout_common.specs.Rows.{value_of}
+use Rattle.font_face.specs.Glyphs.{name_of}
 use Rattle.font_face.specs.declared.parts.FaceParts.{FaceParts}
 use Rattle.face_json.specs.Face.{face_of}
 use Rattle.shape_run.specs.Tables.{tables_of}
@@ -71,9 +73,9 @@ font_of d = and_then (face_of d) acted_on
 
 -- ---- glyphs
 
--- the printed text of glyphs that have no names and no boxes, and a line feed
-abbrev pub printed_line : SerializeFlags → List hb_glyph_info_t → List Position → List ℕ
-printed_line flags gs ps = printed_text (λ _. None) (λ _. None) flags gs ps ++ 10 ∷ []
+-- the printed text of glyphs, by the font's names and boxes, and a line feed
+abbrev pub printed_line : FaceParts → SerializeFlags → List hb_glyph_info_t → List Position → List ℕ
+printed_line font flags gs ps = printed_text (λ glyph. name_of glyph font) (λ glyph. value_of glyph font.extents) flags gs ps ++ 10 ∷ []
 
 -- a text's characters as shaping begins with them, at a cluster level and with what is asked of glyph flags
 abbrev pub text_run : BufferClusterLevel → Asks → Direction → List hb_glyph_info_t → Run
@@ -94,18 +96,18 @@ text_run level asks direction gs = record {
 }
 
 -- the line of a run: its items with the clusters and the glyph flags of their origins
-abbrev pub line_of_run : SerializeFlags → Run → List ℕ
-line_of_run flags run = printed_line flags (glyphs_of run.view.items run.origins) run.view.positions
+abbrev pub line_of_run : FaceParts → SerializeFlags → Run → List ℕ
+line_of_run font flags run = printed_line font flags (glyphs_of run.view.items run.origins) run.view.positions
 
 -- the line of a reading: clusters and glyph flags are those of the text after its events at the level
-abbrev pub line_of_reading : SerializeFlags → Run → Reading → Result (List ℕ) RunFault
-line_of_reading flags run (Ok r) = Ok (line_of_run flags (run_after r run))
-line_of_reading flags run (Err e) = Err (fault_of_cause e)
+abbrev pub line_of_reading : FaceParts → SerializeFlags → Run → Reading → Result (List ℕ) RunFault
+line_of_reading font flags run (Ok r) = Ok (line_of_run font flags (run_after r run))
+line_of_reading font flags run (Err e) = Err (fault_of_cause e)
 
 -- the line of a text that is not shaped yet, or of what shaping makes of it
 abbrev pub line_of_text : FaceParts → SerializeFlags → List Feature → Option Script → Run → Result (List ℕ) RunFault
 line_of_text font flags features script run = if waits features script run.view.direction run.view.items then Err NotYet
-    else line_of_reading flags run (read_of (shaping font features script) run)
+    else line_of_reading font flags run (read_of (shaping font features script) run)
 
 -- the level and the requests of a new buffer
 abbrev pub nothing_asked : Asks

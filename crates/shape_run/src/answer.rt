@@ -18,7 +18,6 @@ use face_json::read_face;
 use font_face::Face;
 use glyph_types::cause::ShapeCause;
 use glyph_types::flags::SerializeFlags;
-use glyph_types::names::{GlyphId, GlyphNames, hb_glyph_extents_t};
 use json_values::fault::JsonFault;
 use run_options::fault::RunFault;
 use run_options::options::Options;
@@ -108,33 +107,19 @@ fn text_buffer(alloc: Global, options: &Options, text: &str) -> Result<UnicodeBu
     Ok(buffer)
 }
 
-// Glyphs are printed by their numbers.
-struct Nameless;
-
-impl GlyphNames for Nameless {
-    ghost use Rattle.std.specs.Prelude.{None};
-
-    ghost name_of = { λ _ _. None };
-
-    ghost extents_of = { λ _ _. None };
-
-    fn glyph_name(&self, _glyph: GlyphId) -> Option<&str> {
-        None
-    }
-
-    fn glyph_extents(&self, _glyph: GlyphId) -> Option<hb_glyph_extents_t> {
-        None
-    }
-}
-
-/// The printed text of glyphs, and a line feed.
+/// The printed text of glyphs, by the font's names and boxes, and a line feed.
 #[tactic(auto, using(crate::proofs::Printing::glyph_numbers))]
-fn print(alloc: Global, flags: SerializeFlags, glyphs: &GlyphBuffer) -> Result<String, AllocError>
+fn print(
+    alloc: Global,
+    face: &Face,
+    flags: SerializeFlags,
+    glyphs: &GlyphBuffer,
+) -> Result<String, AllocError>
     requires numbers { list_all is_glyph_number (all_glyphs glyphs.now) ≡ true }
     ensures { IfOk result (λ line.
-        string_bytes line ≡ printed_line flags (all_glyphs glyphs.now) glyphs.now.positions) }
+        string_bytes line ≡ printed_line face.now flags (all_glyphs glyphs.now) glyphs.now.positions) }
 {
-    let mut line = glyphs.serialize(alloc, &Nameless, flags)?;
+    let mut line = glyphs.serialize(alloc, face, flags)?;
     line.push_str("\n")?;
     Ok(line)
 }
@@ -160,7 +145,7 @@ fn line(alloc: Global, options: &Options, face: &Face, text: &str) -> Result<Str
 {
     let text = text_buffer(alloc, options, text)?;
     let glyphs = shape(alloc, face, &options.features, text)?;
-    let line = print(alloc, options.flags, &glyphs)?;
+    let line = print(alloc, face, options.flags, &glyphs)?;
     Ok(line)
 }
 
