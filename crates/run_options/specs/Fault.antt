@@ -23,6 +23,7 @@ abbrev pub status_of : RunFault → ℕ
 status_of run.Words = 2
 status_of (run.Json json.OutOfMemory) = 5
 status_of (run.Json _) = 3
+status_of run.Unlawful = 3
 status_of run.NotUtf8 = 4
 status_of run.NotYet = 5
 status_of (run.Shape _) = 5
@@ -37,6 +38,7 @@ name_of run.Words = codes "words"
 name_of run.Read = codes "Read"
 name_of run.ReadLimit = codes "ReadLimit"
 name_of (run.Json fault) = json_values.name_of fault
+name_of run.Unlawful = codes "Unlawful"
 name_of run.NotUtf8 = codes "NotUtf8"
 name_of run.NotYet = codes "NotYet"
 name_of (run.Shape cause.OutOfMemory) = codes "S1 OutOfMemory"

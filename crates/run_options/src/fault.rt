@@ -18,6 +18,8 @@ pub enum RunFault {
     ReadLimit,
     /// Tables or a font are not of their format.
     Json(JsonFault),
+    /// Tables are of their format, and equivalent texts would be shaped apart by them.
+    Unlawful,
     /// The text is not UTF-8.
     NotUtf8,
     /// The text has a character, a direction or a script that is not shaped yet.
@@ -37,7 +39,7 @@ impl RunFault {
         match self {
             RunFault::Words => 2,
             RunFault::Json(JsonFault::OutOfMemory) => 5,
-            RunFault::Json(_) => 3,
+            RunFault::Json(_) | RunFault::Unlawful => 3,
             RunFault::NotUtf8 => 4,
             RunFault::NotYet | RunFault::Shape(_) | RunFault::OutOfMemory => 5,
             RunFault::Read | RunFault::ReadLimit | RunFault::Write => 6,
@@ -55,6 +57,7 @@ impl RunFault {
             RunFault::Read => "Read",
             RunFault::ReadLimit => "ReadLimit",
             RunFault::Json(fault) => fault.name(),
+            RunFault::Unlawful => "Unlawful",
             RunFault::NotUtf8 => "NotUtf8",
             RunFault::NotYet => "NotYet",
             RunFault::Shape(ShapeCause::OutOfMemory) => "S1 OutOfMemory",

@@ -1,9 +1,9 @@
 -- The command line of the program: hb_shape [options] TABLES FONT TEXT.
-use Rattle.std.specs.Prelude.{ℕ, Bool, true, false, List, [], ◌∷◌, codes, if◌then◌else◌, Option, Some, None, Result, Ok, Err, string_bytes, unwrap_or, ◌++◌, ◌==◌, ◌+◌}
+use Rattle.std.specs.Prelude.{ℕ, Bool, true, false, List, [], ◌∷◌, codes, if◌then◌else◌, Option, Some, None, Result, Ok, Err, string_bytes, unwrap_or, ◌++◌, ◌==◌, ◌+◌, is_some, ⊤}
 use Rattle.std.specs.List.{slice_split, flat_map}
 use Rattle.feature_text.specs.declared.feature.Feature.{Feature}
 use Rattle.feature_text.specs.FeatureText.{feature_of_text}
-use Rattle.std.specs.Str.{bytes_eq}
+use Rattle.std.specs.Str.{bytes_eq, str_to_ascii_lowercase}
 use Rattle.std.specs.Option.{option_map, option_map_or, ok_or}
 use Rattle.std.specs.Result.{result_map_both}
 use Rattle.clap.specs.Words.{App, Kinds, Row, Rule, all_of, fault_of, first_of, matched_of, matches_of, new_app, new_rule, raw_values, with_rule}
@@ -12,9 +12,13 @@ use Rattle.clap.specs.declared.builder.ArgAction.TheVariants.{Set, SetTrue, Appe
 use Rattle.clap.specs.declared.error.kind.ErrorKind.{ErrorKind}
 use Rattle.clap.specs.declared.error.kind.ErrorKind.TheVariants as kind
 use Rattle.glyph_types.specs.declared.flags.SerializeFlags.{SerializeFlags}
+use Rattle.glyph_types.specs.declared.level.BufferClusterLevel.{BufferClusterLevel}
+use Rattle.glyph_types.specs.declared.level.BufferClusterLevel.TheVariants.{MonotoneGraphemes, MonotoneCharacters, Characters}
 use Rattle.run_options.specs.declared.fault.RunFault.{RunFault}
 use Rattle.run_options.specs.declared.fault.RunFault.TheVariants.{Words, OutOfMemory}
 use Rattle.shape_words.specs.declared.options.CommandLine.{CommandLine}
+use Rattle.shaping_text.specs.declared.constants.BufferFlags.{BufferFlags}
+use Rattle.shaping_text.specs.Language.{language_text}
 use Rattle.shaping_text.specs.declared.direction.Direction.{Direction}
 use Rattle.shaping_text.specs.declared.direction.Direction.TheVariants.{Invalid}
 use Rattle.shaping_text.specs.declared.script.Script.{Script}
@@ -42,9 +46,13 @@ switch_rule id = record (new_rule id) { long = Some id; action = Some SetTrue }
 
 abbrev pub hb_shape : App
 hb_shape =
-    with_rule (with_rule (with_rule (with_rule (with_rule (with_rule (with_rule (with_rule (with_rule (with_rule (with_rule (with_rule
+    with_rule (with_rule (with_rule (with_rule (with_rule (with_rule (with_rule (with_rule (with_rule (with_rule (with_rule
+    (with_rule (with_rule (with_rule (with_rule (with_rule (with_rule (with_rule (with_rule (with_rule (with_rule
     (new_app (codes "hb_shape"))
-    (option_rule (codes "direction"))) (option_rule (codes "script"))) (list_rule (codes "features")))
+    (option_rule (codes "direction"))) (option_rule (codes "script"))) (option_rule (codes "language")))
+    (list_rule (codes "features"))) (option_rule (codes "cluster-level"))) (switch_rule (codes "bot")))
+    (switch_rule (codes "eot"))) (switch_rule (codes "preserve-default-ignorables"))) (switch_rule (codes "remove-default-ignorables")))
+    (switch_rule (codes "no-dotted-circle"))) (switch_rule (codes "unsafe-to-concat"))) (switch_rule (codes "safe-to-insert-tatweel")))
     (switch_rule (codes "no-clusters"))) (switch_rule (codes "no-positions"))) (switch_rule (codes "no-glyph-names")))
     (switch_rule (codes "show-extents"))) (switch_rule (codes "show-flags"))) (switch_rule (codes "no-advances")))
     (file_rule (codes "tables"))) (file_rule (codes "font"))) (file_rule (codes "text"))
@@ -58,7 +66,11 @@ pub record Settings : Type 0 where
   pub text : List ℕ
   pub direction : Direction
   pub script : Option Script
+  -- a tag of BCP 47 in small letters
+  pub language : Option (List ℕ)
   pub features : List Feature
+  pub cluster_level : BufferClusterLevel
+  pub buffer_flags : BufferFlags
   pub flags : SerializeFlags
 
 abbrev pub settings_in : CommandLine → Settings
@@ -68,7 +80,10 @@ settings_in c = record {
   text = string_bytes c.text;
   direction = c.options.direction;
   script = c.options.script;
+  language = option_map language_text c.options.language;
   features = c.options.features.items;
+  cluster_level = c.options.cluster_level;
+  buffer_flags = c.options.buffer_flags;
   flags = c.options.flags;
 }
 
@@ -100,6 +115,33 @@ some_script text = result_map_both Some (λ e. e) (script_of_text text)
 
 abbrev pub script_in : Lookup → Result (Option Script) RunFault
 script_in value = read_or None some_script (value (codes "script"))
+
+-- the tag of a language: any text but the empty one, in small letters
+abbrev pub language_of_text : List ℕ → Result (Option (List ℕ)) RunFault
+language_of_text [] = Err Words
+language_of_text (byte ∷ bytes) = Ok (Some (str_to_ascii_lowercase (byte ∷ bytes)))
+
+abbrev pub language_or_none : Option (List ℕ) → Result (Option (List ℕ)) RunFault
+language_or_none None = Ok None
+language_or_none (Some text) = language_of_text text
+
+abbrev pub language_in : Lookup → Result (Option (List ℕ)) RunFault
+language_in value = language_or_none (value (codes "language"))
+
+-- the level of a number, 0 to 2
+abbrev pub level_of_text : List ℕ → Result BufferClusterLevel RunFault
+level_of_text text =
+    if bytes_eq text (codes "0") then Ok MonotoneGraphemes
+    else if bytes_eq text (codes "1") then Ok MonotoneCharacters
+    else if bytes_eq text (codes "2") then Ok Characters
+    else Err Words
+
+abbrev pub level_or_default : Option (List ℕ) → Result BufferClusterLevel RunFault
+level_or_default None = Ok MonotoneGraphemes
+level_or_default (Some text) = level_of_text text
+
+abbrev pub level_in : Lookup → Result BufferClusterLevel RunFault
+level_in value = level_or_default (value (codes "cluster-level"))
 
 -- the parts of a text between its commas
 abbrev pub parts_of : List ℕ → List (List ℕ)
@@ -138,6 +180,22 @@ flags_in value = record {
       + flag_of (codes "no-advances") 32 value))));
 }
 
+-- what the buffer of the text is asked for: each switch has its flag
+abbrev pub buffer_flags_in : Lookup → BufferFlags
+buffer_flags_in value = record {
+  0 = flag_of (codes "bot") 1 value
+      + (flag_of (codes "eot") 2 value
+      + (flag_of (codes "preserve-default-ignorables") 4 value
+      + (flag_of (codes "remove-default-ignorables") 8 value
+      + (flag_of (codes "no-dotted-circle") 16 value
+      + (flag_of (codes "unsafe-to-concat") 64 value
+      + flag_of (codes "safe-to-insert-tatweel") 128 value)))));
+}
+
+-- an option whose stage is not there yet is refused: the language
+abbrev pub no_waiting : Lookup → Result ⊤ RunFault
+no_waiting value = if is_some (value (codes "language")) then Err Words else Ok tt
+
 -- what the first value of each id and all values of `features` ask for
 abbrev pub settings_of : Lookup → List (List ℕ) → Result Settings RunFault
 settings_of value features =
@@ -146,8 +204,22 @@ settings_of value features =
     and_then (file_in (codes "text") value) (λ text.
     and_then (direction_in value) (λ direction.
     and_then (script_in value) (λ script.
+    and_then (language_in value) (λ language.
     and_then (features_in features) (λ requests.
-    Ok (record { tables = tables; font = font; text = text; direction = direction; script = script; features = requests; flags = flags_in value })))))))
+    and_then (level_in value) (λ level.
+    and_then (no_waiting value) (λ _.
+    Ok (record {
+      tables = tables;
+      font = font;
+      text = text;
+      direction = direction;
+      script = script;
+      language = language;
+      features = requests;
+      cluster_level = level;
+      buffer_flags = buffer_flags_in value;
+      flags = flags_in value;
+    }))))))))))
 
 -- an error of the parse as a fault of the run
 abbrev pub refusal_of : ErrorKind → RunFault

@@ -12,7 +12,16 @@ pub(crate) fn command<'a>(alloc: Global) -> Result<Command<'a>, AllocError>
     Command::new(alloc, "hb_shape")
         .arg(option(alloc, "direction"))?
         .arg(option(alloc, "script"))?
+        .arg(option(alloc, "language"))?
         .arg(list(alloc, "features"))?
+        .arg(option(alloc, "cluster-level"))?
+        .arg(switch(alloc, "bot"))?
+        .arg(switch(alloc, "eot"))?
+        .arg(switch(alloc, "preserve-default-ignorables"))?
+        .arg(switch(alloc, "remove-default-ignorables"))?
+        .arg(switch(alloc, "no-dotted-circle"))?
+        .arg(switch(alloc, "unsafe-to-concat"))?
+        .arg(switch(alloc, "safe-to-insert-tatweel"))?
         .arg(switch(alloc, "no-clusters"))?
         .arg(switch(alloc, "no-positions"))?
         .arg(switch(alloc, "no-glyph-names"))?

@@ -1,16 +1,21 @@
 ghost use Rattle.std.specs.Prelude.{◌≡◌, ◌≢◌, ◌≤◌, IfOk, IfErr, OnOk, Ok, Err, map, string_bytes};
 ghost use Rattle.feature_text.specs.FeatureText.{feature_of_text};
 ghost use Rattle.clap.specs.Words.{found_of, first_value};
-ghost use Rattle.shape_words.specs.Words.{options_of, refusal_of, settings_of, settings_in, file_in, direction_in, script_in, flag_of, flags_in, feature_values, features_in, features_of, parts_of, behind, or_words};
+ghost use Rattle.shape_words.specs.Words.{options_of, refusal_of, settings_of, settings_in, file_in, direction_in, script_in, flag_of, flags_in, feature_values, features_in, features_of, parts_of, behind, or_words, language_in, language_of_text, level_in, level_of_text, buffer_flags_in, no_waiting};
+ghost use Rattle.std.specs.Option.{option_map};
+ghost use Rattle.shaping_text.specs.Language.{language_text};
 
 use crate::command::command;
 use clap::ArgMatches;
 use clap::error::ErrorKind;
 use feature_text::feature::Feature;
 use glyph_types::flags::SerializeFlags;
+use glyph_types::level::BufferClusterLevel;
 use run_options::fault::RunFault;
 use run_options::options::Options;
+use shaping_text::constants::BufferFlags;
 use shaping_text::direction::Direction;
+use shaping_text::language::{Language, LanguageFault};
 use shaping_text::script::Script;
 use std::alloc::{AllocError, Global};
 use std::convert::AsStr;
@@ -29,10 +34,12 @@ pub struct CommandLine {
 }
 
 /// Reads the words of the command line, `hb_shape [options] TABLES FONT TEXT`, of which the first is the program's name.
-/// The options stand anywhere among the names of the files, each at most once: `--direction D`, `--script S`, and of what
-/// is printed `--no-clusters`, `--no-positions`, `--no-glyph-names`, `--show-extents`, `--show-flags` and
-/// `--no-advances`. Only `--features F` may be repeated and then adds, and each F is features with commas between them.
-/// Words that are anything else, `--help` among them, are refused.
+/// The options stand anywhere among the names of the files, each at most once: `--direction D`, `--script S`,
+/// `--language L`, `--cluster-level 0` to `2`; of the text `--bot`, `--eot`, `--preserve-default-ignorables`,
+/// `--remove-default-ignorables`, `--no-dotted-circle`, `--unsafe-to-concat` and `--safe-to-insert-tatweel`; of what is
+/// printed `--no-clusters`, `--no-positions`, `--no-glyph-names`, `--show-extents`, `--show-flags` and `--no-advances`.
+/// Only `--features F` may be repeated and then adds, and each F is features with commas between them. The language is
+/// refused until shaping acts on it. Words that are anything else, `--help` among them, are refused.
 pub fn parse_options<'a, S: AsStr>(alloc: Global, words: &'a [S]) -> Result<CommandLine, RunFault>
     ensures ok { IfOk result (λ o. options_of (map S.text words.entry.now) ≡ Ok (settings_in o)) }
     ensures refused { IfErr result (λ e. e ≢ RunFault.OutOfMemory
@@ -61,17 +68,22 @@ fn read_options(alloc: Global, matches: &ArgMatches<'_>) -> Result<CommandLine, 
     ensures refused { IfErr result (λ e. e ≢ RunFault.OutOfMemory
         → settings_of (first_value (found_of matches.now)) (feature_values (found_of matches.now)) ≡ Err e) }
 {
-    Ok(CommandLine {
+    let line = CommandLine {
         tables: read_name(alloc, matches, "tables")?,
         font: read_name(alloc, matches, "font")?,
         text: read_name(alloc, matches, "text")?,
         options: Options {
             direction: read_direction(matches)?,
             script: read_script(matches)?,
+            language: read_language(alloc, matches)?,
             features: read_features(alloc, matches)?,
+            cluster_level: read_level(matches)?,
+            buffer_flags: read_buffer_flags(matches),
             flags: read_flags(matches),
         },
-    })
+    };
+    refuse_waiting(matches)?;
+    Ok(line)
 }
 
 fn read_name(alloc: Global, matches: &ArgMatches<'_>, id: &str) -> Result<String, RunFault>
@@ -104,6 +116,62 @@ fn read_script(matches: &ArgMatches<'_>) -> Result<Option<Script>, RunFault>
         Ok(script) => Ok(Some(script)),
         Err(_) => Err(RunFault::Words),
     }
+}
+
+fn read_language(alloc: Global, matches: &ArgMatches<'_>) -> Result<Option<Language>, RunFault>
+    ensures ok { IfOk result (λ l.
+        language_in (first_value (found_of matches.now)) ≡ Ok (option_map language_text l)) }
+    ensures refused { IfErr result (λ e. e ≢ RunFault.OutOfMemory
+        → language_in (first_value (found_of matches.now)) ≡ Err e) }
+{
+    match matches.get_str("language") {
+        Some(text) => Ok(Some(language(alloc, text)?)),
+        None => Ok(None),
+    }
+}
+
+fn language(alloc: Global, text: &str) -> Result<Language, RunFault>
+    ensures ok { IfOk result (λ l. language_of_text text.now ≡ Ok (Some (language_text l))) }
+    ensures refused { IfErr result (λ e. e ≢ RunFault.OutOfMemory → language_of_text text.now ≡ Err e) }
+{
+    match Language::from_str(alloc, text) {
+        Ok(language) => Ok(language),
+        Err(LanguageFault::Invalid) => Err(RunFault::Words),
+        Err(LanguageFault::OutOfMemory) => Err(RunFault::OutOfMemory),
+    }
+}
+
+fn read_level(matches: &ArgMatches<'_>) -> Result<BufferClusterLevel, RunFault>
+    ensures { result ≡ level_in (first_value (found_of matches.now)) }
+{
+    match matches.get_str("cluster-level") {
+        Some(text) => level(text),
+        None => Ok(BufferClusterLevel::MonotoneGraphemes),
+    }
+}
+
+fn level(text: &str) -> Result<BufferClusterLevel, RunFault>
+    ensures { result ≡ level_of_text text.now }
+{
+    if text == "0" {
+        Ok(BufferClusterLevel::MonotoneGraphemes)
+    } else if text == "1" {
+        Ok(BufferClusterLevel::MonotoneCharacters)
+    } else if text == "2" {
+        Ok(BufferClusterLevel::Characters)
+    } else {
+        Err(RunFault::Words)
+    }
+}
+
+/// Refuses each option whose stage is not there yet.
+fn refuse_waiting(matches: &ArgMatches<'_>) -> Result<(), RunFault>
+    ensures { result ≡ no_waiting (first_value (found_of matches.now)) }
+{
+    if matches.get_str("language").is_some() {
+        return Err(RunFault::Words);
+    }
+    Ok(())
 }
 
 fn read_features(alloc: Global, matches: &ArgMatches<'_>) -> Result<Vec<Feature>, RunFault>
@@ -165,6 +233,48 @@ fn read_flags(matches: &ArgMatches<'_>) -> SerializeFlags
                         + (flag_of(matches, "show-flags", SerializeFlags::GLYPH_FLAGS)
                             + flag_of(matches, "no-advances", SerializeFlags::NO_ADVANCES))))),
     )
+}
+
+fn read_buffer_flags(matches: &ArgMatches<'_>) -> BufferFlags
+    ensures { result ≡ buffer_flags_in (first_value (found_of matches.now)) }
+{
+    BufferFlags(
+        buffer_flag_of(matches, "bot", BufferFlags::BEGINNING_OF_TEXT)
+            + (buffer_flag_of(matches, "eot", BufferFlags::END_OF_TEXT)
+                + (buffer_flag_of(
+                    matches,
+                    "preserve-default-ignorables",
+                    BufferFlags::PRESERVE_DEFAULT_IGNORABLES,
+                ) + (buffer_flag_of(
+                    matches,
+                    "remove-default-ignorables",
+                    BufferFlags::REMOVE_DEFAULT_IGNORABLES,
+                ) + (buffer_flag_of(
+                    matches,
+                    "no-dotted-circle",
+                    BufferFlags::DO_NOT_INSERT_DOTTED_CIRCLE,
+                ) + (buffer_flag_of(
+                    matches,
+                    "unsafe-to-concat",
+                    BufferFlags::PRODUCE_UNSAFE_TO_CONCAT,
+                ) + buffer_flag_of(
+                    matches,
+                    "safe-to-insert-tatweel",
+                    BufferFlags::PRODUCE_SAFE_TO_INSERT_TATWEEL,
+                )))))),
+    )
+}
+
+/// The bits of a buffer's flag where its switch is given.
+fn buffer_flag_of(matches: &ArgMatches<'_>, id: &str, flag: BufferFlags) -> u32
+    ensures value { result ≡ flag_of id.now flag.0 (first_value (found_of matches.now)) }
+    ensures below { result ≤ flag.0 }
+{
+    if matches.get_str(id) == Some("true") {
+        flag.0
+    } else {
+        0
+    }
 }
 
 /// The bits of a flag where its switch is given.
