@@ -5,7 +5,8 @@ use Rattle.std.proofs.lemmas.Str.{chars-nil}
 use Rattle.shaping_text.specs.Direction.{is_backward, opposite}
 use Rattle.shaping_text.specs.declared.direction.Direction.{Direction}
 use Rattle.glyph_types.specs.declared.flags.SerializeFlags.{SerializeFlags}
-use Rattle.glyph_types.specs.declared.level.BufferClusterLevel.TheVariants.{MonotoneGraphemes}
+use Rattle.glyph_types.specs.declared.level.BufferClusterLevel.{BufferClusterLevel}
+use Rattle.glyph_lists.specs.Origins.{Asks}
 use Rattle.font_face.specs.declared.parts.FaceParts.{FaceParts}
 use Rattle.glyph_lists.specs.Parts.{or}
 use Rattle.glyph_lists.specs.Events.{Reverse, Reset}
@@ -19,7 +20,7 @@ use Rattle.map_builder.specs.Compiled.{OtMapValue, lookups_of_stage}
 use Rattle.layout_stages.specs.Lookups.{lookup_stage, lookups_stage}
 use Rattle.glyph_text.specs.Printed.{printed_text}
 use Rattle.shape_run.specs.Path.{substituted, substitution_map, is_turned, reversed_view, masked, mapped, after_substitution}
-use Rattle.shape_run.specs.Answer.{line_of_reading, printed_line, text_run, nothing_asked}
+use Rattle.shape_run.specs.Answer.{line_of_reading, printed_line, text_run, asked_of}
 use Rattle.shape_run.specs.Laws.{EmptyTextGivesEmptyLine}
 
 empty_printed : (font : FaceParts) (flags : SerializeFlags) → printed_line font flags [] [] ≡ 10 ∷ []
@@ -48,23 +49,23 @@ abbrev ordered_read : Bool → Direction → Read
 ordered_read turned d = if turned then with_events (Reverse ∷ []) (record (reversed_view (empty_view d)) { direction = opposite d }) else with_events [] (empty_view d)
 
 -- advances and the order on the line, of no items
-empty_placed : (font : FaceParts) (flags : SerializeFlags) (d : Direction) (turned backward : Bool) (e : Direction) → line_of_reading font flags (text_run MonotoneGraphemes nothing_asked d [])
+empty_placed : (font : FaceParts) (flags : SerializeFlags) (level : BufferClusterLevel) (asks : Asks) (d : Direction) (turned backward : Bool) (e : Direction) → line_of_reading font flags (text_run level asks d [])
     (then_reading (record { view = empty_view e; events = λ level. Reset ∷ (if turned then Reverse ∷ [] else []) }) (Ok (if backward then with_events (Reverse ∷ []) (empty_view e) else with_events [] (empty_view e)))) ≡ Ok (10 ∷ [])
-empty_placed font flags d true true e = ap Ok (empty_printed font flags)
-empty_placed font flags d true false e = ap Ok (empty_printed font flags)
-empty_placed font flags d false true e = ap Ok (empty_printed font flags)
-empty_placed font flags d false false e = ap Ok (empty_printed font flags)
+empty_placed font flags level asks d true true e = ap Ok (empty_printed font flags)
+empty_placed font flags level asks d true false e = ap Ok (empty_printed font flags)
+empty_placed font flags level asks d false true e = ap Ok (empty_printed font flags)
+empty_placed font flags level asks d false false e = ap Ok (empty_printed font flags)
 
 -- no items on the way, whichever way the line runs
-empty_read : (font : FaceParts) (flags : SerializeFlags) (mask : ℕ) (stage : Stage) (turned : Bool) (d : Direction) → ((e : Direction) → stage (empty_view e) ≡ Ok (with_events [] (empty_view e))) →
-    line_of_reading font flags (text_run MonotoneGraphemes nothing_asked d [])
+empty_read : (font : FaceParts) (flags : SerializeFlags) (level : BufferClusterLevel) (asks : Asks) (mask : ℕ) (stage : Stage) (turned : Bool) (d : Direction) → ((e : Direction) → stage (empty_view e) ≡ Ok (with_events [] (empty_view e))) →
+    line_of_reading font flags (text_run level asks d [])
     (and_then (and_then (and_then (Ok (then_read (masked mask (empty_view d)) (ordered_read turned d))) (always (mapped font))) stage) (after_substitution font)) ≡ Ok (10 ∷ [])
-empty_read font flags mask stage true d none = rw (none (opposite d)) (empty_placed font flags d true (is_backward (opposite d)) (opposite d))
-empty_read font flags mask stage false d none = rw (none d) (empty_placed font flags d false (is_backward d) d)
+empty_read font flags level asks mask stage true d none = rw (none (opposite d)) (empty_placed font flags level asks d true (is_backward (opposite d)) (opposite d))
+empty_read font flags level asks mask stage false d none = rw (none d) (empty_placed font flags level asks d false (is_backward d) d)
 
 pub empty_text_gives_empty_line : EmptyTextGivesEmptyLine
 empty_text_gives_empty_line options font here =
     let script = or options.script None in
     let direction = guessed_direction options.direction script in
     let m = substitution_map font script options.features.items in
-    rw (chars-nil, here) (empty_read font options.flags m.global_mask (substituted font.gsub m) (is_turned script direction []) direction (substituted_empty font.gsub m))
+    rw (chars-nil, here) (empty_read font options.flags options.cluster_level (asked_of options.buffer_flags) m.global_mask (substituted font.gsub m) (is_turned script direction []) direction (substituted_empty font.gsub m))

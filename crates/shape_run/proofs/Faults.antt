@@ -4,7 +4,7 @@ use Rattle.std.specs.Prelude.{Option, Some, None, IfSome, Result, IfErr, IsErrAn
 use Rattle.run_options.specs.declared.fault.RunFault.{RunFault}
 use Rattle.run_options.specs.declared.fault.RunFault.TheVariants.{OutOfMemory}
 use Rattle.run_options.specs.declared.options.Options.{Options}
-use Rattle.shape_run.specs.Answer.{answer_of}
+use Rattle.shape_run.specs.Answer.{IsAnswer}
 use Rattle.shape_run.specs.Run.{IsOfBytes, OnKnown}
 
 not_memory : (e : RunFault) → IsOfBytes e → e ≢ OutOfMemory
@@ -14,14 +14,14 @@ not_memory _ h = λ bad. cc
 -- a fault of the bytes that were read is one of those that the readers had
 pub known_refused : (options : Options) (ts fs xs : Option (List ℕ)) (a b c : List ℕ) (e : RunFault)
     → IfSome ts (λ x. a ≡ x) → IfSome fs (λ x. b ≡ x) → IfSome xs (λ x. c ≡ x)
-    → (e ≢ OutOfMemory → answer_of options a b c ≡ Err e)
-    → IsOfBytes e → OnKnown ts fs xs (λ x y z. answer_of options x y z ≡ Err e)
+    → (e ≢ OutOfMemory → IsAnswer options a b c (Err e))
+    → IsOfBytes e → OnKnown ts fs xs (λ x y z. IsAnswer options x y z (Err e))
 known_refused options (Some ts) (Some fs) (Some xs) a b c e p q r h k = rw (← p, ← q, ← r) (h (not_memory e k))
 known_refused options (Some ts) (Some fs) None a b c e p q r h k = tt
 known_refused options (Some ts) None xs a b c e p q r h k = tt
 known_refused options None fs xs a b c e p q r h k = tt
 
 -- a fault that `?` passes on
-pub passed_on : {A : Type 0} (r : Result A RunFault) (e : RunFault) (P : RunFault → Type 0) → IsErrAnd r (λ f. f ≡ e) → P e → IfErr r P
+pub passed_on : {A E : Type 0} (r : Result A E) (e : E) (P : E → Type 0) → IsErrAnd r (λ (f : E). f ≡ e) → P e → IfErr r P
 passed_on (Ok a) e P h p = tt
 passed_on (Err f) e P h p = subst P (sym h) p

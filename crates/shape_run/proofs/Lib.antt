@@ -5,6 +5,7 @@ pub mod Turned
 pub mod Whole
 pub mod Bytes
 pub mod Answering
+pub mod Reading
 pub mod Printing
 pub mod Faults
 pub mod Empty

@@ -1,27 +1,28 @@
 -- What is printed for the bytes of tables, a font and a text, or the first fault that is found in them.
-use Rattle.std.specs.Prelude.{ℕ, ⊤, pos, ◌==◌, ◌-◌, false, if◌then◌else◌, List, [], ◌∷◌, ◌++◌, length, take, slice_index, Option, Some, None, Result, Ok, Err}
+use Rattle.std.specs.Prelude.{ℕ, pos, ◌==◌, ◌-◌, bit_and, if◌then◌else◌, List, [], ◌∷◌, ◌++◌, length, take, slice_index, Option, Result, Ok, Err}
 use Rattle.std.specs.Str.{is_utf8}
 use Rattle.serde_json.specs.Data.{Data}
-use Rattle.serde_json.specs.Read.{read}
 use Rattle.glyph_types.specs.declared.info.hb_glyph_info_t.{hb_glyph_info_t}
 use Rattle.glyph_types.specs.declared.flags.SerializeFlags.{SerializeFlags}
 use Rattle.feature_text.specs.declared.feature.Feature.{Feature}
 use Rattle.shaping_text.specs.declared.direction.Direction.{Direction}
 use Rattle.shaping_text.specs.declared.script.Script.{Script}
 use Rattle.json_values.specs.declared.fault.JsonFault.{JsonFault}
-use Rattle.json_values.specs.declared.fault.JsonFault.TheVariants.{NotJson, WrongShape}
+use Rattle.json_values.specs.declared.fault.JsonFault.TheVariants.{WrongShape}
 use Rattle.glyph_types.specs.declared.cause.ShapeCause.TheVariants.{TooLong}
 use Rattle.run_options.specs.declared.fault.RunFault.{RunFault}
-use Rattle.run_options.specs.declared.fault.RunFault.TheVariants.{Json, NotUtf8, NotYet, Shape}
+use Rattle.run_options.specs.declared.fault.RunFault.TheVariants.{NotUtf8, NotYet, Shape}
 use Rattle.run_options.specs.declared.options.Options.{Options}
-use Rattle.run_options.specs.Fault.{run_fault_of, fault_of_cause}
+use Rattle.run_options.specs.Fault.{fault_of_cause}
 use Rattle.layout_common.specs.Rows.{value_of}
 use Rattle.font_face.specs.Glyphs.{name_of}
 use Rattle.font_face.specs.declared.parts.FaceParts.{FaceParts}
 use Rattle.face_json.specs.Face.{face_of}
-use Rattle.shape_run.specs.Tables.{tables_of}
+use Rattle.unicode_tables.specs.Tables.{Tables}
+use Rattle.shaping_text.specs.declared.constants.BufferFlags.{BufferFlags}
+use Rattle.shape_run.specs.Tables.{AreTables, IfLawful}
+use Rattle.shape_run.specs.Values.{json_of, of_json, then_answers, then_run}
 use Rattle.glyph_types.specs.declared.level.BufferClusterLevel.{BufferClusterLevel}
-use Rattle.glyph_types.specs.declared.level.BufferClusterLevel.TheVariants.{MonotoneGraphemes}
 use Rattle.glyph_lists.specs.Items.{Position, strip}
 use Rattle.glyph_lists.specs.Parts.{or}
 use Rattle.glyph_lists.specs.Origins.{Asks, origins}
@@ -35,20 +36,7 @@ use Rattle.shape_run.specs.Path.{shaping}
 use Rattle.shape_run.specs.Output.{glyphs_of}
 use Rattle.shape_run.specs.Waiting.{waits, font_waits}
 
--- one step after another; the first fault ends them
-abbrev pub then_run : {A B : Type 0} → Result A RunFault → (A → Result B RunFault) → Result B RunFault
-then_run (Ok a) next = next a
-then_run (Err e) next = Err e
-
 -- ---- bytes
-
-abbrev pub json_or_fault : Option Data → Result Data RunFault
-json_or_fault None = Err (Json NotJson)
-json_or_fault (Some d) = Ok d
-
--- the JSON value of bytes
-abbrev pub json_of : List ℕ → Result Data RunFault
-json_of bytes = if is_utf8 bytes then json_or_fault (read bytes) else Err (Json NotJson)
 
 -- a text without one line feed at its end
 abbrev pub without_line_feed : List ℕ → List ℕ
@@ -57,11 +45,6 @@ without_line_feed text = if slice_index text (length text - 1) == 10 then take (
 -- the text of bytes
 abbrev pub text_of : List ℕ → Result (List ℕ) RunFault
 text_of bytes = if is_utf8 bytes then Ok (without_line_feed bytes) else Err NotUtf8
-
--- what a JSON value was read as, with the run's name of its fault
-abbrev pub of_json : {A : Type 0} → Result A JsonFault → Result A RunFault
-of_json (Ok a) = Ok a
-of_json (Err e) = Err (run_fault_of e)
 
 -- a font that shaping acts on in full; another is refused, once the font is of its format
 abbrev pub acted_on : FaceParts → Result FaceParts JsonFault
@@ -109,13 +92,13 @@ abbrev pub line_of_text : FaceParts → SerializeFlags → List Feature → Opti
 line_of_text font flags features script run = if waits features script run.view.direction run.view.items then Err NotYet
     else line_of_reading font flags run (read_of (shaping font features script) run)
 
--- the level and the requests of a new buffer
-abbrev pub nothing_asked : Asks
-nothing_asked = record { concat = false; tatweel = false }
+-- what flags ask of glyph flags
+abbrev pub asked_of : BufferFlags → Asks
+asked_of flags = record { concat = bit_and flags.0 64 == 64; tatweel = bit_and flags.0 128 == 128 }
 
 -- the line of characters that were added, where a direction that was not asked for is guessed
 abbrev pub line_of_guess : FaceParts → Options → Option Script → List hb_glyph_info_t → Result (List ℕ) RunFault
-line_of_guess font options script gs = line_of_text font options.flags options.features.items script (text_run MonotoneGraphemes nothing_asked (guessed_direction options.direction script) gs)
+line_of_guess font options script gs = line_of_text font options.flags options.features.items script (text_run options.cluster_level (asked_of options.buffer_flags) (guessed_direction options.direction script) gs)
 
 -- the line of a text
 abbrev pub line_of : Options → FaceParts → List ℕ → Result (List ℕ) RunFault
@@ -125,10 +108,6 @@ line_of options font text = if fits_text text empty_buffer
 
 -- ---- all of it
 
--- the tables of bytes
-unfoldable pub tables_in : List ℕ → Result ⊤ RunFault
-tables_in bytes = then_run (json_of bytes) (λ t. of_json (tables_of t))
-
 -- the font of bytes
 unfoldable pub font_in : List ℕ → Result FaceParts RunFault
 font_in bytes = then_run (json_of bytes) (λ f. of_json (font_of f))
@@ -137,6 +116,11 @@ font_in bytes = then_run (json_of bytes) (λ f. of_json (font_of f))
 unfoldable pub line_in : Options → FaceParts → List ℕ → Result (List ℕ) RunFault
 line_in options font bytes = then_run (text_of bytes) (line_of options font)
 
--- the line for tables, a font and a text: faults of the tables come first, then those of the font, then those of the text
-unfoldable pub answer_of : Options → List ℕ → List ℕ → List ℕ → Result (List ℕ) RunFault
-answer_of options tables font text = then_run (tables_in tables) (λ _. then_run (font_in font) (λ face. line_in options face text))
+-- the line for a font and a text: faults of the font come before those of the text
+unfoldable pub answer_by : Options → List ℕ → List ℕ → Result (List ℕ) RunFault
+answer_by options font text = then_run (font_in font) (λ face. line_in options face text)
+
+-- the answer to tables, a font and a text: tables that can't be read or are not lawful are refused first
+unfoldable pub IsAnswer : Options → List ℕ → List ℕ → List ℕ → Result (List ℕ) RunFault → Type 0
+IsAnswer options tables font text answer =
+    (read : Result Tables RunFault) × AreTables tables read × then_answers read (IfLawful (answer_by options font text)) answer

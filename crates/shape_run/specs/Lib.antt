@@ -2,6 +2,7 @@ pub mod Waiting
 pub mod Path
 pub mod Stages
 pub mod Output
+pub mod Values
 pub mod Tables
 pub mod Answer
 pub mod Run

@@ -1,5 +1,5 @@
 -- What a run says of its readers.
-use Rattle.std.specs.Prelude.{ℕ, ⊤, List, Option, Some, None, take}
+use Rattle.std.specs.Prelude.{ℕ, ⊤, List, Option, Some, None, Result, Ok, take}
 use Rattle.std.specs.Io.KnownBytes.{Appends}
 use Rattle.run_options.specs.declared.fault.RunFault.{RunFault}
 use Rattle.run_options.specs.declared.fault.RunFault.TheVariants.{Words, Read, ReadLimit, Write, OutOfMemory}
@@ -31,3 +31,7 @@ OnKnown None b c P = ⊤
 -- known bytes grow by a front of the line
 abbrev pub AppendsFront : Option (List ℕ) → Option (List ℕ) → List ℕ → Type 0
 AppendsFront old new line = (count : ℕ) × Appends old new (take count line)
+
+-- a fact about a line that is an answer
+abbrev pub SomeLine : (Result (List ℕ) RunFault → Type 0) → (List ℕ → Type 0) → Type 0
+SomeLine Answers P = (line : List ℕ) × Answers (Ok line) × P line

@@ -4,15 +4,19 @@ use Rattle.glyph_types.specs.declared.info.hb_glyph_info_t.{hb_glyph_info_t}
 use Rattle.shaping_text.specs.Direction.{opposite, is_backward}
 use Rattle.font_face.specs.declared.parts.FaceParts.{FaceParts}
 use Rattle.glyph_lists.specs.Items.{Position}
-use Rattle.glyph_buffer.specs.Sides.{Sides, all_glyphs, items_of, reversed, zero_positions, with_added, empty_buffer}
+use Rattle.glyph_buffer.specs.Sides.{Sides, all_glyphs, items_of, reversed, zero_positions, with_added, with_flags, with_level, empty_buffer}
 use Rattle.glyph_buffer.specs.Segment.{guessed, with_segment}
 use Rattle.glyph_buffer.specs.Text.{added_text}
 use Rattle.run_options.specs.declared.options.Options.{Options}
 use Rattle.shape_run.specs.Path.{is_turned, nominal_glyph, advance_position}
 
+-- a buffer with what is asked for
+abbrev pub asked_buffer : Options → Sides
+asked_buffer options = with_segment options.direction options.script (with_flags options.buffer_flags (with_level options.cluster_level empty_buffer))
+
 -- the buffer of a text, with what was not asked for guessed
 abbrev pub text_buffer : Options → List ℕ → Sides
-text_buffer options text = guessed (with_added (added_text text) (with_segment options.direction options.script empty_buffer))
+text_buffer options text = guessed (with_added (added_text text) (asked_buffer options))
 
 -- the buffer in native order
 abbrev pub ordered : Sides → Sides

@@ -1,18 +1,16 @@
 //! From the bytes of tables, a font and a text to the printed line.
-ghost use Rattle.std.specs.Prelude.{◌≡◌, ◌≢◌, Ok, Err, IfOk, IfErr, OnOk, MatchOption, true, false, string_bytes};
-ghost use Rattle.std.specs.Str.{is_utf8};
+ghost use Rattle.std.specs.Prelude.{◌≡◌, ◌≢◌, Ok, Err, IfOk, IfErr, OnOk, true, false, string_bytes};
 ghost use Rattle.serde_json.specs.View.{view};
-ghost use Rattle.serde_json.specs.Errors.{IsMemory};
 ghost use Rattle.std.specs.List.{list_all};
 ghost use Rattle.glyph_buffer.specs.Sides.{all_glyphs, empty_buffer};
-ghost use Rattle.glyph_buffer.specs.Segment.{with_segment};
 ghost use Rattle.glyph_buffer.specs.Text.{fits_text};
-ghost use Rattle.shape_run.specs.Answer.{answer_of, font_in, font_of, json_of, line_in, line_of, printed_line, tables_in, text_of, without_line_feed};
+ghost use Rattle.shape_run.specs.Answer.{IsAnswer, answer_by, font_in, font_of, line_in, line_of, printed_line, text_of, without_line_feed};
 ghost use Rattle.shape_run.specs.Run.{IsOfRun};
-ghost use Rattle.shape_run.specs.Stages.{is_glyph_number, text_buffer};
+ghost use Rattle.shape_run.specs.Stages.{asked_buffer, is_glyph_number, text_buffer};
 
 use crate::path::shape;
-use crate::tables::read_tables;
+use crate::tables::{check_laws, tables_in};
+use crate::values::{read_json, utf8};
 use crate::waiting_font::font_waits;
 use face_json::read_face;
 use font_face::Face;
@@ -25,40 +23,6 @@ use serde_json::Value;
 use std::alloc::{AllocError, Global};
 use text_buffers::glyphs::GlyphBuffer;
 use text_buffers::unicode_buffer::UnicodeBuffer;
-
-// The text of the bytes, where they are UTF-8.
-#[tactic(auto, using(crate::proofs::Bytes::is_text, crate::proofs::Bytes::is_no_text))]
-fn utf8(bytes: &[u8]) -> Option<&str>
-    ensures { MatchOption result (is_utf8 bytes.now ≡ false)
-        (λ s. (s.now ≡ bytes.now) × (is_utf8 bytes.now ≡ true)) }
-{
-    str::from_utf8(bytes).ok()
-}
-
-fn read_json(alloc: Global, bytes: &[u8]) -> Result<Value, RunFault>
-    ensures ok { IfOk result (λ v. json_of bytes.now ≡ Ok (view v)) }
-    ensures refused { IfErr result (λ e. e ≢ RunFault.OutOfMemory → json_of bytes.now ≡ Err e) }
-    ensures kind { IfErr result IsOfRun }
-{
-    let Some(text) = utf8(bytes) else {
-        return Err(RunFault::Json(JsonFault::NotJson));
-    };
-    match Value::from_str(alloc, text) {
-        Ok(value) => Ok(value),
-        Err(error) => Err(json_fault(&error)),
-    }
-}
-
-fn json_fault(error: &serde_json::Error) -> RunFault
-    ensures memory { IsMemory error.now → result ≡ RunFault.OutOfMemory }
-    ensures text { ¬ IsMemory error.now → result ≡ RunFault.Json JsonFault.NotJson }
-{
-    if error.is_memory() {
-        RunFault::OutOfMemory
-    } else {
-        RunFault::Json(JsonFault::NotJson)
-    }
-}
 
 fn without_line_feed(text: &str) -> &str
     ensures { result.now ≡ without_line_feed text.now }
@@ -81,9 +45,11 @@ fn read_text(bytes: &[u8]) -> Result<&str, RunFault>
 }
 
 fn new_text(alloc: Global, options: &Options) -> UnicodeBuffer
-    ensures { result ≡ with_segment options.now.direction options.now.script empty_buffer }
+    ensures { result ≡ asked_buffer options.now }
 {
     let mut text = UnicodeBuffer::new(alloc);
+    text.set_cluster_level(options.cluster_level);
+    text.set_flags(options.buffer_flags);
     text.set_direction(options.direction);
     if let Some(script) = options.script {
         text.set_script(script);
@@ -149,17 +115,6 @@ fn line(alloc: Global, options: &Options, face: &Face, text: &str) -> Result<Str
     Ok(line)
 }
 
-#[tactic(auto, unfolding(crate::specs::Answer::tables_in))]
-fn check_tables(alloc: Global, bytes: &[u8]) -> Result<(), RunFault>
-    ensures ok { IfOk result (λ t. tables_in bytes.now ≡ Ok t) }
-    ensures refused { IfErr result (λ e. e ≢ RunFault.OutOfMemory → tables_in bytes.now ≡ Err e) }
-    ensures kind { IfErr result IsOfRun }
-{
-    let tables = read_json(alloc, bytes)?;
-    read_tables(&tables)?;
-    Ok(())
-}
-
 #[tactic(auto, unfolding(crate::specs::Answer::font_in))]
 fn font_in(alloc: Global, bytes: &[u8]) -> Result<Face, RunFault>
     ensures ok { IfOk result (λ face. font_in bytes.now ≡ Ok face) }
@@ -181,8 +136,19 @@ fn line_in(alloc: Global, options: &Options, face: &Face, bytes: &[u8]) -> Resul
     line(alloc, options, face, text)
 }
 
-/// The line for the bytes of tables, a font and a text.
-#[tactic(auto, unfolding(crate::specs::Answer::answer_of))]
+/// The line for the bytes of a font and a text.
+#[tactic(auto, unfolding(crate::specs::Answer::answer_by))]
+fn answer_by(alloc: Global, options: &Options, font: &[u8], text: &[u8]) -> Result<String, RunFault>
+    ensures ok { IfOk result (λ line. answer_by options.now font.now text.now ≡ Ok (string_bytes line)) }
+    ensures refused { IfErr result (λ e. e ≢ RunFault.OutOfMemory → answer_by options.now font.now text.now ≡ Err e) }
+    ensures kind { IfErr result IsOfRun }
+{
+    let face = font_in(alloc, font)?;
+    line_in(alloc, options, &face, text)
+}
+
+/// The line for the bytes of tables, a font and a text. The tables are asked whether they are lawful before the font is
+/// read.
 pub(crate) fn answer(
     alloc: Global,
     options: &Options,
@@ -191,12 +157,12 @@ pub(crate) fn answer(
     text: &[u8],
 ) -> Result<String, RunFault>
     ensures ok { IfOk result (λ line.
-        answer_of options.now tables.now font.now text.now ≡ Ok (string_bytes line)) }
+        IsAnswer options.now tables.now font.now text.now (Ok (string_bytes line))) }
     ensures refused { IfErr result (λ e. e ≢ RunFault.OutOfMemory
-        → answer_of options.now tables.now font.now text.now ≡ Err e) }
+        → IsAnswer options.now tables.now font.now text.now (Err e)) }
     ensures kind { IfErr result IsOfRun }
 {
-    check_tables(alloc, tables)?;
-    let face = font_in(alloc, font)?;
-    line_in(alloc, options, &face, text)
+    let tables = tables_in(alloc, tables)?;
+    check_laws(tables)?;
+    answer_by(alloc, options, font, text)
 }

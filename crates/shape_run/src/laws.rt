@@ -1,7 +1,13 @@
-ghost use Rattle.shape_run.specs.Laws.{EmptyTextGivesEmptyLine};
+ghost use Rattle.shape_run.specs.Laws.{AnswersAreOne, EmptyTextGivesEmptyLine};
 
 /// The empty text gives the empty line, in every font.
 #[tactic(auto, using(crate::proofs::Empty::empty_text_gives_empty_line))]
 pub fn empty_text_gives_empty_line()
     ensures { EmptyTextGivesEmptyLine }
+{}
+
+/// Tables, a font and a text have one answer at most: the relation by which a run is described is a function.
+#[tactic(auto, using(crate::proofs::Reading::answers_are_one))]
+pub fn answers_are_one()
+    ensures { AnswersAreOne }
 {}

@@ -8,6 +8,7 @@ mod path;
 mod read;
 pub mod run;
 mod tables;
+mod values;
 mod waiting;
 mod waiting_font;
 mod write;

@@ -1,4 +1,4 @@
-use Rattle.std.proofs.Common.{◌≡◌, false, List, sym, subst}
+use Rattle.std.proofs.Common.{◌≡◌, false, List, subst}
 use Rattle.feature_text.specs.declared.feature.Feature.{Feature}
 use Rattle.glyph_lists.specs.Readings.{Follows, read_of}
 use Rattle.glyph_buffer.specs.Sides.{Sides, items_of, run_of}

@@ -1,4 +1,4 @@
-use Rattle.std.proofs.Common.{◌≡◌, false, true, ap, sym, subst, ◌∙◌}
+use Rattle.std.proofs.Common.{◌≡◌, false, true, sym, subst, ◌∙◌}
 use Rattle.std.specs.List.{list_all}
 use Rattle.glyph_lists.specs.Readings.{Follows, read_of}
 use Rattle.glyph_buffer.specs.Sides.{Sides, all_glyphs, items_of, run_of}
