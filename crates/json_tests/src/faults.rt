@@ -5,7 +5,7 @@ use run_options::fault::RunFault;
 use std::alloc::{AllocError, AllocFailed};
 use std::test::Fail;
 
-const FAULTS: [(RunFault, &str, u8); 17] = [
+const FAULTS: [(RunFault, &str, u8); 18] = [
     (RunFault::Words, "words", 2),
     (RunFault::Read, "Read", 6),
     (RunFault::ReadLimit, "ReadLimit", 6),
@@ -16,6 +16,7 @@ const FAULTS: [(RunFault, &str, u8); 17] = [
     (RunFault::Json(JsonFault::OutOfOrder), "U1 OutOfOrder", 3),
     (RunFault::Json(JsonFault::OutOfRange), "U2 OutOfRange", 3),
     (RunFault::Json(JsonFault::SplitDepth), "U3 SplitDepth", 3),
+    (RunFault::Unlawful, "Unlawful", 3),
     (RunFault::NotUtf8, "NotUtf8", 4),
     (RunFault::NotYet, "NotYet", 5),
     (RunFault::Shape(ShapeCause::TooLong), "S2 TooLong", 5),

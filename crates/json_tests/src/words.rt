@@ -10,8 +10,13 @@ use shaping_text::tag::Tag;
 use std::alloc::{AllocError, Global};
 use std::test::Fail;
 
-// Words that are refused, with a bar between two.
-const REFUSED: &str = "hb_shape|--no-clusters|--no-clusters|a|b|c
+// Words that are refused, with a bar between two; first the option whose stage is not there yet.
+const REFUSED: &str = "hb_shape|--language=en|a|b|c
+hb_shape|--language=|a|b|c
+hb_shape|--cluster-level=3|a|b|c
+hb_shape|--cluster-level=0|--cluster-level=0|a|b|c
+hb_shape|--eot|--eot|a|b|c
+hb_shape|--no-clusters|--no-clusters|a|b|c
 hb_shape|--show-flags=1|a|b|c
 hb_shape|--slices|a|b|c
 hb_shape|--foo|a|b|c

@@ -147,7 +147,7 @@ const WRONG_SHAPE: RunFault = RunFault::Json(JsonFault::WrongShape);
 const BROKEN: &[u8] = &[0xC3, 0x28];
 
 // Faults of tables come before those of the font, and these before those of the text.
-const REFUSED_BYTES: [Refusal; 9] = [
+const REFUSED_BYTES: [Refusal; 8] = [
     (
         None,
         Direction::Invalid,
@@ -164,15 +164,6 @@ const REFUSED_BYTES: [Refusal; 9] = [
         "[]",
         "{",
         BROKEN,
-        WRONG_SHAPE,
-    ),
-    (
-        None,
-        Direction::Invalid,
-        &[],
-        "{\"splits\":[]}",
-        FONT,
-        b"a",
         WRONG_SHAPE,
     ),
     (
@@ -346,6 +337,57 @@ const REFUSED_FONTS: [Refusal; 6] = [
     ),
 ];
 
+/// Tables, fault.
+type TablesRefusal = (&'static str, RunFault);
+
+// Each with a font that is no JSON value: tables are asked for every fault of theirs before the font is read.
+const REFUSED_TABLES: [TablesRefusal; 11] = [
+    ("{", RunFault::Json(JsonFault::NotJson)),
+    (r#"{"classes":[[769,false]]}"#, WRONG_SHAPE),
+    (
+        r#"{"classes":[[769,230.0]]}"#,
+        RunFault::Json(JsonFault::FloatNumber),
+    ),
+    (
+        r#"{"indic":[[2309,"QQ","END"]]}"#,
+        RunFault::Json(JsonFault::UnknownName),
+    ),
+    (
+        r#"{"splits":[[98,97,0],[97,98,0]]}"#,
+        RunFault::Json(JsonFault::OutOfOrder),
+    ),
+    (
+        r#"{"mirrored":[[40,1114112]]}"#,
+        RunFault::Json(JsonFault::OutOfRange),
+    ),
+    (
+        r#"{"splits":[[97,97,98]]}"#,
+        RunFault::Json(JsonFault::SplitDepth),
+    ),
+    (r#"{"classes":[[97,230]]}"#, RunFault::Unlawful),
+    // Tables come before syllables, these before languages, and lawfulness comes last.
+    (
+        r#"{"syllables":3,"classes":[[97,1.5]]}"#,
+        RunFault::Json(JsonFault::FloatNumber),
+    ),
+    (
+        r#"{"languages":3,"syllables":{"khmer":{"states":1.5}}}"#,
+        RunFault::Json(JsonFault::FloatNumber),
+    ),
+    (r#"{"languages":3,"classes":[[97,230]]}"#, WRONG_SHAPE),
+];
+
+fn are_refused_tables(alloc: Global, refusals: &[TablesRefusal]) -> Result<bool, Fail> {
+    let options = options(alloc, None, Direction::Invalid, &[])?;
+    for (tables, fault) in refusals {
+        let (answer, out) = ran(alloc, &options, tables, "{", BROKEN);
+        if answer != Err(*fault) || !out.is_empty() {
+            return Ok(false);
+        }
+    }
+    Ok(true)
+}
+
 fn is_printed(alloc: Global, font: &str, line: &Line) -> Result<bool, Fail> {
     let (script, direction, features, text, line) = *line;
     let options = options(alloc, script, direction, features)?;
@@ -389,6 +431,7 @@ fn lines_are_printed(rt: HostRuntime) -> Result<(), Fail> {
 
 #[test]
 fn first_faults_are_told(rt: HostRuntime) -> Result<(), Fail> {
+    assert!(rt; are_refused_tables(rt.alloc(), &REFUSED_TABLES)?);
     assert!(rt; are_refused(rt.alloc(), &REFUSED_BYTES)?);
     assert!(rt; are_refused(rt.alloc(), &REFUSED_TEXTS)?);
     assert!(rt; are_refused(rt.alloc(), &REFUSED_FONTS)?);

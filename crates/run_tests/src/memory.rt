@@ -1,9 +1,11 @@
 //! Runs over memory.
 use feature_text::feature::Feature;
 use glyph_types::flags::SerializeFlags;
+use glyph_types::level::BufferClusterLevel;
 use run_options::fault::RunFault;
 use run_options::options::Options;
 use shape_run::run::run;
+use shaping_text::constants::BufferFlags;
 use shaping_text::direction::Direction;
 use shaping_text::script::Script;
 use std::alloc::Global;
@@ -29,7 +31,10 @@ pub(crate) fn options(
     Ok(Options {
         direction,
         script,
+        language: None,
         features: asked,
+        cluster_level: BufferClusterLevel::MonotoneGraphemes,
+        buffer_flags: BufferFlags(0),
         flags: NUMBERS,
     })
 }
