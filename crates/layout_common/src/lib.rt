@@ -6,3 +6,5 @@ pub mod class_definition;
 pub mod coverage;
 pub mod flags;
 pub mod glyph_row;
+#[cfg(test)]
+mod tests;
