@@ -1,12 +1,10 @@
 -- The keys of an object.
 use Rattle.std.specs.Prelude.{ℕ, List, [], ◌∷◌, Bool, true, false, ⊤, if◌then◌else◌, is_some, Option, Some, None, Result, Ok, Err}
-use Rattle.std.specs.declared.cmp.Ordering.{Ordering}
 use Rattle.serde_json.specs.Data.{Data}
-use Rattle.serde_json.specs.Find.{get, as_object, as_array}
+use Rattle.serde_json.specs.Find.{get, as_object}
 use Rattle.json_values.specs.declared.fault.JsonFault.{JsonFault}
 use Rattle.json_values.specs.declared.fault.JsonFault.TheVariants.{WrongShape}
-use Rattle.json_values.specs.Cell.{and_then, pair_of, of_list}
-use Rattle.json_values.specs.Rows.{rows_after, is_above}
+use Rattle.json_values.specs.Cell.{and_then}
 
 -- the value of a key as `read` reads it, or `missing` where the key is not there
 abbrev pub read_or : {A : Type 0} → A → (Data → Result A JsonFault) → Option Data → Result A JsonFault
@@ -17,10 +15,6 @@ read_or missing read (Some d) = read d
 abbrev pub read_if_there : {A : Type 0} → (Data → Result A JsonFault) → Option Data → Result (Option A) JsonFault
 read_if_there read None = Ok None
 read_if_there read (Some d) = and_then (read d) (λ a. Ok (Some a))
-
--- rows of a key and a value, whose keys rise strictly
-abbrev pub rows_of : {K V : Type 0} → (K → K → Ordering) → (Data → Result K JsonFault) → (Data → Result V JsonFault) → Data → Result (List (K × V)) JsonFault
-rows_of cmp key value d = of_list (rows_after (is_above cmp) (λ r. r.0) (pair_of key value) None) (as_array d)
 
 -- one of the keys is there
 abbrev pub has_some : List (List ℕ) → Data → Bool
