@@ -17,7 +17,7 @@ use Rattle.layout_rules.specs.Lemmas.Attempts.{cut_with_glyphs}
 use Rattle.layout_rules.specs.Lemmas.Frames.{telling_still}
 use Rattle.layout_rules.specs.Lemmas.Does.{then_acted}
 use Rattle.layout_match.specs.Applied.{drawn}
-use Rattle.layout_match.specs.Drawing.{Draws, cut_with}
+use Rattle.layout_gsub.specs.Drawing.{Draws, cut_with}
 use Rattle.layout_gsub.specs.Replacements.{substituted_cut, substituted}
 use Rattle.layout_gsub.specs.Alternates.{alternate_of, alternate_of_value, drawn_alternate, is_drawn}
 

@@ -11,7 +11,7 @@ use Rattle.font_face.specs.declared.parts.GlyphDefinition.{GlyphDefinition}
 use Rattle.layout_rules.specs.Actions.{Outcome, at_first}
 use Rattle.layout_rules.specs.Buffers.{cut_of, Does}
 use Rattle.layout_rules.specs.Lemmas.Glyphs.{first_item}
-use Rattle.layout_match.specs.Drawing.{Draws, cut_with}
+use Rattle.layout_gsub.specs.Drawing.{Draws, cut_with}
 use Rattle.layout_gsub.specs.Replacements.{substituted, single_subtable}
 use Rattle.layout_gsub.specs.Alternates.{alternate_set, alternate_subtable, feature_value}
 

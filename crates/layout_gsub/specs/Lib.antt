@@ -1,3 +1,4 @@
 pub mod Ligatures
 pub mod Replacements
+pub mod Drawing
 pub mod Alternates

@@ -4,7 +4,7 @@ ghost use Rattle.glyph_lists.specs.Items.{item_of};
 ghost use Rattle.glyph_buffer.specs.Sides.{items_of};
 ghost use Rattle.layout_rules.specs.Actions.{whole};
 ghost use Rattle.layout_rules.specs.Buffers.{IsPassed, are_glyphs, cut_of};
-ghost use Rattle.layout_match.specs.Drawing.{Draws, cut_with};
+ghost use Rattle.layout_gsub.specs.Drawing.{Draws, cut_with};
 ghost use Rattle.layout_gsub.specs.Alternates.{alternate_of, alternate_of_value, alternate_subtable, drawn_alternate, feature_value, is_drawn};
 
 use crate::replacement::replace_glyph;

@@ -1,12 +1,9 @@
 -- The syllable of the glyph at the cursor.
-use Rattle.std.proofs.Common.{◌≡◌, true, Some, slice_get, ap}
-use Rattle.std.specs.Prelude.{option_map}
+use Rattle.std.proofs.Common.{◌≡◌, true, List, [], ◌∷◌, Some, slice_get, refl}
 use Rattle.glyph_types.specs.declared.info.hb_glyph_info_t.{hb_glyph_info_t}
-use Rattle.glyph_lists.specs.Items.{Item}
-use Rattle.glyph_buffer.specs.Sides.{Sides}
-use Rattle.layout_rules.specs.Buffers.{cut_of}
-use Rattle.layout_rules.specs.Lemmas.Glyphs.{first_item}
+use Rattle.glyph_lists.specs.Items.{strip}
 use Rattle.layout_match.specs.Applied.{Applied, own_syllable}
 
-pub syllable_there : (a : Applied) (s : Sides) (g : hb_glyph_info_t) → slice_get s.ahead 0 ≡ Some g → a.per_syllable ≡ true → own_syllable a (cut_of s) ≡ Some g.syllable
-syllable_there a s g at per = rw per (ap (option_map (λ (x : Item). x.syllable)) (first_item s.ahead g at))
+pub syllable_there : (a : Applied) (gs : List hb_glyph_info_t) (g : hb_glyph_info_t) → slice_get gs 0 ≡ Some g → a.per_syllable ≡ true → own_syllable a (strip gs) ≡ Some g.syllable
+syllable_there a [] g at per = cc
+syllable_there a (h ∷ gs) g at per = let same : h ≡ g = cc in rw (per, same) refl

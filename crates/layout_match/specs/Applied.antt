@@ -1,10 +1,10 @@
 -- With what a lookup is applied, and how it searches.
-use Rattle.std.specs.Prelude.{ℕ, ◌*◌, ◌%◌, ◌||◌, Bool, true, false, if◌then◌else◌, Option, Some, None, option_map}
+use Rattle.std.specs.Prelude.{ℕ, ◌*◌, ◌%◌, ◌||◌, Bool, true, false, if◌then◌else◌, List, Option, Some, None, option_map}
+use Rattle.glyph_lists.specs.Items.{Item}
 use Rattle.glyph_lists.specs.Parts.{first_of}
 use Rattle.font_face.specs.declared.parts.FaceParts.{FaceParts}
 use Rattle.map_features.specs.declared.per_table.TableIndex.{TableIndex}
 use Rattle.map_features.specs.declared.per_table.TableIndex.TheVariants.{GSUB, GPOS}
-use Rattle.layout_rules.specs.Actions.{Cut}
 use Rattle.layout_match.specs.declared.apply_context.hb_ot_apply_context_t.{hb_ot_apply_context_t}
 use Rattle.layout_match.specs.Searches.{Search}
 
@@ -28,17 +28,17 @@ abbrev pub positions_glyphs : TableIndex → Bool
 positions_glyphs GSUB = false
 positions_glyphs GPOS = true
 
--- the syllable of the item at the cut, where a lookup stays within syllables
-abbrev pub own_syllable : Applied → Cut → Option ℕ
-own_syllable a c = if a.per_syllable then option_map (λ x. x.syllable) (first_of c.rest) else None
+-- where a lookup stays within syllables, that of the item where it is tried: the first of those from there on
+abbrev pub own_syllable : Applied → List Item → Option ℕ
+own_syllable a rest = if a.per_syllable then option_map (λ x. x.syllable) (first_of rest) else None
 
 -- how a lookup searches its input: hidden ignorables and non-joiners are passed over in positioning
-abbrev pub own_search : Applied → Cut → Search
-own_search a c = record { props = a.props; sets = a.font.gdef.sets; zwnj = positions_glyphs a.table; zwj = a.auto_zwj; hidden = positions_glyphs a.table; mask = Some a.mask; syllable = own_syllable a c }
+abbrev pub own_search : Applied → List Item → Search
+own_search a rest = record { props = a.props; sets = a.font.gdef.sets; zwnj = positions_glyphs a.table; zwj = a.auto_zwj; hidden = positions_glyphs a.table; mask = Some a.mask; syllable = own_syllable a rest }
 
 -- how it searches what stands around the input: joiners are passed over, and items need no bit of its mask
-abbrev pub context_search : Applied → Cut → Search
-context_search a c = record { props = a.props; sets = a.font.gdef.sets; zwnj = positions_glyphs a.table || a.auto_zwnj; zwj = true; hidden = positions_glyphs a.table; mask = None; syllable = own_syllable a c }
+abbrev pub context_search : Applied → List Item → Search
+context_search a rest = record { props = a.props; sets = a.font.gdef.sets; zwnj = positions_glyphs a.table || a.auto_zwnj; zwj = true; hidden = positions_glyphs a.table; mask = None; syllable = own_syllable a rest }
 
 -- the number drawn next, and the state after it (the minimal standard generator of Park and Miller, with multiplier 48271)
 abbrev pub drawn : ℕ → ℕ

@@ -2,6 +2,5 @@ pub mod Sequences
 pub mod Searches
 pub mod Matches
 pub mod Applied
-pub mod Drawing
 pub mod Walks
 pub mod Laws

@@ -1,7 +1,6 @@
 -- Items one after another that a rule asks for, with none between but such as are passed over (OpenType, chapter 2).
 use Rattle.std.specs.Prelude.{ℕ, ◌+◌, List, [], ◌∷◌, drop, map, reverse, Result, Ok, Err, Bool}
 use Rattle.glyph_lists.specs.Items.{Item}
-use Rattle.layout_rules.specs.Actions.{Cut}
 use Rattle.layout_match.specs.declared.search.match_t.{match_t}
 use Rattle.layout_match.specs.declared.search.match_t.TheVariants.{MATCH, SKIP, NOT_MATCH}
 use Rattle.layout_match.specs.Searches.{Search, answer}
@@ -43,19 +42,19 @@ indices (ask ∷ asks) at xs = with_index (nearest_from ask at xs) (λ next. ind
 abbrev pub asks_of : Search → List (Item → Bool) → List (Item → match_t)
 asks_of s tests = map (answer s) tests
 
--- ---- at a cut; indices count from it, those before it backward
+-- ---- where a rule is tried; `rest` are the items from there on, `front` those before, and indices count from there
 
--- the input: its first item is the one at the cut
-abbrev pub input_end : Search → List (Item → Bool) → Cut → Result ℕ ℕ
-input_end s tests c = reached (asks_of s tests) 1 c.rest
+-- the input: its first item is the one where the rule is tried
+abbrev pub input_end : Search → List (Item → Bool) → List Item → Result ℕ ℕ
+input_end s tests rest = reached (asks_of s tests) 1 rest
 
-abbrev pub input_indices : Search → List (Item → Bool) → Cut → List ℕ
-input_indices s tests c = 0 ∷ indices (asks_of s tests) 1 c.rest
+abbrev pub input_indices : Search → List (Item → Bool) → List Item → List ℕ
+input_indices s tests rest = 0 ∷ indices (asks_of s tests) 1 rest
 
 -- what stands behind an input that ends at `start`
-abbrev pub lookahead_end : Search → List (Item → Bool) → ℕ → Cut → Result ℕ ℕ
-lookahead_end s tests start c = reached (asks_of s tests) start c.rest
+abbrev pub lookahead_end : Search → List (Item → Bool) → ℕ → List Item → Result ℕ ℕ
+lookahead_end s tests start rest = reached (asks_of s tests) start rest
 
--- what stands before the cut, the nearest first
-abbrev pub backtrack_end : Search → List (Item → Bool) → Cut → Result ℕ ℕ
-backtrack_end s tests c = reached (asks_of s tests) 0 (reverse c.front)
+-- what stands before the input, the nearest first
+abbrev pub backtrack_end : Search → List (Item → Bool) → List Item → Result ℕ ℕ
+backtrack_end s tests front = reached (asks_of s tests) 0 (reverse front)

@@ -1,6 +1,5 @@
 ghost use Rattle.std.specs.Prelude.{◌≡◌, ◌<◌, not, length, true, false};
-ghost use Rattle.glyph_lists.specs.Items.{item_of};
-ghost use Rattle.layout_rules.specs.Buffers.{cut_of};
+ghost use Rattle.glyph_lists.specs.Items.{item_of, strip};
 ghost use Rattle.layout_match.specs.Searches.{is_left_out, search_of};
 ghost use Rattle.layout_match.specs.Applied.{applied_of, context_search, drawn, own_search, own_syllable, positions_glyphs};
 
@@ -98,7 +97,7 @@ impl<'a> hb_ot_apply_context_t<'a> {
 
     fn own_syllable(&self, buffer: &hb_buffer_t) -> Option<u8>
         requires { 0 < length buffer.now.ahead }
-        ensures { result ≡ own_syllable (applied_of self.now) (cut_of buffer.now) }
+        ensures { result ≡ own_syllable (applied_of self.now) (strip buffer.now.ahead) }
     {
         if self.per_syllable {
             return Some(buffer.cur(0).syllable);
@@ -109,7 +108,7 @@ impl<'a> hb_ot_apply_context_t<'a> {
     /// How the lookup searches its input at the buffer's cursor.
     pub fn own_search(&self, buffer: &hb_buffer_t) -> GlyphSearch<'a>
         requires { 0 < length buffer.now.ahead }
-        ensures { search_of result ≡ own_search (applied_of self.now) (cut_of buffer.now) }
+        ensures { search_of result ≡ own_search (applied_of self.now) (strip buffer.now.ahead) }
     {
         let positions = positions_glyphs(self.table_index);
         GlyphSearch {
@@ -126,7 +125,7 @@ impl<'a> hb_ot_apply_context_t<'a> {
     /// How it searches what stands around the input.
     pub fn context_search(&self, buffer: &hb_buffer_t) -> GlyphSearch<'a>
         requires { 0 < length buffer.now.ahead }
-        ensures { search_of result ≡ context_search (applied_of self.now) (cut_of buffer.now) }
+        ensures { search_of result ≡ context_search (applied_of self.now) (strip buffer.now.ahead) }
     {
         let positions = positions_glyphs(self.table_index);
         GlyphSearch {

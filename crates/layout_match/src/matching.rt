@@ -1,7 +1,6 @@
 ghost use Rattle.std.specs.Prelude.{◌≡◌, ◌<◌, ◌≤◌, ◌∷◌, Some, length, reverse, slice_get, IfOk, IfErr};
 ghost use Rattle.std.specs.List.{All};
 ghost use Rattle.glyph_lists.specs.Items.{strip};
-ghost use Rattle.layout_rules.specs.Buffers.{cut_of};
 ghost use Rattle.layout_match.specs.Applied.{applied_of, context_search, own_search};
 ghost use Rattle.layout_match.specs.Searches.{answer, search_of, test_of};
 ghost use Rattle.layout_match.specs.Sequences.{tests_of};
@@ -97,13 +96,13 @@ pub fn match_input(
     requires there { 0 < length buffer.now.ahead }
     requires fits { length (tests_of sequence.now) < 64 }
     ensures end { result
-        ≡ input_end (own_search (applied_of ctx.now) (cut_of buffer.now)) (tests_of sequence.now)
-        (cut_of buffer.now) }
+        ≡ input_end (own_search (applied_of ctx.now) (strip buffer.now.ahead)) (tests_of sequence.now)
+        (strip buffer.now.ahead) }
     ensures inside { IfOk result (λ end. end ≤ length buffer.now.ahead) }
     ensures read { IfErr result (λ end. end ≤ length buffer.now.ahead) }
     ensures positions { match_positions.new.items
-        ≡ input_indices (own_search (applied_of ctx.now) (cut_of buffer.now)) (tests_of sequence.now)
-        (cut_of buffer.now) }
+        ≡ input_indices (own_search (applied_of ctx.now) (strip buffer.now.ahead)) (tests_of sequence.now)
+        (strip buffer.now.ahead) }
     ensures ahead { All (λ q. q < length buffer.now.ahead) match_positions.new.items }
 {
     let search = ctx.own_search(buffer);
@@ -199,8 +198,8 @@ pub fn match_lookahead(
     requires there { 0 < length buffer.now.ahead }
     requires within { start ≤ length buffer.now.ahead }
     ensures end { result
-        ≡ lookahead_end (context_search (applied_of ctx.now) (cut_of buffer.now)) (tests_of sequence.now) start
-        (cut_of buffer.now) }
+        ≡ lookahead_end (context_search (applied_of ctx.now) (strip buffer.now.ahead)) (tests_of sequence.now) start
+        (strip buffer.now.ahead) }
     ensures inside { IfOk result (λ end. end ≤ length buffer.now.ahead) }
     ensures read { IfErr result (λ end. end ≤ length buffer.now.ahead) }
 {
@@ -217,8 +216,8 @@ pub fn match_backtrack(
 ) -> Result<usize, usize>
     requires { 0 < length buffer.now.ahead }
     ensures end { result
-        ≡ backtrack_end (context_search (applied_of ctx.now) (cut_of buffer.now)) (tests_of sequence.now)
-        (cut_of buffer.now) }
+        ≡ backtrack_end (context_search (applied_of ctx.now) (strip buffer.now.ahead)) (tests_of sequence.now)
+        (strip buffer.now.behind) }
     ensures inside { IfOk result (λ end. end ≤ length buffer.now.behind) }
     ensures read { IfErr result (λ end. end ≤ length buffer.now.behind) }
 {

@@ -1,6 +1,5 @@
 ghost use Rattle.std.specs.Prelude.{◌≡◌, ◌<◌, ◌≤◌, length, reverse, IfOk, if◌then◌else◌};
 ghost use Rattle.glyph_lists.specs.Items.{item_of, strip};
-ghost use Rattle.layout_rules.specs.Buffers.{cut_of};
 ghost use Rattle.layout_match.specs.Applied.{applied_of, context_search, own_search};
 ghost use Rattle.layout_match.specs.Searches.{search_of};
 ghost use Rattle.layout_match.specs.Matches.{nearest_from};
@@ -34,8 +33,8 @@ impl<'a> skipping_iterator_t<'a> {
     ) -> skipping_iterator_t<'a>
         requires { 0 < length buffer.now.ahead }
         ensures search { search_of result.search
-            ≡ (if context_match then context_search (applied_of ctx.now) (cut_of buffer.now)
-            else own_search (applied_of ctx.now) (cut_of buffer.now)) }
+            ≡ (if context_match then context_search (applied_of ctx.now) (strip buffer.now.ahead)
+            else own_search (applied_of ctx.now) (strip buffer.now.ahead)) }
         ensures start { (result.sequence ≡ None) × (result.glyph_data ≡ 0) × (result.index ≡ start) }
     {
         let search = if context_match {

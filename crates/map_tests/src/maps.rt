@@ -9,8 +9,10 @@ use layout_lookups::substitution::{SubstLookup, SubstitutionSubtables, Substitut
 use map_builder::builder::hb_ot_map_builder_t;
 use map_builder::features::feature_map_t;
 use map_builder::map::hb_ot_map_t;
+use map_features::flags::{F_GLOBAL_HAS_FALLBACK, F_HAS_FALLBACK};
 use map_features::lookup::lookup_map_t;
 use map_features::per_table::TableIndex;
+use map_stages::stages::StageMap;
 use shaping_text::tag::Tag;
 use std::alloc::{AllocError, Global};
 use std::test::Fail;
@@ -62,7 +64,7 @@ struct Case {
 }
 
 /// A required feature without a request runs in the first stage; a font of two tables.
-const REQUIRED: &Case = &Case {
+static REQUIRED: Case = Case {
     gsub: Some(Table {
         scripts: &[
             (b"DFLT", Some((Some(0), &[0])), &[]),
@@ -109,7 +111,7 @@ const REQUIRED: &Case = &Case {
 };
 
 /// Requests of one tag joined, and lookups that two features run.
-const JOINED: &Case = &Case {
+static JOINED: Case = Case {
     gsub: Some(Table {
         scripts: &[
             (b"DFLT", Some((Some(4), &[3, 3])), &[]),
@@ -181,7 +183,7 @@ const JOINED: &Case = &Case {
 };
 
 /// A feature found by the search in the whole list; features in the stage behind a pause.
-const SEARCHED: &Case = &Case {
+static SEARCHED: Case = Case {
     gsub: Some(Table {
         scripts: &[(
             b"DFLT",
@@ -254,7 +256,7 @@ const SEARCHED: &Case = &Case {
 };
 
 /// A required feature whose request is dropped for want of bits.
-const FULL: &Case = &Case {
+static FULL: Case = Case {
     gsub: Some(Table {
         scripts: &[(
             b"DFLT",
@@ -348,44 +350,81 @@ const FULL: &Case = &Case {
     },
 };
 
-fn lang_sys(alloc: Global, (required, features): System) -> Result<LangSys, AllocError> {
-    Ok(LangSys::new(required, features.to_vec(alloc)?))
+fn cases() -> [&'static Case; 4] {
+    [&REQUIRED, &JOINED, &SEARCHED, &FULL]
 }
 
-fn script(
+fn lang_sys(alloc: Global, system: &System) -> Result<LangSys, AllocError> {
+    let features = system.1.to_vec(alloc)?;
+    Ok(LangSys::new(system.0, features))
+}
+
+fn default_system(alloc: Global, system: &Option<System>) -> Result<Option<LangSys>, AllocError> {
+    match system {
+        Some(system) => Ok(Some(lang_sys(alloc, system)?)),
+        None => Ok(None),
+    }
+}
+
+fn system_records(
     alloc: Global,
-    (tag, default, systems): Script,
-) -> Result<Option<ScriptRecord>, AllocError> {
+    systems: &[(Text, System)],
+) -> Result<Vec<LangSysRecord>, AllocError> {
     let mut records = Vec::new(alloc);
     for (tag, system) in systems {
-        records.push(LangSysRecord::new(Tag::from_bytes(tag), lang_sys(alloc, *system)?))?;
+        let system = lang_sys(alloc, system)?;
+        records.push(LangSysRecord::new(Tag::from_bytes(tag), system))?;
     }
-    let default = match default {
-        Some(system) => Some(lang_sys(alloc, system)?),
-        None => None,
-    };
+    Ok(records)
+}
+
+/// A script whose systems are in order.
+fn script(alloc: Global, script: &Script) -> Result<Option<ScriptRecord>, AllocError> {
+    let default = default_system(alloc, &script.1)?;
+    let records = system_records(alloc, script.2)?;
     if !is_rising(&records) {
         return Ok(None);
     }
-    Ok(Some(ScriptRecord::new(Tag::from_bytes(tag), default, records)))
+    Ok(Some(ScriptRecord::new(Tag::from_bytes(script.0), default, records)))
 }
 
-fn layout_table(alloc: Global, table: &Table) -> Result<Option<LayoutTable>, AllocError> {
+fn scripts(alloc: Global, table: &Table) -> Result<Vec<ScriptRecord>, AllocError> {
     let mut scripts = Vec::new(alloc);
     for row in table.scripts {
-        let Some(record) = script(alloc, *row)? else {
-            return Ok(None);
-        };
-        scripts.push(record)?;
+        if let Some(record) = script(alloc, row)? {
+            scripts.push(record)?;
+        }
     }
+    Ok(scripts)
+}
+
+fn features(alloc: Global, table: &Table) -> Result<Vec<FeatureRecord>, AllocError> {
     let mut features = Vec::new(alloc);
     for (tag, lookups) in table.features {
         features.push(FeatureRecord::new(Tag::from_bytes(tag), lookups.to_vec(alloc)?))?;
     }
+    Ok(features)
+}
+
+fn layout_table(alloc: Global, table: &Table) -> Result<LayoutTable, AllocError> {
+    let scripts = scripts(alloc, table)?;
+    let features = features(alloc, table)?;
     if !is_rising(&scripts) {
-        return Ok(None);
+        return Ok(LayoutTable::new(Vec::new(alloc), features));
     }
-    Ok(Some(LayoutTable::new(scripts, features)))
+    Ok(LayoutTable::new(scripts, features))
+}
+
+fn substitution_lookups(alloc: Global, count: usize) -> Result<Vec<SubstLookup>, AllocError> {
+    let mut lookups = Vec::new(alloc);
+    for _ in 0..count {
+        lookups.push(SubstLookup {
+            flags: 0,
+            mark_filtering_set: None,
+            subtables: SubstitutionSubtables::Single(Array::new(Vec::new(alloc))),
+        })?;
+    }
+    Ok(lookups)
 }
 
 fn substitution_table(
@@ -395,21 +434,24 @@ fn substitution_table(
     let Some(table) = table else {
         return Ok(None);
     };
-    let Some(inner) = layout_table(alloc, table)? else {
-        return Ok(None);
-    };
-    let mut lookups = Vec::new(alloc);
-    for _ in 0..table.lookups {
-        lookups.push(SubstLookup {
-            flags: 0,
-            mark_filtering_set: None,
-            subtables: SubstitutionSubtables::Single(Array::new(Vec::new(alloc))),
-        })?;
-    }
+    let inner = layout_table(alloc, table)?;
+    let lookups = substitution_lookups(alloc, table.lookups)?;
     Ok(Some(SubstitutionTable {
         inner,
         lookups: Array::new(lookups),
     }))
+}
+
+fn positioning_lookups(alloc: Global, count: usize) -> Result<Vec<PositioningLookup>, AllocError> {
+    let mut lookups = Vec::new(alloc);
+    for _ in 0..count {
+        lookups.push(PositioningLookup {
+            flags: 0,
+            mark_filtering_set: None,
+            subtables: PositioningSubtables::Single(Array::new(Vec::new(alloc))),
+        })?;
+    }
+    Ok(lookups)
 }
 
 fn positioning_table(
@@ -419,17 +461,8 @@ fn positioning_table(
     let Some(table) = table else {
         return Ok(None);
     };
-    let Some(inner) = layout_table(alloc, table)? else {
-        return Ok(None);
-    };
-    let mut lookups = Vec::new(alloc);
-    for _ in 0..table.lookups {
-        lookups.push(PositioningLookup {
-            flags: 0,
-            mark_filtering_set: None,
-            subtables: PositioningSubtables::Single(Array::new(Vec::new(alloc))),
-        })?;
-    }
+    let inner = layout_table(alloc, table)?;
+    let lookups = positioning_lookups(alloc, table.lookups)?;
     Ok(Some(PositioningTable {
         inner,
         lookups: Array::new(lookups),
@@ -469,89 +502,119 @@ fn asked_builder<'a>(
     Ok(builder)
 }
 
-fn kept(feature: &feature_map_t) -> (Tag, [Option<u16>; 2], [usize; 2], [u32; 3], Ways) {
-    (
-        feature.tag,
-        [feature.index.gsub, feature.index.gpos],
-        [feature.stage.gsub, feature.stage.gpos],
-        [feature.shift, feature.mask, feature.one_mask],
-        [
-            feature.auto_zwnj,
-            feature.auto_zwj,
-            feature.random,
-            feature.per_syllable,
-        ],
-    )
+fn is_feature(feature: &feature_map_t, wanted: &Kept) -> bool {
+    let (text, index, stage, bits, ways) = wanted;
+    feature.tag == Tag::from_bytes(text)
+        && feature.index.gsub == index[0]
+        && feature.index.gpos == index[1]
+        && feature.stage.gsub == stage[0]
+        && feature.stage.gpos == stage[1]
+        && feature.shift == bits[0]
+        && feature.mask == bits[1]
+        && feature.one_mask == bits[2]
+        && feature.auto_zwnj == ways[0]
+        && feature.auto_zwj == ways[1]
+        && feature.random == ways[2]
+        && feature.per_syllable == ways[3]
 }
 
-fn has_features(map: &hb_ot_map_t, features: &[Kept]) -> bool {
-    map.features().len() == features.len()
-        && map.features().iter().zip(features).all(|(feature, (text, index, stage, bits, ways))| {
-            kept(feature) == (Tag::from_bytes(text), *index, *stage, *bits, *ways)
-        })
-}
-
-fn finds_features(map: &hb_ot_map_t, features: &[Kept]) -> bool {
-    features.iter().all(|(text, index, stage, bits, _)| {
-        let tag = Tag::from_bytes(text);
-        map.get_mask(tag) == (bits[1], bits[0])
-            && map.get_1_mask(tag) == bits[2]
-            && map.get_feature_index(TableIndex::GSUB, tag) == index[0]
-            && map.get_feature_index(TableIndex::GPOS, tag) == index[1]
-            && map.get_feature_stage(TableIndex::GSUB, tag) == Some(stage[0])
-            && map.get_feature_stage(TableIndex::GPOS, tag) == Some(stage[1])
-    })
-}
-
-fn runs(lookup: &lookup_map_t) -> Run {
-    let ways = [
-        lookup.auto_zwnj,
-        lookup.auto_zwj,
-        lookup.random,
-        lookup.per_syllable,
-    ];
-    (lookup.index, lookup.mask, ways)
-}
-
-fn is_stage(lookups: &[lookup_map_t], wanted: &[Run]) -> bool {
-    lookups.len() == wanted.len()
-        && lookups
-            .iter()
-            .zip(wanted)
-            .all(|(lookup, wanted)| runs(lookup) == *wanted)
-}
-
-fn has_stages(map: &hb_ot_map_t, table: TableIndex, wanted: &[&[Run]]) -> bool {
-    if map.stages(table).len() != wanted.len() {
-        return false;
+fn has_features(map: &hb_ot_map_t, wanted: &[Kept]) -> bool {
+    for (i, wanted) in wanted.iter().enumerate() {
+        match map.features().get(i) {
+            Some(feature) if is_feature(feature, wanted) => {}
+            _ => return false,
+        }
     }
-    for (stage, wanted) in wanted.iter().enumerate() {
-        if stage >= map.stages(table).len() || !is_stage(map.stage_lookups(table, stage), wanted) {
+    map.features().len() == wanted.len()
+}
+
+fn finds_feature(map: &hb_ot_map_t, wanted: &Kept) -> bool {
+    let (text, index, stage, bits, _) = wanted;
+    let tag = Tag::from_bytes(text);
+    let (mask, shift) = map.get_mask(tag);
+    shift == bits[0]
+        && mask == bits[1]
+        && map.get_1_mask(tag) == bits[2]
+        && map.get_feature_index(TableIndex::GSUB, tag) == index[0]
+        && map.get_feature_index(TableIndex::GPOS, tag) == index[1]
+        && map.get_feature_stage(TableIndex::GSUB, tag) == Some(stage[0])
+        && map.get_feature_stage(TableIndex::GPOS, tag) == Some(stage[1])
+}
+
+fn finds_features(map: &hb_ot_map_t, wanted: &[Kept]) -> bool {
+    for wanted in wanted {
+        if !finds_feature(map, wanted) {
             return false;
         }
     }
     true
 }
 
-fn has_table(
-    builder: &hb_ot_map_builder_t,
-    map: &hb_ot_map_t,
-    table: TableIndex,
-    wanted: &Wanted,
-) -> bool {
-    let chosen = wanted.chosen.map(|text| Tag::from_bytes(text));
+fn is_run(lookup: &lookup_map_t, wanted: &Run) -> bool {
+    let (index, mask, ways) = wanted;
+    lookup.index == *index
+        && lookup.mask == *mask
+        && lookup.auto_zwnj == ways[0]
+        && lookup.auto_zwj == ways[1]
+        && lookup.random == ways[2]
+        && lookup.per_syllable == ways[3]
+}
+
+fn is_stage(lookups: &[lookup_map_t], wanted: &[Run]) -> bool {
+    for (i, wanted) in wanted.iter().enumerate() {
+        match lookups.get(i) {
+            Some(lookup) if is_run(lookup, wanted) => {}
+            _ => return false,
+        }
+    }
+    lookups.len() == wanted.len()
+}
+
+fn has_stages(map: &hb_ot_map_t, table: TableIndex, wanted: &[&[Run]]) -> bool {
+    for (stage, wanted) in wanted.iter().enumerate() {
+        if stage >= map.stages(table).len() || !is_stage(map.stage_lookups(table, stage), wanted) {
+            return false;
+        }
+    }
+    map.stages(table).len() == wanted.len()
+}
+
+fn is_script(chosen: Option<Tag>, wanted: &Wanted) -> bool {
+    match (chosen, wanted.chosen) {
+        (Some(tag), Some(text)) => tag == Tag::from_bytes(text),
+        (None, None) => true,
+        _ => false,
+    }
+}
+
+fn has_table(map: &hb_ot_map_t, table: TableIndex, wanted: &Wanted) -> bool {
     map.found_script(table) == wanted.found
-        && map.chosen_script(table) == chosen
-        && builder.chosen_script(table) == chosen
+        && is_script(map.chosen_script(table), wanted)
         && has_stages(map, table, wanted.stages)
 }
 
-fn is_as_wanted(builder: &hb_ot_map_builder_t, map: &hb_ot_map_t, case: &Case) -> bool {
+fn is_as_wanted(map: &hb_ot_map_t, case: &Case) -> bool {
     map.get_global_mask() == case.global_mask
-        && has_table(builder, map, TableIndex::GSUB, &case.wanted_gsub)
-        && has_table(builder, map, TableIndex::GPOS, &case.wanted_gpos)
+        && has_table(map, TableIndex::GSUB, &case.wanted_gsub)
+        && has_table(map, TableIndex::GPOS, &case.wanted_gpos)
         && has_features(map, case.features)
         && finds_features(map, case.features)
+}
+
+/// A language system has each feature that a table has, since none of the cases finds one by a search alone.
+fn has_found(builder: &hb_ot_map_builder_t, wanted: &[Kept]) -> bool {
+    for (text, index, _, _, _) in wanted {
+        let is_found = index[0].is_some() || index[1].is_some();
+        if builder.has_feature(Tag::from_bytes(text)) != is_found {
+            return false;
+        }
+    }
+    true
+}
+
+fn chooses_scripts(builder: &hb_ot_map_builder_t, case: &Case) -> bool {
+    is_script(builder.chosen_script(TableIndex::GSUB), &case.wanted_gsub)
+        && is_script(builder.chosen_script(TableIndex::GPOS), &case.wanted_gpos)
 }
 
 fn is_mapped(alloc: Global, case: &Case) -> Result<bool, AllocError> {
@@ -559,50 +622,44 @@ fn is_mapped(alloc: Global, case: &Case) -> Result<bool, AllocError> {
     let gpos = positioning_table(alloc, &case.gpos)?;
     let builder = asked_builder(alloc, case, gsub.as_ref(), gpos.as_ref())?;
     let map = builder.compile(alloc)?;
-    Ok(is_as_wanted(&builder, &map, case))
+    Ok(
+        chooses_scripts(&builder, case)
+            && has_found(&builder, case.features)
+            && is_as_wanted(&map, case),
+    )
 }
 
 #[test]
-fn required_features_run_first(rt: HostRuntime) -> Result<(), Fail> {
-    assert!(rt; is_mapped(rt.alloc(), REQUIRED)?);
+fn requests_become_maps(rt: HostRuntime) -> Result<(), Fail> {
+    for (i, case) in cases().iter().enumerate() {
+        assert!(rt; is_mapped(rt.alloc(), case)?, "case {i}");
+    }
     Ok(())
 }
 
-#[test]
-fn lookups_of_two_features_run_once(rt: HostRuntime) -> Result<(), Fail> {
-    assert!(rt; is_mapped(rt.alloc(), JOINED)?);
-    Ok(())
+/// A map without a font, in whose positioning the pause 3 comes before the feature `kern`.
+fn paused_map(alloc: Global) -> Result<hb_ot_map_t, AllocError> {
+    let mut builder = hb_ot_map_builder_t::new(alloc, None, None, &[], &[]);
+    builder.add_gpos_pause(3)?;
+    builder.enable_feature(Tag::from_bytes(b"kern"), F_HAS_FALLBACK, 1)?;
+    builder.disable_feature(Tag::from_bytes(b"liga"))?;
+    builder.add_feature(Tag(0), F_GLOBAL_HAS_FALLBACK, 1)?;
+    builder.compile(alloc)
 }
 
-#[test]
-fn features_are_searched_for(rt: HostRuntime) -> Result<(), Fail> {
-    assert!(rt; is_mapped(rt.alloc(), SEARCHED)?);
-    Ok(())
-}
-
-#[test]
-fn bits_run_out(rt: HostRuntime) -> Result<(), Fail> {
-    assert!(rt; is_mapped(rt.alloc(), FULL)?);
-    Ok(())
+fn is_paused(stages: &[StageMap]) -> bool {
+    match stages {
+        [first, last] => first.pause == Some(3) && last.pause.is_none(),
+        _ => false,
+    }
 }
 
 #[test]
 fn pauses_end_stages(rt: HostRuntime) -> Result<(), Fail> {
-    let alloc = rt.alloc();
-    let mut builder = hb_ot_map_builder_t::new(alloc, None, None, &[], &[]);
+    let map = paused_map(rt.alloc())?;
     let kern = Tag::from_bytes(b"kern");
-    builder.add_gpos_pause(3)?;
-    builder.enable_feature(kern, 2, 1)?;
-    builder.disable_feature(Tag::from_bytes(b"liga"))?;
-    builder.add_feature(Tag(0), 3, 1)?;
-    assert!(rt; !builder.has_feature(kern));
-    let map = builder.compile(alloc)?;
-    assert_eq!(rt; map.get_feature_stage(TableIndex::GPOS, kern), Some(1));
-    assert_eq!(rt; map.get_mask(Tag(0)), (0, 0));
-    let pauses = [Some(3), None];
-    assert_eq!(rt; map.stages(TableIndex::GPOS).len(), 2);
-    for (stage, pause) in map.stages(TableIndex::GPOS).iter().zip(pauses) {
-        assert_eq!(rt; stage.pause, pause);
-    }
+    assert!(rt; is_paused(map.stages(TableIndex::GPOS)));
+    assert!(rt; map.get_feature_stage(TableIndex::GPOS, kern) == Some(1));
+    assert!(rt; map.features().len() == 1);
     Ok(())
 }

@@ -1,10 +1,15 @@
 //! Requests that are merged, the bits that features get, and lookups that several features run.
-use map_features::kept::kept_fields;
+use map_features::field::GLOBAL_BIT;
+use map_features::flags::{
+    F_GLOBAL, F_HAS_FALLBACK, F_MANUAL_ZWJ, F_MANUAL_ZWNJ, F_PER_SYLLABLE, F_RANDOM,
+};
+use map_features::kept::{KeptField, kept_fields};
 use map_features::lookup::lookup_map_t;
 use map_features::merge::{merged_lookups, merged_requests};
 use map_features::per_table::PerTable;
-use map_features::request::FeatureRequest;
+use map_features::request::{FeatureRequest, MergedRequest};
 use shaping_text::tag::Tag;
+use std::alloc::{AllocError, Global};
 use std::test::Fail;
 
 /// Tag, flags, value, stage of substitution.
@@ -13,7 +18,10 @@ type Asked = (&'static [u8; 4], u32, u32, usize);
 /// Tag, lowest bit, mask, mask of value 1, stage of substitution.
 type Kept = (&'static [u8; 4], u32, u32, u32, usize);
 
-const CASES: [(&[Asked], &[Kept], u32); 12] = [
+/// Requests, the fields that they get, and the mask of all glyphs.
+type Case = (&'static [Asked], &'static [Kept], u32);
+
+static CASES: [Case; 12] = [
     (
         &[(b"vert", 3, 256, 0)],
         &[(b"vert", 4, 0xff0, 0x10, 0)],
@@ -175,83 +183,142 @@ const CASES: [(&[Asked], &[Kept], u32); 12] = [
     ),
 ];
 
-fn request((tag, flags, value, stage): Asked) -> FeatureRequest {
+fn cases() -> &'static [Case] {
+    &CASES
+}
+
+fn request(asked: &Asked) -> FeatureRequest {
     FeatureRequest {
-        tag: Tag::from_bytes(tag),
-        flags,
-        value,
+        tag: Tag::from_bytes(asked.0),
+        flags: asked.1,
+        value: asked.2,
         stage: PerTable {
-            gsub: stage,
+            gsub: asked.3,
             gpos: 0,
         },
     }
 }
 
+fn requests(alloc: Global, asked: &[Asked]) -> Result<Vec<FeatureRequest>, AllocError> {
+    let mut requests = Vec::new(alloc);
+    for one in asked {
+        requests.push(request(one))?;
+    }
+    Ok(requests)
+}
+
 #[tactic(auto, using(map_features::specs::Rising::requests_rise))]
+fn kept_of(alloc: Global, requests: &[FeatureRequest]) -> Result<Vec<KeptField>, AllocError> {
+    let merged = merged_requests(alloc, requests)?;
+    kept_fields(alloc, &merged)
+}
+
+fn is_kept(kept: &KeptField, wanted: &Kept) -> bool {
+    kept.request.tag == Tag::from_bytes(wanted.0)
+        && kept.field.shift == wanted.1
+        && kept.field.mask == wanted.2
+        && kept.field.one_mask == wanted.3
+        && kept.request.stage.gsub == wanted.4
+}
+
+fn are_kept(kept: &[KeptField], wanted: &[Kept]) -> bool {
+    for (i, wanted) in wanted.iter().enumerate() {
+        match kept.get(i) {
+            Some(kept) if is_kept(kept, wanted) => {}
+            _ => return false,
+        }
+    }
+    kept.len() == wanted.len()
+}
+
+fn global_mask(kept: &[KeptField]) -> u32 {
+    let mut mask = GLOBAL_BIT;
+    for kept in kept {
+        mask |= kept.field.default_mask;
+    }
+    mask
+}
+
+fn are_merged(alloc: Global, case: &Case) -> Result<bool, AllocError> {
+    let requests = requests(alloc, case.0)?;
+    let kept = kept_of(alloc, &requests)?;
+    Ok(are_kept(&kept, case.1) && global_mask(&kept) == case.2)
+}
+
 #[test]
 fn requests_are_merged_and_get_bits(rt: HostRuntime) -> Result<(), Fail> {
-    for (asked, wanted, global) in CASES {
-        let mut requests = Vec::new(rt.alloc());
-        for one in asked {
-            requests.push(request(*one))?;
-        }
-        let merged = merged_requests(rt.alloc(), &requests)?;
-        let kept = kept_fields(rt.alloc(), &merged)?;
-        assert_eq!(rt; kept.len(), wanted.len());
-        let mut mask = 1 << 31;
-        for (kept, (tag, shift, bits, one, stage)) in kept.iter().zip(wanted) {
-            assert_eq!(rt; kept.request.tag, Tag::from_bytes(tag));
-            assert_eq!(rt; kept.field.shift, *shift);
-            assert_eq!(rt; kept.field.mask, *bits);
-            assert_eq!(rt; kept.field.one_mask, *one);
-            assert_eq!(rt; kept.request.stage.gsub, *stage);
-            mask |= kept.field.default_mask;
-        }
-        assert_eq!(rt; mask, global);
+    for (i, case) in cases().iter().enumerate() {
+        assert!(rt; are_merged(rt.alloc(), case)?, "case {i}");
     }
     Ok(())
+}
+
+/// The flags of a request joined from two.
+fn are_flags_joined(request: &MergedRequest) -> bool {
+    request.is_global
+        && request.has_fallback
+        && request.random
+        && !request.auto_zwnj
+        && request.auto_zwj
+        && !request.per_syllable
 }
 
 #[test]
 fn flags_are_those_of_the_first(rt: HostRuntime) -> Result<(), Fail> {
     let asked = [
-        request((b"liga", 4 + 32, 1, 0)),
-        request((b"liga", 1 + 2 + 8 + 64, 1, 1)),
+        request(&(b"liga", F_MANUAL_ZWNJ + F_RANDOM, 1, 0)),
+        request(&(
+            b"liga",
+            F_GLOBAL + F_HAS_FALLBACK + F_MANUAL_ZWJ + F_PER_SYLLABLE,
+            1,
+            1,
+        )),
     ];
-    let merged = merged_requests(rt.alloc(), &asked)?;
-    for request in &merged {
-        assert!(rt; request.is_global && request.has_fallback && request.random);
-        assert!(rt; !request.auto_zwnj && request.auto_zwj && !request.per_syllable);
+    match merged_requests(rt.alloc(), &asked)?.as_slice() {
+        [request] => assert!(rt; are_flags_joined(request)),
+        _ => assert!(rt; false, "one request"),
     }
-    assert_eq!(rt; merged.len(), 1);
     Ok(())
 }
 
-fn lookup(index: u16, mask: u32, auto_zwnj: bool, random: bool) -> lookup_map_t {
+/// Index, mask, whether ZWNJ is passed over, random.
+type Use = (u16, u32, bool, bool);
+
+fn lookup(run: &Use) -> lookup_map_t {
     lookup_map_t {
-        index,
-        mask,
-        auto_zwnj,
+        index: run.0,
+        mask: run.1,
+        auto_zwnj: run.2,
         auto_zwj: true,
-        random,
+        random: run.3,
         per_syllable: false,
     }
+}
+
+fn is_used(lookup: &lookup_map_t, wanted: &Use) -> bool {
+    lookup.index == wanted.0
+        && lookup.mask == wanted.1
+        && lookup.auto_zwnj == wanted.2
+        && lookup.auto_zwj
+        && lookup.random == wanted.3
+        && !lookup.per_syllable
 }
 
 #[test]
 fn one_lookup_stands_once(rt: HostRuntime) -> Result<(), Fail> {
     let uses = [
-        lookup(3, 16, true, false),
-        lookup(1, 32, true, true),
-        lookup(9, 64, true, true),
-        lookup(3, 64, false, true),
-        lookup(1, 1 << 31, true, false),
+        lookup(&(3, 16, true, false)),
+        lookup(&(1, 32, true, true)),
+        lookup(&(9, 64, true, true)),
+        lookup(&(3, 64, false, true)),
+        lookup(&(1, GLOBAL_BIT, true, false)),
     ];
-    let wanted = [
-        lookup(1, (1 << 31) + 32, true, true),
-        lookup(3, 80, false, false),
-    ];
-    let merged = merged_lookups(rt.alloc(), 9, &uses)?;
-    assert_eq!(rt; merged.as_slice(), wanted.as_slice());
+    match merged_lookups(rt.alloc(), 9, &uses)?.as_slice() {
+        [first, second] => {
+            assert!(rt; is_used(first, &(1, GLOBAL_BIT + 32, true, true)));
+            assert!(rt; is_used(second, &(3, 80, false, false)));
+        }
+        _ => assert!(rt; false, "two lookups"),
+    }
     Ok(())
 }
