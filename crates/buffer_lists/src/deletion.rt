@@ -1,28 +1,31 @@
-ghost use Rattle.std.specs.Prelude.{◌≡◌, ◌<◌, ◌++◌, true, false, length, drop};
+ghost use Rattle.std.specs.Prelude.{◌<◌, ◌++◌, false, length, drop};
 ghost use Rattle.glyph_types.specs.declared.level.BufferClusterLevel.{BufferClusterLevel as Level};
 ghost use Rattle.glyph_lists.specs.Items.{clusters};
-ghost use Rattle.glyph_lists.specs.Order.{IsOrdered};
 ghost use Rattle.glyph_clusters.specs.Deleting.{Deletes};
+ghost use Rattle.buffer_lists.specs.Known.{HasOrder};
 
+use crate::order::KnownOrder;
 use glyph_clusters::deletion::{delete_at_front, next_has, recast_end};
 use glyph_clusters::runs::last_cluster;
 use glyph_types::info::hb_glyph_info_t;
 use glyph_types::level::BufferClusterLevel;
 
 /// The first glyph of the input goes, from behind the output; answers whether another was marked. What stands in its place
-/// has no meaning.
+/// has no meaning. What is known of the order stays known.
+#[tactic(auto, using(crate::proofs::Ordered::known_ordered))]
 pub fn delete_first(
     output: &mut [hb_glyph_info_t],
     input: &mut [hb_glyph_info_t],
     level: BufferClusterLevel,
-    in_order: bool,
+    known: KnownOrder,
 ) -> bool
     requires some { 0 < length input.old }
-    requires known { in_order ≡ true → IsOrdered (clusters output.old ++ clusters input.old) }
-    ensures { Deletes level output.old input.old output.new (drop 1 input.new) result }
+    requires known { HasOrder known (clusters output.old ++ clusters input.old) }
+    ensures deleted { Deletes level output.old input.old output.new (drop 1 input.new) result }
+    ensures order { HasOrder known (clusters output.new ++ clusters (drop 1 input.new)) }
 {
     if output.is_empty() {
-        return delete_at_front(input, 0, level, in_order);
+        return delete_at_front(input, 0, level, known.is_known());
     }
     delete_behind(output, input);
     false

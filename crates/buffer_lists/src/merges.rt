@@ -1,34 +1,40 @@
 ghost use Rattle.std.specs.Prelude.{◌≡◌, ◌≤◌, ◌++◌, true, length};
 ghost use Rattle.glyph_lists.specs.Items.{clusters};
+ghost use Rattle.glyph_lists.specs.Levels.{InOutput, manner};
 ghost use Rattle.glyph_lists.specs.Parts.{stretch};
 ghost use Rattle.glyph_lists.specs.Order.{IsOrdered};
-ghost use Rattle.glyph_lists.specs.Glyphs.{beside_merged, glyphs_merged, glyphs_merged_at, is_marked_at};
+ghost use Rattle.glyph_lists.specs.Glyphs.{beside_merged, beside_merged_as, glyphs_merged, glyphs_merged_as, glyphs_merged_at, is_marked_at};
+ghost use Rattle.buffer_lists.specs.Known.{HasOrder};
 
+use crate::order::KnownOrder;
 use glyph_clusters::ranges::merge_range;
 use glyph_clusters::runs::{merge_after, merge_beside, merge_within};
 use glyph_types::info::hb_glyph_info_t;
 use glyph_types::level::BufferClusterLevel;
 
-/// Merges a range of the input on both lists; answers whether a glyph was marked. Where clusters are in no order each glyph
-/// is compared with the range.
-#[tactic(auto, using(glyph_lists::specs::Lemmas::Glyphs::stretch_is, crate::proofs::Ranges::range_known, crate::proofs::Ranges::ahead_known))]
+/// Merges a range of the input on both lists; answers whether a glyph was marked, and what is known of the order after it.
+/// Where clusters are in no order each glyph is compared with the range.
+#[tactic(auto, using(glyph_lists::specs::Lemmas::Glyphs::stretch_is, crate::proofs::Ranges::range_known, crate::proofs::Ranges::ahead_known, crate::proofs::Ordered::known_ordered, crate::proofs::Ordered::order_merged))]
 pub fn merge_input(
     output: &mut [hb_glyph_info_t],
     input: &mut [hb_glyph_info_t],
     start: usize,
     end: usize,
     level: BufferClusterLevel,
-    in_order: bool,
-) -> bool
+    known: KnownOrder,
+) -> (bool, KnownOrder)
     requires ordered { start ≤ end }
     requires within { end ≤ length input.old }
-    requires known { in_order ≡ true → IsOrdered (clusters output.old ++ clusters input.old) }
+    requires known { HasOrder known (clusters output.old ++ clusters input.old) }
     ensures input { input.new ≡ glyphs_merged_at level start end input.old }
     ensures output { output.new ≡ beside_merged level (stretch start end (clusters input.old)) output.old }
-    ensures any { result ≡ is_marked_at level start end (clusters input.old) }
+    ensures any { result.0 ≡ is_marked_at level start end (clusters input.old) }
+    ensures order { HasOrder result.1 (clusters output.new ++ clusters input.new) }
 {
+    let in_order = known.is_known();
     merge_beside_range(output, &input[start..end], level, in_order);
-    merge_range(input, level, start, end, in_order)
+    let marked = merge_range(input, level, start, end, in_order);
+    (marked, known.merged(level, output, input))
 }
 
 /// What a merge of a range leaves of the glyphs before it.
@@ -49,9 +55,37 @@ fn merge_beside_range(
     }
 }
 
-/// Merges a range of the output on both lists. Where clusters are in no order each glyph is compared with the range.
-#[tactic(auto, using(glyph_lists::specs::Lemmas::Glyphs::stretch_is, crate::proofs::Ranges::range_ordered, crate::proofs::Ranges::front_ordered))]
+/// Merges a range of the output on both lists, at the level that keeps characters apart nothing at all; answers what is known
+/// of the order after it. Where clusters are in no order each glyph is compared with the range.
+#[tactic(auto, using(crate::proofs::Ordered::known_ordered))]
 pub fn merge_output(
+    output: &mut [hb_glyph_info_t],
+    input: &mut [hb_glyph_info_t],
+    start: usize,
+    end: usize,
+    level: BufferClusterLevel,
+    known: KnownOrder,
+) -> KnownOrder
+    requires ordered { start ≤ end }
+    requires within { end ≤ length output.old }
+    requires known { HasOrder known (clusters output.old ++ clusters input.old) }
+    ensures output { output.new ≡ glyphs_merged_as (manner InOutput level) start end output.old }
+    ensures input { input.new
+        ≡ beside_merged_as (manner InOutput level) (stretch start end (clusters output.old)) input.old }
+    ensures order { HasOrder result (clusters output.new ++ clusters input.new) }
+{
+    match level {
+        BufferClusterLevel::Characters => known,
+        BufferClusterLevel::MonotoneGraphemes | BufferClusterLevel::MonotoneCharacters => {
+            unite_output(output, input, start, end, known.is_known());
+            known.walked(output, input)
+        }
+    }
+}
+
+/// The clusters of a range of the output become the least of them on both lists.
+#[tactic(auto, using(glyph_lists::specs::Lemmas::Glyphs::stretch_is, crate::proofs::Ranges::range_ordered, crate::proofs::Ranges::front_ordered))]
+fn unite_output(
     output: &mut [hb_glyph_info_t],
     input: &mut [hb_glyph_info_t],
     start: usize,

@@ -4,6 +4,7 @@ ghost use Rattle.glyph_lists.specs.Order.{IsFalling, IsInOrder, IsRising};
 ghost use Rattle.buffer_lists.specs.Known.{HasOrder, IsFallingTo, IsRisingTo, is_known, put_back_ahead, put_back_behind};
 
 use glyph_types::info::hb_glyph_info_t;
+use glyph_types::level::BufferClusterLevel;
 
 /// What is known of the order of the clusters of all glyphs.
 #[derive(Clone, Copy, PartialEq, Eq, Debug)]
@@ -185,6 +186,24 @@ impl KnownOrder {
         match self {
             KnownOrder::Unknown => order_of(output, input),
             KnownOrder::Rising | KnownOrder::Falling => self,
+        }
+    }
+
+    /// What is known once a range of two lists has been merged. Where clusters are kept apart the lists are not walked.
+    pub fn merged(
+        self,
+        level: BufferClusterLevel,
+        output: &[hb_glyph_info_t],
+        input: &[hb_glyph_info_t],
+    ) -> KnownOrder
+        ensures { HasOrder self (clusters output.now ++ clusters input.now) →
+            HasOrder result (clusters output.now ++ clusters input.now) }
+    {
+        match level {
+            BufferClusterLevel::Characters => self,
+            BufferClusterLevel::MonotoneGraphemes | BufferClusterLevel::MonotoneCharacters => {
+                self.walked(output, input)
+            }
         }
     }
 }

@@ -1,14 +1,49 @@
-ghost use Rattle.std.specs.Prelude.{◌≡◌, ◌+◌, ◌≤◌, ◌++◌, length, map, vec_len, vec_capacity};
-ghost use Rattle.glyph_lists.specs.Parts.{first_of, last_of, or};
-ghost use Rattle.glyph_lists.specs.Replacements.{copied, glyph_numbered};
+ghost use Rattle.std.specs.Prelude.{◌≡◌, ◌+◌, ◌≤◌, ◌++◌, ℕ, length, map, drop, vec_len, vec_capacity};
+ghost use Rattle.glyph_lists.specs.Items.{clusters};
+ghost use Rattle.glyph_lists.specs.Parts.{first_of, last_of, or, stretch};
+ghost use Rattle.glyph_lists.specs.Glyphs.{beside_merged, glyphs_merged_at, is_marked_at};
+ghost use Rattle.glyph_lists.specs.Replacements.{glyph_numbered};
+ghost use Rattle.buffer_lists.specs.declared.order.KnownOrder.{KnownOrder as Order};
+ghost use Rattle.buffer_lists.specs.Copies.{with_copies};
+ghost use Rattle.buffer_lists.specs.Known.{HasOrder};
 
+use crate::merges::merge_input;
+use crate::order::KnownOrder;
 use glyph_types::info::hb_glyph_info_t;
+use glyph_types::level::BufferClusterLevel;
 
-/// Puts copies of the first glyph of the input, past its end of the output's last, behind the output, one for each number.
+/// Merges the first `count` glyphs of the input on both lists, and puts a copy of the input's first behind the output for each
+/// of the numbers; answers whether a glyph was marked, and what is known of the order once the `count` glyphs are gone.
+pub fn replace_first(
+    output: &mut Vec<hb_glyph_info_t>,
+    input: &mut [hb_glyph_info_t],
+    count: usize,
+    numbers: &[u32],
+    level: BufferClusterLevel,
+    known: KnownOrder,
+) -> (bool, KnownOrder)
+    requires within { count ≤ length input.old }
+    requires room { vec_len output.old + length numbers.now ≤ vec_capacity output.old }
+    requires known { HasOrder known (clusters output.old.items ++ clusters input.old) }
+    ensures input { input.new ≡ glyphs_merged_at level 0 count input.old }
+    ensures output { output.new.items ≡ with_copies numbers.now input.new
+        (beside_merged level (stretch 0 count (clusters input.old)) output.old.items) }
+    ensures any { result.0 ≡ is_marked_at level 0 count (clusters input.old) }
+    ensures order { HasOrder result.1 (clusters output.new.items ++ clusters (drop count input.new)) }
+{
+    let (marked, known) = merge_input(output, input, 0, count, level, known);
+    push_copies(output, input, numbers);
+    (marked, known)
+}
+
+/// Puts copies of the first glyph of the input, past its end of the output's last, behind the output, one for each number. They
+/// stand in order, also where glyphs of the input go.
+#[tactic(auto, using(crate::proofs::Ordered::order_copied))]
 pub fn push_copies(output: &mut Vec<hb_glyph_info_t>, input: &[hb_glyph_info_t], numbers: &[u32])
     requires { vec_len output.old + length numbers.now ≤ vec_capacity output.old }
-    ensures { output.new.items
-        ≡ output.old.items ++ copied glyph_numbered (or (first_of input.now) (last_of output.old.items)) numbers.now }
+    ensures copied { output.new.items ≡ with_copies numbers.now input.now output.old.items }
+    ensures order { (known : Order) (taken : ℕ) → HasOrder known (clusters output.old.items ++ clusters input.now) →
+        HasOrder known (clusters output.new.items ++ clusters (drop taken input.now)) }
 {
     if let Some(model) = model_of(input, output) {
         push_numbered(output, model, numbers);

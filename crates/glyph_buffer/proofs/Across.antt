@@ -1,26 +1,24 @@
 -- What happens to a range that begins in the output, over both sides.
 use Rattle.std.specs.Global.{Vec}
 use Rattle.std.specs.Prelude.{slice_range}
-use Rattle.std.proofs.Common.{ℕ, ◌≡◌, ◌≤◌, ◌+◌, ◌-◌, true, nat_lt, ◌⊎◌, inl, inr, List, ◌++◌, length, map, take, drop, refl, arith, ap, sym, subst, append_assoc, ◌∙◌}
+use Rattle.std.proofs.Common.{ℕ, ◌≡◌, ◌≤◌, ◌+◌, ◌-◌, true, nat_lt, List, ◌++◌, length, map, take, drop, refl, arith, ap, sym, append_assoc, ◌∙◌}
 use Rattle.std.proofs.lemmas.List.{map-append, take-append-drop, take-append-le, drop-append-le, take_at, drop_at, drop-drop, length-map, length-append, length-drop}
-use Rattle.std.proofs.Math.Seq.{take-append-add, take-append_seam, drop-append-add, drop-append_seam}
+use Rattle.std.proofs.Math.Seq.{take-append-add, drop-append-add}
 use Rattle.glyph_types.specs.declared.info.hb_glyph_info_t.{hb_glyph_info_t}
 use Rattle.glyph_types.specs.declared.level.BufferClusterLevel.TheVariants.{MonotoneGraphemes, MonotoneCharacters, Characters}
 use Rattle.glyph_types.specs.declared.level.BufferClusterLevel.{BufferClusterLevel}
 use Rattle.glyph_lists.specs.Items.{strip, clusters}
 use Rattle.glyph_lists.specs.Parts.{stretch}
 use Rattle.glyph_lists.specs.Merges.{least_number, merged}
-use Rattle.glyph_lists.specs.Glyphs.{flagged, glyphs_flagged, glyphs_marked, glyphs_merged, in_cluster, marked_outside, tells_apart}
-use Rattle.glyph_lists.specs.Lemmas.Glyphs.{clusters_merged, stretch_is, strip_merged}
+use Rattle.glyph_lists.specs.Levels.{InOutput, manner}
+use Rattle.glyph_lists.specs.Glyphs.{beside_merged_as, flagged, glyphs_flagged, glyphs_marked, glyphs_merged, in_cluster, marked_outside, tells_apart}
+use Rattle.glyph_lists.specs.Lemmas.Glyphs.{stretch_is, strip_merged}
 use Rattle.glyph_buffer.specs.declared.buffer.hb_buffer_t.TheInside.{Inside}
 use Rattle.buffer_lists.specs.declared.order.ClusterOrder.{ClusterOrder}
-use Rattle.buffer_lists.specs.declared.order.KnownOrder.{KnownOrder}
 use Rattle.glyph_buffer.specs.Inside.{sides_of}
-use Rattle.buffer_lists.specs.Known.{HasOrder}
 use Rattle.glyph_buffer.specs.Sides.{Sides, all_glyphs, items_of}
 use Rattle.glyph_buffer.specs.Merging.{output_merged_at, index_in_all, telling_flags, with_glyphs, with_output_merged}
 use Rattle.glyph_buffer.specs.Marking.{with_marked, with_flagged}
-use Rattle.glyph_buffer.proofs.Ordered.{known_ahead, order_merged_at}
 
 -- a range that goes over the end of the first of two lists
 slice_across : {X : Type 0} (xs ys : List X) (start n : ℕ) → start ≤ length xs → slice_range (xs ++ ys) start (length xs + n) ≡ drop start xs ++ take n ys
@@ -106,35 +104,40 @@ stretch_first xs ys start end le within =
     let inner : slice_range (xs ++ ys) start end ≡ slice_range xs start end = rw (drop-append-le start xs ys (omega (arith, le, within))) (take-append-le (end - start) (drop start xs) ys few) in
     stretch_is (xs ++ ys) start end ∙ ap clusters inner ∙ sym (stretch_is xs start end)
 
-both_merged : (xs ys : List hb_glyph_info_t) (start end : ℕ) → start ≤ end → end ≤ length xs
+united_both : (xs ys : List hb_glyph_info_t) (start end : ℕ) → start ≤ end → end ≤ length xs
     → glyphs_merged (stretch start end (clusters (xs ++ ys))) (xs ++ ys) ≡ glyphs_merged (stretch start end (clusters xs)) xs ++ glyphs_merged (stretch start end (clusters xs)) ys
-both_merged xs ys start end le within =
+united_both xs ys start end le within =
     let range = stretch start end (clusters xs) in
     rw (stretch_first xs ys start end le within) (map-append (λ (g : hb_glyph_info_t). in_cluster (merged range g.cluster) g) xs ys)
 
+both_merged : (level : BufferClusterLevel) (xs ys : List hb_glyph_info_t) (start end : ℕ) → start ≤ end → end ≤ length xs
+    → output_merged_at level start end (xs ++ ys) ≡ output_merged_at level start end xs ++ beside_merged_as (manner InOutput level) (stretch start end (clusters xs)) ys
+both_merged MonotoneGraphemes xs ys start end le within = united_both xs ys start end le within
+both_merged MonotoneCharacters xs ys start end le within = united_both xs ys start end le within
+both_merged Characters xs ys start end le within = refl
+
+-- as many glyphs as before
+pub length_output_merged : (level : BufferClusterLevel) (start end : ℕ) (gs : List hb_glyph_info_t) → length (output_merged_at level start end gs) ≡ length gs
+length_output_merged MonotoneGraphemes start end gs = length-map gs _
+length_output_merged MonotoneCharacters start end gs = length-map gs _
+length_output_merged Characters start end gs = refl
+
+pub length_beside_output : (level : BufferClusterLevel) (range : List ℕ) (gs : List hb_glyph_info_t) → length (beside_merged_as (manner InOutput level) range gs) ≡ length gs
+length_beside_output MonotoneGraphemes range gs = length-map gs _
+length_beside_output MonotoneCharacters range gs = length-map gs _
+length_beside_output Characters range gs = refl
+
 pub output_merged_view : (b : Inside) (info out : Vec hb_glyph_info_t) (order : ClusterOrder) (start end : ℕ) → b.have_output ≡ true → start ≤ end → end ≤ length b.out_info.items
-    → out.items ≡ glyphs_merged (stretch start end (clusters b.out_info.items)) b.out_info.items → drop b.idx info.items ≡ glyphs_merged (stretch start end (clusters b.out_info.items)) (drop b.idx b.info.items)
-    → sides_of (record b { info = info; out_info = out; order = order }) ≡ with_glyphs (glyphs_merged (stretch start end (clusters (all_glyphs (sides_of b)))) (all_glyphs (sides_of b))) (sides_of b)
+    → out.items ≡ output_merged_at b.cluster_level start end b.out_info.items → drop b.idx info.items ≡ beside_merged_as (manner InOutput b.cluster_level) (stretch start end (clusters b.out_info.items)) (drop b.idx b.info.items)
+    → sides_of (record b { info = info; out_info = out; order = order }) ≡ with_output_merged start end (sides_of b)
 output_merged_view b info out order start end h le within o i =
     let behind = b.out_info.items in
     let ahead = drop b.idx b.info.items in
-    let range = stretch start end (clusters behind) in
     let all : all_glyphs (sides_of b) ≡ behind ++ ahead = rw h refl in
-    let long = ap length o ∙ length-map behind (λ (g : hb_glyph_info_t). in_cluster (merged range g.cluster) g) in
-    let gs = glyphs_merged (stretch start end (clusters (behind ++ ahead))) (behind ++ ahead) in
-    let glyphs : gs ≡ out.items ++ drop b.idx info.items = rw (o, i) (both_merged behind ahead start end le within) in
+    let long = ap length o ∙ length_output_merged b.cluster_level start end behind in
+    let gs = output_merged_at b.cluster_level start end (behind ++ ahead) in
+    let glyphs : gs ≡ out.items ++ drop b.idx info.items = rw (o, i) (both_merged b.cluster_level behind ahead start end le within) in
     both_view b info out order b.scratch_flags gs h long glyphs ∙ rw all refl
-
-pub order_output_merged : (o : KnownOrder) (start end : ℕ) (out info new_out new_info : List hb_glyph_info_t) (from : ℕ) → start ≤ end → end ≤ length out
-    → new_out ≡ glyphs_merged (stretch start end (clusters out)) out → drop from new_info ≡ glyphs_merged (stretch start end (clusters out)) (drop from info)
-    → HasOrder o (clusters out ++ drop from (clusters info)) → HasOrder o (clusters new_out ++ clusters (drop from new_info))
-order_output_merged o start end out info new_out new_info from le within output input h =
-    let cluster_of : hb_glyph_info_t → ℕ = λ g. g.cluster in
-    let ahead = drop from info in
-    let before : HasOrder o (clusters (out ++ ahead)) = rw (map-append cluster_of out ahead) (known_ahead o out info from from refl h) in
-    let after = order_merged_at o MonotoneGraphemes start end (clusters (out ++ ahead)) le before in
-    subst (HasOrder o) (sym (clusters_merged (stretch start end (clusters (out ++ ahead))) (out ++ ahead)) ∙ ap clusters (both_merged out ahead start end le within)
-    ∙ ap (λ gs. clusters (gs ++ glyphs_merged (stretch start end (clusters out)) ahead)) (sym output) ∙ ap (λ gs. clusters (new_out ++ gs)) (sym input) ∙ map-append cluster_of new_out (drop from new_info)) after
 
 pub all_output_merged : (start end : ℕ) (s : Sides) → all_glyphs (with_output_merged start end s) ≡ output_merged_at s.level start end (all_glyphs s)
 all_output_merged start end s = take-append-drop (length s.behind) (output_merged_at s.level start end (all_glyphs s))
@@ -146,17 +149,3 @@ strip_output_merged Characters start end gs = refl
 
 pub output_items : (start end : ℕ) (s : Sides) → items_of (with_output_merged start end s) ≡ items_of s
 output_items start end s = ap strip (all_output_merged start end s) ∙ strip_output_merged s.level start end (all_glyphs s)
-
--- where nothing is merged
-pub same_glyphs : (s : Sides) → with_glyphs (all_glyphs s) s ≡ s
-same_glyphs s = rw (take-append_seam s.behind s.ahead, drop-append_seam s.behind s.ahead) refl
-
--- by the level
-pub output_left : (start end : ℕ) (s : Sides) → s.level ≡ Characters → s ≡ with_output_merged start end s
-output_left start end s e = sym (ap (λ l. with_glyphs (output_merged_at l start end (all_glyphs s)) s) e ∙ same_glyphs s)
-
-pub output_at : (start end : ℕ) (s : Sides) → (s.level ≡ MonotoneGraphemes) ⊎ (s.level ≡ MonotoneCharacters) → with_glyphs (glyphs_merged (stretch start end (clusters (all_glyphs s))) (all_glyphs s)) s ≡ with_output_merged start end s
-output_at start end s which = elim which [
-  | inl e ↦ sym (ap (λ l. with_glyphs (output_merged_at l start end (all_glyphs s)) s) e)
-  | inr e ↦ sym (ap (λ l. with_glyphs (output_merged_at l start end (all_glyphs s)) s) e)
-]

@@ -4,32 +4,16 @@ use Rattle.std.proofs.Common.{ℕ, ◌≡◌, ◌+◌, Bool, true, false, List, 
 use Rattle.std.proofs.lemmas.List.{map-append}
 use Rattle.glyph_types.specs.declared.info.hb_glyph_info_t.{hb_glyph_info_t as Glyph}
 use Rattle.glyph_types.specs.declared.level.BufferClusterLevel.{BufferClusterLevel as Level}
-use Rattle.glyph_lists.specs.Items.{clusters, item_of, strip}
-use Rattle.glyph_lists.specs.Deletions.{deleted}
+use Rattle.glyph_lists.specs.Items.{item_of, strip}
 use Rattle.glyph_clusters.specs.Deleted.{items_deleted}
-use Rattle.glyph_clusters.specs.OneDeleted.{left_clusters, order_deleted}
 use Rattle.glyph_clusters.specs.Deleting.{glyphs_deleted, Deletes}
 use Rattle.glyph_buffer.specs.declared.buffer.hb_buffer_t.TheInside.{Inside}
 use Rattle.buffer_lists.specs.declared.order.ClusterOrder.{ClusterOrder}
-use Rattle.buffer_lists.specs.declared.order.KnownOrder.{KnownOrder}
-use Rattle.buffer_lists.specs.declared.order.KnownOrder.TheVariants.{Unknown, Rising, Falling}
 use Rattle.glyph_buffer.specs.Grouping.{with_deleted}
 use Rattle.glyph_buffer.specs.Inside.{sides_of}
-use Rattle.buffer_lists.specs.Known.{HasOrder}
 use Rattle.glyph_buffer.specs.Merging.{telling_flags}
 use Rattle.glyph_buffer.specs.Sides.{Sides, items_of}
 use Rattle.glyph_buffer.specs.Moving.{zero_glyph}
-
-known_deleted : (o : KnownOrder) (level : Level) (front : List ℕ) (n : ℕ) (back : List ℕ) → HasOrder o (front ++ n ∷ back) → HasOrder o (deleted level front n back)
-known_deleted Unknown level front n back h = tt
-known_deleted Rising level front n back h = order_deleted false level front n back h
-known_deleted Falling level front n back h = order_deleted true level front n back h
-
-pub order_gone : (o : KnownOrder) (level : Level) (front ahead new_front new_back : List Glyph) (m : Bool) (g : Glyph) (back : List Glyph) → ahead ≡ g ∷ back → Deletes level front ahead new_front new_back m
-    → HasOrder o (clusters front ++ clusters ahead) → HasOrder o (clusters new_front ++ clusters new_back)
-order_gone o level front ahead new_front new_back m g back e gone h =
-    let before : HasOrder o (clusters front ++ clusters (g ∷ back)) = subst (λ (hs : List Glyph). HasOrder o (clusters front ++ clusters hs)) e h in
-    subst (HasOrder o) (sym (left_clusters level front ahead new_front new_back m g back e gone)) (known_deleted o level (clusters front) g.cluster (clusters back) before)
 
 -- what a deletion leaves, under other names
 pub deletes_same : (level : Level) (front ahead out new_out back new_back : List Glyph) (m : Bool) → out ≡ new_out → back ≡ new_back → Deletes level front ahead out back m → Deletes level front ahead new_out new_back m

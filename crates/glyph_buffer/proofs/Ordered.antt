@@ -3,34 +3,16 @@ use Rattle.std.proofs.Common.{take, Option, None, ℕ, ◌≡◌, ◌≤◌, ◌
 use Rattle.std.proofs.lemmas.List.{map-append, drop-map, drop-drop, take-append-drop, drop_more, append_assoc, map-set, set-set, set-get_or, get_or-map}
 use Rattle.std.proofs.Math.Seq.{take-append_seam, drop-append_seam, drop-append-add}
 use Rattle.glyph_types.specs.declared.info.hb_glyph_info_t.{hb_glyph_info_t}
-use Rattle.glyph_types.specs.declared.level.BufferClusterLevel.{BufferClusterLevel}
-use Rattle.glyph_types.specs.declared.level.BufferClusterLevel.TheVariants.{MonotoneGraphemes, MonotoneCharacters, Characters}
 use Rattle.glyph_lists.specs.Items.{clusters}
-use Rattle.glyph_lists.specs.Parts.{JoinParts, first_of, last_of, or, replaced, stretch}
-use Rattle.glyph_lists.specs.Merges.{merged_at}
-use Rattle.glyph_lists.specs.Order.{IsInOrder, IsOrdered}
-use Rattle.glyph_lists.specs.Glyphs.{beside_merged, glyphs_merged_at}
-use Rattle.glyph_lists.specs.Replacements.{copied, glyph_numbered, glyphs_replaced}
-use Rattle.glyph_lists.specs.Lemmas.Drawn.{IsDrawn, drawn_replaced, drawn_second, drawn_drop}
-use Rattle.glyph_lists.specs.Lemmas.Parts.{event_keeps_order, order_drawn}
-use Rattle.glyph_lists.specs.Lemmas.Glyphs.{merged_at_beyond, clusters_merged_at}
-use Rattle.glyph_lists.specs.Lemmas.Merges.{merge_joins}
-use Rattle.glyph_lists.specs.Lemmas.Replacements.{clusters_replaced}
+use Rattle.glyph_lists.specs.Order.{IsInOrder}
+use Rattle.glyph_lists.specs.Lemmas.Drawn.{IsDrawn, drawn_second, drawn_drop}
+use Rattle.glyph_lists.specs.Lemmas.Parts.{order_drawn}
 use Rattle.buffer_lists.specs.declared.order.KnownOrder.{KnownOrder}
 use Rattle.buffer_lists.specs.declared.order.KnownOrder.TheVariants.{Unknown, Rising, Falling}
 use Rattle.buffer_lists.specs.declared.order.Lent.{Lent}
-use Rattle.buffer_lists.specs.Known.{HasOrder, is_known, put_back_ahead, put_back_behind}
+use Rattle.buffer_lists.specs.Known.{HasOrder, put_back_ahead, put_back_behind}
 use Rattle.buffer_lists.specs.Masks.{glyph_masked}
 use Rattle.glyph_buffer.proofs.Kept.{map-reverse}
-
-ordered_from : (falls : Bool) (ns : List ℕ) → IsInOrder falls ns → IsOrdered ns
-ordered_from false ns h = inl h
-ordered_from true ns h = inr h
-
-pub known_ordered : (o : KnownOrder) (ns : List ℕ) → HasOrder o ns → is_known o ≡ true → IsOrdered ns
-known_ordered Unknown ns h e = cc
-known_ordered Rising ns h e = inl h
-known_ordered Falling ns h e = inr h
 
 cluster_of : hb_glyph_info_t → ℕ
 cluster_of g = g.cluster
@@ -61,42 +43,6 @@ clusters_back gs i g d lt =
     let f : hb_glyph_info_t → ℕ = λ h. h.cluster in
     let seen : get_or (clusters gs) i (f d) ≡ (get_or gs i d).cluster = get_or-map f gs i d (f d) lt in
     sym (ap (λ ns. set ns i (get_or gs i d).cluster) (map-set f gs i g) ∙ set-set (clusters gs) i (f g) (get_or gs i d).cluster ∙ ap (set (clusters gs) i) (sym seen) ∙ set-get_or (clusters gs) i (f d))
-
-merge_order : (falls : Bool) (level : BufferClusterLevel) (from to : ℕ) (ns : List ℕ) → from ≤ to → IsInOrder falls ns → IsInOrder falls (merged_at level from to ns)
-merge_order falls MonotoneGraphemes from to ns le h = subst (IsInOrder falls) (sym (merge_joins MonotoneGraphemes from to ns le tt (ordered_from falls ns h))) (event_keeps_order (JoinParts from to) falls ns h)
-merge_order falls MonotoneCharacters from to ns le h = subst (IsInOrder falls) (sym (merge_joins MonotoneCharacters from to ns le tt (ordered_from falls ns h))) (event_keeps_order (JoinParts from to) falls ns h)
-merge_order falls Characters from to ns le h = h
-
-pub order_merged_at : (o : KnownOrder) (level : BufferClusterLevel) (from to : ℕ) (ns : List ℕ) → from ≤ to → HasOrder o ns → HasOrder o (merged_at level from to ns)
-order_merged_at Unknown level from to ns le h = tt
-order_merged_at Rising level from to ns le h = merge_order false level from to ns le h
-order_merged_at Falling level from to ns le h = merge_order true level from to ns le h
-
--- a range of the second of two sides was merged
-pub order_merged : (o : KnownOrder) (level : BufferClusterLevel) (i j : ℕ) (behind ahead new_behind new_ahead : List hb_glyph_info_t) → i ≤ j → new_behind ≡ beside_merged level (stretch i j (clusters ahead)) behind → new_ahead ≡ glyphs_merged_at level i j ahead
-    → HasOrder o (clusters behind ++ clusters ahead) → HasOrder o (clusters new_behind ++ clusters new_ahead)
-order_merged o level i j behind ahead new_behind new_ahead le b a h =
-    let f : hb_glyph_info_t → ℕ = λ g. g.cluster in
-    let n = length behind in
-    let before : HasOrder o (clusters (behind ++ ahead)) = rw (map-append f behind ahead) h in
-    let after = order_merged_at o level (n + i) (n + j) (clusters (behind ++ ahead)) (omega arith) before in
-    subst (HasOrder o) (sym (clusters_merged_at level (n + i) (n + j) (behind ++ ahead) (omega arith)) ∙ ap clusters (merged_at_beyond level behind ahead i j)
-    ∙ map-append f (beside_merged level (stretch i j (clusters ahead)) behind) (glyphs_merged_at level i j ahead) ∙ ap (λ gs. clusters gs ++ clusters (glyphs_merged_at level i j ahead)) (sym b) ∙ ap (λ gs. clusters new_behind ++ clusters gs) (sym a)) after
-
-order_replaced_at : (o : KnownOrder) (at taken given : ℕ) (ns : List ℕ) → HasOrder o ns → HasOrder o (replaced at taken given ns)
-order_replaced_at Unknown at taken given ns h = tt
-order_replaced_at Rising at taken given ns h = order_drawn false (drawn_replaced at taken given ns) h
-order_replaced_at Falling at taken given ns h = order_drawn true (drawn_replaced at taken given ns) h
-
--- glyphs ahead made room for copies behind
-pub order_copied : (o : KnownOrder) (taken : ℕ) (numbers : List ℕ) (behind ahead new_behind : List hb_glyph_info_t) → new_behind ≡ behind ++ copied glyph_numbered (or (first_of ahead) (last_of behind)) numbers
-    → HasOrder o (clusters behind ++ clusters ahead) → HasOrder o (clusters new_behind ++ clusters (drop taken ahead))
-order_copied o taken numbers behind ahead new_behind b h =
-    let f : hb_glyph_info_t → ℕ = λ g. g.cluster in
-    let whole : HasOrder o (clusters (behind ++ ahead)) = rw (map-append f behind ahead) h in
-    let after = order_replaced_at o (length behind) taken (length numbers) (clusters (behind ++ ahead)) whole in
-    let all : glyphs_replaced (length behind) taken numbers (behind ++ ahead) ≡ new_behind ++ drop taken ahead = rw (take-append_seam behind ahead, drop-append_seam behind ahead, drop-append-add behind ahead taken, b) refl in
-    subst (HasOrder o) (sym (clusters_replaced (length behind) taken numbers (behind ++ ahead)) ∙ ap clusters all ∙ map-append f new_behind (drop taken ahead)) after
 
 -- the clusters of what is left, and what is left of the clusters
 pub known_ahead : (o : KnownOrder) (out info : List hb_glyph_info_t) (n m : ℕ) → n ≡ m → HasOrder o (clusters out ++ drop m (clusters info)) → HasOrder o (clusters out ++ clusters (drop n info))

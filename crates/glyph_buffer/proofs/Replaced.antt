@@ -1,6 +1,6 @@
 -- What a replacement does to the sides.
 use Rattle.std.specs.Global.{Vec}
-use Rattle.std.proofs.Common.{ℕ, ◌≡◌, ◌≤◌, ◌+◌, ◌==◌, ◌||◌, ◌⊎◌, inl, inr, not, nat_le, Bool, true, false, Option, Some, None, List, [], ◌∷◌, ◌++◌, length, drop, refl, arith, ap, sym, ◌∙◌}
+use Rattle.std.proofs.Common.{ℕ, ◌≡◌, ◌≤◌, ◌+◌, ◌==◌, ◌||◌, ◌⊎◌, inl, inr, nat_le, Bool, true, false, Option, Some, None, List, [], ◌∷◌, ◌++◌, length, drop, refl, arith, ap, sym, ◌∙◌}
 use Rattle.std.proofs.lemmas.Grind.{common_steps}
 use Rattle.std.proofs.lemmas.Bool.Decides.{nat_tests}
 use Rattle.std.proofs.lemmas.List.{append-nil, length-map, drop-drop, length-take-le, length-append}
@@ -16,7 +16,7 @@ use Rattle.glyph_buffer.specs.declared.buffer.hb_buffer_t.TheInside.{Inside}
 use Rattle.buffer_lists.specs.declared.order.ClusterOrder.{ClusterOrder}
 use Rattle.glyph_buffer.specs.Inside.{sides_of}
 use Rattle.glyph_buffer.specs.Sides.{Sides, all_glyphs, items_of}
-use Rattle.glyph_buffer.specs.Merging.{telling_flags, with_merged, with_copied, with_replaced, fits_copies}
+use Rattle.glyph_buffer.specs.Merging.{telling_flags, with_merged, with_copied, with_replaced}
 use Rattle.glyph_buffer.proofs.Merged.{merged_sides, same_marks, all_merged}
 
 pub replaced_view : (b : Inside) (info out : Vec hb_glyph_info_t) (order : ClusterOrder) (taken flags : ℕ) (numbers : List ℕ) → b.have_output ≡ true
@@ -61,10 +61,6 @@ no_glyph [] [] e d = refl
 no_glyph [] (h ∷ hs) e d = cc
 no_glyph (g ∷ gs) hs e d = cc
 
-not_lacking : (b : Bool) → not b ≡ false → b ≡ true
-not_lacking true e = refl
-not_lacking false e = cc
-
 or_cases : (s t : Bool) → (s || t) ≡ true → (s ≡ true) ⊎ (t ≡ true)
 or_cases true t e = inl refl
 or_cases false t e = inr e
@@ -85,6 +81,3 @@ replaced_within max_len n behind ahead new_behind new_ahead numbers given fits b
       let few = length_copied (or (first_of new_ahead) (last_of new_behind)) numbers in
       omega (arith, fit, new, few, bl, given)
 ]
-
-pub room_is : (n : ℕ) (s : Sides) (r : Bool) → r ≡ not (fits_copies n s) → r ≡ false → fits_copies n s ≡ true
-room_is n s r is e = not_lacking (fits_copies n s) (sym is ∙ e)

@@ -3,10 +3,10 @@ use Rattle.std.specs.Prelude.{ℕ, ◌+◌, ◌-◌, ◌==◌, ◌||◌, Bool, i
 use Rattle.std.specs.Int.RustNames.{bit_or}
 use Rattle.glyph_types.specs.declared.info.hb_glyph_info_t.{hb_glyph_info_t}
 use Rattle.glyph_types.specs.declared.level.BufferClusterLevel.{BufferClusterLevel}
-use Rattle.glyph_types.specs.declared.level.BufferClusterLevel.TheVariants.{MonotoneGraphemes, MonotoneCharacters, Characters}
 use Rattle.glyph_lists.specs.Items.{clusters}
-use Rattle.glyph_lists.specs.Parts.{first_of, last_of, or, stretch}
-use Rattle.glyph_lists.specs.Glyphs.{glyphs_merged, glyphs_merged_at, is_marked_at}
+use Rattle.glyph_lists.specs.Parts.{first_of, last_of, or}
+use Rattle.glyph_lists.specs.Levels.{InOutput, manner}
+use Rattle.glyph_lists.specs.Glyphs.{glyphs_merged_as, glyphs_merged_at, is_marked_at}
 use Rattle.glyph_lists.specs.Replacements.{copied, glyph_numbered}
 use Rattle.glyph_buffer.specs.Sides.{Sides, all_glyphs, has_output_room}
 
@@ -28,9 +28,7 @@ with_merged from to s = record (with_glyphs (glyphs_merged_at s.level from to (a
 
 -- what a merge of such indices within the output leaves: at the level that keeps characters apart nothing changes
 abbrev pub output_merged_at : BufferClusterLevel → ℕ → ℕ → List hb_glyph_info_t → List hb_glyph_info_t
-output_merged_at MonotoneGraphemes from to gs = glyphs_merged (stretch from to (clusters gs)) gs
-output_merged_at MonotoneCharacters from to gs = glyphs_merged (stretch from to (clusters gs)) gs
-output_merged_at Characters from to gs = gs
+output_merged_at level from to gs = glyphs_merged_as (manner InOutput level) from to gs
 
 -- the positions of the output from `from` up to before `to` merge
 abbrev pub with_output_merged : ℕ → ℕ → Sides → Sides

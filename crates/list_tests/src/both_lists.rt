@@ -1,5 +1,6 @@
 use buffer_lists::merges::{merge_input, merge_output};
 use buffer_lists::moves::put_in_front;
+use buffer_lists::order::KnownOrder;
 use glyph_types::info::hb_glyph_info_t;
 use glyph_types::level::BufferClusterLevel;
 use std::alloc::{AllocError, Global};
@@ -93,7 +94,9 @@ fn merges_in_no_order(rt: HostRuntime) -> Result<(), Fail> {
         let mut out = in_clusters(rt.alloc(), &output)?;
         assert!(&rt; 2 <= end && end <= info.len());
         let level = BufferClusterLevel::MonotoneGraphemes;
-        assert!(&rt; !merge_input(&mut out, &mut info[1..], 1, end - 1, level, false));
+        let known = KnownOrder::Unknown;
+        let (marked, _) = merge_input(&mut out, &mut info[1..], 1, end - 1, level, known);
+        assert!(&rt; !marked);
         assert!(&rt; are(&out, wanted_output));
         assert!(&rt; are(&info[1..], wanted_input));
     }
@@ -128,7 +131,8 @@ fn merges_the_output_in_no_order(rt: HostRuntime) -> Result<(), Fail> {
         let mut info = in_clusters(rt.alloc(), &input)?;
         let mut out = in_clusters(rt.alloc(), &output)?;
         assert!(&rt; 2 <= end && end <= out.len() && 1 <= info.len());
-        merge_output(&mut out, &mut info[1..], 2, end, false);
+        let level = BufferClusterLevel::MonotoneGraphemes;
+        merge_output(&mut out, &mut info[1..], 2, end, level, KnownOrder::Unknown);
         assert!(&rt; are(&out, wanted_output));
         assert!(&rt; are(&info[1..], wanted_input));
     }

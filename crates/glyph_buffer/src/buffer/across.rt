@@ -1,9 +1,6 @@
 ghost use Rattle.std.specs.Prelude.{◌≡◌, ◌+◌, ◌-◌, ◌≤◌, ◌<◌, if◌then◌else◌, nat_lt, true, length, ◌∷◌, []};
-ghost use Rattle.glyph_lists.specs.Items.{clusters};
-ghost use Rattle.glyph_lists.specs.Parts.{stretch};
-ghost use Rattle.glyph_lists.specs.Glyphs.{glyphs_merged};
-ghost use Rattle.glyph_buffer.specs.Sides.{all_glyphs, items_of, origins_of, origins_by};
-ghost use Rattle.glyph_buffer.specs.Merging.{index_in_all, with_glyphs, with_output_merged};
+ghost use Rattle.glyph_buffer.specs.Sides.{items_of, origins_of, origins_by};
+ghost use Rattle.glyph_buffer.specs.Merging.{index_in_all, with_output_merged};
 ghost use Rattle.glyph_buffer.specs.Marking.{asks_concat, concat_marked_across, end_or, marked_across, start_or, with_flagged, with_marked, end_in_all};
 ghost use Rattle.glyph_lists.specs.Levels.{InOutput};
 ghost use Rattle.glyph_lists.specs.Events.{Merge, Break, Concat};
@@ -13,7 +10,6 @@ use super::merges::telling_flags;
 use buffer_lists::merges::merge_output;
 use glyph_clusters::marks::{flag_all, mark_across};
 use glyph_types::info::{UNSAFE_TO_BREAK, UNSAFE_TO_CONCAT, hb_mask_t};
-use glyph_types::level::BufferClusterLevel;
 
 // Ranges that begin in the output.
 impl hb_buffer_t {
@@ -27,26 +23,15 @@ impl hb_buffer_t {
         ensures items { items_of self.new ≡ items_of self.old }
         ensures origins { origins_of self.new ≡ origins_by (Merge InOutput start end ∷ []) self.old }
     {
-        match self.cluster_level {
-            BufferClusterLevel::Characters => {}
-            BufferClusterLevel::MonotoneGraphemes | BufferClusterLevel::MonotoneCharacters => {
-                self.merge_output(start, end);
-            }
-        }
-    }
-
-    fn merge_output(&mut self, start: usize, end: usize)
-        requires open { self.old.is_open ≡ true }
-        requires ordered { start ≤ end }
-        requires within { end ≤ length self.old.behind }
-        ensures { self.new ≡ with_glyphs
-            (glyphs_merged (stretch start end (clusters (all_glyphs self.old))) (all_glyphs self.old)) self.old }
-    {
         self.order.settle(&self.out_info, &self.info);
-        let known = self.order.known;
-        let input = &mut self.info[self.idx..];
-        merge_output(&mut self.out_info, input, start, end, known.is_known());
-        self.order.known = known.walked(&self.out_info, &self.info[self.idx..]);
+        self.order.known = merge_output(
+            &mut self.out_info,
+            &mut self.info[self.idx..],
+            start,
+            end,
+            self.cluster_level,
+            self.order.known,
+        );
     }
 
     /// Marks the glyphs from `start` of the output, over its end, up to before `end` of the input that are outside the least

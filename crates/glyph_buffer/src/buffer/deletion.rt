@@ -27,9 +27,9 @@ impl hb_buffer_t {
         ensures origins { origins_of self.new ≡ origins_by (Delete (length self.old.behind) ∷ []) self.old }
     {
         self.order.settle(&self.out_info, &self.info);
-        let in_order = self.order.known.is_known();
+        let known = self.order.known;
         let input = &mut self.info[self.idx..];
-        let marked = delete_first(&mut self.out_info, input, self.cluster_level, in_order);
+        let marked = delete_first(&mut self.out_info, input, self.cluster_level, known);
         self.idx += 1;
         self.scratch_flags = telling_flags(marked, self.scratch_flags);
     }

@@ -28,16 +28,15 @@ impl hb_buffer_t {
     {
         let from = self.first_of_input();
         self.order.settle(&self.out_info, &self.info);
-        let known = self.order.known;
-        let marked = merge_input(
+        let (marked, known) = merge_input(
             &mut self.out_info,
             &mut self.info[from..],
             start - from,
             end - from,
             self.cluster_level,
-            known.is_known(),
+            self.order.known,
         );
-        self.order.known = known.walked(&self.out_info, &self.info[from..]);
+        self.order.known = known;
         self.scratch_flags = telling_flags(marked, self.scratch_flags);
     }
 

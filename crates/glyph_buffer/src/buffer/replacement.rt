@@ -7,10 +7,7 @@ ghost use Rattle.glyph_lists.specs.Events.{Replace};
 
 use super::hb_buffer_t;
 use super::merges::telling_flags;
-use buffer_lists::merges::merge_input;
-use buffer_lists::replacement::push_copies;
-use glyph_types::info::hb_glyph_info_t;
-use glyph_types::level::BufferClusterLevel;
+use buffer_lists::replacement::replace_first;
 use std::alloc::AllocError;
 
 impl hb_buffer_t {
@@ -51,18 +48,16 @@ impl hb_buffer_t {
     {
         self.out_info.reserve(glyph_data.len())?;
         self.order.settle(&self.out_info, &self.info);
-        let known = self.order.known;
-        let marked = merge_input(
+        let (marked, known) = replace_first(
             &mut self.out_info,
             &mut self.info[self.idx..],
-            0,
             num_in,
+            glyph_data,
             self.cluster_level,
-            known.is_known(),
+            self.order.known,
         );
-        push_copies(&mut self.out_info, &self.info[self.idx..], glyph_data);
         self.idx += num_in;
-        self.order.known = known.walked(&self.out_info, &self.info[self.idx..]);
+        self.order.known = known;
         self.scratch_flags = telling_flags(marked, self.scratch_flags);
         Ok(())
     }

@@ -2,7 +2,7 @@ use Rattle.std.proofs.Common.{◌≡◌, ◌∷◌, [], true, drop, refl, ap, �
 use Rattle.std.proofs.lemmas.List.{take_rest}
 use Rattle.glyph_buffer.specs.Merging.{with_copy}
 use Rattle.glyph_buffer.proofs.Apart.{copied_view}
-use Rattle.glyph_buffer.proofs.Ordered.{none_lent, known_ahead, known_back, order_copied}
+use Rattle.glyph_buffer.proofs.Ordered.{none_lent, known_ahead, known_back}
 use Rattle.glyph_buffer.proofs.Replaced.{replaced_within}
 use Rattle.glyph_buffer.proofs.buffer.hb_buffer_t.push_copy.Goals as goal
 
@@ -10,7 +10,7 @@ pub returns-clause-put : goal.returns-clause-put
 returns-clause-put c =
     let b = c.self.inside in
     let open_now : b.have_output ≡ true = rw (← c.self.view_is) at c.requires.open in
-    let items = rw (c.in_ok-reserve.ensures.items, c.deref-3.ensures.value, take_rest b.info.items b.idx) at c.push_copies.ensures in
+    let items = rw (c.in_ok-reserve.ensures.items, c.deref-3.ensures.value, take_rest b.info.items b.idx) at c.push_copies.ensures.copied in
     copied_view b c.push_copies.new.output c.settle.new.self c.args.glyph_index open_now items ∙ ap (with_copy c.args.glyph_index) c.self.view_is
 
 pub invariant_of-self : goal.invariant_of-self
@@ -34,8 +34,8 @@ invariant_of-self-2 c =
     let b = c.self.inside in
     let order = c.settle.new.self.known in
     let known = (rw (c.deref.ensures.value, c.deref-2.ensures.value, c.in_ok-reserve.ensures.items) at (c.settle.ensures.order b.idx)) before in
-    let items = rw (c.in_ok-reserve.ensures.items, c.deref-3.ensures.value, take_rest b.info.items b.idx) at c.push_copies.ensures in
-    let after = order_copied order 0 (c.args.glyph_index ∷ []) b.out_info.items (drop b.idx b.info.items) c.push_copies.new.output.items items (known_ahead order b.out_info.items b.info.items b.idx b.idx refl known) in
+    let items = rw (c.in_ok-reserve.ensures.items, c.deref-3.ensures.value, take_rest b.info.items b.idx) at c.push_copies.ensures.copied in
+    let after = (rw (c.in_ok-reserve.ensures.items, c.deref-3.ensures.value, take_rest b.info.items b.idx) at (c.push_copies.ensures.order order 0)) (known_ahead order b.out_info.items b.info.items b.idx b.idx refl known) in
     let fits = rw (← c.self.view_is, open_now) at c.requires.room in
     let within = replaced_within b.max_len 1 b.out_info.items (drop b.idx b.info.items) b.out_info.items (drop b.idx b.info.items) (c.args.glyph_index ∷ []) refl fits refl refl c.self.invariant.output_within in
     record {
