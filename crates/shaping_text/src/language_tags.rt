@@ -89,18 +89,10 @@ fn row_at<'a>(rows: &'a [LanguageRow], text: &[u8]) -> Option<&'a LanguageRow>
     requires { TextsRise rows.now }
     ensures { option_copied result ≡ row_of rows.now text.now }
 {
-    let mut low = 0;
-    let mut high = rows.len();
-    while low < high {
-        let middle = low + (high - low) / 2;
-        let row = &rows[middle];
-        match order_of(row, text) {
-            Ordering::Less => low = middle + 1,
-            Ordering::Equal => return Some(row),
-            Ordering::Greater => high = middle,
-        }
+    match rows.binary_search_by(|row| order_of(row, text)) {
+        Ok(index) => Some(&rows[index]),
+        Err(_) => None,
     }
-    None
 }
 
 fn primary_part(text: &[u8]) -> &[u8]

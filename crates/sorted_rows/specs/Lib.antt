@@ -1,2 +1,4 @@
 pub mod Keys
 pub mod Searched
+pub mod Pages
+pub mod Paged

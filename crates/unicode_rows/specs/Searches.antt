@@ -1,9 +1,10 @@
 -- Searches of rows in the order of their keys.
-use Rattle.std.proofs.Common.{ℕ, suc, ◌≡◌, ◌≤◌, ◌-◌, ◌==◌, ◌&&◌, Bool, true, false, if◌then◌else◌, List, [], ◌∷◌, length, get_or, ◌++◌, take, drop, Option, Some, None, refl, ap, sym, ◌∙◌, append_assoc, inl, inr, arith}
-use Rattle.std.proofs.lemmas.List.{take-append-drop, take_all}
+use Rattle.std.proofs.Common.{ℕ, ◌≡◌, ◌==◌, ◌&&◌, Bool, true, false, List, [], ◌∷◌, ◌++◌, Option, Some, None, refl, ◌∙◌, append_assoc, inl, inr, arith}
 use Rattle.std.proofs.lemmas.Bool.{and_parts, and_cases, and_from, cond-true, cond-false, cond_both}
 use Rattle.std.proofs.lemmas.Bool.Decides.{nat_tests}
 use Rattle.std.specs.List.{find, list_all}
+use Rattle.std.specs.Ordering.{is_lt, nat_cmp}
+use Rattle.sorted_rows.specs.Keys as Rising
 use Rattle.unicode_rows.specs.Keys.{is_below, precedes, follows, rises_after, is_rising, is_at}
 
 below_trans : (a b c d e f : ℕ) → is_below a b c d ≡ true → is_below c d e f ≡ true → is_below a b e f ≡ true
@@ -33,18 +34,6 @@ pub forget_first : {R : Type 0} (high low : R → ℕ) (before : Option R) (xs :
 forget_first high low before [] r = refl
 forget_first high low before (x ∷ xs) r = first_rises high low before x xs r
 
-pub rising_tail : {R : Type 0} (high low : R → ℕ) (before : Option R) (front : List R) (row : R) (after : List R)
-    → rises_after high low before (front ++ row ∷ after) ≡ true → rises_after high low (Some row) after ≡ true
-rising_tail high low before [] row after r = first_rises high low before row after r
-rising_tail high low before (y ∷ ys) row after r = rising_tail high low (Some y) ys row after (first_rises high low before y (ys ++ row ∷ after) r)
-
-pub rising_front : {R : Type 0} (high low : R → ℕ) (before : Option R) (front rest : List R)
-    → rises_after high low before (front ++ rest) ≡ true → rises_after high low before front ≡ true
-rising_front high low before [] rest r = refl
-rising_front high low before (y ∷ ys) rest r =
-    let parts = and_parts (follows high low before y) (rises_after high low (Some y) (ys ++ rest)) r in
-    and_from _ _ parts.0 (rising_front high low (Some y) ys rest parts.1)
-
 at_row : {R : Type 0} (high low : R → ℕ) (h l : ℕ) (front : List R) (row : R) (after : List R)
     → is_rising high low (front ++ row ∷ after) ≡ true → is_below (high row) (low row) h l ≡ false → is_below h l (high row) (low row) ≡ false
     → find (is_at high low h l) (front ++ row ∷ after) ≡ Some row
@@ -53,27 +42,6 @@ at_row high low h l (y ∷ ys) row after r p q =
     let under = rises_behind high low y ys row after r in
     let apart : (high y == h && low y == l) ≡ false = grind (arith, nat_tests) in
     cond-false _ _ _ apart ∙ at_row high low h l ys row after (forget_first high low (Some y) (ys ++ row ∷ after) r) p q
-
-cut_first : {R : Type 0} (back : List R) (row : R) → 1 ≤ length back → row ≡ get_or back 0 row → back ≡ row ∷ take (length back - 1) (drop 1 back)
-cut_first [] row h e = absurd (omega (arith, h))
-cut_first (x ∷ xs) row h e =
-    let all : take (length xs) xs ≡ xs = take_all (length xs) xs (omega arith) in
-    let size : suc (length xs) - 1 ≡ length xs = omega arith in
-    rw (e, size, all) refl
-
--- a list is what stands before its middle, the row there, and what stands after it
-pub halved : {R : Type 0} (rest front back : List R) (row : R) (middle : ℕ) → front ≡ take middle rest → back ≡ drop middle rest → 1 ≤ length back → row ≡ get_or back 0 row
-    → rest ≡ front ++ row ∷ take (length back - 1) (drop 1 back)
-halved rest front back row middle f b h e =
-    let cut = cut_first back row h e in
-    let joined = take-append-drop middle rest in
-    cc
-
-pub after_rises : {R : Type 0} (high low : R → ℕ) (rest front : List R) (row : R) (after : List R) → rest ≡ front ++ row ∷ after → is_rising high low rest ≡ true → is_rising high low after ≡ true
-after_rises high low rest front row after e r = forget_first high low (Some row) after (rising_tail high low None front row after (rw e at r))
-
-pub front_rises : {R : Type 0} (high low : R → ℕ) (rest front : List R) (row : R) (after : List R) → rest ≡ front ++ row ∷ after → is_rising high low rest ≡ true → is_rising high low front ≡ true
-front_rises high low rest front row after e r = rising_front high low None front (row ∷ after) (rw e at r)
 
 -- what is found passes each test that all rows pass
 pub find_passes : {X : Type 0} (p q : X → Bool) (xs : List X) (x : X) → find p xs ≡ Some x → list_all q xs ≡ true → (p x ≡ true) × (q x ≡ true)
@@ -116,7 +84,18 @@ failing_from high low q front (x ∷ xs) r h =
 pub failing_row : {R : Type 0} (high low : R → ℕ) (q : R → Bool) (rows : List R) → is_rising high low rows ≡ true → list_all q rows ≡ false → FailingRow high low q rows
 failing_row high low q rows r h = failing_from high low q [] rows r h
 
--- the first row, by any default
-pub first_itself : {R : Type 0} (back : List R) (d : R) → 1 ≤ length back → get_or back 0 d ≡ get_or back 0 (get_or back 0 d)
-first_itself [] d h = absurd (omega (arith, h))
-first_itself (x ∷ xs) d h = refl
+-- ---- keys of one number
+
+below_numbers : (a b : ℕ) → is_lt (nat_cmp a b) ≡ is_below 0 a 0 b
+below_numbers a b = grind (arith, nat_tests)
+
+numbers_after : {R : Type 0} (key : R → ℕ) (before : R) (rows : List R) → rises_after (λ _. 0) key (Some before) rows ≡ true → Rising.is_rising nat_cmp key (Some (key before)) rows ≡ true
+numbers_after key before [] h = refl
+numbers_after key before (r ∷ rows) h =
+    let parts = and_parts (precedes (λ _. 0) key before r) (rises_after (λ _. 0) key (Some r) rows) h in
+    and_from _ _ (below_numbers (key before) (key r) ∙ parts.0) (numbers_after key r rows parts.1)
+
+-- rows rise by their numbers
+pub numbers_from : {R : Type 0} (key : R → ℕ) (rows : List R) → is_rising (λ _. 0) key rows ≡ true → Rising.numbers_rise key rows ≡ true
+numbers_from key [] h = refl
+numbers_from key (r ∷ rows) h = numbers_after key r rows (first_rises (λ _. 0) key None r rows h)

@@ -1,6 +1,7 @@
 -- Widened ranges have the same characters, and can be searched by halves.
-use Rattle.std.proofs.Common.{ℕ, ◌≡◌, ◌<◌, ◌≤◌, ◌-◌, ◌||◌, max, nat_le, Bool, true, false, List, [], ◌∷◌, ◌++◌, Option, Some, None, refl, ap, ap₂, sym, ◌∙◌, inl, inr, arith, le-leb, leb-true}
-use Rattle.std.proofs.lemmas.Bool.{and_parts, and_from, and_left, and_right, or_from, or_left, or_right, cases_lt, lt-leb}
+use Rattle.std.proofs.Common.{ℕ, zero, suc, ◌≡◌, ◌≢◌, ◌<◌, ◌≤◌, ◌-◌, ◌+◌, ◌&&◌, ◌||◌, max, nat_le, Bool, true, false, List, [], ◌∷◌, length, get_or, Option, Some, None, refl, ap₂, sym, ◌∙◌, inl, inr, arith, le-leb, leb-true}
+use Rattle.sorted_rows.specs.Pages.{IsStart}
+use Rattle.std.proofs.lemmas.Bool.{and_parts, and_from, and_left, and_right, or_from, or_left, cases_lt, lt-leb}
 use Rattle.std.proofs.lemmas.Bool.Decides.{nat_tests}
 use Rattle.unicode_rows.specs.Keys.{precedes, rises_after, is_rising}
 use Rattle.unicode_rows.specs.Ranges.{has_character, is_in_ranges, widened, ends_rise}
@@ -78,63 +79,52 @@ ends_widened m (r ∷ rs) = and_from _ _ (le-leb m (max m r.last) (omega arith))
 pub widened_ends : (rows wide : List CharacterRange) → wide ≡ widened 0 rows → ends_rise 0 wide ≡ true
 widened_ends rows wide e = rw e (ends_widened 0 rows)
 
--- ends rise behind a row, and before it they are no higher
-ends_behind : (m : ℕ) (front : List CharacterRange) (row : CharacterRange) (after : List CharacterRange) → ends_rise m (front ++ row ∷ after) ≡ true → ends_rise row.last after ≡ true
-ends_behind m [] row after h = (and_parts (nat_le m row.last) (ends_rise row.last after) h).1
-ends_behind m (x ∷ xs) row after h = ends_behind x.last xs row after (and_parts (nat_le m x.last) (ends_rise x.last (xs ++ row ∷ after)) h).1
+-- ---- the last range that begins at a character or before it
 
-ends_before : (m : ℕ) (front rest : List CharacterRange) → ends_rise m (front ++ rest) ≡ true → ends_rise m front ≡ true
-ends_before m [] rest h = refl
-ends_before m (x ∷ xs) rest h =
-    let parts = and_parts (nat_le m x.last) (ends_rise x.last (xs ++ rest)) h in
-    and_from _ _ parts.0 (ends_before x.last xs rest parts.1)
+all_beyond : (c : ℕ) (rows : List CharacterRange) → ((i : ℕ) (d : CharacterRange) → i < length rows → c + 1 ≤ (get_or rows i d).first) → is_in_ranges rows c ≡ false
+all_beyond c [] h = refl
+all_beyond c (r ∷ rs) h =
+    let here = h 0 r (omega arith) in
+    or_from _ _ (below_first c r (omega (arith, here))) (all_beyond c rs (λ i d lt. h (suc i) d (omega (arith, lt))))
 
-end_below : (m : ℕ) (front : List CharacterRange) (row : CharacterRange) (after : List CharacterRange) → ends_rise m (front ++ row ∷ after) ≡ true → m ≤ row.last
-end_below m [] row after h = leb-true m row.last (and_parts (nat_le m row.last) (ends_rise row.last after) h).0
-end_below m (x ∷ xs) row after h =
-    let parts = and_parts (nat_le m x.last) (ends_rise x.last (xs ++ row ∷ after)) h in
-    let first = leb-true m x.last parts.0 in
-    let later = end_below x.last xs row after parts.1 in
-    omega (arith, first, later)
-
-ends_lower : (m n : ℕ) (rs : List CharacterRange) → n ≤ m → ends_rise m rs ≡ true → ends_rise n rs ≡ true
-ends_lower m n [] le h = refl
-ends_lower m n (r ∷ rs) le h =
+reached : (m : ℕ) (rows : List CharacterRange) (i : ℕ) (d : CharacterRange) → ends_rise m rows ≡ true → i < length rows → m ≤ (get_or rows i d).last
+reached m [] i d h lt = absurd (omega (arith, lt))
+reached m (r ∷ rs) zero d h lt = leb-true m r.last (and_parts (nat_le m r.last) (ends_rise r.last rs) h).0
+reached m (r ∷ rs) (suc i) d h lt =
     let parts = and_parts (nat_le m r.last) (ends_rise r.last rs) h in
     let first = leb-true m r.last parts.0 in
-    and_from _ _ (le-leb n r.last (omega (arith, first, le))) parts.1
+    let later = reached r.last rs i d parts.1 (omega (arith, lt)) in
+    omega (arith, first, later)
 
-none_in_front : (c m : ℕ) (front : List CharacterRange) (row : CharacterRange) (after : List CharacterRange) → ends_rise m (front ++ row ∷ after) ≡ true → row.last < c
-    → is_in_ranges (front ++ row ∷ after) c ≡ is_in_ranges after c
-none_in_front c m [] row after h beyond = rw (beyond_last c row beyond) refl
-none_in_front c m (x ∷ xs) row after h beyond =
-    let parts = and_parts (nat_le m x.last) (ends_rise x.last (xs ++ row ∷ after)) h in
-    let lower = end_below x.last xs row after parts.1 in
-    rw (beyond_last c x (omega (arith, lower, beyond)), none_in_front c x.last xs row after parts.1 beyond) refl
+begun : (c first last : ℕ) → first ≤ c → ((nat_le first c && nat_le c last) || false) ≡ nat_le c last
+begun c first last le = grind (arith, nat_tests)
 
-none_from_row : (c : ℕ) (before : Option CharacterRange) (front : List CharacterRange) (row : CharacterRange) (after : List CharacterRange) → firsts_rise before (front ++ row ∷ after) ≡ true → c < row.first
-    → is_in_ranges (front ++ row ∷ after) c ≡ is_in_ranges front c
-none_from_row c before [] row after h under =
-    or_from _ _ (below_first c row under) (none_behind c row after (first_rises (λ (_ : CharacterRange). 0) (λ (r : CharacterRange). r.first) before row after h) under)
-none_from_row c before (x ∷ xs) row after h under =
-    ap (λ b. has_character c x || b) (none_from_row c (Some x) xs row after (first_rises (λ (_ : CharacterRange). 0) (λ (r : CharacterRange). r.first) before x (xs ++ row ∷ after) h) under)
+shorter : (c first last end : ℕ) → last ≤ end → ((nat_le first c && nat_le c last) || nat_le c end) ≡ nat_le c end
+shorter c first last end le = grind (arith, nat_tests)
 
-row_has : (c : ℕ) (front : List CharacterRange) (row : CharacterRange) (after : List CharacterRange) → row.first ≤ c → c ≤ row.last → is_in_ranges (front ++ row ∷ after) c ≡ true
-row_has c [] row after low high = or_left _ _ (within c row low high)
-row_has c (x ∷ xs) row after low high = or_right _ _ (row_has c xs row after low high)
+pub none_begun : (c : ℕ) (rows : List CharacterRange) (start : ℕ) → IsStart (λ (r : CharacterRange). r.first) rows (c + 1) start → start ≡ 0 → false ≡ is_in_ranges rows c
+none_begun c rows start s e = sym (all_beyond c rows (λ i d lt. s.rest i d (omega (arith, e)) lt))
 
-pub after_keeps : (c : ℕ) (rest front : List CharacterRange) (row : CharacterRange) (after : List CharacterRange) → rest ≡ front ++ row ∷ after → ends_rise 0 rest ≡ true → row.last < c → is_in_ranges after c ≡ is_in_ranges rest c
-after_keeps c rest front row after e h beyond = rw e (sym (none_in_front c 0 front row after (rw e at h) beyond))
+last_decides : (c m : ℕ) (rows : List CharacterRange) (j : ℕ) (d : CharacterRange) → ends_rise m rows ≡ true → IsStart (λ (r : CharacterRange). r.first) rows (c + 1) (suc j) → nat_le c (get_or rows j d).last ≡ is_in_ranges rows c
+last_decides c m [] j d h s = let none = s.within in absurd (omega (arith, none))
+last_decides c m (r ∷ rs) zero d h s =
+    let here = s.below 0 r (omega arith) in
+    let rest : is_in_ranges rs c ≡ false = all_beyond c rs (λ i d lt. s.rest (suc i) d (omega arith) (omega (arith, lt))) in
+    rw rest (sym (begun c r.first r.last (omega (arith, here))))
+last_decides c m (r ∷ rs) (suc j) d h s =
+    let parts = and_parts (nat_le m r.last) (ends_rise r.last rs) h in
+    let within : suc (suc j) ≤ suc (length rs) = s.within in
+    let tail : IsStart (λ (r : CharacterRange). r.first) rs (c + 1) (suc j) = record {
+      within = omega (arith, within);
+      below = λ i d lt. s.below (suc i) d (omega (arith, lt));
+      rest = λ i d ge lt. s.rest (suc i) d (omega (arith, ge)) (omega (arith, lt));
+    } in
+    let later = last_decides c r.last rs j d parts.1 tail in
+    let reach : r.last ≤ (get_or rs j d).last = reached r.last rs j d parts.1 (omega (arith, within)) in
+    rw (sym later) (sym (shorter c r.first r.last (get_or rs j d).last reach))
 
-pub after_ends : (rest front : List CharacterRange) (row : CharacterRange) (after : List CharacterRange) → rest ≡ front ++ row ∷ after → ends_rise 0 rest ≡ true → ends_rise 0 after ≡ true
-after_ends rest front row after e h = ends_lower row.last 0 after (omega arith) (ends_behind 0 front row after (rw e at h))
-
-pub front_keeps : (c : ℕ) (rest front : List CharacterRange) (row : CharacterRange) (after : List CharacterRange) → rest ≡ front ++ row ∷ after → is_rising (λ _. 0) (λ (r : CharacterRange). r.first) rest ≡ true → c < row.first
-    → is_in_ranges front c ≡ is_in_ranges rest c
-front_keeps c rest front row after e h under = rw e (sym (none_from_row c None front row after (rw e at h) under))
-
-pub front_ends : (rest front : List CharacterRange) (row : CharacterRange) (after : List CharacterRange) → rest ≡ front ++ row ∷ after → ends_rise 0 rest ≡ true → ends_rise 0 front ≡ true
-front_ends rest front row after e h = ends_before 0 front (row ∷ after) (rw e at h)
-
-pub row_is_in : (c : ℕ) (rest front : List CharacterRange) (row : CharacterRange) (after : List CharacterRange) → rest ≡ front ++ row ∷ after → row.first ≤ c → c ≤ row.last → true ≡ is_in_ranges rest c
-row_is_in c rest front row after e low high = rw e (sym (row_has c front row after low high))
+pub last_tells : (c : ℕ) (rows : List CharacterRange) (start : ℕ) (d : CharacterRange) → ends_rise 0 rows ≡ true → IsStart (λ (r : CharacterRange). r.first) rows (c + 1) start → start ≢ 0 → nat_le c (get_or rows (start - 1) d).last ≡ is_in_ranges rows c
+last_tells c rows zero d h s n = absurd (n refl)
+last_tells c rows (suc j) d h s n =
+    let back : suc j - 1 ≡ j = omega arith in
+    rw back (last_decides c 0 rows j d h s)

@@ -5,6 +5,7 @@ ghost use Rattle.unicode_rows.specs.Ranges.{ends_rise, is_in_ranges, widened};
 ghost use Rattle.unicode_rows.specs.declared.rows.CharacterRange.{CharacterRange};
 
 use crate::rows::CharacterRange;
+use sorted_rows::first_from;
 use std::alloc::{AllocError, Global};
 use std::marker::Model;
 
@@ -68,24 +69,17 @@ fn greater(a: char, b: char) -> char
     if a < b { b } else { a }
 }
 
-/// Whether one of the ranges has a character, where their ends never fall.
+/// Whether one of the ranges has a character, where their ends never fall: of those that begin at the character or
+/// before it the last one reaches as far as any.
+#[tactic(auto, using(crate::specs::Searches::numbers_from))]
 fn is_in_widened(rows: &[CharacterRange], c: char) -> bool
     requires firsts { is_rising (λ _. 0) (λ (r : CharacterRange). r.first) rows.now ≡ true }
     requires ends { ends_rise 0 rows.now ≡ true }
     ensures { result ≡ is_in_ranges rows.now c }
 {
-    let mut rest = rows;
-    'halving: loop {
-        let (front, back) = rest.split_at(rest.len() / 2);
-        let [row, after @ ..] = back else {
-            return false;
-        };
-        if row.last < c {
-            rest = after;
-        } else if c < row.first {
-            rest = front;
-        } else {
-            return true;
-        }
+    let behind = first_from(rows, c as u32 + 1);
+    if behind == 0 {
+        return false;
     }
+    c <= rows[behind - 1].last
 }

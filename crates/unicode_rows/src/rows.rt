@@ -3,6 +3,7 @@ ghost use Rattle.std.specs.Prelude.{◌≡◌, ℕ, Bool, ◌&&◌, ◌≤◌, n
 ghost use Rattle.unicode_rows.specs.Numbers.{is_scalar};
 
 use crate::keyed::{Keyed, Row};
+use sorted_rows::Numbered;
 use std::alloc::Global;
 
 /// How many joining types a row may name.
@@ -37,6 +38,14 @@ impl Keyed for Split {
     }
 
     fn low(&self) -> u32 {
+        self.whole as u32
+    }
+}
+
+impl Numbered for Split {
+    ghost number_of = { λ r. r.whole };
+
+    fn number(&self) -> u32 {
         self.whole as u32
     }
 }
@@ -118,6 +127,14 @@ impl Keyed for CharacterClass {
     }
 }
 
+impl Numbered for CharacterClass {
+    ghost number_of = { λ r. r.character };
+
+    fn number(&self) -> u32 {
+        self.character as u32
+    }
+}
+
 impl Row<2> for CharacterClass {
     ghost use Rattle.unicode_rows.specs.Rows.{character_class_of_numbers, is_character_class_in_range};
 
@@ -155,6 +172,14 @@ impl Keyed for Counterpart {
     }
 }
 
+impl Numbered for Counterpart {
+    ghost number_of = { λ r. r.character };
+
+    fn number(&self) -> u32 {
+        self.character as u32
+    }
+}
+
 impl Row<2> for Counterpart {
     ghost use Rattle.unicode_rows.specs.Rows.{counterpart_of_numbers, is_counterpart_in_range};
 
@@ -188,6 +213,14 @@ impl Keyed for CharacterRange {
     }
 
     fn low(&self) -> u32 {
+        self.first as u32
+    }
+}
+
+impl Numbered for CharacterRange {
+    ghost number_of = { λ r. r.first };
+
+    fn number(&self) -> u32 {
         self.first as u32
     }
 }
@@ -230,6 +263,14 @@ impl Keyed for JoiningRow {
     }
 }
 
+impl Numbered for JoiningRow {
+    ghost number_of = { λ r. r.character };
+
+    fn number(&self) -> u32 {
+        self.character as u32
+    }
+}
+
 impl Row<2> for JoiningRow {
     ghost use Rattle.unicode_rows.specs.Rows.{joining_row_of_numbers, is_joining_row_in_range};
 
@@ -268,6 +309,14 @@ impl Keyed for IndicRow {
     }
 }
 
+impl Numbered for IndicRow {
+    ghost number_of = { λ r. r.character };
+
+    fn number(&self) -> u32 {
+        self.character as u32
+    }
+}
+
 impl Row<3> for IndicRow {
     ghost use Rattle.unicode_rows.specs.Rows.{indic_row_of_numbers, is_indic_row_in_range};
 
@@ -302,6 +351,14 @@ impl Keyed for UniversalRow {
     }
 
     fn low(&self) -> u32 {
+        self.character as u32
+    }
+}
+
+impl Numbered for UniversalRow {
+    ghost number_of = { λ r. r.character };
+
+    fn number(&self) -> u32 {
         self.character as u32
     }
 }

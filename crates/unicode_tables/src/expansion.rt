@@ -1,12 +1,12 @@
 //! Full expansions, without memory.
 ghost use Rattle.std.specs.Prelude.{◌≡◌, ◌+◌, ◌<◌, ◌≤◌, ◌++◌, true, [], length};
 ghost use Rattle.arrayvec.specs.ArrayVec.{array_vec_len};
-ghost use Rattle.unicode_rows.specs.Keys.{is_rising};
 ghost use Rattle.unicode_tables.specs.Expansion.{expanded};
 ghost use Rattle.unicode_tables.specs.Tables.{splits_of};
 
 use crate::depth::{MAX_SPLITS, split};
 use arrayvec::ArrayVec;
+use sorted_rows::PagedRows;
 use unicode_rows::Split;
 
 /// How many characters two full expansions may have: each has one first part and as many second
@@ -14,9 +14,8 @@ use unicode_rows::Split;
 pub(crate) const EXPANSIONS: usize = 18;
 
 /// Adds the full expansion of a character.
-pub(crate) fn expand(splits: &[Split], u: char, out: &mut ArrayVec<char, EXPANSIONS>)
-    requires rising { is_rising (λ _. 0) (λ (r : Split). r.whole) splits.now ≡ true }
-    requires room { array_vec_len out.old ≤ 9 }
+pub(crate) fn expand(splits: &PagedRows<Split>, u: char, out: &mut ArrayVec<char, EXPANSIONS>)
+    requires { array_vec_len out.old ≤ 9 }
     ensures expanded { out.new.items ≡ out.old.items ++ expanded (splits_of splits.now) MAX_SPLITS u }
     ensures room { array_vec_len out.new ≤ array_vec_len out.old + 9 }
 {
@@ -24,9 +23,13 @@ pub(crate) fn expand(splits: &[Split], u: char, out: &mut ArrayVec<char, EXPANSI
 }
 
 #[tactic(auto, using(crate::proofs::Chains::expanded_alone, crate::proofs::Chains::expanded_at_zero, crate::proofs::Chains::with_second, crate::proofs::Chains::without_second))]
-fn expand_within(splits: &[Split], depth: u32, u: char, out: &mut ArrayVec<char, EXPANSIONS>)
-    requires rising { is_rising (λ _. 0) (λ (r : Split). r.whole) splits.now ≡ true }
-    requires room { array_vec_len out.old + depth < 18 }
+fn expand_within(
+    splits: &PagedRows<Split>,
+    depth: u32,
+    u: char,
+    out: &mut ArrayVec<char, EXPANSIONS>,
+)
+    requires { array_vec_len out.old + depth < 18 }
     ensures expanded { out.new.items ≡ out.old.items ++ expanded (splits_of splits.now) depth u }
     ensures room { array_vec_len out.new ≤ array_vec_len out.old + depth + 1 }
 {

@@ -1,7 +1,6 @@
 //! Whether tables are lawful.
 ghost use Rattle.std.specs.Prelude.{ℕ, ◌≡◌, ◌+◌, ◌<◌, ◌≤◌, ◌↔◌, true, false, length, is_none, IsTrue, IsNone, IfSome, MatchBool};
 ghost use Rattle.std.specs.List.{list_all};
-ghost use Rattle.unicode_rows.specs.Keys.{is_rising};
 ghost use Rattle.unicode_rows.specs.declared.rows.CharacterClass.{CharacterClass};
 ghost use Rattle.unicode_rows.specs.declared.rows.Pair.{Pair};
 ghost use Rattle.unicode_rows.specs.declared.rows.Split.{Split};
@@ -16,6 +15,7 @@ use crate::expansion::{EXPANSIONS, expand};
 use crate::hangul::{T_BASE, T_COUNT, V_BASE, V_COUNT, below_surrogates};
 use crate::tables::{UnicodeTables, compose, decompose};
 use arrayvec::ArrayVec;
+use sorted_rows::PagedRows;
 use thiserror::Error;
 use unicode_chars::{CharExt, GeneralCategoryExt};
 use unicode_rows::{CharacterClass, Split};
@@ -205,17 +205,18 @@ fn marks_pass(classes: &[CharacterClass]) -> bool
 }
 
 /// Whether the second part of each row, as its character splits, doesn't split.
-fn rows_stay(splits: &[Split]) -> bool
-    requires { is_rising (λ _. 0) (λ (r : Split). r.whole) splits.now ≡ true }
+fn rows_stay(splits: &PagedRows<Split>) -> bool
     ensures { result ≡ list_all
         (λ (r : Split). second_stays (splits_of splits.now) (splits_of splits.now r.whole)) splits.now }
 {
-    splits.iter().all(|row| second_stays(splits, row.whole))
+    splits
+        .as_slice()
+        .iter()
+        .all(|row| second_stays(splits, row.whole))
 }
 
 /// Whether the second part of a character's split, if it has one, doesn't split.
-fn second_stays(splits: &[Split], u: char) -> bool
-    requires { is_rising (λ _. 0) (λ (r : Split). r.whole) splits.now ≡ true }
+fn second_stays(splits: &PagedRows<Split>, u: char) -> bool
     ensures { result ≡ second_stays (splits_of splits.now) (splits_of splits.now u) }
 {
     match split(splits, u) {
@@ -225,9 +226,8 @@ fn second_stays(splits: &[Split], u: char) -> bool
 }
 
 /// Whether none of the code points of a range splits.
-fn stay_whole(splits: &[Split], base: u32, count: u32) -> bool
-    requires rising { is_rising (λ _. 0) (λ (r : Split). r.whole) splits.now ≡ true }
-    requires below { base + count ≤ 0xD800 }
+fn stay_whole(splits: &PagedRows<Split>, base: u32, count: u32) -> bool
+    requires { base + count ≤ 0xD800 }
     ensures { MatchBool result (AllAmong base count (λ c. is_none (splits_of splits.now c)))
         (SomeAmong base count (λ c. is_none (splits_of splits.now c) ≡ false)) }
 {

@@ -9,6 +9,7 @@ ghost use Rattle.unicode_tables.specs.Tables.{tables_of, first_row_fault, split_
 use crate::depth::{MAX_SPLITS, all_chains_end, split};
 use crate::hangul::compose_hangul;
 use crate::records::UnicodeRecords;
+use sorted_rows::PagedRows;
 use std::alloc::Global;
 use std::marker::Model;
 use unicode_rows::{
@@ -20,15 +21,15 @@ use unicode_rows::{
 /// and the numbers of the shapers' categories.
 #[derive(Debug, Drop)]
 pub struct UnicodeTables {
-    splits: Vec<Split>,
+    splits: PagedRows<Split>,
     pairs: Vec<Pair>,
-    classes: Vec<CharacterClass>,
-    mirrored: Vec<Counterpart>,
-    vertical: Vec<Counterpart>,
+    classes: PagedRows<CharacterClass>,
+    mirrored: PagedRows<Counterpart>,
+    vertical: PagedRows<Counterpart>,
     pictographic: CharacterRanges,
-    joining: Vec<JoiningRow>,
-    indic: Vec<IndicRow>,
-    universal: Vec<UniversalRow>,
+    joining: PagedRows<JoiningRow>,
+    indic: PagedRows<IndicRow>,
+    universal: PagedRows<UniversalRow>,
     thai: Vec<ThaiRow>,
 }
 
@@ -78,6 +79,7 @@ impl UnicodeTables {
 
     /// The tables of records whose keys rise, or `SplitDepth` where a chain of first parts, by the rule for Hangul and
     /// the table of splits, has more than eight splits.
+    #[tactic(auto, using(unicode_rows::specs::Searches::numbers_from))]
     pub fn of_records(alloc: Global, records: UnicodeRecords) -> Result<UnicodeTables, TablesFault>
         requires { AreRising records }
         ensures tables { IfOk result (λ t. t ≡ tables_of_records records) }
@@ -86,19 +88,20 @@ impl UnicodeTables {
         ensures deep { result ≡ Err TablesFault.SplitDepth
             → HasDeepChain (split_of (tables_of_records records)) MAX_SPLITS }
     {
-        if !all_chains_end(&records.splits) {
+        let splits = PagedRows::new(alloc, records.splits)?;
+        if !all_chains_end(&splits) {
             return Err(TablesFault::SplitDepth);
         }
         Ok(UnicodeTables {
-            splits: records.splits,
+            splits,
             pairs: records.pairs,
-            classes: records.classes,
-            mirrored: records.mirrored,
-            vertical: records.vertical,
+            classes: PagedRows::new(alloc, records.classes)?,
+            mirrored: PagedRows::new(alloc, records.mirrored)?,
+            vertical: PagedRows::new(alloc, records.vertical)?,
             pictographic: CharacterRanges::new(alloc, records.pictographic)?,
-            joining: records.joining,
-            indic: records.indic,
-            universal: records.universal,
+            joining: PagedRows::new(alloc, records.joining)?,
+            indic: PagedRows::new(alloc, records.indic)?,
+            universal: PagedRows::new(alloc, records.universal)?,
             thai: records.thai,
         })
     }
@@ -107,14 +110,14 @@ impl UnicodeTables {
     pub fn joining(&self, c: char) -> Option<u8>
         ensures { result ≡ joining_of self.now c }
     {
-        Some(find_row(&self.joining, 0, c as u32)?.joining_type)
+        Some(self.joining.get(c as u32)?.joining_type)
     }
 
     /// The numbers of the Indic syllabic category and the position of a character.
     pub fn indic(&self, c: char) -> Option<(u8, u8)>
         ensures { result ≡ indic_of self.now c }
     {
-        let row = find_row(&self.indic, 0, c as u32)?;
+        let row = self.indic.get(c as u32)?;
         Some((row.category, row.position))
     }
 
@@ -122,7 +125,7 @@ impl UnicodeTables {
     pub fn universal(&self, c: char) -> Option<u8>
         ensures { result ≡ universal_of self.now c }
     {
-        Some(find_row(&self.universal, 0, c as u32)?.category)
+        Some(self.universal.get(c as u32)?.category)
     }
 
     /// The two private characters that stand for a character after an action, of SD SDL SL RD from 0.
@@ -133,9 +136,8 @@ impl UnicodeTables {
         Some((row.first, row.second))
     }
 
-    pub(crate) fn splits(&self) -> &[Split]
+    pub(crate) fn splits(&self) -> &PagedRows<Split>
         ensures rows { result.now ≡ self.now.splits }
-        ensures rising { is_rising (λ _. 0) (λ (r : Split). r.whole) result.now ≡ true }
         ensures shallow { EndWithin (splits_of result.now) MAX_SPLITS }
     {
         &self.splits
@@ -151,13 +153,13 @@ impl UnicodeTables {
         ensures rows { result.now ≡ self.now.classes }
         ensures rising { is_rising (λ _. 0) (λ (r : CharacterClass). r.character) result.now ≡ true }
     {
-        &self.classes
+        self.classes.as_slice()
     }
 
     pub(crate) fn class(&self, c: char) -> u8
         ensures { result ≡ class_of self.now c }
     {
-        match find_row(&self.classes, 0, c as u32) {
+        match self.classes.get(c as u32) {
             Some(row) => row.class,
             None => 0,
         }
@@ -166,7 +168,7 @@ impl UnicodeTables {
     pub(crate) fn mirrored(&self, c: char) -> Option<char>
         ensures { result ≡ counterpart_in self.now.mirrored c }
     {
-        Some(find_row(&self.mirrored, 0, c as u32)?.counterpart)
+        Some(self.mirrored.get(c as u32)?.counterpart)
     }
 
     pub(crate) fn is_pictographic(&self, c: char) -> bool
@@ -178,7 +180,7 @@ impl UnicodeTables {
     pub(crate) fn vertical(&self, c: char) -> Option<char>
         ensures { result ≡ counterpart_in self.now.vertical c }
     {
-        Some(find_row(&self.vertical, 0, c as u32)?.counterpart)
+        Some(self.vertical.get(c as u32)?.counterpart)
     }
 }
 

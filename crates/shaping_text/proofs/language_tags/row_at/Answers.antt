@@ -1,30 +1,21 @@
-use Rattle.std.proofs.Common.{◌+◌, ◌-◌, ◌/◌, sym, arith}
-use Rattle.shaping_text.proofs.Searching.{less_through, greater_from, equal_at, row_absent}
+use Rattle.std.proofs.Common.{◌∙◌, ap, Some, None, Ok, Err, rules}
+use Rattle.std.specs.Cmp.Lexicographic.{nat_list_cmp_total}
+use Rattle.std.proofs.lemmas.Fn.{always_returns_same}
+use Rattle.sorted_rows.specs.Searched.{searched}
+use Rattle.shaping_text.specs.LanguageRows.{row_text}
+use Rattle.shaping_text.proofs.Searching.{order, rises, same_row}
 use Rattle.shaping_text.proofs.language_tags.row_at.Goals as goal
 
-pub loop-low-preserved-in-Less : goal.loop-low-preserved-in-Less
-loop-low-preserved-in-Less c = record {
-  within = c.loop-low.invariant.within;
-  below = λ k d h.
-      less_through c.args.rows.now c.args.text.now c.requires (c.loop-low.low + (c.loop-low.high - c.loop-low.low) / 2) k d
-      c.index-rows-middle.result h (omega arith) c.index-rows-middle.is (sym c.in-Less.ensures);
-  above = c.loop-low.invariant.above;
-}
+-- the closure compares a row's text
+pub returns-in-Ok : goal.returns-in-Ok
+returns-in-Ok c =
+    let by_text = c.in-Ok.ensures.position (λ row. order (row_text row) c.args.text.now) (always_returns_same _ _ _ (λ a r h called. search rules)) in
+    ap (λ r. Some r) c.index-rows-index.is
+    ∙ searched order nat_list_cmp_total row_text None c.args.rows.now c.args.text.now (Ok c.in-Ok.index) (rises c.args.rows.now c.requires) c.in-Ok.ensures.bound by_text c.index-rows-index.result
+    ∙ same_row c.args.rows.now c.args.text.now
 
-pub returns-in-Equal : goal.returns-in-Equal
-returns-in-Equal c =
-    sym (equal_at c.args.rows.now c.args.text.now c.requires (c.loop-low.low + (c.loop-low.high - c.loop-low.low) / 2)
-    c.index-rows-middle.result (omega arith) c.index-rows-middle.is (sym c.in-Equal.ensures))
-
-pub loop-low-preserved : goal.loop-low-preserved
-loop-low-preserved c = record {
-  within = omega arith;
-  below = c.loop-low.invariant.below;
-  above = λ k d h l.
-      greater_from c.args.rows.now c.args.text.now c.requires (c.loop-low.low + (c.loop-low.high - c.loop-low.low) / 2) k d
-      c.index-rows-middle.result h l c.index-rows-middle.is (sym c.in-Greater.ensures);
-}
-
-pub returns : goal.returns
-returns c =
-    sym (row_absent c.args.rows.now c.args.text.now c.loop-low.low c.loop-low.high (omega arith) c.loop-low.invariant.below c.loop-low.invariant.above)
+pub returns-in-Err : goal.returns-in-Err
+returns-in-Err c =
+    let by_text = c.in-Err.ensures.position (λ row. order (row_text row) c.args.text.now) (always_returns_same _ _ _ (λ a r h called. search rules)) in
+    searched order nat_list_cmp_total row_text None c.args.rows.now c.args.text.now (Err c.in-Err.field-0) (rises c.args.rows.now c.requires) c.in-Err.ensures.bound by_text
+    ∙ same_row c.args.rows.now c.args.text.now
