@@ -53,10 +53,12 @@ pub enum Call {
     Sync,
     Tatweel(Option<usize>, Option<usize>),
     UnsafeToBreak(Option<usize>, Option<usize>),
+    /// Puts the i-th glyph from the cursor on into a cluster.
+    WriteCluster(usize, u32),
     /// Numbers the glyph at the cursor.
     WriteCurrent(u32),
-    /// Numbers the first glyph of the output.
-    WriteOutput(u32),
+    /// Numbers the first of the glyphs behind the cursor.
+    WriteFirst(u32),
     /// Masks the glyph behind the cursor.
     WriteLast(u32),
 }
@@ -69,8 +71,9 @@ pub fn make(buffer: &mut hb_buffer_t, alloc: Global, call: &Call) -> Result<bool
             Ok(true)
         }
         Limit(n) => Ok(limit(buffer, n)),
-        WriteCurrent(number) => Ok(write_current(buffer, number)),
-        WriteLast(mask) => Ok(write_last(buffer, mask)),
+        WriteCluster(..) | WriteCurrent(_) | WriteFirst(_) | WriteLast(_) => {
+            Ok(write(buffer, call))
+        }
         Next | NextMany(_) | MoveTo(_) => walk(buffer, call),
         Merge(..) | UnsafeToBreak(..) | Concat(..) | Tatweel(..) => Ok(mark(buffer, call)),
         _ if buffer.have_output() => make_in_output(buffer, call),
@@ -97,20 +100,17 @@ fn limit(buffer: &mut hb_buffer_t, n: usize) -> bool {
     fits
 }
 
-fn write_current(buffer: &mut hb_buffer_t, number: u32) -> bool {
-    let there = buffer.idx() < buffer.len();
-    if there {
-        buffer.cur_mut(0).glyph_id = number;
+/// Calls that lend glyphs on either side of the cursor.
+fn write(buffer: &mut hb_buffer_t, call: &Call) -> bool {
+    let left = buffer.len() - buffer.idx();
+    match *call {
+        WriteCluster(i, cluster) if i < left => buffer.cur_mut(i).cluster = cluster,
+        WriteCurrent(number) if left > 0 => buffer.cur_mut(0).glyph_id = number,
+        WriteFirst(number) => number_first(buffer.out_info_mut(), number),
+        WriteLast(mask) if buffer.out_len() > 0 => buffer.prev_mut().mask = mask,
+        _ => return false,
     }
-    there
-}
-
-fn write_last(buffer: &mut hb_buffer_t, mask: u32) -> bool {
-    let there = buffer.out_len() > 0;
-    if there {
-        buffer.prev_mut().mask = mask;
-    }
-    there
+    true
 }
 
 fn walk(buffer: &mut hb_buffer_t, call: &Call) -> Result<bool, AllocError> {
@@ -248,7 +248,6 @@ fn change_output(buffer: &mut hb_buffer_t, call: &Call) -> bool
         ConcatAcross(start, end) if reaches_across(buffer, start, end) => {
             buffer.unsafe_to_concat_from_outbuffer(start, end);
         }
-        WriteOutput(number) => number_first(buffer.out_info_mut(), number),
         _ => return false,
     }
     true

@@ -1,4 +1,4 @@
-// Worked rows of the buffer's calls, and of texts and printed glyphs.
+// Worked rows of the buffer's calls, of texts and printed glyphs, and of the numbers that types of glyphs have.
 #![tactic(auto)]
 
 #[cfg(test)]
@@ -11,3 +11,5 @@ mod rows;
 mod settings;
 #[cfg(test)]
 mod texts;
+#[cfg(test)]
+mod types;

@@ -1,6 +1,6 @@
 -- The glyph at the cursor was deleted.
 use Rattle.std.specs.Global.{Vec}
-use Rattle.std.proofs.Common.{ℕ, ◌≡◌, ◌+◌, Bool, true, false, List, ◌∷◌, ◌++◌, drop, refl, ap, sym, subst, ◌∙◌, get_or, arith, ◌<◌, [], length}
+use Rattle.std.proofs.Common.{ℕ, ◌≡◌, ◌+◌, Bool, true, List, ◌∷◌, ◌++◌, drop, refl, ap, sym, subst, ◌∙◌, get_or, arith, ◌<◌, [], length}
 use Rattle.std.proofs.lemmas.List.{map-append}
 use Rattle.glyph_types.specs.declared.info.hb_glyph_info_t.{hb_glyph_info_t as Glyph}
 use Rattle.glyph_types.specs.declared.level.BufferClusterLevel.{BufferClusterLevel as Level}

@@ -25,3 +25,4 @@ pub mod MarkedOrigins
 pub mod DeletedOrigins
 pub mod Spread
 pub mod Room
+pub mod Lent

@@ -1,5 +1,5 @@
 -- What a buffer is once a glyph or a place that it lent comes back.
-use Rattle.std.specs.Prelude.{ℕ, ◌-◌, ◌++◌, List, length, take, drop, slice_set}
+use Rattle.std.specs.Prelude.{ℕ, ◌-◌, ◌++◌, if◌then◌else◌, List, length, take, drop, slice_set}
 use Rattle.std.specs.Borrow.{Lends, MutBor, Fml, Array}
 use Rattle.glyph_types.specs.declared.info.hb_glyph_info_t.{hb_glyph_info_t}
 use Rattle.glyph_types.specs.declared.position.GlyphPosition.{GlyphPosition}
@@ -26,13 +26,15 @@ with_last_behind g s = record s { behind = slice_set s.behind (length s.behind -
 abbrev pub refilled : {X : Type 0} → List X → List X → List X
 refilled new old = take (length old) (new ++ drop (length new) old)
 
--- other glyphs, other glyphs of the output, other positions
+-- other glyphs
 abbrev pub with_refilled : List hb_glyph_info_t → Sides → Sides
 with_refilled gs s = with_glyphs (refilled gs (all_glyphs s)) s
 
+-- of the glyphs behind the cursor as many come back as there were; with no output open they stand at the front of all glyphs
 abbrev pub with_output_refilled : List hb_glyph_info_t → Sides → Sides
-with_output_refilled gs s = record s { behind = refilled gs s.behind }
+with_output_refilled gs s = if s.is_open then record s { behind = refilled gs s.behind } else with_refilled gs s
 
+-- other positions
 abbrev pub with_positions_refilled : List Position → Sides → Sides
 with_positions_refilled ps s = record s { positions = refilled ps s.positions }
 

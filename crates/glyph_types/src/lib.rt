@@ -7,5 +7,3 @@ pub mod info;
 pub mod level;
 pub mod names;
 pub mod position;
-#[cfg(test)]
-mod tests;

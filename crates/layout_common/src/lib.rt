@@ -6,5 +6,3 @@ pub mod class_definition;
 pub mod coverage;
 pub mod flags;
 pub mod glyph_row;
-#[cfg(test)]
-mod tests;

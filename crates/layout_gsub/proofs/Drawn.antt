@@ -1,23 +1,25 @@
 -- What the drawing of an alternate does to a buffer.
-use Rattle.std.proofs.Common.{ℕ, ◌≡◌, ◌<◌, ◌%◌, Bool, true, false, List, [], ◌∷◌, length, refl, sym, ap, subst, ◌∙◌, arith, Some, None, slice_get, get_or}
+use Rattle.std.proofs.Common.{ℕ, ◌≡◌, ◌<◌, ◌%◌, Bool, true, false, List, [], ◌∷◌, length, sym, ap, subst, ◌∙◌, arith, Some, None, slice_get, get_or}
 use Rattle.std.proofs.lemmas.List.{length-map, length-append}
 use Rattle.std.proofs.lemmas.Option.{slice_get-get_or}
-use Rattle.std.specs.Prelude.{Option}
+use Rattle.std.specs.Prelude.{◌+◌, nat_le, if◌then◌else◌, Option, Result, Ok, Err}
+use Rattle.glyph_types.specs.declared.cause.ShapeCause.{ShapeCause}
+use Rattle.glyph_types.specs.declared.cause.ShapeCause.TheVariants.{TooLong}
 use Rattle.glyph_lists.specs.Items.{item_of, strip, clusters}
 use Rattle.glyph_lists.specs.Parts.{stretch}
 use Rattle.glyph_lists.specs.Glyphs.{glyphs_marked, tells_apart}
 use Rattle.glyph_lists.specs.Lemmas.Glyphs.{strip_marked}
-use Rattle.glyph_lists.specs.Events.{Break}
+use Rattle.glyph_lists.specs.Events.{Event, Break}
 use Rattle.glyph_buffer.specs.Sides.{Sides, all_glyphs, origins_of, origins_by}
 use Rattle.glyph_buffer.specs.Marking.{marked_across, end_in_all, with_marked}
 use Rattle.font_face.specs.declared.parts.GlyphDefinition.{GlyphDefinition}
-use Rattle.layout_rules.specs.Actions.{Cut, later, whole}
-use Rattle.layout_rules.specs.Buffers.{cut_of, frame_of, Does, IsActed, IsPassed}
+use Rattle.layout_rules.specs.Actions.{Cut, Acts, Refuses, later, whole}
+use Rattle.layout_rules.specs.Buffers.{cut_of, frame_of, IsPassed}
+use Rattle.layout_rules.specs.Performing.{cut_with, Performs}
+use Rattle.layout_rules.specs.Lemmas.Performed.{performs_later, same_with}
 use Rattle.layout_rules.specs.Lemmas.Attempts.{cut_with_glyphs}
 use Rattle.layout_rules.specs.Lemmas.Frames.{telling_still}
-use Rattle.layout_rules.specs.Lemmas.Does.{then_acted}
 use Rattle.layout_match.specs.Applied.{drawn}
-use Rattle.layout_gsub.specs.Drawing.{Draws, cut_with}
 use Rattle.layout_gsub.specs.Replacements.{substituted_cut, substituted}
 use Rattle.layout_gsub.specs.Alternates.{alternate_of, alternate_of_value, drawn_alternate, is_drawn}
 
@@ -38,27 +40,32 @@ all_marked s new is happened =
       read = ap (λ (t : Sides). t.read) same;
     }
 
-pub alternate_drawn : (gdef given : GlyphDefinition) (glyphs : List ℕ) (n k r after : ℕ) (s mid new : Sides) → given ≡ gdef → k ≡ drawn r % length glyphs → k < length glyphs → n ≡ get_or glyphs k 0 → after ≡ drawn r
-    → IsPassed (Break 0 (length (whole (cut_of s))) ∷ []) s mid → IsActed (substituted_cut given n (cut_of mid)) [] mid new → Draws (drawn_alternate gdef glyphs (cut_with r s)) true r after s new
-alternate_drawn gdef given glyphs n k r after s mid new same at within is state passed acted =
+-- a glyph that comes in or is refused is so whatever the state before was
+replaced_from : (b : Bool) (cut : Cut) (es : List Event) (result : Result Bool ShapeCause) (r before after : ℕ) (s new : Sides) → Performs (if b then Acts cut es else Refuses TooLong) result r after s new → Performs (if b then Acts cut es else Refuses TooLong) result before after s new
+replaced_from true cut es (Ok acted) r before after s new d = d
+replaced_from false cut es (Ok acted) r before after s new d = d
+replaced_from b cut es (Err cause) r before after s new d = d
+
+pub alternate_drawn : (gdef given : GlyphDefinition) (glyphs : List ℕ) (n k r after end : ℕ) (result : Result Bool ShapeCause) (s mid new : Sides) → given ≡ gdef → k ≡ drawn r % length glyphs → k < length glyphs → n ≡ get_or glyphs k 0 → after ≡ drawn r
+    → IsPassed (Break 0 (length (whole (cut_of s))) ∷ []) s mid → Performs (substituted given (Some n) (cut_with after mid)) result after end mid new → Performs (drawn_alternate gdef glyphs (cut_with r s)) result r end s new
+alternate_drawn gdef given glyphs n k r after end result s mid new same at within is state passed performed =
     let es = Break 0 (length (whole (cut_of s))) ∷ [] in
-    let all : IsActed (substituted_cut given n (cut_of mid)) es s new = then_acted es [] (substituted_cut given n (cut_of mid)) s mid new passed acted in
-    let P : Cut → Type 0 = λ c. IsActed (substituted_cut given n c) es s new in
-    let R : GlyphDefinition → Type 0 = λ d. IsActed (substituted_cut d n (cut_of s)) es s new in
-    let here : IsActed (substituted_cut gdef n (cut_of s)) es s new = subst R same (subst P passed.cut_is all) in
+    let c : Cut = cut_with after mid in
+    let from = replaced_from (nat_le (length c.front + 1) c.max_len) (substituted_cut given n c) [] result after r end mid new performed in
+    let all = performs_later es (substituted given (Some n) c) result r end s mid new passed from in
+    let D : Cut → Type 0 = λ d. Performs (later es (substituted given (Some n) d)) result r end s new in
+    let R : GlyphDefinition → Type 0 = λ d. Performs (later es (substituted d (Some n) (cut_with after s))) result r end s new in
+    let here = subst R same (subst D (same_with after s mid passed.cut_is) all) in
     let there : Some n ≡ slice_get glyphs (drawn r % length glyphs) = ap Some is ∙ sym (slice_get-get_or glyphs k 0 within) ∙ ap (slice_get glyphs) at in
-    let Q : Option ℕ → Type 0 = λ o. Draws (later es (substituted gdef o (record (cut_with r s) { random = drawn r }))) true r after s new in
-    subst Q there (state, (refl, here))
+    let Q : Option ℕ → Type 0 = λ o. Performs (later es (substituted gdef o (cut_with after s))) result r end s new in
+    let S : ℕ → Type 0 = λ m. Performs (later es (substituted gdef (slice_get glyphs (drawn r % length glyphs)) (cut_with m s))) result r end s new in
+    subst S state (subst Q there here)
 
 -- whether an alternate is drawn decides
-pub drawn_does : (gdef : GlyphDefinition) (random : Bool) (value : ℕ) (glyphs : List ℕ) (r after : ℕ) (s new : Sides) → is_drawn random value glyphs ≡ true → Draws (drawn_alternate gdef glyphs (cut_with r s)) true r after s new
-    → Draws (alternate_of gdef random value glyphs (cut_with r s)) true r after s new
-drawn_does gdef random value glyphs r after s new e d = rw e d
+pub drawn_performs : (gdef : GlyphDefinition) (random : Bool) (value : ℕ) (glyphs : List ℕ) (r after : ℕ) (result : Result Bool ShapeCause) (s new : Sides) → is_drawn random value glyphs ≡ true → Performs (drawn_alternate gdef glyphs (cut_with r s)) result r after s new
+    → Performs (alternate_of gdef random value glyphs (cut_with r s)) result r after s new
+drawn_performs gdef random value glyphs r after result s new e d = rw e d
 
-draws_nothing : (gdef : GlyphDefinition) (r : ℕ) (s new : Sides) (o : Option ℕ) (acted : Bool) → Does (substituted gdef o (cut_of s)) acted s new → Draws (substituted gdef o (cut_with r s)) acted r r s new
-draws_nothing gdef r s new None acted d = (refl, d)
-draws_nothing gdef r s new (Some n) acted d = (refl, d)
-
-pub undrawn_does : (gdef : GlyphDefinition) (random : Bool) (value : ℕ) (glyphs : List ℕ) (r : ℕ) (s new : Sides) (o : Option ℕ) (acted : Bool) → is_drawn random value glyphs ≡ false → alternate_of_value value glyphs ≡ o
-    → Does (substituted gdef o (cut_of s)) acted s new → Draws (alternate_of gdef random value glyphs (cut_with r s)) acted r r s new
-undrawn_does gdef random value glyphs r s new o acted e is d = rw (e, is) (draws_nothing gdef r s new o acted d)
+pub undrawn_performs : (gdef : GlyphDefinition) (random : Bool) (value : ℕ) (glyphs : List ℕ) (r after : ℕ) (result : Result Bool ShapeCause) (s new : Sides) (o : Option ℕ) → is_drawn random value glyphs ≡ false → alternate_of_value value glyphs ≡ o
+    → Performs (substituted gdef o (cut_with r s)) result r after s new → Performs (alternate_of gdef random value glyphs (cut_with r s)) result r after s new
+undrawn_performs gdef random value glyphs r after result s new o e is d = rw (e, is) d

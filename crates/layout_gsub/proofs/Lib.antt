@@ -5,3 +5,7 @@ pub mod First
 pub mod Replaced
 pub mod Drawn
 pub mod Tested
+pub mod Merged
+pub mod Multiplied
+pub mod Firsts
+pub mod Around

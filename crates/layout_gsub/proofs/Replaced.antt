@@ -1,21 +1,24 @@
 -- What a glyph in the place of another does to a buffer.
-use Rattle.std.proofs.Common.{ℕ, ◌≡◌, ◌≤◌, ◌<◌, ◌+◌, true, nat_le, Bool, List, [], ◌∷◌, ◌++◌, length, map, take, drop, refl, sym, ap, ◌∙◌, arith, Some, slice_get}
+use Rattle.std.proofs.Common.{ℕ, ◌≡◌, ◌≤◌, ◌<◌, ◌+◌, true, false, nat_le, Bool, List, [], ◌∷◌, ◌++◌, length, map, take, drop, refl, sym, ap, ◌∙◌, arith, Some, slice_get}
 use Rattle.std.specs.Prelude.{slice_set}
-use Rattle.std.proofs.lemmas.List.{map-append, length-append}
+use Rattle.std.proofs.lemmas.List.{map-append, length-append, length-map}
 use Rattle.std.proofs.lemmas.Bool.Decides.{nat_tests}
 use Rattle.glyph_types.specs.declared.flags.GlyphPropsFlags.{GlyphPropsFlags}
 use Rattle.glyph_types.specs.declared.info.hb_glyph_info_t.{hb_glyph_info_t}
 use Rattle.glyph_lists.specs.Items.{Item, item_of, strip}
 use Rattle.glyph_lists.specs.Origins.{origins, origin_of}
 use Rattle.glyph_lists.specs.Replacements.{glyph_numbered}
-use Rattle.glyph_buffer.specs.Sides.{Sides, items_of, origins_of}
+use Rattle.glyph_types.specs.declared.cause.ShapeCause.TheVariants.{TooLong}
+use Rattle.glyph_buffer.specs.Sides.{Sides, items_of, origins_of, has_output_room}
 use Rattle.glyph_buffer.specs.Lending.{with_glyph_ahead}
 use Rattle.glyph_buffer.specs.Merging.{with_renumbered}
 use Rattle.font_face.specs.declared.parts.GlyphDefinition.{GlyphDefinition}
-use Rattle.layout_rules.specs.Actions.{whole}
+use Rattle.layout_rules.specs.Actions.{whole, Outcome, Acts, Refuses, within_limit}
 use Rattle.layout_rules.specs.Buffers.{cut_of, are_glyphs, frame_of, IsRead, IsActed}
 use Rattle.layout_rules.specs.Lemmas.Glyphs.{and_both, all_of_both, all_of_front, all_of_back, all_dropped}
-use Rattle.layout_gsub.specs.Replacements.{substituted_item, substituted_props, substituted_cut}
+use Rattle.layout_rules.specs.Performing.{cut_with, Performed}
+use Rattle.layout_rules.specs.Lemmas.Performed.{made_of_acted}
+use Rattle.layout_gsub.specs.Replacements.{substituted_item, substituted_props, substituted_cut, substituted}
 
 -- the glyph at the cursor with other properties
 abbrev pub recast : GlyphPropsFlags → hb_glyph_info_t → hb_glyph_info_t
@@ -44,7 +47,7 @@ same_origins : (p : GlyphPropsFlags) (gs : List hb_glyph_info_t) (g : hb_glyph_i
 same_origins p [] g at = cc
 same_origins p (h ∷ gs) g at = let same : h ≡ g = cc in rw same refl
 
-substituted_numbers : (gdef : GlyphDefinition) (n : ℕ) (xs : List Item) → n ≤ 65535 → are_glyphs (map (substituted_item gdef n) (take 1 xs)) ≡ true
+pub substituted_numbers : (gdef : GlyphDefinition) (n : ℕ) (xs : List Item) → n ≤ 65535 → are_glyphs (map (substituted_item gdef n) (take 1 xs)) ≡ true
 substituted_numbers gdef n [] le = refl
 substituted_numbers gdef n (x ∷ xs) le = and_both (nat_le n 65535) true (grind (arith, nat_tests, le)) refl
 
@@ -61,9 +64,9 @@ replaced_cut gdef n p s g at is =
     ap (λ (xs : List Item). record (cut_of s) { front = xs; rest = strip (drop 1 (slice_set s.ahead 0 (recast p g))) }) front
     ∙ ap (λ (xs : List Item). record (cut_of s) { front = strip s.behind ++ map (substituted_item gdef n) (take 1 (strip s.ahead)); rest = xs }) (left_items p s.ahead g)
 
-pub glyph_replaced : (gdef : GlyphDefinition) (n : ℕ) (p : GlyphPropsFlags) (s mid new : Sides) (g : hb_glyph_info_t) → slice_get s.ahead 0 ≡ Some g → 0 < length s.ahead → n ≤ 65535 → p.0 ≡ substituted_props gdef n g.glyph_props.0
+glyph_acted : (gdef : GlyphDefinition) (n : ℕ) (p : GlyphPropsFlags) (s mid new : Sides) (g : hb_glyph_info_t) → slice_get s.ahead 0 ≡ Some g → 0 < length s.ahead → n ≤ 65535 → p.0 ≡ substituted_props gdef n g.glyph_props.0
     → mid ≡ with_glyph_ahead 0 (recast p g) s → new ≡ with_renumbered n mid → origins_of new ≡ origins_of mid → IsActed (substituted_cut gdef n (cut_of s)) [] s new
-glyph_replaced gdef n p s mid new g at some le is there after followed =
+glyph_acted gdef n p s mid new g at some le is there after followed =
     let same : new ≡ with_renumbered n (with_glyph_ahead 0 (recast p g) s) = after ∙ ap (with_renumbered n) there in
     let cut = replaced_cut gdef n p s g at is in
     let ahead = slice_set s.ahead 0 (recast p g) in
@@ -81,3 +84,20 @@ glyph_replaced gdef n p s mid new g at some le is there after followed =
       counts = rw same counts;
       numbers = λ e. ap are_glyphs items ∙ numbers_kept gdef n (strip s.behind) (strip s.ahead) le (ap are_glyphs (sym (map-append item_of s.behind s.ahead)) ∙ e);
     }
+
+-- the limit of a cut is that of its buffer
+pub limit_of : (n r : ℕ) (s : Sides) → nat_le (length (cut_with r s).front + n) (cut_with r s).max_len ≡ has_output_room n s
+limit_of n r s = ap (λ k. nat_le (k + n) s.max_len) (length-map s.behind item_of)
+
+-- within the limit a rule acts, past it it gives up
+pub acts_within : (n r after : ℕ) (o : Outcome) (acted : Bool) (s new : Sides) → has_output_room n s ≡ true → Performed o acted r after s new → Performed (within_limit n (cut_with r s) o) acted r after s new
+acts_within n r after o acted s new room d = rw (limit_of n r s ∙ room) d
+
+pub refuses_past : (n r : ℕ) (o : Outcome) (s : Sides) → has_output_room n s ≡ false → within_limit n (cut_with r s) o ≡ Refuses TooLong
+refuses_past n r o s full = rw (limit_of n r s ∙ full) refl
+
+pub glyph_performed : (gdef : GlyphDefinition) (n r : ℕ) (p : GlyphPropsFlags) (s mid new : Sides) (g : hb_glyph_info_t) → slice_get s.ahead 0 ≡ Some g → 0 < length s.ahead → n ≤ 65535 → p.0 ≡ substituted_props gdef n g.glyph_props.0
+    → mid ≡ with_glyph_ahead 0 (recast p g) s → has_output_room 1 mid ≡ true → new ≡ with_renumbered n mid → origins_of new ≡ origins_of mid → Performed (substituted gdef (Some n) (cut_with r s)) true r r s new
+glyph_performed gdef n r p s mid new g at some le is there room after followed =
+    let made = made_of_acted (substituted_cut gdef n (cut_of s)) [] r s new (glyph_acted gdef n p s mid new g at some le is there after followed) in
+    acts_within 1 r r (Acts (substituted_cut gdef n (cut_with r s)) []) true s new (ap (has_output_room 1) (sym there) ∙ room) (refl, made)

@@ -1,4 +1,8 @@
 pub mod Ligatures
 pub mod Replacements
-pub mod Drawing
 pub mod Alternates
+pub mod Putting
+pub mod Multiples
+pub mod Reverses
+pub mod Woulds
+pub mod Ligating

@@ -8,7 +8,7 @@ use Rattle.layout_common.specs.Rows.{value_of}
 use Rattle.layout_common.specs.declared.glyph_row.GlyphRow.{GlyphRow}
 use Rattle.font_face.specs.Glyphs.{glyph_class}
 use Rattle.font_face.specs.declared.parts.GlyphDefinition.{GlyphDefinition}
-use Rattle.layout_rules.specs.Actions.{Cut, Passes, Acts, Action, at_first}
+use Rattle.layout_rules.specs.Actions.{Cut, Passes, Acts, Action, at_first, within_limit}
 
 -- the properties that GDEF gives a glyph: the bit of its class, of a mark its attachment class in the second byte too
 abbrev pub props_of_class : ℕ → ℕ → ℕ
@@ -33,7 +33,7 @@ substituted_cut gdef glyph c = record c { front = c.front ++ map (substituted_it
 -- where there is a glyph for the item at the cut, it takes its place
 abbrev pub substituted : GlyphDefinition → Option ℕ → Action
 substituted gdef None c = Passes []
-substituted gdef (Some glyph) c = Acts (substituted_cut gdef glyph c) []
+substituted gdef (Some glyph) c = within_limit 1 c (Acts (substituted_cut gdef glyph c) [])
 
 -- single substitution: each covered glyph has one substitute
 abbrev pub single_subtable : GlyphDefinition → List (GlyphRow ℕ) → Action

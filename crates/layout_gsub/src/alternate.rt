@@ -1,12 +1,13 @@
-ghost use Rattle.std.specs.Prelude.{◌≡◌, ◌<◌, ◌∷◌, true, [], length, IfOk, IfErr, OnOk};
+ghost use Rattle.std.specs.Prelude.{◌≡◌, ◌<◌, ◌∷◌, true, [], length};
 ghost use Rattle.glyph_lists.specs.Events.{Break};
 ghost use Rattle.glyph_lists.specs.Items.{item_of};
-ghost use Rattle.glyph_buffer.specs.Sides.{items_of};
+ghost use Rattle.layout_match.specs.Applied.{applied_of};
 ghost use Rattle.layout_rules.specs.Actions.{whole};
-ghost use Rattle.layout_rules.specs.Buffers.{IsPassed, are_glyphs, cut_of};
-ghost use Rattle.layout_gsub.specs.Drawing.{Draws, cut_with};
+ghost use Rattle.layout_rules.specs.Buffers.{IsPassed, cut_of};
+ghost use Rattle.layout_rules.specs.Performing.{Performs, cut_with};
 ghost use Rattle.layout_gsub.specs.Alternates.{alternate_of, alternate_of_value, alternate_subtable, drawn_alternate, feature_value, is_drawn};
 
+use crate::apply::Apply;
 use crate::replacement::replace_glyph;
 use glyph_buffer::buffer::hb_buffer_t;
 use glyph_types::cause::ShapeCause;
@@ -56,21 +57,18 @@ fn draw_alternate(
     glyphs: &[u16],
     ctx: &mut hb_ot_apply_context_t,
     buffer: &mut hb_buffer_t,
-) -> Result<(), ShapeCause>
+) -> Result<bool, ShapeCause>
     requires some { 0 < length glyphs.now }
     requires open { buffer.old.is_open ≡ true }
     requires there { 0 < length buffer.old.ahead }
-    requires room { length buffer.old.behind < buffer.old.max_len }
-    ensures ok { OnOk result
-        (Draws (drawn_alternate ctx.old.face.now.gdef glyphs.now (cut_with ctx.old.random_state buffer.old)) true
-        ctx.old.random_state ctx.new.random_state buffer.old buffer.new) }
-    ensures err { IfErr result (λ e. e ≡ ShapeCause.OutOfMemory) }
-    ensures context { ctx.new ≡ record ctx.old { random_state = ctx.new.random_state } }
+    ensures performs { Performs (drawn_alternate ctx.old.face.now.gdef glyphs.now
+        (cut_with ctx.old.random_state buffer.old)) result ctx.old.random_state ctx.new.random_state buffer.old
+        buffer.new }
+    ensures context { applied_of ctx.new ≡ applied_of ctx.old }
 {
     mark_all(buffer);
     let index = ctx.random_number() as usize % glyphs.len();
-    replace_glyph(ctx, glyphs[index], buffer)?;
-    Ok(())
+    replace_glyph(ctx, glyphs[index], buffer)
 }
 
 /// Puts the alternate of a value in the place of the glyph at the cursor.
@@ -82,50 +80,37 @@ fn apply_alternate(
 ) -> Result<bool, ShapeCause>
     requires open { buffer.old.is_open ≡ true }
     requires there { 0 < length buffer.old.ahead }
-    requires room { length buffer.old.behind < buffer.old.max_len }
-    ensures ok { IfOk result
-        (λ acted. Draws (alternate_of ctx.old.face.now.gdef ctx.old.random value glyphs.now
-        (cut_with ctx.old.random_state buffer.old)) acted ctx.old.random_state ctx.new.random_state buffer.old
-        buffer.new) }
-    ensures err { IfErr result (λ e. e ≡ ShapeCause.OutOfMemory) }
-    ensures context { ctx.new ≡ record ctx.old { random_state = ctx.new.random_state } }
+    ensures performs { Performs (alternate_of ctx.old.face.now.gdef ctx.old.random value glyphs.now
+        (cut_with ctx.old.random_state buffer.old)) result ctx.old.random_state ctx.new.random_state buffer.old
+        buffer.new }
+    ensures context { applied_of ctx.new ≡ applied_of ctx.old }
 {
     if is_drawn(ctx.random, value, glyphs) {
-        draw_alternate(glyphs, ctx, buffer)?;
-        return Ok(true);
+        return draw_alternate(glyphs, ctx, buffer);
     }
-    let Some(glyph) = alternate_of_value(glyphs, value) else {
-        return Ok(false);
-    };
-    replace_glyph(ctx, glyph, buffer)?;
-    Ok(true)
+    match alternate_of_value(glyphs, value) {
+        Some(glyph) => replace_glyph(ctx, glyph, buffer),
+        None => Ok(false),
+    }
 }
 
-/// Alternate substitution (OpenType, GSUB lookup type 3) at the cursor: where the subtable covers the glyph there, the
-/// alternate of the feature's value takes its place; at the value 255 a lookup that may draw takes one at random, and marks
-/// the whole text as unsafe to break. It tells whether one came in. Its one error is want of memory.
-#[tactic(auto, using(layout_rules::specs::Lemmas::Glyphs::number_ahead))]
-pub fn apply_alternate_subst(
-    subtable: &AlternateSubst,
-    ctx: &mut hb_ot_apply_context_t,
-    buffer: &mut hb_buffer_t,
-) -> Result<bool, ShapeCause>
-    requires open { buffer.old.is_open ≡ true }
-    requires there { 0 < length buffer.old.ahead }
-    requires room { length buffer.old.behind < buffer.old.max_len }
-    requires number { are_glyphs (items_of buffer.old) ≡ true }
-    ensures ok { IfOk result
-        (λ acted. Draws (alternate_subtable ctx.old.face.now.gdef ctx.old.random ctx.old.lookup_mask subtable.now.rows
-        (cut_with ctx.old.random_state buffer.old)) acted ctx.old.random_state ctx.new.random_state buffer.old
-        buffer.new) }
-    ensures err { IfErr result (λ e. e ≡ ShapeCause.OutOfMemory) }
-    ensures context { ctx.new ≡ record ctx.old { random_state = ctx.new.random_state } }
-{
-    let info = buffer.cur(0);
-    let value = feature_value(ctx.lookup_mask(), info);
-    let Some(glyphs) = subtable.alternates(info.as_glyph().0) else {
-        return Ok(false);
-    };
-    let acted = apply_alternate(glyphs, value, ctx, buffer)?;
-    Ok(acted)
+/// Alternate substitution (OpenType, GSUB lookup type 3): where the subtable covers the glyph at the cursor, the alternate of
+/// the feature's value takes its place; at the value 255 a lookup that may draw takes one at random, and marks the whole
+/// text as unsafe to break.
+impl Apply for AlternateSubst {
+    ghost action = { λ s a. alternate_subtable a.font.gdef a.random a.mask s.rows };
+
+    #[tactic(auto, using(layout_rules::specs::Lemmas::Glyphs::number_ahead))]
+    fn apply(
+        &self,
+        ctx: &mut hb_ot_apply_context_t,
+        buffer: &mut hb_buffer_t,
+    ) -> Result<bool, ShapeCause> {
+        let info = buffer.cur(0);
+        let value = feature_value(ctx.lookup_mask(), info);
+        match self.alternates(info.as_glyph().0) {
+            Some(glyphs) => apply_alternate(glyphs, value, ctx, buffer),
+            None => Ok(false),
+        }
+    }
 }

@@ -2,6 +2,11 @@
 #![tactic(auto)]
 
 pub mod alternate;
+pub mod apply;
+pub mod ligate;
 pub mod ligature;
+pub mod multiple;
 pub mod replacement;
+pub mod reverse;
 pub mod single;
+pub mod would_apply;

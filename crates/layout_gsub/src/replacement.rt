@@ -1,8 +1,8 @@
 ghost use Rattle.std.specs.Prelude.{◌≡◌, ◌<◌, true, Some, [], length, slice_get, OnOk, IfErr};
 ghost use Rattle.glyph_types.specs.declared.info.hb_glyph_info_t.{hb_glyph_info_t as Glyph};
 ghost use Rattle.glyph_buffer.specs.Lending.{with_glyph_ahead};
-ghost use Rattle.layout_rules.specs.Buffers.{IsActed, cut_of};
-ghost use Rattle.layout_gsub.specs.Replacements.{glyph_props_of, props_of_class, substituted_cut, substituted_props};
+ghost use Rattle.layout_rules.specs.Performing.{Performs, cut_with};
+ghost use Rattle.layout_gsub.specs.Replacements.{glyph_props_of, props_of_class, substituted, substituted_props};
 
 use font_face::Face;
 use glyph_buffer::buffer::hb_buffer_t;
@@ -29,7 +29,7 @@ pub fn glyph_props(face: &Face, glyph: u16) -> GlyphPropsFlags
 }
 
 /// The properties of a glyph that comes in where one with the properties `old` was.
-fn substituted_props(face: &Face, glyph: u16, old: GlyphPropsFlags) -> GlyphPropsFlags
+pub(crate) fn substituted_props(face: &Face, glyph: u16, old: GlyphPropsFlags) -> GlyphPropsFlags
     ensures { result.0 ≡ substituted_props face.now.gdef glyph old.0 }
 {
     let props = old.0 | GlyphPropsFlags::SUBSTITUTED.0;
@@ -53,25 +53,24 @@ fn set_glyph_props(buffer: &mut hb_buffer_t, props: GlyphPropsFlags)
     buffer.cur_mut(0).glyph_props = props;
 }
 
-/// Puts another glyph in the place of the one at the cursor, behind which it goes. Its class is GDEF's, where GDEF has classes.
-/// Its one error is want of memory.
+/// Puts another glyph in the place of the one at the cursor, behind which it goes; its class is GDEF's, where GDEF has classes.
+/// It answers true, as a rule that acted.
 pub fn replace_glyph(
     ctx: &hb_ot_apply_context_t,
     glyph: u16,
     buffer: &mut hb_buffer_t,
-) -> Result<(), ShapeCause>
+) -> Result<bool, ShapeCause>
     requires open { buffer.old.is_open ≡ true }
     requires there { 0 < length buffer.old.ahead }
-    requires room { length buffer.old.behind < buffer.old.max_len }
-    ensures ok { OnOk result
-        (IsActed (substituted_cut ctx.now.face.now.gdef glyph (cut_of buffer.old)) [] buffer.old buffer.new) }
-    ensures err { IfErr result (λ e. e ≡ ShapeCause.OutOfMemory) }
+    ensures { Performs (substituted ctx.now.face.now.gdef (Some glyph)
+        (cut_with ctx.now.random_state buffer.old)) result ctx.now.random_state ctx.now.random_state buffer.old
+        buffer.new }
 {
     let props = substituted_props(ctx.face, glyph, buffer.cur(0).glyph_props);
     set_glyph_props(buffer, props);
     let held = buffer.replace_glyph(u32::from(glyph))?;
     if held {
-        return Ok(());
+        return Ok(true);
     }
     Err(ShapeCause::TooLong)
 }

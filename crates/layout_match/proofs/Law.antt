@@ -6,7 +6,7 @@ use Rattle.glyph_lists.specs.Items.{Item}
 use Rattle.layout_match.specs.declared.search.match_t.{match_t}
 use Rattle.layout_match.specs.declared.search.match_t.TheVariants.{MATCH, SKIP, NOT_MATCH}
 use Rattle.layout_match.specs.Matches.{by_answer, nearest, nearest_from, then_reached, reached, with_index, indices}
-use Rattle.layout_match.specs.Laws.{Says, HasRead, NearestIsTaken, FailedSearchesRead, MatchesAreWhole}
+use Rattle.layout_match.specs.Laws.{Says, HasRead, IsNearest, AreNearest, NearestIsTaken, FailedSearchesRead, MatchesAreWhole, MatchesAreNearest, NearestAreMatched}
 
 one_more : (r : Result ℕ ℕ) (end n : ℕ) (next : ℕ → Result ℕ ℕ) (rest : ℕ → List ℕ) → ((at : ℕ) → next at ≡ Ok end → length (rest at) ≡ n) → then_reached r next ≡ Ok end → length (with_index r rest) ≡ n + 1
 one_more (Ok at) end n next rest h e = rw (h (at + 1) e) (omega arith)
@@ -110,3 +110,65 @@ lifted ask from end xs le (until n is passed here) =
 
 pub failed_read : FailedSearchesRead
 failed_read ask from end xs le e = lifted ask from end xs le (read ask from end (drop from xs) e)
+
+-- ---- matches
+
+nearest_more : (ask : Item → match_t) (asks : List (Item → match_t)) (from end : ℕ) (xs : List Item) (r : Result ℕ ℕ) → nearest_from ask from xs ≡ r → ((at : ℕ) → reached asks at xs ≡ Ok end → AreNearest asks at xs (indices asks at xs) end)
+    → then_reached r (λ next. reached asks next xs) ≡ Ok end → AreNearest (ask ∷ asks) from xs (with_index r (λ next. indices asks next xs)) end
+nearest_more ask asks from end xs (Ok at) is more e = (nearest_taken ask from at xs is, more (at + 1) e)
+nearest_more ask asks from end xs (Err k) is more e = cc
+
+pub nearest_match : MatchesAreNearest
+nearest_match [] from end xs e = let same : from ≡ end = cc in sym same
+nearest_match (ask ∷ asks) from end xs e = nearest_more ask asks from end xs (nearest_from ask from xs) refl (λ at. nearest_match asks at end xs) e
+
+-- what is said of one item is said once
+said_once : (ask : Item → match_t) (xs : List Item) (k : ℕ) → Says ask xs k MATCH → Says ask xs k SKIP → ⊥
+said_once ask xs k taken passed = cc
+
+-- the index of an item that is there
+there_inside : (ask : Item → match_t) (m : match_t) (xs : List Item) (k : ℕ) → Says ask xs k m → k < length xs
+there_inside ask m [] k e = cc
+there_inside ask m (x ∷ xs) zero e = omega arith
+there_inside ask m (x ∷ xs) (suc k) e = omega (arith, there_inside ask m xs k e)
+
+-- a search reads what is taken, where all before it is passed over
+unread : (ask : Item → match_t) (ys : List Item) (d from end : ℕ) → Says ask ys d MATCH → ((k : ℕ) → k < d → Says ask ys k SKIP) → Read ask from end ys → ⊥
+unread ask ys d from end taken before (all passed is) = said_once ask ys d taken (passed d (there_inside ask MATCH ys d taken))
+unread ask ys d from end taken before (until n is passed here) = by_order (n - d) (d - n) refl refl
+  where
+    by_order : (up down : ℕ) → n - d ≡ up → d - n ≡ down → ⊥
+    by_order zero zero e f = let same : n ≡ d = omega (arith, e, f) in cc
+    by_order (suc up) down e f = said_once ask ys d taken (passed d (omega (arith, e)))
+    by_order zero (suc down) e f = let skipped = before n (omega (arith, f)) in cc
+
+nearest_found : (ask : Item → match_t) (from at : ℕ) (xs : List Item) (r : Result ℕ ℕ) → nearest_from ask from xs ≡ r → IsNearest ask from xs at → r ≡ Ok at
+nearest_found ask from at xs (Ok k) is n =
+    let m = nearest_taken ask from k xs is in
+    ap Ok (by_order (k - at) (at - k) refl refl m)
+  where
+    by_order : (up down : ℕ) → k - at ≡ up → at - k ≡ down → IsNearest ask from xs k → k ≡ at
+    by_order zero zero e f m = omega (arith, e, f)
+    by_order (suc up) down e f m = absurd (said_once ask xs at n.taken (m.passed at n.there (omega (arith, e))))
+    by_order zero (suc down) e f m = absurd (said_once ask xs k m.taken (n.passed k m.there (omega (arith, f))))
+nearest_found ask from at xs (Err end) is n = absurd (unread ask (drop from xs) (at - from) from end taken passed (read ask from end (drop from xs) is))
+  where
+    taken : Says ask (drop from xs) (at - from) MATCH
+    taken =
+        let back : from + (at - from) ≡ at = omega (arith, n.there) in
+        ap (option_map ask) (get_dropped from (at - from) xs ∙ ap (slice_get xs) back) ∙ n.taken
+
+    passed : (k : ℕ) → k < at - from → Says ask (drop from xs) k SKIP
+    passed k lt = ap (option_map ask) (get_dropped from k xs) ∙ n.passed (from + k) (omega arith) (omega (arith, lt))
+
+only_more : (ask : Item → match_t) (asks : List (Item → match_t)) (from at end : ℕ) (xs : List Item) (more : List ℕ) → IsNearest ask from xs at → (reached asks (at + 1) xs ≡ Ok end) × (indices asks (at + 1) xs ≡ more)
+    → (reached (ask ∷ asks) from xs ≡ Ok end) × (indices (ask ∷ asks) from xs ≡ at ∷ more)
+only_more ask asks from at end xs more n h =
+    let is : nearest_from ask from xs ≡ Ok at = nearest_found ask from at xs (nearest_from ask from xs) refl n in
+    (rw is h.0, rw is (ap (λ l. at ∷ l) h.1))
+
+pub only_match : NearestAreMatched
+only_match [] from end xs [] e = (ap Ok (sym e), refl)
+only_match [] from end xs (at ∷ more) e = absurd e
+only_match (ask ∷ asks) from end xs [] e = absurd e
+only_match (ask ∷ asks) from end xs (at ∷ more) e = only_more ask asks from at end xs more e.0 (only_match asks (at + 1) end xs more e.1)

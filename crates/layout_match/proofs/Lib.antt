@@ -3,3 +3,4 @@ pub mod Nearest
 pub mod Each
 pub mod Own
 pub mod Law
+pub mod Words

@@ -1,8 +1,9 @@
 -- What is found and read.
-use Rattle.std.specs.Prelude.{ℕ, ◌≡◌, ◌≤◌, ◌<◌, ◌-◌, ◌⊎◌, List, length, Ok, Err, Some, option_map, slice_get}
+use Rattle.std.specs.Prelude.{ℕ, ◌≡◌, ◌≤◌, ◌<◌, ◌+◌, ◌-◌, ◌⊎◌, List, [], ◌∷◌, length, Ok, Err, Some, true, option_map, slice_get}
 use Rattle.glyph_lists.specs.Items.{Item}
 use Rattle.layout_match.specs.declared.search.match_t.{match_t}
 use Rattle.layout_match.specs.declared.search.match_t.TheVariants.{MATCH, SKIP, NOT_MATCH}
+use Rattle.layout_match.specs.LigatureWords.{component_bound, component_word, is_ligature, lig_comp, lig_id, lig_num_comps, ligature_word}
 use Rattle.layout_match.specs.Matches.{nearest_from, reached, indices}
 
 -- an item is there, and this is said of it
@@ -29,6 +30,27 @@ HasRead ask from xs end = (ArePassed ask xs from (length xs) × (end ≡ length 
 abbrev pub FailedSearchesRead : Type 0
 FailedSearchesRead = (ask : Item → match_t) (from end : ℕ) (xs : List Item) → from ≤ length xs → nearest_from ask from xs ≡ Err end → HasRead ask from xs end
 
+-- indices of items that are asked for in turn, each the nearest behind the one before it, the first from an index on; the match ends behind the last
+abbrev pub AreNearest : List (Item → match_t) → ℕ → List Item → List ℕ → ℕ → Type 0
+AreNearest [] from xs [] end = end ≡ from
+AreNearest [] from xs (at ∷ more) end = ⊥
+AreNearest (ask ∷ asks) from xs [] end = ⊥
+AreNearest (ask ∷ asks) from xs (at ∷ more) end = IsNearest ask from xs at × AreNearest asks (at + 1) xs more end
+
+-- a match is such indices, and such indices are the match
+abbrev pub MatchesAreNearest : Type 0
+MatchesAreNearest = (asks : List (Item → match_t)) (from end : ℕ) (xs : List Item) → reached asks from xs ≡ Ok end → AreNearest asks from xs (indices asks from xs) end
+
+abbrev pub NearestAreMatched : Type 0
+NearestAreMatched = (asks : List (Item → match_t)) (from end : ℕ) (xs : List Item) (found : List ℕ) → AreNearest asks from xs found end → (reached asks from xs ≡ Ok end) × (indices asks from xs ≡ found)
+
 -- one index for each item asked for
 abbrev pub MatchesAreWhole : Type 0
 MatchesAreWhole = (asks : List (Item → match_t)) (from end : ℕ) (xs : List Item) → reached asks from xs ≡ Ok end → length (indices asks from xs) ≡ length asks
+
+-- a ligature word keeps what it was made of: the ligature's number, and components up to the greatest
+abbrev pub WordsAreRead : Type 0
+WordsAreRead = (id n : ℕ) (x : Item) → id < 8 → n ≤ component_bound → (lig_id (record x { lig_props = component_word id n }) ≡ id) × (lig_comp (record x { lig_props = component_word id n }) ≡ n)
+
+abbrev pub LigatureWordsAreRead : Type 0
+LigatureWordsAreRead = (id n : ℕ) (x : Item) → id < 8 → n ≤ component_bound → is_ligature x ≡ true → (lig_id (record x { lig_props = ligature_word id n }) ≡ id) × (lig_num_comps (record x { lig_props = ligature_word id n }) ≡ n) × (lig_comp (record x { lig_props = ligature_word id n }) ≡ 0)

@@ -1,6 +1,7 @@
 -- What a rule does to a list that is cut at the index where it is tried.
-use Rattle.std.specs.Prelude.{ℕ, ℤ, List, [], ◌∷◌, ◌++◌, take, drop, Option, Some, None}
+use Rattle.std.specs.Prelude.{ℕ, ℤ, ◌+◌, nat_le, if◌then◌else◌, List, [], ◌∷◌, ◌++◌, length, take, drop, Option, Some, None}
 use Rattle.glyph_types.specs.declared.cause.ShapeCause.{ShapeCause}
+use Rattle.glyph_types.specs.declared.cause.ShapeCause.TheVariants.{TooLong}
 use Rattle.glyph_lists.specs.Items.{Item}
 use Rattle.glyph_lists.specs.Events.{Event}
 use Rattle.glyph_lists.specs.Readings.{View}
@@ -45,6 +46,10 @@ pub data Outcome : Type 0 where
 
 abbrev pub Action : Type 0
 Action = Cut → Outcome
+
+-- where what is done would be so many items more, and so more than a side of the list may hold, a rule gives up
+abbrev pub within_limit : ℕ → Cut → Outcome → Outcome
+within_limit n c o = if nat_le (length c.front + n) c.max_len then o else Refuses TooLong
 
 -- an outcome that comes after some events
 abbrev pub later : List Event → Outcome → Outcome

@@ -5,3 +5,4 @@ pub mod Glyphs
 pub mod Does
 pub mod Tried
 pub mod Attempts
+pub mod Performed

@@ -3,4 +3,5 @@
 
 pub mod builder;
 pub mod features;
+pub mod laws;
 pub mod map;

@@ -1,22 +1,13 @@
 -- What stands between a starter and a mark, and the steps of composing.
-use Rattle.std.proofs.Common.{ℕ, ◌≡◌, ◌||◌, nat_lt, ◌==◌, false, List, [], ◌∷◌, ◌++◌, Some, None, refl, ap}
+use Rattle.std.proofs.Common.{◌≡◌, ◌||◌, ◌==◌, false, List, [], ◌∷◌, ◌++◌, Some, None, refl, ap}
 use Rattle.std.specs.List.{list_any}
 use Rattle.glyph_lists.specs.Items.{Item}
 use Rattle.normal_forms.specs.Characters.{is_mark, mark_class}
-use Rattle.normal_forms.specs.Composing.{last_class, is_reaching, composite, composed_from}
+use Rattle.normal_forms.specs.Composing.{composite, composed_from}
 use Rattle.normal_forms.specs.NormalizedList.{has_later_mark}
 use Rattle.normal_forms.specs.Normalizer.{Normalizer}
-use Rattle.plain_normalizer.specs.declared.item.PlainItem.{PlainItem}
-use Rattle.plain_normalizer.specs.PlainItems.{seen, seen_all}
-
-last_seen : (k : ℕ) (ps : List PlainItem) (p : PlainItem) → last_class k (seen_all (ps ++ p ∷ [])) ≡ mark_class (seen p)
-last_seen k [] p = refl
-last_seen k (q ∷ ps) p = last_seen (mark_class (seen q)) ps p
-
--- the last of what stands between decides
-pub reaches_over : (ps : List PlainItem) (p : PlainItem) (x : Item) → is_reaching (seen_all (ps ++ p ∷ [])) x ≡ nat_lt (mark_class (seen p)) (mark_class x)
-reaches_over [] p x = refl
-reaches_over (q ∷ ps) p x = ap (λ k. nat_lt k (mark_class x)) (last_seen (mark_class (seen q)) ps p)
+use Rattle.plain_items.specs.declared.item.PlainItem.{PlainItem}
+use Rattle.plain_items.specs.PlainItems.{seen, seen_all}
 
 -- a mark that composes with the starter
 pub at_composite : (c : Normalizer) (done : List Item) (starter : Item) (between : List Item) (x composed : Item) (xs : List Item) → composite c starter between x ≡ Some composed

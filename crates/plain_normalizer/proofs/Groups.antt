@@ -9,8 +9,8 @@ use Rattle.normal_forms.specs.Characters.{is_selector}
 use Rattle.normal_forms.specs.Expanding.{expanded_item, selected_after, expanded_group, expanded_groups, expanded_list}
 use Rattle.normal_forms.specs.Normalizer.{Normalizer, reach_alone, reach_with_marks}
 use Rattle.normal_forms.proofs.Expanded.{items_in_turn, items_of_expanded}
-use Rattle.plain_normalizer.specs.declared.item.PlainItem.{PlainItem}
-use Rattle.plain_normalizer.specs.PlainItems.{seen, seen_all}
+use Rattle.plain_items.specs.declared.item.PlainItem.{PlainItem}
+use Rattle.plain_items.specs.PlainItems.{seen, seen_all}
 
 selector_seen : (xs : List PlainItem) → list_any is_selector (seen_all xs) ≡ list_any (λ (x : PlainItem). is_selector (seen x)) xs
 selector_seen [] = refl

@@ -1,23 +1,13 @@
 //! The third round: marks are composed with their base.
 ghost use Rattle.std.specs.Prelude.{◌≡◌, [], IfOk, option_map};
-ghost use Rattle.normal_forms.specs.Composing.{is_reaching, becoming, composite, composed_from, composed_list};
-ghost use Rattle.plain_normalizer.specs.PlainItems.{seen, seen_all};
+ghost use Rattle.normal_forms.specs.Composing.{becoming, composite, composed_from, composed_list};
+ghost use Rattle.plain_items.specs.PlainItems.{seen, seen_all};
 
 use crate::expanding::standing_for;
-use crate::item::PlainItem;
-use crate::normalizing::Normalizing;
+use plain_items::item::PlainItem;
+use plain_items::normalizing::Normalizing;
+use plain_items::run::is_reaching;
 use std::alloc::{AllocError, Global};
-
-/// Whether a mark reaches the starter over what stands between.
-#[tactic(auto, using(crate::proofs::Between::reaches_over))]
-fn is_reaching(between: &[PlainItem], x: &PlainItem) -> bool
-    ensures { result ≡ is_reaching (seen_all between.now) (seen x.now) }
-{
-    let Some((last, _)) = between.split_last() else {
-        return true;
-    };
-    last.mark_class() < x.mark_class()
-}
 
 /// A starter that becomes another character, where the font has that.
 fn becoming<N: Normalizing>(by: &N, starter: &PlainItem, u: char) -> Option<PlainItem>

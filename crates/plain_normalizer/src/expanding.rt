@@ -3,16 +3,17 @@ ghost use Rattle.std.specs.Prelude.{◌≡◌, ◌++◌, [], ◌∷◌, List, So
 ghost use Rattle.std.specs.List.{flat_map, list_any};
 ghost use Rattle.glyph_lists.specs.Items.{Item};
 ghost use Rattle.normal_forms.specs.Arranged.{items};
-ghost use Rattle.normal_forms.specs.Normalizer.{has_character, reach_alone, reach_with_marks};
+ghost use Rattle.normal_forms.specs.Normalizer.{has_character, reach_with_marks};
 ghost use Rattle.normal_forms.specs.SupportedExpansion.{alone, by_supported, supported, expansion};
 ghost use Rattle.normal_forms.specs.Characters.{standing_for, is_selector};
 ghost use Rattle.normal_forms.specs.Expanding.{with_own_glyph, space_glyph, hyphen_glyph, whole_item, part_of, expanded_item, selected, waiting, selected_after, expanded_group, expanded_groups, expanded_list};
-ghost use Rattle.plain_normalizer.specs.PlainItems.{seen, seen_all};
+ghost use Rattle.plain_items.specs.PlainItems.{seen, seen_all};
 
-use crate::item::PlainItem;
-use crate::normalizing::Normalizing;
 use glyph_properties::character::properties_of;
-use normal_forms::{NormalizationMode, Reach};
+use normal_forms::Reach;
+use plain_items::item::PlainItem;
+use plain_items::normalizing::Normalizing;
+use plain_items::reach::{reach_alone, reach_with_marks};
 use std::alloc::{AllocError, Global};
 use unicode_chars::category::GeneralCategoryExt;
 use unicode_chars::character::CharExt;
@@ -325,29 +326,6 @@ fn push_with_selectors<N: Normalizing>(
         before = select_next(by, before, x, out)?;
     }
     push_waiting(by, before, out)
-}
-
-/// How far a character without marks is split.
-fn reach_alone(mode: NormalizationMode) -> Reach
-    ensures { result ≡ reach_alone mode }
-{
-    match mode {
-        NormalizationMode::None | NormalizationMode::ComposedDiacritics | NormalizationMode::Auto =>
-            Reach::Least,
-        NormalizationMode::Decomposed | NormalizationMode::ComposedDiacriticsNoShortCircuit => {
-            Reach::Greatest
-        }
-    }
-}
-
-/// How far a character with marks, and each of its marks, is split.
-fn reach_with_marks(mode: NormalizationMode) -> Reach
-    ensures { result ≡ reach_with_marks mode }
-{
-    match mode {
-        NormalizationMode::None => Reach::Least,
-        _ => Reach::Greatest,
-    }
 }
 
 fn has_selector(xs: &[PlainItem]) -> bool

@@ -3,13 +3,11 @@
 
 mod composing;
 mod expanding;
-mod item;
-mod normalizing;
 mod ordering;
 mod rounds;
 mod rows;
 
-pub use item::PlainItem;
-pub use normalizing::Normalizing;
+pub use plain_items::item::PlainItem;
+pub use plain_items::normalizing::Normalizing;
 pub use rounds::{items_of_text, normalized};
 pub use rows::RowNormalizer;

@@ -1,39 +1,12 @@
 //! The second round: marks are put in the order of their classes, and grapheme joiners are shown.
 ghost use Rattle.std.specs.Prelude.{◌≡◌, ◌++◌, ◌∷◌, [], OnOk, IfOk};
-ghost use Rattle.unicode_tables.specs.ClassOrder.{run_order};
-ghost use Rattle.normal_forms.specs.Characters.{mark_class};
 ghost use Rattle.normal_forms.specs.Ordering.{arranged_run, ordered_list, keeps_nothing_apart, joiner_between, with_joiners_shown, joiners_shown};
-ghost use Rattle.plain_normalizer.specs.PlainItems.{seen, seen_all};
+ghost use Rattle.plain_items.specs.PlainItems.{seen, seen_all};
 
-use crate::item::PlainItem;
-use crate::normalizing::Normalizing;
-use normal_forms::MAX_COMBINING_MARKS;
+use plain_items::item::PlainItem;
+use plain_items::normalizing::Normalizing;
+use plain_items::run::arrange_run;
 use std::alloc::{AllocError, Global};
-
-/// Puts a run in the order of its classes, items of one class in the order that they have.
-fn sort_run(run: &mut Vec<PlainItem>) -> Result<(), AllocError>
-    ensures { OnOk result (seen_all run.new.items ≡ run_order mark_class (seen_all run.old.items)) }
-{
-    run.sort_by_key(|x| x.mark_class())?;
-    Ok(())
-}
-
-/// Puts a run in order, and has the shaper rewrite it; a run of more than 32 stays.
-#[tactic(auto, using(crate::proofs::Runs::empty_run, crate::proofs::Runs::long_run, crate::proofs::Runs::short_run))]
-fn arrange_run<N: Normalizing>(by: &N, run: &mut Vec<PlainItem>) -> Result<(), AllocError>
-    ensures { OnOk result
-        (seen_all run.new.items ≡ (arranged_run (N.normalizer by.now).reorders (seen_all run.old.items)).items) }
-{
-    if run.is_empty() {
-        return Ok(());
-    }
-    if MAX_COMBINING_MARKS < run.len() {
-        return Ok(());
-    }
-    sort_run(run)?;
-    by.reorder_marks(run);
-    Ok(())
-}
 
 /// Adds a run, put in order, and empties it.
 fn append_run<N: Normalizing>(

@@ -4,14 +4,14 @@ ghost use Rattle.std.specs.List.{list_any};
 ghost use Rattle.normal_forms.specs.Characters.{is_mark, items_of_text};
 ghost use Rattle.normal_forms.specs.Normalizer.{is_composing};
 ghost use Rattle.normal_forms.specs.NormalizedList.{has_later_mark, composed_if, arranged_marks, normalized};
-ghost use Rattle.plain_normalizer.specs.PlainItems.{seen, seen_all};
+ghost use Rattle.plain_items.specs.PlainItems.{seen, seen_all};
 
 use crate::composing::composed_list;
 use crate::expanding::{expanded_list, standing_for};
-use crate::item::{BLANK, PlainItem};
-use crate::normalizing::Normalizing;
 use crate::ordering::{joiners_shown, ordered_list};
 use normal_forms::NormalizationMode;
+use plain_items::item::{BLANK, PlainItem};
+use plain_items::normalizing::Normalizing;
 use std::alloc::{AllocError, Global};
 
 /// Whether marks are composed with their base.

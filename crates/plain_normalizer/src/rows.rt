@@ -3,12 +3,12 @@ ghost use Rattle.std.specs.Prelude.{◌≡◌, ◌==◌, ◌&&◌, ℕ, Bool, un
 ghost use Rattle.std.specs.Option.{option_or};
 ghost use Rattle.unicode_tables.specs.Tables.{split_of, pair_of, class_of};
 ghost use Rattle.normal_forms.specs.Arranged.{kept};
-ghost use Rattle.plain_normalizer.specs.PlainItems.{seen_all};
+ghost use Rattle.plain_items.specs.PlainItems.{seen_all};
 ghost use Rattle.plain_normalizer.specs.Rows.{glyph_in, variant_in, parts_in, composed_by};
 
-use crate::item::PlainItem;
-use crate::normalizing::Normalizing;
 use normal_forms::NormalizationMode;
+use plain_items::item::PlainItem;
+use plain_items::normalizing::Normalizing;
 use unicode_chars::category::GeneralCategoryExt;
 use unicode_chars::character::CharExt;
 use unicode_tables::{CharTablesExt, UnicodeTables, compose, decompose};

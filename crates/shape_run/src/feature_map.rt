@@ -6,10 +6,10 @@ ghost use Rattle.shape_run.specs.Path.{requests, substitution_map, with_asked};
 
 use feature_text::feature::Feature;
 use font_face::Face;
+use language_tables::language_table::LanguageTable;
 use map_builder::builder::hb_ot_map_builder_t;
 use map_builder::map::hb_ot_map_t;
 use map_features::flags::{F_GLOBAL, F_NONE, hb_ot_map_feature_flags_t};
-use shaping_text::language_tags::LanguageTable;
 use shaping_text::script::Script;
 use shaping_text::script_tags::tags_from_script_and_language;
 use shaping_text::tag::Tag;

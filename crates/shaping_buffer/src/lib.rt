@@ -22,10 +22,11 @@ pub use glyph_types::level::{
 };
 pub use glyph_types::names::{GlyphId, GlyphNames, hb_glyph_extents_t};
 pub use glyph_types::position::GlyphPosition;
+pub use language_tables::language_table::{LanguageRow, LanguageTable};
 pub use shaping_text::constants::BufferFlags;
 pub use shaping_text::direction::{Direction, InvalidDirection};
 pub use shaping_text::language::{Language, LanguageFault};
-pub use shaping_text::language_tags::{LanguageRow, LanguageTable, LanguageTags};
+pub use shaping_text::language_tags::LanguageTags;
 pub use shaping_text::script::{InvalidScript, Script};
 pub use shaping_text::script_tags::tags_from_script_and_language;
 pub use shaping_text::tag::{Tag, TagExt, hb_tag_t};

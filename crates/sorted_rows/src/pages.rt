@@ -104,16 +104,27 @@ fn record_in<R: Numbered>(rows: &[R], slot: u16) -> Option<R>
     rows.get(slot as usize - 1).copied()
 }
 
+/// How many slots are enough for so many records, a page for each, as far as there may be.
+fn slots_of(count: usize) -> usize
+    ensures { result ≤ 24064 }
+{
+    count.saturating_mul(PAGE as usize).min(MAX_SLOTS)
+}
+
 /// The pages of the characters, as far as their slots have room; none where an index is no slot.
 fn index_of<R: Numbered>(alloc: Global, rows: &[R]) -> Result<Index, AllocError>
     requires { numbers_rise R.number_of rows.now ≡ true }
     ensures { IfOk result (λ i. ArePages R.number_of rows.now i.pages.items i.slots.items) }
 {
-    let mut pages = Vec::new(alloc);
-    let mut slots = Vec::new(alloc);
     if rows.len() >= u16::MAX as usize {
-        return Ok(Index { pages, slots });
+        return Ok(Index {
+            pages: Vec::new(alloc),
+            slots: Vec::new(alloc),
+        });
     }
+    // Neither list grows past its room, so that no more than this is ever allocated.
+    let mut pages = Vec::with_capacity(alloc, PAGES as usize)?;
+    let mut slots = Vec::with_capacity(alloc, slots_of(rows.len()))?;
     for page in 0..PAGES {
         if slots.len() >= MAX_SLOTS {
             return Ok(Index { pages, slots });

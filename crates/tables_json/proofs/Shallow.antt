@@ -15,8 +15,9 @@ use Rattle.script_constants.specs.Joining.{joining_type_names}
 use Rattle.script_constants.specs.Names.{number_of}
 use Rattle.script_constants.specs.Thai.{thai_actions}
 use Rattle.script_constants.specs.Universal.{universal_categories}
-use Rattle.tables_json.specs.Rows.{named, number_named, rows_at}
-use Rattle.tables_json.specs.Unicode.{character_class, character_range, counterpart, indic_row, joining_row, pair, split, tables_keys, thai_row, universal_row}
+use Rattle.rows_json.specs.Rows.{named, number_named, rows_at}
+use Rattle.rows_json.specs.Characters.{character_class, character_range, counterpart, indic_row, joining_row, pair, split, thai_row, universal_row}
+use Rattle.tables_json.specs.Unicode.{tables_keys}
 use Rattle.unicode_rows.specs.Keys.{follows}
 
 -- no fault, or another

@@ -13,8 +13,8 @@ use Rattle.json_values.specs.declared.fault.JsonFault.TheVariants.{WrongShape}
 use Rattle.json_values.specs.Rows.{behind, is_above, is_rising, rows_after}
 use Rattle.json_values.proofs.Rising.{rows_follow}
 use Rattle.serde_json.specs.Data.{Data, Items, item}
-use Rattle.shaping_text.specs.declared.language_tags.LanguageRow.{LanguageRow}
-use Rattle.shaping_text.specs.LanguageRows.{row_text, is_before, TextsRise}
+use Rattle.language_tables.specs.declared.language_table.LanguageRow.{LanguageRow}
+use Rattle.language_tables.specs.LanguageRows.{row_text, is_before, TextsRise}
 use Rattle.tables_json.specs.Languages.{Language, few_tags, item_count, language, language_in, languages_in_order, tags_in}
 
 -- ---- tags

@@ -11,10 +11,10 @@ use Rattle.json_values.specs.Objects.{of_object}
 use Rattle.json_values.specs.Parts.{list_of, list_at, row_of_two, text, tag}
 use Rattle.json_values.specs.Rows.{behind, is_above, rows_after}
 use Rattle.shaping_text.specs.declared.tag.Tag.{Tag}
-use Rattle.shaping_text.specs.declared.language_tags.LanguageRow.{LanguageRow}
-use Rattle.shaping_text.specs.declared.language_tags.LanguageTable.{LanguageTable}
-use Rattle.shaping_text.specs.LanguageRows.{row_text}
-use Rattle.shaping_text.specs.LanguageTable.{rows_of}
+use Rattle.language_tables.specs.declared.language_table.LanguageRow.{LanguageRow}
+use Rattle.language_tables.specs.declared.language_table.LanguageTable.{LanguageTable}
+use Rattle.language_tables.specs.LanguageRows.{row_text}
+use Rattle.language_tables.specs.LanguageTable.{rows_of}
 
 -- ---- languages as texts and tags, without what their strings keep of memory
 

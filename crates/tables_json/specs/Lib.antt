@@ -1,4 +1,3 @@
-pub mod Rows
 pub mod Unicode
 pub mod Deep
 pub mod Syllables

@@ -13,7 +13,7 @@ use Rattle.script_syllables.specs.declared.machine.Accept.{Accept}
 use Rattle.script_syllables.specs.declared.machine.Step.{Step}
 use Rattle.script_syllables.specs.declared.machine.SyllableMachine.{SyllableMachine}
 use Rattle.script_syllables.specs.declared.machine.SyllableMachines.{SyllableMachines}
-use Rattle.tables_json.specs.Rows.{rows_at, named}
+use Rattle.rows_json.specs.Rows.{rows_at, named}
 
 -- ---- machines as their rows, without what their lists keep of memory
 

@@ -2,15 +2,15 @@
 ghost use Rattle.std.specs.Prelude.{◌≡◌, ◌≢◌, ◌≤◌, IfOk, IfErr, Ok, Err, length, map};
 ghost use Rattle.std.specs.Option.{option_copied};
 ghost use Rattle.serde_json.specs.View.{view, items_view};
-ghost use Rattle.shaping_text.specs.LanguageRows.{TextsRise};
+ghost use Rattle.language_tables.specs.LanguageRows.{TextsRise};
 ghost use Rattle.tables_json.specs.Languages.{languages_in, language_in, tags, tags_in, language, follows, languages_in_order, languages_of};
 
 use arrayvec::ArrayVec;
 use json_values::cell::{Cell, pair};
 use json_values::fault::JsonFault;
 use json_values::parts::{list, list_at, text, two_parts};
+use language_tables::language_table::{LanguageRow, LanguageTable};
 use serde_json::Value;
-use shaping_text::language_tags::{LanguageRow, LanguageTable};
 use shaping_text::tag::Tag;
 use std::alloc::Global;
 

@@ -2,8 +2,6 @@
 #![tactic(auto)]
 
 mod languages;
-mod names;
-mod rows;
 mod syllables;
 mod unicode;
 

@@ -6,12 +6,12 @@ ghost use Rattle.json_values.specs.Objects.{of_object};
 ghost use Rattle.script_syllables.specs.Sound.{AreRising, IsRising};
 ghost use Rattle.tables_json.specs.Syllables.{step, accept, machine_in, machines_in, machine_keys, machine_at, machines_keys, syllables_key, syllables_of};
 
-use crate::names::{category, kind};
-use crate::rows::{RowReader, read_rows_at};
 use json_values::cell::pair;
 use json_values::fault::JsonFault;
 use json_values::keys::read_key;
 use json_values::parts::{natural_number_below, three_parts, two_parts};
+use rows_json::names::{category, kind};
+use rows_json::rows::{RowReader, read_rows_at};
 use script_constants::hb_ot_script_shaper_t::{
     self, INDIC_SHAPER, KHMER_SHAPER, MYANMAR_SHAPER, UNIVERSAL_SHAPER,
 };

@@ -4,7 +4,7 @@ use script_constants::hb_ot_script_shaper_t::{
 };
 use script_constants::*;
 
-const KINDS: [(hb_ot_script_shaper_t, &str, Option<u8>); 12] = [
+static KINDS: [(hb_ot_script_shaper_t, &str, Option<u8>); 12] = [
     (INDIC_SHAPER, "consonant", Some(0)),
     (INDIC_SHAPER, "non", Some(5)),
     (INDIC_SHAPER, "virama", None),
@@ -20,7 +20,7 @@ const KINDS: [(hb_ot_script_shaper_t, &str, Option<u8>); 12] = [
 ];
 
 // Whether a shaper knows a kind.
-const KNOWN_KINDS: [(hb_ot_script_shaper_t, u8, bool); 3] = [
+static KNOWN_KINDS: [(hb_ot_script_shaper_t, u8, bool); 3] = [
     (UNIVERSAL_SHAPER, 9, true),
     (UNIVERSAL_SHAPER, 15, false),
     (HEBREW_SHAPER, 0, false),
@@ -28,35 +28,65 @@ const KNOWN_KINDS: [(hb_ot_script_shaper_t, u8, bool); 3] = [
 
 #[test]
 fn kinds_of_shapers(rt: HostRuntime) {
-    for (shaper, name, kind) in KINDS {
-        assert_eq!(rt; shaper.kind_number(name), kind);
+    for (shaper, name, kind) in &KINDS {
+        assert_eq!(rt; shaper.kind_number(name), *kind);
     }
-    for (shaper, kind, is_known) in KNOWN_KINDS {
-        assert_eq!(rt; shaper.has_kind(kind), is_known);
+    for (shaper, kind, is_known) in &KNOWN_KINDS {
+        assert_eq!(rt; shaper.has_kind(*kind), *is_known);
     }
-    assert_eq!(rt; UNIVERSAL_SHAPER.non_cluster_kind(), 9);
-    assert_eq!(rt; HEBREW_SHAPER.non_cluster_kind(), 0);
+}
+
+fn shapers_of_machines() -> [Option<hb_ot_script_shaper_t>; 2] {
+    [machine_shaper("myanmar"), machine_shaper("thai")]
+}
+
+fn other_kinds() -> [u8; 2] {
+    [
+        UNIVERSAL_SHAPER.non_cluster_kind(),
+        HEBREW_SHAPER.non_cluster_kind(),
+    ]
+}
+
+#[test]
+fn shapers(rt: HostRuntime) {
+    assert_eq!(rt; shapers_of_machines(), [Some(MYANMAR_SHAPER), None]);
+    assert_eq!(rt; other_kinds(), [9, 0]);
     assert!(rt; UNIVERSAL_SHAPER.is_reordered(6));
     assert!(rt; !INDIC_SHAPER.is_reordered(3));
-    assert_eq!(rt; machine_shaper("myanmar"), Some(MYANMAR_SHAPER));
-    assert_eq!(rt; machine_shaper("thai"), None);
+}
+
+fn numbers_of_names() -> [Option<u8>; 9] {
+    [
+        indic_category_number("ML"),
+        indic_category_number("QQ"),
+        indic_position_number("END"),
+        universal_category_number("HR"),
+        joining_type_number("DALATH_RISH"),
+        joining_type_number("X"),
+        thai_action_number("RD"),
+        INDIC_SHAPER.category_number("Repha"),
+        UNIVERSAL_SHAPER.category_number("Repha"),
+    ]
+}
+
+fn joining_types() -> [Option<hb_arabic_joining_type_t>; 2] {
+    [joining_type_of_number(6), joining_type_of_number(8)]
 }
 
 #[test]
 fn names(rt: HostRuntime) {
-    assert_eq!(rt; indic_category_number("ML"), Some(34));
-    assert_eq!(rt; indic_category_number("QQ"), None);
-    assert_eq!(rt; indic_position_number("END"), Some(14));
-    assert_eq!(rt; universal_category_number("HR"), Some(44));
-    assert_eq!(rt; joining_type_number("DALATH_RISH"), Some(5));
-    assert_eq!(rt; joining_type_number("X"), None);
-    assert_eq!(rt;
-        joining_type_of_number(6),
-        Some(hb_arabic_joining_type_t::T)
-    );
-    assert_eq!(rt; joining_type_of_number(8), None);
-    assert_eq!(rt; thai_action_number("RD"), Some(3));
-    assert_eq!(rt; INDIC_SHAPER.category_number("Repha"), Some(15));
-    assert_eq!(rt; UNIVERSAL_SHAPER.category_number("Repha"), None);
+    let numbers = [
+        Some(34),
+        None,
+        Some(14),
+        Some(44),
+        Some(5),
+        None,
+        Some(3),
+        Some(15),
+        None,
+    ];
+    assert_eq!(rt; numbers_of_names(), numbers);
+    assert_eq!(rt; joining_types(), [Some(hb_arabic_joining_type_t::T), None]);
     assert!(rt; arabic_action_t::is_stch(9));
 }

@@ -1,5 +1,5 @@
 //! Records that are found and missed, by numbers and by pairs.
-use sorted_rows::{Keyed, SortedRows, is_rising};
+use sorted_rows::{Keyed, Numbered, PagedRows, SortedRows, is_rising};
 use std::alloc::Global;
 use std::test::Fail;
 
@@ -101,4 +101,64 @@ fn equal_and_falling_keys(rt: HostRuntime) {
     let at = |glyph| Advance { glyph, width: 0 };
     assert!(rt; !is_rising(&[at(1), at(1)]));
     assert!(rt; !is_rising(&[at(2), at(3), at(1)]));
+}
+
+#[derive(Clone, Copy)]
+struct Letter {
+    character: u32,
+}
+
+impl Keyed for Letter {
+    type Key = u32;
+
+    ghost key_of = { λ l. l.character };
+
+    fn key(&self) -> u32 {
+        self.character
+    }
+}
+
+impl Numbered for Letter {
+    ghost number_of = { λ l. l.character };
+
+    fn number(&self) -> u32 {
+        self.character
+    }
+}
+
+/// One character of each of so many pages of 128.
+fn letters(alloc: Global, count: u32) -> Result<PagedRows<Letter>, Fail> {
+    let mut rows = Vec::new(alloc);
+    for page in 0..count {
+        rows.push(Letter {
+            character: letter_of(page),
+        })?;
+    }
+    if !is_rising(&rows) {
+        return Err("not rising".into());
+    }
+    Ok(PagedRows::new(alloc, rows)?)
+}
+
+fn letter_of(page: u32) -> u32 {
+    page.wrapping_mul(128).wrapping_add(page % 100)
+}
+
+/// Whether each page's character is found, and the one behind it is not.
+fn are_found(table: &PagedRows<Letter>, count: u32) -> bool {
+    (0..count).all(|page| {
+        let character = letter_of(page);
+        table.get(character).is_some() && table.get(character.wrapping_add(1)).is_none()
+    })
+}
+
+// The index has room for 188 pages; records behind those are searched for.
+#[test]
+fn pages(rt: HostRuntime) -> Result<(), Fail> {
+    for count in [0, 1, 188, 189, 500] {
+        let table = letters(rt.alloc(), count)?;
+        assert!(rt; are_found(&table, count), "{count}");
+        assert!(rt; table.get(letter_of(count)).is_none());
+    }
+    Ok(())
 }

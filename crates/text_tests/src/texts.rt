@@ -1,14 +1,16 @@
 //! Tags, scripts, directions, flags and languages.
 use arrayvec::ArrayVec;
 use bitflags::Flags;
+use language_tables::language_table::{LanguageRow, LanguageTable};
 use shaping_text::constants::*;
 use shaping_text::direction::{Direction, InvalidDirection};
 use shaping_text::language::{Language, LanguageFault};
-use shaping_text::language_tags::{LanguageRow, LanguageTable, LanguageTags};
+use shaping_text::language_tags::LanguageTags;
 use shaping_text::script::*;
 use shaping_text::script_tags::tags_from_script_and_language;
 use shaping_text::tag::{Tag, TagExt};
-use std::alloc::Global;
+use std::alloc::{AllocError, Global};
+use std::process::Abort;
 use std::test::Fail;
 
 // Tags are compared by their numbers.
@@ -84,16 +86,30 @@ fn scripts(rt: HostRuntime) {
     assert_eq!(rt; ARABIC.tag().to_bytes(), *b"Arab");
 }
 
-const TEXTS_OF_DIRECTIONS: [(&str, Result<Direction, InvalidDirection>); 6] = [
-    ("ltr", Ok(Direction::LeftToRight)),
-    ("Right", Ok(Direction::RightToLeft)),
-    ("TTB", Ok(Direction::TopToBottom)),
-    ("b", Ok(Direction::BottomToTop)),
-    ("", Err(InvalidDirection)),
-    (" ltr", Err(InvalidDirection)),
+static TEXTS_OF_DIRECTIONS: [(&str, Option<Direction>); 6] = [
+    ("ltr", Some(Direction::LeftToRight)),
+    ("Right", Some(Direction::RightToLeft)),
+    ("TTB", Some(Direction::TopToBottom)),
+    ("b", Some(Direction::BottomToTop)),
+    ("", None),
+    (" ltr", None),
 ];
 
-const DIRECTIONS_OF_SCRIPTS: [(Script, Option<Direction>); 6] = [
+fn direction_of_text(text: &str) -> Option<Direction> {
+    match text.parse::<Direction>() {
+        Ok(direction) => Some(direction),
+        Err(InvalidDirection) => None,
+    }
+}
+
+#[test]
+fn directions_of_texts(rt: HostRuntime) {
+    for (text, want) in &TEXTS_OF_DIRECTIONS {
+        assert_eq!(rt; direction_of_text(text), *want, "{text}");
+    }
+}
+
+static DIRECTIONS_OF_SCRIPTS: [(Script, Option<Direction>); 6] = [
     (LATIN, Some(Direction::LeftToRight)),
     (ARABIC, Some(Direction::RightToLeft)),
     (HEBREW, Some(Direction::RightToLeft)),
@@ -103,38 +119,43 @@ const DIRECTIONS_OF_SCRIPTS: [(Script, Option<Direction>); 6] = [
 ];
 
 #[test]
+fn directions_of_scripts(rt: HostRuntime) {
+    for (script, want) in &DIRECTIONS_OF_SCRIPTS {
+        assert_eq!(rt; Direction::from_script(*script), *want);
+    }
+}
+
+/// Whether a direction is vertical, horizontal, forward, backward.
+fn kinds(direction: Direction) -> [bool; 4] {
+    [
+        direction.is_vertical(),
+        direction.is_horizontal(),
+        direction.is_forward(),
+        direction.is_backward(),
+    ]
+}
+
+#[test]
 fn directions(rt: HostRuntime) {
-    for (text, want) in TEXTS_OF_DIRECTIONS {
-        assert_eq!(rt; text.parse::<Direction>(), want, "{text}");
-    }
-    for (script, want) in DIRECTIONS_OF_SCRIPTS {
-        assert_eq!(rt; Direction::from_script(script), want);
-    }
     assert_eq!(rt; Direction::default(), Direction::Invalid);
-    let vertical = Direction::TopToBottom;
-    assert_eq!(rt; vertical.reverse(), Direction::BottomToTop);
-    assert_eq!(rt;
-        (vertical.is_vertical(), vertical.is_horizontal()),
-        (true, false)
-    );
-    assert_eq!(rt;
-        (vertical.is_forward(), vertical.is_backward()),
-        (true, false)
-    );
+    assert_eq!(rt; Direction::TopToBottom.reverse(), Direction::BottomToTop);
+    assert_eq!(rt; kinds(Direction::TopToBottom), [true, false, true, false]);
+}
+
+fn flag_bits() -> [u32; 5] {
+    [
+        BufferFlags::all().bits(),
+        BufferFlags::PRODUCE_UNSAFE_TO_CONCAT.bits(),
+        rb_flag(31),
+        rb_flag_unsafe(32),
+        rb_flag_range(2, 4),
+    ]
 }
 
 #[test]
 fn flags(rt: HostRuntime) {
-    for (bits, want) in [
-        (BufferFlags::all().bits(), 223),
-        (BufferFlags::PRODUCE_UNSAFE_TO_CONCAT.bits(), 64),
-        (rb_flag(31), 0x8000_0000),
-        (rb_flag_unsafe(32), 0),
-        (rb_flag_range(2, 4), 0b11100),
-    ] {
-        assert_eq!(rt; bits, want);
-    }
-    assert_eq!(rt; (rb_flag64(40), rb_flag64_unsafe(64)), (1 << 40, 0));
+    assert_eq!(rt; flag_bits(), [223, 64, 0x8000_0000, 0, 0b11100]);
+    assert_eq!(rt; [rb_flag64(40), rb_flag64_unsafe(64)], [1 << 40, 0]);
 }
 
 fn row(alloc: Global, text: &str, tag: Tag) -> Result<LanguageRow, Fail> {
@@ -186,15 +207,16 @@ fn languages(rt: HostRuntime) -> Result<(), Fail> {
     Ok(())
 }
 
-const TAGS_OF_SCRIPTS: [(Option<Script>, &[&[u8; 4]]); 8] = [
-    (Some(BENGALI), &[b"bng3", b"bng2", b"beng"]),
-    (Some(MYANMAR), &[b"mym2", b"mymr"]),
-    (Some(HIRAGANA), &[b"kana"]),
-    (Some(LAO), &[b"lao "]),
-    (Some(SCRIPT_MATH), &[b"math"]),
-    (Some(LATIN), &[b"latn"]),
-    (Some(COMMON), &[]),
-    (None, &[]),
+// Scripts with their tags, one behind the other.
+static TAGS_OF_SCRIPTS: [(Option<Script>, &str); 8] = [
+    (Some(BENGALI), "bng3bng2beng"),
+    (Some(MYANMAR), "mym2mymr"),
+    (Some(HIRAGANA), "kana"),
+    (Some(LAO), "lao "),
+    (Some(SCRIPT_MATH), "math"),
+    (Some(LATIN), "latn"),
+    (Some(COMMON), ""),
+    (None, ""),
 ];
 
 fn script_tags(
@@ -211,18 +233,35 @@ fn language_tag(language: Option<&Language>, table: &LanguageTable) -> Option<Ta
     languages.first().copied()
 }
 
+fn text_of(alloc: Global, tags: &[Tag]) -> Result<String, AllocError> {
+    let mut text = String::new(alloc);
+    for tag in tags {
+        for byte in tag.to_bytes() {
+            text.push(char::from(byte))?;
+        }
+    }
+    Ok(text)
+}
+
+fn have_tags(
+    rt: &impl Abort,
+    alloc: Global,
+    german: &Language,
+    table: &LanguageTable,
+) -> Result<(), Fail> {
+    for (script, want) in &TAGS_OF_SCRIPTS {
+        let tags = script_tags(*script, Some(german), table);
+        let text = text_of(alloc, &tags)?;
+        assert_eq!(rt; text.as_str(), *want);
+    }
+    Ok(())
+}
+
 #[test]
 fn wanted_tags(rt: HostRuntime) -> Result<(), Fail> {
     let table = german_and_chinese(rt.alloc())?;
     let german = Language::from_str(rt.alloc(), "de-AT")?;
     assert_eq!(rt; language_tag(Some(&german), &table), Some(GERMAN));
     assert_eq!(rt; language_tag(None, &table), None);
-    for (script, want) in TAGS_OF_SCRIPTS {
-        let found = script_tags(script, Some(&german), &table);
-        assert_eq!(rt; found.len(), want.len());
-        for (tag, bytes) in found.iter().zip(want) {
-            assert_eq!(rt; tag.to_bytes(), **bytes);
-        }
-    }
-    Ok(())
+    have_tags(&rt, rt.alloc(), &german, &table)
 }

@@ -1,6 +1,7 @@
 //! Properties of characters by tables.
 use serde_json::Value;
 use std::alloc::Global;
+use std::process::Abort;
 use std::test::Fail;
 use tables_json::read_tables;
 use unicode_tables::{
@@ -23,48 +24,69 @@ fn tables(alloc: Global) -> Result<UnicodeTables, Fail> {
     Ok(read_tables(alloc, &value)?)
 }
 
-#[test]
-fn splits_and_pairs(rt: HostRuntime) -> Result<(), Fail> {
-    let tables = tables(rt.alloc())?;
+fn characters_split(rt: &impl Abort, tables: &UnicodeTables) {
     for (c, parts) in [
         ('\u{E1}', Some(('a', '\u{301}'))),
         ('\u{212B}', Some(('\u{C5}', '\0'))),
         ('\u{AC00}', Some(('\u{1100}', '\u{1161}'))),
         ('a', None),
     ] {
-        assert_eq!(rt; decompose(&tables, c), parts);
+        assert_eq!(rt; decompose(tables, c), parts);
     }
+}
+
+fn characters_compose(rt: &impl Abort, tables: &UnicodeTables) {
     for (a, b, whole) in [
         ('\u{1B05}', '\u{1B35}', Some('\u{1B06}')),
         ('\u{AC00}', '\u{11A8}', Some('\u{AC01}')),
         ('a', '\u{323}', None),
     ] {
-        assert_eq!(rt; compose(&tables, a, b), whole);
+        assert_eq!(rt; compose(tables, a, b), whole);
     }
-    Ok(())
 }
 
-#[test]
-fn properties(rt: HostRuntime) -> Result<(), Fail> {
-    let tables = tables(rt.alloc())?;
-    assert_eq!(rt; '\u{301}'.modified_combining_class(&tables), 230);
-    assert_eq!(rt; 'a'.modified_combining_class(&tables), 0);
-    assert_eq!(rt; '('.mirrored(&tables), Some(')'));
-    assert_eq!(rt; '\u{3001}'.vertical(&tables), Some('\u{FE11}'));
-    assert!(rt; '\u{1000}'.is_emoji_extended_pictographic(&tables));
-    assert!(rt; !'\u{1100}'.is_emoji_extended_pictographic(&tables));
-    Ok(())
+fn classes(tables: &UnicodeTables) -> [u8; 2] {
+    [
+        '\u{301}'.modified_combining_class(tables),
+        'a'.modified_combining_class(tables),
+    ]
 }
 
-#[test]
-fn categories(rt: HostRuntime) -> Result<(), Fail> {
-    let tables = tables(rt.alloc())?;
-    assert_eq!(rt; tables.joining('\u{628}'), Some(3));
-    assert_eq!(rt; tables.joining('a'), None);
+fn other_forms(tables: &UnicodeTables) -> [Option<char>; 2] {
+    ['('.mirrored(tables), '\u{3001}'.vertical(tables)]
+}
+
+fn are_pictographic(tables: &UnicodeTables) -> [bool; 2] {
+    [
+        '\u{1000}'.is_emoji_extended_pictographic(tables),
+        '\u{1100}'.is_emoji_extended_pictographic(tables),
+    ]
+}
+
+fn types(tables: &UnicodeTables) -> [Option<u8>; 3] {
+    [
+        tables.joining('\u{628}'),
+        tables.joining('a'),
+        tables.universal('\u{1B05}'),
+    ]
+}
+
+fn characters_have_properties(rt: &impl Abort, tables: &UnicodeTables) {
+    assert_eq!(rt; classes(tables), [230, 0]);
+    assert_eq!(rt; other_forms(tables), [Some(')'), Some('\u{FE11}')]);
+    assert_eq!(rt; are_pictographic(tables), [true, false]);
+    assert_eq!(rt; types(tables), [Some(3), None, Some(44)]);
     assert_eq!(rt; tables.indic('\u{915}'), Some((34, 14)));
-    assert_eq!(rt; tables.universal('\u{1B05}'), Some(44));
     assert_eq!(rt; tables.thai('\u{E38}', 3), Some(('\u{F71A}', '\u{F71B}')));
     assert_eq!(rt; tables.thai('\u{E38}', 2), None);
+}
+
+#[test]
+fn characters_by_tables(rt: HostRuntime) -> Result<(), Fail> {
+    let tables = tables(rt.alloc())?;
+    characters_split(&rt, &tables);
+    characters_compose(&rt, &tables);
+    characters_have_properties(&rt, &tables);
     Ok(())
 }
 

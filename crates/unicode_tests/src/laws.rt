@@ -7,10 +7,15 @@ use tables_json::read_tables;
 use unicode_tables::LawFault::{
     self, ClassOnNonMark, PairNotEquivalent, SecondPartSplits, SplitLosesClass,
 };
+use unicode_tables::UnicodeTables;
+
+fn tables(alloc: Global, text: &str) -> Result<UnicodeTables, Fail> {
+    let value = Value::from_str(alloc, text)?;
+    Ok(read_tables(alloc, &value)?)
+}
 
 fn law_fault(alloc: Global, text: &str) -> Result<Option<LawFault>, Fail> {
-    let value = Value::from_str(alloc, text)?;
-    let tables = read_tables(alloc, &value)?;
+    let tables = tables(alloc, text)?;
     Ok(tables.law_fault())
 }
 

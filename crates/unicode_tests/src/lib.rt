@@ -12,6 +12,8 @@ mod machines;
 #[cfg(test)]
 mod normalizing;
 #[cfg(test)]
+mod properties;
+#[cfg(test)]
 mod rows;
 #[cfg(test)]
 mod syllables;

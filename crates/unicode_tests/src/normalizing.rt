@@ -1,39 +1,21 @@
 //! Worked rows of normalising.
 use normal_forms::NormalizationMode;
 use plain_normalizer::{PlainItem, RowNormalizer, items_of_text, normalized};
+use serde_json::Value;
 use std::alloc::Global;
 use std::process::Abort;
 use std::test::Fail;
-use unicode_tables::{UnicodeRows, UnicodeTables};
+use tables_json::read_tables;
+use unicode_tables::UnicodeTables;
 
-const SPLITS: [[u32; 3]; 5] = [
-    [0xE1, 0x61, 0x301],
-    [0x1026, 0x1025, 0x102E],
-    [0x17C1, 0x17BE, 0x17B6],
-    [0x1B06, 0x1B05, 0x1B35],
-    [0x1EA1, 0x61, 0x323],
-];
+const TABLES: &str =
+    r#"{"splits":[[225,97,769],[4134,4133,4142],[6081,6078,6070],[6918,6917,6965],[7841,97,803]],
+    "pairs":[[97,769,225],[97,803,7841],[6917,6965,6918]],
+    "classes":[[768,230],[769,230],[803,220],[6964,7],[6980,9]]}"#;
 
-const PAIRS: [[u32; 3]; 3] = [
-    [0x61, 0x301, 0xE1],
-    [0x61, 0x323, 0x1EA1],
-    [0x1B05, 0x1B35, 0x1B06],
-];
-
-const CLASSES: [[u32; 2]; 5] = [
-    [0x300, 230],
-    [0x301, 230],
-    [0x323, 220],
-    [0x1B34, 7],
-    [0x1B44, 9],
-];
-
-fn rows(alloc: Global) -> Result<UnicodeRows, Fail> {
-    let mut rows = UnicodeRows::new(alloc);
-    rows.splits.extend_from_slice(&SPLITS)?;
-    rows.pairs.extend_from_slice(&PAIRS)?;
-    rows.classes.extend_from_slice(&CLASSES)?;
-    Ok(rows)
+fn tables(alloc: Global) -> Result<UnicodeTables, Fail> {
+    let value = Value::from_str(alloc, TABLES)?;
+    Ok(read_tables(alloc, &value)?)
 }
 
 /// What a shaper prefers and a font has.
@@ -62,10 +44,14 @@ fn setting_of(mode: NormalizationMode, glyphs: &'static [(char, u32)]) -> Settin
     }
 }
 
-fn list_of(alloc: Global, setting: Setting, text: &[char]) -> Result<Vec<PlainItem>, Fail> {
-    let tables = UnicodeTables::new(alloc, &rows(alloc)?)?;
+fn list_by(
+    alloc: Global,
+    tables: &UnicodeTables,
+    setting: Setting,
+    text: &[char],
+) -> Result<Vec<PlainItem>, Fail> {
     let by = RowNormalizer {
-        tables: &tables,
+        tables,
         mode: setting.mode,
         glyphs: setting.glyphs,
         variants: setting.variants,
@@ -76,6 +62,11 @@ fn list_of(alloc: Global, setting: Setting, text: &[char]) -> Result<Vec<PlainIt
     };
     let items = items_of_text(alloc, &by, text)?;
     Ok(normalized(alloc, &by, &items)?)
+}
+
+fn list_of(alloc: Global, setting: Setting, text: &[char]) -> Result<Vec<PlainItem>, Fail> {
+    let tables = tables(alloc)?;
+    list_by(alloc, &tables, setting, text)
 }
 
 /// The characters and the glyphs of the normalised list.

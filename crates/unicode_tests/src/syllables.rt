@@ -1,8 +1,9 @@
 //! Syllables and languages that are read from JSON values.
+use language_tables::language_table::LanguageTable;
 use script_constants::hb_ot_script_shaper_t::{KHMER_SHAPER, MYANMAR_SHAPER};
 use script_syllables::{SyllableSpans, SyllableTable};
 use serde_json::Value;
-use shaping_text::language_tags::{LanguageTable, LanguageTags};
+use shaping_text::language_tags::LanguageTags;
 use shaping_text::tag::Tag;
 use std::alloc::Global;
 use std::test::Fail;

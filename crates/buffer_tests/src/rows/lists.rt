@@ -99,4 +99,18 @@ pub const ROWS: &[Row] = &[
         refused: 0,
         want: &[(1, 4, 1), (2, 1, 0)],
     },
+    Row {
+        name: "lends the glyphs that the cursor has passed",
+        start: &[0, 1, 2],
+        calls: &[WriteFirst(8), NextMany(2), WriteFirst(9)],
+        refused: 0,
+        want: &[(9, 0, 0), (2, 1, 0), (3, 2, 0)],
+    },
+    Row {
+        name: "keeps its place while the last glyph is deleted in place",
+        start: &[0, 1, 2, 3],
+        calls: &[NextMany(2), DeleteInPlace(4), WriteCurrent(7)],
+        refused: 0,
+        want: &[(1, 0, 0), (2, 1, 0), (7, 2, 0)],
+    },
 ];

@@ -64,4 +64,11 @@ pub const ROWS: &[Row] = &[
         refused: 0,
         want: &[(1, 0, 0), (2, 1, 4), (3, 2, 3)],
     },
+    Row {
+        name: "merges a glyph that came back in a cluster before its own, far from the range",
+        start: &[0, 1, 2, 3],
+        calls: &[Next, WriteCluster(2, 1), MoveTo(0), Merge(0, 2)],
+        refused: 0,
+        want: &[(1, 0, 0), (2, 0, 0), (3, 2, 0), (4, 0, 0)],
+    },
 ];

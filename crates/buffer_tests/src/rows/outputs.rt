@@ -71,7 +71,7 @@ pub const ROWS: &[Row] = &[
     Row {
         name: "lends the glyphs of the output",
         start: &[0, 1],
-        calls: &[Open, Next, WriteOutput(9), Sync],
+        calls: &[Open, Next, WriteFirst(9), Sync],
         refused: 0,
         want: &[(9, 0, 0), (2, 1, 0)],
     },

@@ -20,14 +20,35 @@ impl hb_buffer_t {
         &mut self.info
     }
 
-    /// The glyphs of the output, to be written.
+    /// The glyphs behind the cursor, to be written: those of the output while one is open.
     pub fn out_info_mut(&mut self) -> &mut [hb_glyph_info_t]
+        ensures value { result.now ≡ self.old.behind }
+        ensures* writes_back { sem 𝓛 (LendsOutput self.entry result) }
+    {
+        if self.have_output {
+            return self.output_mut();
+        }
+        self.passed_mut()
+    }
+
+    fn output_mut(&mut self) -> &mut [hb_glyph_info_t]
         requires { self.old.is_open ≡ true }
         ensures value { result.now ≡ self.old.behind }
         ensures* writes_back { sem 𝓛 (LendsOutput self.entry result) }
     {
         self.order = ClusterOrder::of(KnownOrder::Unknown);
         &mut self.out_info
+    }
+
+    /// The glyphs that the cursor has passed.
+    fn passed_mut(&mut self) -> &mut [hb_glyph_info_t]
+        requires { self.old.is_open ≡ false }
+        ensures value { result.now ≡ self.old.behind }
+        ensures* writes_back { sem 𝓛 (LendsOutput self.entry result) }
+    {
+        let end = self.idx;
+        self.order = ClusterOrder::of(KnownOrder::Unknown);
+        self.info.slice_mut(..end)
     }
 
     /// The glyphs' positions, to be written, while no output is open.

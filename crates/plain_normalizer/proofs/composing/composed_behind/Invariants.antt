@@ -1,6 +1,6 @@
 use Rattle.std.proofs.Common.{◌≡◌, [], drop}
 use Rattle.normal_forms.specs.Composing.{composed_from}
-use Rattle.plain_normalizer.specs.PlainItems.{seen, seen_all}
+use Rattle.plain_items.specs.PlainItems.{seen, seen_all}
 use Rattle.plain_normalizer.proofs.composing.composed_behind.Given as goal
 
 -- composing what is left, behind what is done, gives the whole list

@@ -1,7 +1,7 @@
 use Rattle.std.proofs.Common.{◌≡◌, ◌≢◌, ◌∷◌, false, length, rules, sym, ◌∙◌}
 use Rattle.std.specs.List.{list_any}
 use Rattle.normal_forms.specs.Characters.{is_selector}
-use Rattle.plain_normalizer.specs.PlainItems.{seen, seen_all}
+use Rattle.plain_items.specs.PlainItems.{seen, seen_all}
 use Rattle.plain_normalizer.proofs.Groups.{group_expands}
 use Rattle.plain_normalizer.proofs.expanding.expand_group.Goals as goal
 

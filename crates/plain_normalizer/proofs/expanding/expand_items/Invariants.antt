@@ -1,7 +1,7 @@
 use Rattle.std.proofs.Common.{◌≡◌, ◌++◌, drop}
 use Rattle.std.specs.List.{flat_map}
 use Rattle.normal_forms.specs.Expanding.{expanded_item}
-use Rattle.plain_normalizer.specs.PlainItems.{seen_all}
+use Rattle.plain_items.specs.PlainItems.{seen_all}
 use Rattle.plain_normalizer.proofs.expanding.expand_items.Given as goal
 
 -- what is left, after what is done, gives the items of all

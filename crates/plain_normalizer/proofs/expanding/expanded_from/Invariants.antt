@@ -2,7 +2,7 @@ use Rattle.std.proofs.Common.{◌≡◌, ◌++◌, [], drop}
 use Rattle.std.specs.List.{flat_map}
 use Rattle.normal_forms.specs.Arranged.{items}
 use Rattle.normal_forms.specs.Expanding.{expanded_groups}
-use Rattle.plain_normalizer.specs.PlainItems.{seen, seen_all}
+use Rattle.plain_items.specs.PlainItems.{seen, seen_all}
 use Rattle.plain_normalizer.proofs.expanding.expanded_from.Given as goal
 
 -- what is left, after what is done, gives the groups of the list

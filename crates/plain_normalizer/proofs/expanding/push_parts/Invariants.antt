@@ -1,6 +1,6 @@
 use Rattle.std.proofs.Common.{◌≡◌, ◌++◌, map, drop}
 use Rattle.normal_forms.specs.Expanding.{part_of}
-use Rattle.plain_normalizer.specs.PlainItems.{seen, seen_all}
+use Rattle.plain_items.specs.PlainItems.{seen, seen_all}
 use Rattle.plain_normalizer.proofs.expanding.push_parts.Given as goal
 
 -- what is left, after what is done, gives the items of all parts

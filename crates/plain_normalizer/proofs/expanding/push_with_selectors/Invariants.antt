@@ -2,7 +2,7 @@ use Rattle.std.proofs.Common.{◌≡◌, ◌++◌, drop, Some, option_map}
 use Rattle.std.specs.List.{flat_map}
 use Rattle.normal_forms.specs.Arranged.{items}
 use Rattle.normal_forms.specs.Expanding.{selected_after}
-use Rattle.plain_normalizer.specs.PlainItems.{seen, seen_all}
+use Rattle.plain_items.specs.PlainItems.{seen, seen_all}
 use Rattle.plain_normalizer.proofs.expanding.push_with_selectors.Given as goal
 
 -- what is left, after what is done, gives the items of all

@@ -1,6 +1,6 @@
 use Rattle.std.proofs.Common.{◌≡◌, ◌++◌, [], drop, arith, sym, ap, ◌∙◌}
 use Rattle.std.proofs.lemmas.Grind.{common_steps}
-use Rattle.plain_normalizer.specs.PlainItems.{seen_all}
+use Rattle.plain_items.specs.PlainItems.{seen_all}
 use Rattle.plain_normalizer.proofs.Runs.{last_run, list_of_runs}
 use Rattle.plain_normalizer.proofs.ordering.ordered_list.Goals as goal
 

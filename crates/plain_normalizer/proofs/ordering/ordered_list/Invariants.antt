@@ -2,7 +2,7 @@ use Rattle.std.proofs.Common.{◌≡◌, ◌++◌, [], drop}
 use Rattle.std.specs.List.{flat_map}
 use Rattle.normal_forms.specs.Arranged.{items}
 use Rattle.normal_forms.specs.Ordering.{arranged_runs}
-use Rattle.plain_normalizer.specs.PlainItems.{seen_all}
+use Rattle.plain_items.specs.PlainItems.{seen_all}
 use Rattle.plain_normalizer.proofs.ordering.ordered_list.Given as goal
 
 -- what is left, after what is done, gives the order of the whole list

@@ -1,6 +1,6 @@
 use Rattle.std.proofs.Common.{sym, ap, ◌∙◌}
 use Rattle.normal_forms.specs.NormalizedList.{has_later_mark}
-use Rattle.plain_normalizer.specs.PlainItems.{seen_all}
+use Rattle.plain_items.specs.PlainItems.{seen_all}
 use Rattle.plain_normalizer.proofs.Between.{later_mark_seen}
 use Rattle.plain_normalizer.proofs.rounds.has_later_mark.Goals as goal
 

@@ -1,7 +1,7 @@
 use Rattle.std.proofs.Common.{◌≡◌, ◌++◌, drop}
 use Rattle.normal_forms.specs.Characters.{items_of_text}
-use Rattle.plain_normalizer.specs.PlainItems.{seen, seen_all}
-use Rattle.plain_normalizer.specs.declared.item.TheConstants.{BLANK}
+use Rattle.plain_items.specs.PlainItems.{seen, seen_all}
+use Rattle.plain_items.specs.declared.item.TheConstants.{BLANK}
 use Rattle.plain_normalizer.proofs.rounds.items_of_text.Given as goal
 
 -- what is left, behind what is done, gives the whole text

@@ -5,7 +5,7 @@ use Rattle.std.specs.Ordering.{nat_cmp}
 use Rattle.std.specs.Cmp.Lexicographic.{slice_cmp}
 use Rattle.serde_json.specs.View.{items_view}
 use Rattle.json_values.specs.Rows.{is_above}
-use Rattle.shaping_text.specs.LanguageRows.{row_text}
+use Rattle.language_tables.specs.LanguageRows.{row_text}
 use Rattle.tables_json.specs.Languages.{language_in, languages_in_order}
 use Rattle.tables_json.proofs.Texts.{language_taken, last_text, texts_rise}
 use Rattle.tables_json.proofs.languages.read_rows.Goals as goal

@@ -6,7 +6,7 @@ use Rattle.std.proofs.lemmas.List.{length-drop, take_rest}
 use Rattle.glyph_lists.specs.Items.{clusters}
 use Rattle.glyph_lists.specs.Parts.{stretch}
 use Rattle.glyph_buffer.specs.Sides.{items_of, origins_of}
-use Rattle.glyph_buffer.specs.Merging.{output_merged_at, with_output_merged}
+use Rattle.glyph_buffer.specs.Merging.{with_output_merged}
 use Rattle.glyph_buffer.proofs.Across.{length_beside_output, length_output_merged, output_items, output_merged_view}
 use Rattle.glyph_buffer.proofs.MergedOrigins.{output_origins}
 use Rattle.glyph_buffer.proofs.Ordered.{known_ahead, known_back, none_lent}

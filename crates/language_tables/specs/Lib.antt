@@ -1,0 +1,2 @@
+pub mod LanguageRows
+pub mod LanguageTable

@@ -1,0 +1,160 @@
+-- Glyphs on both sides of the cursor that are marked, and what is put in place.
+use Rattle.std.proofs.Common.{ℕ, ◌≡◌, ◌≤◌, ◌+◌, ◌-◌, nat_lt, nat_le, true, false, Bool, if◌then◌else◌, List, [], ◌∷◌, ◌++◌, length, map, take, drop, Some, Ok, refl, sym, ap, subst, ◌∙◌, arith, slice_get}
+use Rattle.std.specs.Prelude.{slice_set, Option, Result}
+use Rattle.std.proofs.lemmas.List.{length-map, map-append}
+use Rattle.glyph_types.specs.declared.flags.GlyphPropsFlags.{GlyphPropsFlags}
+use Rattle.glyph_types.specs.declared.info.hb_glyph_info_t.{hb_glyph_info_t}
+use Rattle.glyph_lists.specs.Items.{Item, item_of, strip, clusters}
+use Rattle.glyph_lists.specs.Parts.{stretch}
+use Rattle.glyph_lists.specs.Origins.{origins, origin_of}
+use Rattle.glyph_lists.specs.Glyphs.{glyphs_flagged, glyphs_marked, tells_apart}
+use Rattle.glyph_lists.specs.Lemmas.Glyphs.{strip_flagged, strip_marked}
+use Rattle.glyph_lists.specs.Events.{Event, Break, Concat}
+use Rattle.glyph_buffer.specs.Sides.{Sides, all_glyphs, origins_of, origins_by}
+use Rattle.glyph_buffer.specs.Lending.{with_glyph_ahead}
+use Rattle.glyph_buffer.specs.Marking.{asks_concat, concat_marked_across, marked_across, end_in_all, with_flagged, with_marked}
+use Rattle.font_face.specs.declared.parts.GlyphDefinition.{GlyphDefinition}
+use Rattle.layout_common.specs.Rows.{value_of}
+use Rattle.layout_substitutions.specs.declared.reverse.ReverseChainSubst.{ReverseChainSubst}
+use Rattle.layout_match.specs.Applied.{Applied}
+use Rattle.layout_match.specs.Sequences.{is_covered_by}
+use Rattle.layout_rules.specs.Actions.{Cut, Outcome, Acts, Action, at_first}
+use Rattle.layout_rules.specs.Buffers.{cut_of, are_glyphs, IsPassed}
+use Rattle.layout_rules.specs.Performing.{IsPutInPlace, PerformsInPlace}
+use Rattle.layout_rules.specs.Lemmas.Attempts.{cut_with_glyphs}
+use Rattle.layout_rules.specs.Lemmas.Frames.{telling_still, then_happened, still_settings, same_numbers}
+use Rattle.layout_rules.specs.Lemmas.Glyphs.{all_of_both, all_of_front, all_of_back, all_dropped, first_item}
+use Rattle.layout_gsub.specs.Replacements.{substituted_item, substituted_props}
+use Rattle.layout_gsub.specs.Reverses.{attempt_around, put_after, put_around, put_before, put_in_place, reverse_subtable}
+use Rattle.layout_gsub.proofs.Replaced.{substituted_numbers}
+
+flagged_passed : (from to : ℕ) (s : Sides) (b : Bool) → from ≤ to → origins_of (if b then with_flagged 2 from to s else s) ≡ origins_by (Concat from to ∷ []) s → IsPassed (Concat from to ∷ []) s (if b then with_flagged 2 from to s else s)
+flagged_passed from to s true le happened = record {
+  cut_is = cut_with_glyphs (glyphs_flagged 2 from to (all_glyphs s)) s (strip_flagged 2 from to (all_glyphs s) (omega arith) le);
+  happened = happened;
+  still = telling_still (nat_lt from to) s;
+  read = refl;
+}
+flagged_passed from to s false le happened = record { cut_is = refl; happened = happened; still = refl; read = refl }
+
+marked_passed : (from to : ℕ) (s : Sides) → from ≤ to → origins_of (with_marked 3 from to s) ≡ origins_by (Break from to ∷ []) s → IsPassed (Break from to ∷ []) s (with_marked 3 from to s)
+marked_passed from to s le happened = record {
+  cut_is = cut_with_glyphs (glyphs_marked 3 from to (all_glyphs s)) s (strip_marked 3 from to (all_glyphs s) (omega arith) le);
+  happened = happened;
+  still = telling_still (tells_apart (stretch from to (clusters (all_glyphs s)))) s;
+  read = refl;
+}
+
+-- an end that is told from the cursor on
+end_there : (at ahead : ℕ) (s : Sides) → at ≡ s.read → end_in_all (Some (at + ahead)) s ≡ length s.behind + ahead
+end_there at ahead s here = omega (arith, here)
+
+pub concat_around : (back ahead at n : ℕ) (s new : Sides) → at ≡ s.read → n ≡ length s.behind → back ≤ length s.behind → new ≡ concat_marked_across (Some (n - back)) (Some (at + ahead)) s → origins_of new ≡ origins_by (Concat (n - back) (end_in_all (Some (at + ahead)) s) ∷ []) s
+    → IsPassed (Concat (length s.behind - back) (length s.behind + ahead) ∷ []) s new
+concat_around back ahead at n s new here count le is happened =
+    let end = end_there at ahead s here in
+    let from = n - back in
+    let to = length s.behind + ahead in
+    let b = asks_concat s in
+    let same : new ≡ (if b then with_flagged 2 from to s else s) = is ∙ ap (λ k. if b then with_flagged 2 from k s else s) end in
+    let P : Sides → Type 0 = λ t. IsPassed (Concat from to ∷ []) s t in
+    let passed = subst P (sym same) (flagged_passed from to s b (omega (arith, count)) (ap origins_of (sym same) ∙ happened ∙ ap (λ k. origins_by (Concat from k ∷ []) s) end)) in
+    let Q : ℕ → Type 0 = λ k. IsPassed (Concat k to ∷ []) s new in
+    let start : from ≡ length s.behind - back = omega (arith, count) in
+    subst Q start passed
+
+pub break_around : (back ahead at n : ℕ) (s new : Sides) → at ≡ s.read → n ≡ length s.behind → back ≤ length s.behind → new ≡ marked_across 3 (Some (n - back)) (Some (at + ahead)) s → origins_of new ≡ origins_by (Break (n - back) (end_in_all (Some (at + ahead)) s) ∷ []) s
+    → IsPassed (Break (length s.behind - back) (length s.behind + ahead) ∷ []) s new
+break_around back ahead at n s new here count le is happened =
+    let end = end_there at ahead s here in
+    let from = n - back in
+    let to = length s.behind + ahead in
+    let same : new ≡ with_marked 3 from to s = is ∙ ap (λ k. with_marked 3 from k s) end in
+    let P : Sides → Type 0 = λ t. IsPassed (Break from to ∷ []) s t in
+    let passed = subst P (sym same) (marked_passed from to s (omega (arith, count)) (ap origins_of (sym same) ∙ happened ∙ ap (λ k. origins_by (Break from k ∷ []) s) end)) in
+    let Q : ℕ → Type 0 = λ k. IsPassed (Break k to ∷ []) s new in
+    let start : from ≡ length s.behind - back = omega (arith, count) in
+    subst Q start passed
+
+-- ---- in place
+
+-- the glyph at the cursor under another number, with other properties
+abbrev pub put : ℕ → GlyphPropsFlags → hb_glyph_info_t → hb_glyph_info_t
+put n p g = record g { glyph_id = n; glyph_props = p }
+
+put_items : (gdef : GlyphDefinition) (n : ℕ) (p : GlyphPropsFlags) (gs : List hb_glyph_info_t) (g : hb_glyph_info_t) → slice_get gs 0 ≡ Some g → p.0 ≡ substituted_props gdef n g.glyph_props.0
+    → strip (slice_set gs 0 (put n p g)) ≡ map (substituted_item gdef n) (take 1 (strip gs)) ++ drop 1 (strip gs)
+put_items gdef n p [] g at is = cc
+put_items gdef n p (h ∷ gs) g at is =
+    let same : h ≡ g = cc in
+    rw same (ap (λ k. record (item_of g) { number = n; glyph_props = k } ∷ strip gs) is)
+
+put_origins : (n : ℕ) (p : GlyphPropsFlags) (gs : List hb_glyph_info_t) (g : hb_glyph_info_t) → slice_get gs 0 ≡ Some g → origins (slice_set gs 0 (put n p g)) ≡ origins gs
+put_origins n p [] g at = cc
+put_origins n p (h ∷ gs) g at = let same : h ≡ g = cc in rw same refl
+
+pub glyph_in_place : (gdef : GlyphDefinition) (n : ℕ) (p : GlyphPropsFlags) (s new : Sides) (g : hb_glyph_info_t) → slice_get s.ahead 0 ≡ Some g → n ≤ 65535 → p.0 ≡ substituted_props gdef n g.glyph_props.0 → new ≡ with_glyph_ahead 0 (put n p g) s
+    → PerformsInPlace (Acts (put_in_place gdef n (cut_of s)) []) true s new
+glyph_in_place gdef n p s new g at le is there =
+    let t = with_glyph_ahead 0 (put n p g) s in
+    let c = cut_of s in
+    let items = put_items gdef n p s.ahead g at is in
+    let q : Item → Bool = λ y. nat_le y.number 65535 in
+    let P : Sides → Type 0 = λ u. IsPutInPlace (put_in_place gdef n c) [] s u in
+    let made : P t = record {
+      cut_is = ap (λ (xs : List Item). record c { rest = xs }) items;
+      happened = map-append origin_of s.behind t.ahead ∙ ap (λ os. origins s.behind ++ os) (put_origins n p s.ahead g at) ∙ sym (map-append origin_of s.behind s.ahead);
+      still = refl;
+      read = refl;
+      numbers = λ h.
+          let before = ap are_glyphs (sym (map-append item_of s.behind s.ahead)) ∙ h in
+          ap are_glyphs (map-append item_of s.behind t.ahead ∙ ap (λ xs. strip s.behind ++ xs) items)
+          ∙ all_of_both q (strip s.behind) (map (substituted_item gdef n) (take 1 (strip s.ahead)) ++ drop 1 (strip s.ahead)) (all_of_front q (strip s.behind) (strip s.ahead) before)
+          (all_of_both q (map (substituted_item gdef n) (take 1 (strip s.ahead))) (drop 1 (strip s.ahead)) (substituted_numbers gdef n (strip s.ahead) le) (all_dropped q 1 (strip s.ahead) (all_of_back q (strip s.behind) (strip s.ahead) before)));
+    } in
+    (refl, subst P (sym there) made)
+
+-- ---- the rule
+
+front_count : (s : Sides) → length s.behind ≡ length (cut_of s).front
+front_count s = sym (length-map s.behind item_of)
+
+pub attempt_performed : (back ahead : ℕ) (s new : Sides) → IsPassed (Concat (length s.behind - back) (length s.behind + ahead) ∷ []) s new → PerformsInPlace (attempt_around back ahead (cut_of s)) false s new
+attempt_performed back ahead s new p =
+    let P : ℕ → Type 0 = λ k. IsPassed (Concat (k - back) (k + ahead) ∷ []) s new in
+    (refl, subst P (front_count s) p)
+
+then_put : (es : List Event) (cut : Cut) (a b c : Sides) → IsPassed es a b → IsPutInPlace cut [] b c → IsPutInPlace cut (es ++ []) a c
+then_put es cut a b c f g = record {
+  cut_is = g.cut_is;
+  happened = then_happened es [] a b c (still_settings a b f.still) f.happened g.happened;
+  still = g.still ∙ f.still;
+  read = g.read ∙ f.read;
+  numbers = λ h. g.numbers (ap are_glyphs (same_numbers a b f.cut_is) ∙ h);
+}
+
+pub match_performed : (gdef : GlyphDefinition) (back ahead glyph : ℕ) (s mid new : Sides) → IsPassed (Break (length s.behind - back) (length s.behind + ahead) ∷ []) s mid → PerformsInPlace (Acts (put_in_place gdef glyph (cut_of mid)) []) true mid new
+    → PerformsInPlace (put_before gdef glyph ahead (Ok back) (cut_of s)) true s new
+match_performed gdef back ahead glyph s mid new p d =
+    let all = then_put (Break (length s.behind - back) (length s.behind + ahead) ∷ []) (put_in_place gdef glyph (cut_of mid)) s mid new p d.1 in
+    let P : ℕ → Type 0 = λ k. IsPutInPlace (put_in_place gdef glyph (cut_of mid)) (Break (k - back) (k + ahead) ∷ []) s new in
+    let Q : Cut → Type 0 = λ c. IsPutInPlace (put_in_place gdef glyph c) (Break (length (cut_of s).front - back) (length (cut_of s).front + ahead) ∷ []) s new in
+    (refl, subst Q p.cut_is (subst P (front_count s) all))
+
+-- what is known of the search before the cursor decides
+pub before_performed : (gdef : GlyphDefinition) (glyph ahead : ℕ) (found given : Result ℕ ℕ) (acted : Bool) (s new : Sides) → given ≡ found → PerformsInPlace (put_before gdef glyph ahead given (cut_of s)) acted s new → PerformsInPlace (put_before gdef glyph ahead found (cut_of s)) acted s new
+before_performed gdef glyph ahead found given acted s new e d = let P : Result ℕ ℕ → Type 0 = λ r. PerformsInPlace (put_before gdef glyph ahead r (cut_of s)) acted s new in subst P e d
+
+pub reverse_performed : (a : Applied) (t : ReverseChainSubst) (n : ℕ) (o : Option ℕ) (acted : Bool) (s new : Sides) (g : hb_glyph_info_t) → slice_get s.ahead 0 ≡ Some g → n ≡ g.glyph_id → value_of n t.rows ≡ o
+    → PerformsInPlace (put_around a (map is_covered_by t.backtrack) (map is_covered_by t.lookahead) o (cut_of s)) acted s new → PerformsInPlace (reverse_subtable a t (cut_of s)) acted s new
+reverse_performed a t n o acted s new g at is row d =
+    let act : Item → Action = λ x. put_around a (map is_covered_by t.backtrack) (map is_covered_by t.lookahead) (value_of x.number t.rows) in
+    let here : reverse_subtable a t (cut_of s) ≡ act (item_of g) (cut_of s) = ap (λ q. at_first act q (cut_of s)) (first_item s.ahead g at) in
+    let same : reverse_subtable a t (cut_of s) ≡ put_around a (map is_covered_by t.backtrack) (map is_covered_by t.lookahead) o (cut_of s) =
+    here ∙ ap (λ m. put_around a (map is_covered_by t.backtrack) (map is_covered_by t.lookahead) (value_of m t.rows) (cut_of s)) (sym is) ∙ ap (λ q. put_around a (map is_covered_by t.backtrack) (map is_covered_by t.lookahead) q (cut_of s)) row in
+    let P : Outcome → Type 0 = λ q. PerformsInPlace q acted s new in
+    subst P (sym same) d
+
+-- what is known of the search after the cursor decides
+pub after_performed : (a : Applied) (glyph : ℕ) (backtrack : List (Item → Bool)) (found given : Result ℕ ℕ) (acted : Bool) (s new : Sides) → given ≡ found → PerformsInPlace (put_after a glyph backtrack given (cut_of s)) acted s new → PerformsInPlace (put_after a glyph backtrack found (cut_of s)) acted s new
+after_performed a glyph backtrack found given acted s new e d = let P : Result ℕ ℕ → Type 0 = λ r. PerformsInPlace (put_after a glyph backtrack r (cut_of s)) acted s new in subst P e d

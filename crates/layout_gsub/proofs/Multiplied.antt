@@ -1,0 +1,218 @@
+-- Several glyphs where one was.
+use Rattle.std.proofs.Common.{ℕ, ◌≡◌, ◌≤◌, ◌<◌, ◌+◌, zero, suc, ◌&&◌, true, false, nat_le, Bool, List, [], ◌∷◌, ◌++◌, length, map, take, drop, replicate, refl, sym, ap, subst, ◌∙◌, arith, append_assoc, add-one, Some, get_or, slice_get}
+use Rattle.std.proofs.lemmas.List.{map-append, length-append, length-map, replicate-append-replicate, take_all}
+use Rattle.std.proofs.Math.Seq.{take-append_seam, drop-append_seam, drop-append-add}
+use Rattle.std.proofs.lemmas.Bool.Decides.{nat_tests}
+use Rattle.std.specs.List.{list_all}
+use Rattle.glyph_types.specs.declared.cause.ShapeCause.TheVariants.{TooLong}
+use Rattle.glyph_types.specs.declared.info.hb_glyph_info_t.{hb_glyph_info_t}
+use Rattle.glyph_lists.specs.Items.{Item, item_of, strip, clusters}
+use Rattle.glyph_lists.specs.Parts.{first_of, replaced_among}
+use Rattle.glyph_lists.specs.Origins.{Origin, origin_of, origins, merged_as, manner, InList}
+use Rattle.glyph_lists.specs.Events.{Replace, Delete}
+use Rattle.glyph_buffer.specs.Sides.{Sides, items_of, origins_of, origins_by, has_output_room}
+use Rattle.glyph_buffer.specs.Merging.{with_put, with_skipped}
+use Rattle.glyph_buffer.specs.Grouping.{with_deleted}
+use Rattle.glyph_clusters.specs.Deleting.{deletion_marks}
+use Rattle.layout_rules.specs.Lemmas.Frames.{telling_still}
+use Rattle.font_face.specs.declared.parts.GlyphDefinition.{GlyphDefinition}
+use Rattle.layout_rules.specs.Actions.{Acts, Refuses}
+use Rattle.layout_rules.specs.Buffers.{are_glyphs, frame_of, IsStill}
+use Rattle.layout_rules.specs.Performing.{cut_with, Performed}
+use Rattle.layout_rules.specs.Lemmas.Glyphs.{and_both, all_of_both, all_of_front, all_of_back, all_dropped, first_item}
+use Rattle.layout_gsub.specs.Putting.{IsPut}
+use Rattle.layout_gsub.specs.Multiples.{component_item, component_items, multiplied_item, multiplied, multiplied_cut, deleted}
+use Rattle.layout_gsub.proofs.Replaced.{acts_within, refuses_past}
+use Rattle.layout_gsub.proofs.Merged.{one_merged}
+
+-- a glyph of an item and an origin was put
+pub glyph_put : (x : Item) (o : Origin) (g : hb_glyph_info_t) (s new : Sides) → item_of g ≡ x → origin_of g ≡ o → new ≡ with_put g s → IsPut x o s new
+glyph_put x o g s new item from is =
+    let P : Sides → Type 0 = λ t. IsPut x o s t in
+    let put : IsPut x o s (with_put g s) = record {
+      items = map-append item_of s.behind (g ∷ []) ∙ ap (λ y. strip s.behind ++ y ∷ []) item;
+      origin = map-append origin_of s.behind (g ∷ []) ∙ ap (λ p. origins s.behind ++ p ∷ []) from;
+      others = refl;
+    } in
+    subst P (sym is) put
+
+-- one component more
+more_items : (gdef : GlyphDefinition) (x : Item) (k i : ℕ) (glyphs : List ℕ) → i < length glyphs → component_items gdef x k (take (suc i) glyphs) ≡ component_items gdef x k (take i glyphs) ++ component_item gdef x (k + i) (get_or glyphs i 0) ∷ []
+more_items gdef x k i [] lt = absurd (omega (arith, lt))
+more_items gdef x k zero (n ∷ glyphs) lt = let same : k ≡ k + 0 = omega arith in ap (λ j. component_item gdef x j n ∷ []) same
+more_items gdef x k (suc i) (n ∷ glyphs) lt =
+    let same : k + 1 + i ≡ k + suc i = omega arith in
+    ap (λ xs. component_item gdef x k n ∷ xs) (more_items gdef x (k + 1) i glyphs (omega (arith, lt)) ∙ ap (λ j. component_items gdef x (k + 1) (take i glyphs) ++ component_item gdef x j (get_or glyphs i 0) ∷ []) same)
+
+one_of_all : (b : Bool) → (b && true) ≡ true → b ≡ true
+one_of_all true e = refl
+one_of_all false e = cc
+
+components_small : (gdef : GlyphDefinition) (x : Item) (k : ℕ) (glyphs : List ℕ) → list_all (λ n. nat_le n 65535) glyphs ≡ true → are_glyphs (component_items gdef x k glyphs) ≡ true
+components_small gdef x k [] e = refl
+components_small gdef x k (n ∷ glyphs) e =
+    and_both (nat_le n 65535) (are_glyphs (component_items gdef x (k + 1) glyphs)) (one_of_all (nat_le n 65535) (all_of_front (λ m. nat_le m 65535) (n ∷ []) glyphs e)) (components_small gdef x (k + 1) glyphs (all_of_back (λ m. nat_le m 65535) (n ∷ []) glyphs e))
+
+pub all_small : (glyphs : List ℕ) → ((i : ℕ) → get_or glyphs i 0 ≤ 65535) → list_all (λ n. nat_le n 65535) glyphs ≡ true
+all_small [] h = refl
+all_small (n ∷ glyphs) h =
+    let le = h 0 in
+    and_both (nat_le n 65535) (list_all (λ m. nat_le m 65535) glyphs) (grind (arith, nat_tests, le)) (all_small glyphs (λ i. h (suc i)))
+
+-- so many of the glyphs were put behind the output
+pub record AreOutput (gdef : GlyphDefinition) (glyphs : List ℕ) (i : ℕ) (g : hb_glyph_info_t) (s now : Sides) : Type 0 where
+  pub items : strip now.behind ≡ strip s.behind ++ component_items gdef (item_of g) 0 (take i glyphs)
+  pub origin : origins now.behind ≡ origins s.behind ++ replicate i (origin_of g)
+  pub count : length now.behind ≡ length s.behind + i
+  pub others : now ≡ record s { behind = now.behind }
+  pub room : 0 < i → length s.behind + i ≤ s.max_len
+
+pub none_output : (gdef : GlyphDefinition) (glyphs : List ℕ) (g : hb_glyph_info_t) (s : Sides) → AreOutput gdef glyphs 0 g s s
+none_output gdef glyphs g s = record {
+  items = sym (append_nil (strip s.behind));
+  origin = sym (append_nil (origins s.behind));
+  count = omega arith;
+  others = refl;
+  room = λ lt. absurd (omega (arith, lt));
+}
+  where
+    append_nil : {X : Type 0} (xs : List X) → xs ++ [] ≡ xs
+    append_nil [] = refl
+    append_nil (x ∷ xs) = ap (λ ys. x ∷ ys) (append_nil xs)
+
+room_is : (n : ℕ) (s : Sides) (b : Bool) → has_output_room n s ≡ b → nat_le (length s.behind + n) s.max_len ≡ b
+room_is n s b e = e
+
+pub one_output : (gdef : GlyphDefinition) (glyphs : List ℕ) (i : ℕ) (g : hb_glyph_info_t) (s now next : Sides) → i < length glyphs → AreOutput gdef glyphs i g s now → has_output_room 1 now ≡ true
+    → IsPut (component_item gdef (item_of g) i (get_or glyphs i 0)) (origin_of g) now next → AreOutput gdef glyphs (i + 1) g s next
+one_output gdef glyphs i g s now next lt a room p =
+    let x = item_of g in
+    let o = origin_of g in
+    let y = component_item gdef x i (get_or glyphs i 0) in
+    let here : 0 + i ≡ i = omega arith in
+    let more : component_items gdef x 0 (take (suc i) glyphs) ≡ component_items gdef x 0 (take i glyphs) ++ y ∷ [] = more_items gdef x 0 i glyphs lt ∙ ap (λ j. component_items gdef x 0 (take i glyphs) ++ component_item gdef x j (get_or glyphs i 0) ∷ []) here in
+    let items : strip next.behind ≡ strip s.behind ++ component_items gdef x 0 (take (suc i) glyphs) = p.items ∙ ap (λ xs. xs ++ y ∷ []) a.items ∙ append_assoc (strip s.behind) (component_items gdef x 0 (take i glyphs)) (y ∷ []) ∙ ap (λ xs. strip s.behind ++ xs) (sym more) in
+    let long : length next.behind ≡ length now.behind + 1 = sym (length-map next.behind item_of) ∙ ap length p.items ∙ length-append (strip now.behind) (y ∷ []) ∙ ap (λ n. n + 1) (length-map now.behind item_of) in
+    let fits : nat_le (length now.behind + 1) now.max_len ≡ true = room in
+    let limit : now.max_len ≡ s.max_len = ap (λ (t : Sides). t.max_len) a.others in
+    let count = a.count in
+    record {
+      items = rw (add-one) items;
+      origin = p.origin ∙ ap (λ os. os ++ o ∷ []) a.origin ∙ append_assoc (origins s.behind) (replicate i o) (o ∷ []) ∙ ap (λ os. origins s.behind ++ os) (replicate-append-replicate i 1 o);
+      count = omega (arith, count, long);
+      others = p.others ∙ ap (λ (t : Sides). record t { behind = next.behind }) a.others;
+      room = λ lt. grind (arith, nat_tests, fits, limit, count);
+    }
+
+-- where one of them finds no room, there is none for all
+pub output_refused : (gdef : GlyphDefinition) (glyphs : List ℕ) (i : ℕ) (g : hb_glyph_info_t) (s now : Sides) → i < length glyphs → AreOutput gdef glyphs i g s now → has_output_room 1 now ≡ false → (r : ℕ) → multiplied gdef glyphs (cut_with r s) ≡ Refuses TooLong
+output_refused gdef glyphs i g s now lt a full r =
+    let past : nat_le (length now.behind + 1) now.max_len ≡ false = full in
+    let limit : now.max_len ≡ s.max_len = ap (λ (t : Sides). t.max_len) a.others in
+    let count = a.count in
+    let none : nat_le (length s.behind + length glyphs) s.max_len ≡ false = grind (arith, nat_tests, past, limit, count, lt) in
+    refuses_past (length glyphs) r (Acts (multiplied_cut gdef glyphs (cut_with r s)) (Replace (length (cut_with r s).front) 1 (length glyphs) ∷ [])) s none
+
+-- where the glyphs come from
+from_one : (n : ℕ) (o : Origin) (front rest : List Origin) → first_of rest ≡ Some o → replaced_among (length front) 1 n (front ++ rest) ≡ front ++ replicate n o ++ drop 1 rest
+from_one n o front rest at = rw (take-append_seam front rest, drop-append_seam front rest, drop-append-add front rest 1, at) refl
+
+first_origin : (gs : List hb_glyph_info_t) (g : hb_glyph_info_t) → slice_get gs 0 ≡ Some g → first_of (origins gs) ≡ Some (origin_of g)
+first_origin [] g at = cc
+first_origin (h ∷ gs) g at = let same : h ≡ g = cc in ap (λ x. Some (origin_of x)) same
+
+dropped_map : {X Y : Type 0} (f : X → Y) (xs : List X) → map f (drop 1 xs) ≡ drop 1 (map f xs)
+dropped_map f [] = refl
+dropped_map f (x ∷ xs) = refl
+
+dropped_length : {X : Type 0} (xs : List X) → 0 < length xs → length (drop 1 xs) + 1 ≡ length xs
+dropped_length [] lt = absurd (omega (arith, lt))
+dropped_length (x ∷ xs) lt = omega arith
+
+pub output_made : (gdef : GlyphDefinition) (glyphs : List ℕ) (i r : ℕ) (g : hb_glyph_info_t) (s now new : Sides) → 0 < length s.ahead → slice_get s.ahead 0 ≡ Some g → 0 < length glyphs → list_all (λ n. nat_le n 65535) glyphs ≡ true → length glyphs ≤ i → i ≤ length glyphs
+    → AreOutput gdef glyphs i g s now → new ≡ with_skipped now → Performed (multiplied gdef glyphs (cut_with r s)) true r r s new
+output_made gdef glyphs i r g s now new there at some small all within a is =
+    let n = length glyphs in
+    let x = item_of g in
+    let o = origin_of g in
+    let last : i ≡ n = omega (arith, all, within) in
+    let taken : take i glyphs ≡ glyphs = take_all i glyphs all in
+    let after : new ≡ with_skipped (record s { behind = now.behind }) = is ∙ ap with_skipped a.others in
+    let ahead : new.ahead ≡ drop 1 s.ahead = ap (λ (t : Sides). t.ahead) after in
+    let behind : new.behind ≡ now.behind = ap (λ (t : Sides). t.behind) after in
+    let items : strip new.behind ≡ strip s.behind ++ component_items gdef x 0 glyphs = ap strip behind ∙ a.items ∙ ap (λ gs. strip s.behind ++ component_items gdef x 0 gs) taken in
+    let rest : strip new.ahead ≡ drop 1 (strip s.ahead) = ap strip ahead ∙ dropped_map item_of s.ahead in
+    let first : first_of (strip s.ahead) ≡ Some x = first_item s.ahead g at in
+    let c = cut_with r s in
+    let front : strip now.behind ≡ strip s.behind ++ component_items gdef x 0 glyphs = a.items ∙ ap (λ gs. strip s.behind ++ component_items gdef x 0 gs) taken in
+    let cut : cut_with r new ≡ multiplied_cut gdef glyphs c =
+    ap (λ (t : Sides). cut_with r t) after ∙ ap (λ (xs : List Item). record c { front = xs; rest = strip (drop 1 s.ahead) }) front
+    ∙ ap (λ (xs : List Item). record c { front = strip s.behind ++ component_items gdef x 0 glyphs; rest = xs }) (dropped_map item_of s.ahead)
+    ∙ ap (λ q. record c { front = strip s.behind ++ multiplied_item gdef glyphs q; rest = drop 1 (strip s.ahead) }) (sym first) in
+    let os = origins s.behind in
+    let f : length (strip s.behind) ≡ length os = length-map s.behind item_of ∙ sym (length-map s.behind origin_of) in
+    let from : origins_of new ≡ os ++ replicate n o ++ drop 1 (origins s.ahead) =
+    map-append origin_of new.behind new.ahead ∙ ap (λ gs. origins gs ++ origins new.ahead) behind ∙ ap (λ gs. origins now.behind ++ origins gs) ahead ∙ ap (λ q. origins now.behind ++ q) (dropped_map origin_of s.ahead)
+    ∙ ap (λ q. q ++ drop 1 (origins s.ahead)) (a.origin ∙ ap (λ k. os ++ replicate k o) last) in
+    let happened : origins_of new ≡ origins_by (Replace (length c.front) 1 n ∷ []) s =
+    from ∙ sym (ap (λ m. replaced_among m 1 n (merged_as (manner InList s.level) m (m + 1) (origins_of s))) f ∙ ap (replaced_among (length os) 1 n) (one_merged (manner InList s.level) (length os) (origins_of s) ∙ map-append origin_of s.behind s.ahead)
+    ∙ from_one n o os (origins s.ahead) (first_origin s.ahead g at)) in
+    let counts = dropped_length s.ahead there in
+    let le = a.room (omega (arith, last, some)) in
+    let room : nat_le (length s.behind + n) s.max_len ≡ true = grind (arith, nat_tests, le, last) in
+    let read : new.read ≡ s.read + 1 = ap (λ (t : Sides). t.read) after in
+    let left : length new.ahead ≡ length (drop 1 s.ahead) = ap length ahead in
+    let p : Item → Bool = λ y. nat_le y.number 65535 in
+    acts_within n r r (Acts (multiplied_cut gdef glyphs c) (Replace (length c.front) 1 n ∷ [])) true s new room (
+      refl,
+      record {
+        cut_is = cut;
+        happened = happened;
+        still = ap frame_of after;
+        forth = omega (arith, read);
+        total = omega (arith, read, left, counts);
+        numbers = λ h.
+            let before = ap are_glyphs (sym (map-append item_of s.behind s.ahead)) ∙ h in
+            ap are_glyphs (map-append item_of new.behind new.ahead ∙ ap (λ xs. xs ++ strip new.ahead) items ∙ ap (λ xs. strip s.behind ++ component_items gdef x 0 glyphs ++ xs) rest)
+            ∙ all_of_both p (strip s.behind ++ component_items gdef x 0 glyphs) (drop 1 (strip s.ahead)) (all_of_both p (strip s.behind) (component_items gdef x 0 glyphs) (all_of_front p (strip s.behind) (strip s.ahead) before) (components_small gdef x 0 glyphs small))
+            (all_dropped p 1 (strip s.ahead) (all_of_back p (strip s.behind) (strip s.ahead) before));
+      },
+    )
+
+-- the glyph at the cursor went: what else there is stays
+record IsGone (r : ℕ) (s new : Sides) : Type 0 where
+  still : IsStill s new
+  cut_is : cut_with r new ≡ record (cut_with r s) { front = strip new.behind; rest = strip new.ahead }
+
+gone : (r : ℕ) (s new : Sides) (gs : List hb_glyph_info_t) → s.ahead ≡ gs → 0 < length gs → ((g : hb_glyph_info_t) (back : List hb_glyph_info_t) → s.ahead ≡ g ∷ back → new ≡ with_deleted g back s) → IsGone r s new
+gone r s new [] at lt is = absurd (omega (arith, lt))
+gone r s new (g ∷ back) at lt is =
+    let P : Sides → Type 0 = λ t. IsGone r s t in
+    let left : IsGone r s (with_deleted g back s) = record { still = telling_still (deletion_marks s.level (clusters s.behind) g.cluster (clusters back)) s; cut_is = refl } in
+    subst P (sym (is g back at)) left
+
+same_front : {X : Type 0} (xs ys zs ws : List X) → xs ++ ys ≡ zs ++ ws → length xs ≡ length zs → (xs ≡ zs) × (ys ≡ ws)
+same_front xs ys zs ws e long = (
+  sym (take-append_seam xs ys) ∙ ap (take (length xs)) e ∙ ap (λ n. take n (zs ++ ws)) long ∙ take-append_seam zs ws,
+  sym (drop-append_seam xs ys) ∙ ap (drop (length xs)) e ∙ ap (λ n. drop n (zs ++ ws)) long ∙ drop-append_seam zs ws,
+)
+
+pub glyph_deleted : (r : ℕ) (s new : Sides) → 0 < length s.ahead → ((g : hb_glyph_info_t) (back : List hb_glyph_info_t) → s.ahead ≡ g ∷ back → new ≡ with_deleted g back s) → new.read ≡ s.read + 1 → length new.behind ≡ length s.behind → length new.ahead + 1 ≡ length s.ahead
+    → items_of new ≡ strip s.behind ++ drop 1 (strip s.ahead) → origins_of new ≡ origins_by (Delete (length s.behind) ∷ []) s → Performed (deleted (cut_with r s)) true r r s new
+glyph_deleted r s new there is read behind left items followed =
+    let f : length (strip s.behind) ≡ length s.behind = length-map s.behind item_of in
+    let p : Item → Bool = λ y. nat_le y.number 65535 in
+    let k = gone r s new s.ahead refl there is in
+    let sides = same_front (strip new.behind) (strip new.ahead) (strip s.behind) (drop 1 (strip s.ahead)) (sym (map-append item_of new.behind new.ahead) ∙ items) (length-map new.behind item_of ∙ behind ∙ sym f) in (
+      refl,
+      record {
+        cut_is = k.cut_is ∙ ap (λ (xs : List Item). record (cut_with r s) { front = xs; rest = strip new.ahead }) sides.0 ∙ ap (λ (xs : List Item). record (cut_with r s) { rest = xs }) sides.1;
+        happened = followed ∙ ap (λ n. origins_by (Delete n ∷ []) s) (sym f);
+        still = k.still;
+        forth = omega (arith, read);
+        total = omega (arith, read, left);
+        numbers = λ h.
+            let before = ap are_glyphs (sym (map-append item_of s.behind s.ahead)) ∙ h in
+            ap are_glyphs items ∙ all_of_both p (strip s.behind) (drop 1 (strip s.ahead)) (all_of_front p (strip s.behind) (strip s.ahead) before) (all_dropped p 1 (strip s.ahead) (all_of_back p (strip s.behind) (strip s.ahead) before));
+      },
+    )

@@ -1,0 +1,57 @@
+-- Multiple substitution (OpenType, GSUB lookup type 2): a sequence of glyphs takes the place of one.
+use Rattle.std.specs.Prelude.{ℕ, ◌+◌, ◌==◌, is_some, if◌then◌else◌, List, [], ◌∷◌, ◌++◌, length, drop, Option, Some, None}
+use Rattle.std.specs.Int.RustNames.{bit_and, bit_or}
+use Rattle.glyph_lists.specs.Items.{Item}
+use Rattle.glyph_lists.specs.Parts.{first_of}
+use Rattle.glyph_lists.specs.Events.{Replace, Delete}
+use Rattle.font_face.specs.declared.parts.GlyphDefinition.{GlyphDefinition}
+use Rattle.layout_substitutions.specs.declared.sequence.SequenceRow.{SequenceRow}
+use Rattle.layout_substitutions.specs.Substitutions.{glyphs_of}
+use Rattle.layout_match.specs.LigatureWords.{component_word, is_ligature, lig_id}
+use Rattle.layout_rules.specs.Actions.{Cut, Passes, Acts, Action, at_first, within_limit}
+use Rattle.layout_gsub.specs.Replacements.{glyph_props_of, substituted}
+
+-- the properties of one of several glyphs that come in for one: it is marked as substituted and as one of several, and keeps the marks of what became of
+-- the one before it; its class is GDEF's where GDEF has classes, else what comes of a ligature is a base, and another class stays
+abbrev pub component_props : GlyphDefinition → ℕ → Item → ℕ
+component_props gdef glyph x =
+    if is_some gdef.classes then bit_or (bit_and (bit_or x.glyph_props 80) 112) (glyph_props_of gdef glyph)
+    else if is_ligature x then bit_or (bit_and (bit_or x.glyph_props 80) 112) 2
+    else bit_or x.glyph_props 80
+
+-- the i-th of the glyphs that come in for one is the i-th component of it, but where that belongs to a ligature, which all of them then do
+abbrev pub component_item : GlyphDefinition → Item → ℕ → ℕ → Item
+component_item gdef x i glyph = record x { number = glyph; glyph_props = component_props gdef glyph x; lig_props = if lig_id x == 0 then component_word 0 i else x.lig_props }
+
+abbrev pub component_items : GlyphDefinition → Item → ℕ → List ℕ → List Item
+component_items gdef x i [] = []
+component_items gdef x i (glyph ∷ glyphs) = component_item gdef x i glyph ∷ component_items gdef x (i + 1) glyphs
+
+abbrev pub multiplied_item : GlyphDefinition → List ℕ → Option Item → List Item
+multiplied_item gdef glyphs None = []
+multiplied_item gdef glyphs (Some x) = component_items gdef x 0 glyphs
+
+-- the item at the cut became several, which are done
+abbrev pub multiplied_cut : GlyphDefinition → List ℕ → Cut → Cut
+multiplied_cut gdef glyphs c = record c { front = c.front ++ multiplied_item gdef glyphs (first_of c.rest); rest = drop 1 c.rest }
+
+abbrev pub multiplied : GlyphDefinition → List ℕ → Action
+multiplied gdef glyphs c = within_limit (length glyphs) c (Acts (multiplied_cut gdef glyphs c) (Replace (length c.front) 1 (length glyphs) ∷ []))
+
+-- the item at the cut goes
+abbrev pub deleted : Action
+deleted c = Acts (record c { rest = drop 1 c.rest }) (Delete (length c.front) ∷ [])
+
+-- no glyph deletes, one glyph replaces as a single substitution does, more come in as components
+abbrev pub sequence : GlyphDefinition → List ℕ → Action
+sequence gdef [] c = deleted c
+sequence gdef (glyph ∷ []) c = substituted gdef (Some glyph) c
+sequence gdef (glyph ∷ next ∷ more) c = multiplied gdef (glyph ∷ next ∷ more) c
+
+abbrev pub covered_sequence : GlyphDefinition → Option (List ℕ) → Action
+covered_sequence gdef None c = Passes []
+covered_sequence gdef (Some glyphs) c = sequence gdef glyphs c
+
+-- each covered glyph has a sequence
+abbrev pub multiple_subtable : GlyphDefinition → List SequenceRow → Action
+multiple_subtable gdef rows c = at_first (λ x. covered_sequence gdef (glyphs_of x.number rows)) (first_of c.rest) c

@@ -1,0 +1,11 @@
+-- A glyph that goes behind the output of a buffer, by its item and its origin.
+use Rattle.std.specs.Prelude.{◌≡◌, [], ◌∷◌, ◌++◌}
+use Rattle.glyph_lists.specs.Items.{Item, strip}
+use Rattle.glyph_lists.specs.Origins.{Origin, origins}
+use Rattle.glyph_buffer.specs.Sides.{Sides}
+
+-- nothing else changes
+pub record IsPut (x : Item) (o : Origin) (old new : Sides) : Type 0 where
+  pub items : strip new.behind ≡ strip old.behind ++ x ∷ []
+  pub origin : origins new.behind ≡ origins old.behind ++ o ∷ []
+  pub others : new ≡ record old { behind = new.behind }

@@ -1,0 +1,39 @@
+-- Reverse chaining single substitution (OpenType, GSUB lookup type 8): a glyph takes the place of another, in a context.
+use Rattle.std.specs.Prelude.{ℕ, ◌+◌, ◌-◌, Bool, List, [], ◌∷◌, ◌++◌, length, map, take, drop, Option, Some, None, Result, Ok, Err}
+use Rattle.glyph_lists.specs.Items.{Item}
+use Rattle.glyph_lists.specs.Parts.{first_of}
+use Rattle.glyph_lists.specs.Events.{Break, Concat}
+use Rattle.layout_common.specs.Rows.{value_of}
+use Rattle.font_face.specs.declared.parts.GlyphDefinition.{GlyphDefinition}
+use Rattle.layout_substitutions.specs.declared.reverse.ReverseChainSubst.{ReverseChainSubst}
+use Rattle.layout_match.specs.Applied.{Applied, context_search}
+use Rattle.layout_match.specs.Matches.{backtrack_end, lookahead_end}
+use Rattle.layout_match.specs.Sequences.{is_covered_by}
+use Rattle.layout_rules.specs.Actions.{Cut, Outcome, Passes, Acts, Action, at_first}
+use Rattle.layout_gsub.specs.Replacements.{substituted_item}
+
+-- from so many items before the cut to so many from there on
+abbrev pub attempt_around : ℕ → ℕ → Cut → Outcome
+attempt_around back ahead c = Passes (Concat (length c.front - back) (length c.front + ahead) ∷ [])
+
+-- the item at the cut has another glyph, and is not passed
+abbrev pub put_in_place : GlyphDefinition → ℕ → Cut → Cut
+put_in_place gdef glyph c = record c { rest = map (substituted_item gdef glyph) (take 1 c.rest) ++ drop 1 c.rest }
+
+-- what stands before the item is matched last: where it fails, all from the item that tells it to the one at the cut is unsafe to concat; else all that was matched is unsafe to break
+abbrev pub put_before : GlyphDefinition → ℕ → ℕ → Result ℕ ℕ → Cut → Outcome
+put_before gdef glyph ahead (Err back) c = attempt_around back 1 c
+put_before gdef glyph ahead (Ok back) c = Acts (put_in_place gdef glyph c) (Break (length c.front - back) (length c.front + ahead) ∷ [])
+
+-- what stands after the item is matched first: where it fails, all from the cut to the item that tells it is unsafe to concat
+abbrev pub put_after : Applied → ℕ → List (Item → Bool) → Result ℕ ℕ → Cut → Outcome
+put_after a glyph backtrack (Err ahead) c = attempt_around 0 ahead c
+put_after a glyph backtrack (Ok ahead) c = put_before a.font.gdef glyph ahead (backtrack_end (context_search a c.rest) backtrack c.front) c
+
+abbrev pub put_around : Applied → List (Item → Bool) → List (Item → Bool) → Option ℕ → Action
+put_around a backtrack lookahead None c = Passes []
+put_around a backtrack lookahead (Some glyph) c = put_after a glyph backtrack (lookahead_end (context_search a c.rest) lookahead 1 c.rest) c
+
+-- each covered glyph has one substitute
+abbrev pub reverse_subtable : Applied → ReverseChainSubst → Action
+reverse_subtable a s c = at_first (λ x. put_around a (map is_covered_by s.backtrack) (map is_covered_by s.lookahead) (value_of x.number s.rows)) (first_of c.rest) c

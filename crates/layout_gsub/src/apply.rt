@@ -1,0 +1,57 @@
+ghost use Rattle.std.specs.Prelude.{◌≡◌, ◌<◌, true, [], length};
+ghost use Rattle.glyph_buffer.specs.Sides.{items_of};
+ghost use Rattle.layout_match.specs.Applied.{Applied, applied_of};
+ghost use Rattle.layout_rules.specs.Actions.{Action, first_rule};
+ghost use Rattle.layout_rules.specs.Buffers.{are_glyphs};
+ghost use Rattle.layout_rules.specs.Performing.{Performs, cut_with};
+
+use glyph_buffer::buffer::hb_buffer_t;
+use glyph_types::cause::ShapeCause;
+use layout_match::hb_ot_apply_context_t;
+
+/// A subtable of a substitution lookup, applied at the cursor of a buffer.
+pub trait Apply {
+    ghost action: { Self → Applied → Action };
+
+    /// Does what the subtable does at the glyph at the cursor, and tells whether it acted. Where it didn't, it changed glyph
+    /// flags alone. It refuses for want of memory, or where a side of the buffer would have more glyphs than it may.
+    fn apply(
+        &self,
+        ctx: &mut hb_ot_apply_context_t,
+        buffer: &mut hb_buffer_t,
+    ) -> Result<bool, ShapeCause>
+        requires open { buffer.old.is_open ≡ true }
+        requires no_positions { buffer.old.positions ≡ [] }
+        requires there { 0 < length buffer.old.ahead }
+        requires number { are_glyphs (items_of buffer.old) ≡ true }
+        ensures performs { Performs (action self.now (applied_of ctx.old)
+            (cut_with ctx.old.random_state buffer.old)) result ctx.old.random_state ctx.new.random_state buffer.old
+            buffer.new }
+        ensures context { applied_of ctx.new ≡ applied_of ctx.old };
+}
+
+/// Does what the first of some subtables does that acts.
+#[tactic(auto, using(layout_rules::specs::Lemmas::Performed::passed_first, layout_rules::specs::Lemmas::Performed::passed_open, layout_rules::specs::Lemmas::Performed::passed_positions, layout_rules::specs::Lemmas::Performed::passed_numbers, layout_rules::specs::Lemmas::Performed::passed_all))]
+pub fn apply_first<S: Apply>(
+    subtables: &[S],
+    ctx: &mut hb_ot_apply_context_t,
+    buffer: &mut hb_buffer_t,
+) -> Result<bool, ShapeCause>
+    requires open { buffer.old.is_open ≡ true }
+    requires no_positions { buffer.old.positions ≡ [] }
+    requires there { 0 < length buffer.old.ahead }
+    requires number { are_glyphs (items_of buffer.old) ≡ true }
+    ensures performs { Performs (first_rule (λ s. S.action s (applied_of ctx.old)) subtables.now
+        (cut_with ctx.old.random_state buffer.old)) result ctx.old.random_state ctx.new.random_state buffer.old
+        buffer.new }
+    ensures context { applied_of ctx.new ≡ applied_of ctx.old }
+{
+    for subtable in subtables {
+        match subtable.apply(ctx, buffer) {
+            Ok(false) => {}
+            Ok(true) => return Ok(true),
+            Err(cause) => return Err(cause),
+        }
+    }
+    Ok(false)
+}

@@ -1,0 +1,122 @@
+ghost use Rattle.std.specs.Prelude.{◌≡◌, ◌<◌, ◌≤◌, ◌+◌, ◌-◌, ◌∷◌, true, Some, [], length, map, slice_get};
+ghost use Rattle.glyph_types.specs.declared.info.hb_glyph_info_t.{hb_glyph_info_t as Glyph};
+ghost use Rattle.glyph_buffer.specs.Lending.{with_glyph_ahead};
+ghost use Rattle.glyph_lists.specs.Events.{Break, Concat};
+ghost use Rattle.glyph_lists.specs.Items.{strip};
+ghost use Rattle.glyph_buffer.specs.Sides.{items_of};
+ghost use Rattle.layout_match.specs.Applied.{applied_of, context_search};
+ghost use Rattle.layout_match.specs.Matches.{backtrack_end};
+ghost use Rattle.layout_match.specs.Sequences.{is_covered_by};
+ghost use Rattle.layout_rules.specs.Actions.{Acts};
+ghost use Rattle.layout_rules.specs.Buffers.{IsPassed, are_glyphs, cut_of};
+ghost use Rattle.layout_rules.specs.Performing.{PerformsInPlace};
+ghost use Rattle.layout_gsub.specs.Reverses.{put_before, put_in_place, reverse_subtable};
+
+use crate::replacement::substituted_props;
+use glyph_buffer::buffer::hb_buffer_t;
+use glyph_types::flags::GlyphPropsFlags;
+use layout_common::coverage::Coverage;
+use layout_match::{MatchSequence, hb_ot_apply_context_t, match_backtrack, match_lookahead};
+use layout_substitutions::reverse::ReverseChainSubst;
+
+/// Marks so many glyphs before the cursor, and so many from there on, as unsafe to concat, where that is asked for.
+fn mark_attempt(back: usize, ahead: usize, buffer: &mut hb_buffer_t)
+    requires before { back ≤ length buffer.old.behind }
+    requires after { ahead ≤ length buffer.old.ahead }
+    ensures { IsPassed (Concat (length buffer.old.behind - back) (length buffer.old.behind + ahead)
+        ∷ []) buffer.old buffer.new }
+{
+    let _end = buffer.len();
+    let start = buffer.out_len() - back;
+    let end = buffer.idx() + ahead;
+    buffer.unsafe_to_concat_from_outbuffer(Some(start), Some(end));
+}
+
+/// Marks such glyphs outside the least cluster among them as unsafe to break.
+fn mark_match(back: usize, ahead: usize, buffer: &mut hb_buffer_t)
+    requires before { back ≤ length buffer.old.behind }
+    requires after { ahead ≤ length buffer.old.ahead }
+    ensures { IsPassed (Break (length buffer.old.behind - back) (length buffer.old.behind + ahead)
+        ∷ []) buffer.old buffer.new }
+{
+    let _end = buffer.len();
+    let start = buffer.out_len() - back;
+    let end = buffer.idx() + ahead;
+    buffer.unsafe_to_break_from_outbuffer(Some(start), Some(end));
+}
+
+/// Gives the glyph at the cursor another number and other properties.
+fn put_glyph(glyph: u16, props: GlyphPropsFlags, buffer: &mut hb_buffer_t)
+    requires { 0 < length buffer.old.ahead }
+    ensures { (g : Glyph) → slice_get buffer.old.ahead 0 ≡ Some g →
+        buffer.new ≡ with_glyph_ahead 0 (record g { glyph_id = glyph; glyph_props = props }) buffer.old }
+{
+    let info = buffer.cur_mut(0);
+    info.glyph_id = u32::from(glyph);
+    info.glyph_props = props;
+}
+
+/// Puts another glyph in the place of the one at the cursor, which stays there; its class is GDEF's, where GDEF has classes.
+pub fn replace_glyph_inplace(ctx: &hb_ot_apply_context_t, glyph: u16, buffer: &mut hb_buffer_t)
+    requires { 0 < length buffer.old.ahead }
+    ensures { PerformsInPlace (Acts (put_in_place ctx.now.face.now.gdef glyph
+        (cut_of buffer.old)) []) true buffer.old buffer.new }
+{
+    let props = substituted_props(ctx.face, glyph, buffer.cur(0).glyph_props);
+    put_glyph(glyph, props, buffer);
+}
+
+/// Matches what a rule asks for before the cursor, and puts its glyph in the place of the one there.
+fn apply_backtrack(
+    backtrack: &[Coverage],
+    ahead: usize,
+    glyph: u16,
+    ctx: &hb_ot_apply_context_t,
+    buffer: &mut hb_buffer_t,
+) -> bool
+    requires there { 0 < length buffer.old.ahead }
+    requires matched { ahead ≤ length buffer.old.ahead }
+    ensures { PerformsInPlace (put_before ctx.now.face.now.gdef glyph ahead
+        (backtrack_end (context_search (applied_of ctx.now) (strip buffer.old.ahead)) (map is_covered_by backtrack.now)
+        (strip buffer.old.behind)) (cut_of buffer.old)) result buffer.old buffer.new }
+{
+    let sequence = MatchSequence::Coverages(backtrack);
+    match match_backtrack(ctx, &sequence, buffer) {
+        Ok(back) => {
+            mark_match(back, ahead, buffer);
+            replace_glyph_inplace(ctx, glyph, buffer);
+            true
+        }
+        Err(back) => {
+            mark_attempt(back, 1, buffer);
+            false
+        }
+    }
+}
+
+/// Reverse chaining single substitution (OpenType, GSUB lookup type 8) at the cursor of a buffer, in place: where the subtable
+/// covers the glyph there, and its sets follow and precede it, its substitute takes its place. It tells whether it did;
+/// where it didn't, it changed glyph flags alone. It takes no memory.
+#[tactic(auto, using(layout_rules::specs::Lemmas::Glyphs::number_ahead))]
+pub fn apply_reverse_chain_single_subst(
+    subtable: &ReverseChainSubst,
+    ctx: &hb_ot_apply_context_t,
+    buffer: &mut hb_buffer_t,
+) -> bool
+    requires there { 0 < length buffer.old.ahead }
+    requires number { are_glyphs (items_of buffer.old) ≡ true }
+    ensures { PerformsInPlace (reverse_subtable (applied_of ctx.now) subtable.now
+        (cut_of buffer.old)) result buffer.old buffer.new }
+{
+    let Some(glyph) = subtable.substitute(buffer.cur(0).as_glyph().0) else {
+        return false;
+    };
+    let lookahead = MatchSequence::Coverages(subtable.lookahead.as_slice());
+    match match_lookahead(ctx, &lookahead, 1, buffer) {
+        Ok(ahead) => apply_backtrack(subtable.backtrack.as_slice(), ahead, glyph, ctx, buffer),
+        Err(ahead) => {
+            mark_attempt(0, ahead, buffer);
+            false
+        }
+    }
+}

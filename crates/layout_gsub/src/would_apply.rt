@@ -1,0 +1,97 @@
+ghost use Rattle.std.specs.Prelude.{◌≡◌, ℕ, Bool, List, nat_eq};
+ghost use Rattle.std.specs.List.{list_any};
+ghost use Rattle.std.specs.Cmp.Lexicographic.{pointwise};
+ghost use Rattle.layout_gsub.specs.Woulds.{ligature_would, sequence_would, single_would};
+
+use layout_font::ligature::{Ligature, LigatureSubst};
+use layout_substitutions::reverse::ReverseChainSubst;
+use layout_substitutions::sequence::{AlternateSubst, MultipleSubst};
+use layout_substitutions::single::SingleSubst;
+
+/// Glyphs, and nothing around them.
+#[derive(Clone, Copy, Debug)]
+pub struct WouldApplyContext<'a> {
+    pub glyphs: &'a [u16],
+    /// Whether a rule that asks for anything before or after its input doesn't count.
+    pub zero_context: bool,
+}
+
+/// A subtable that can be asked whether it would act.
+pub trait WouldApply {
+    ghost would: { Self → List ℕ → Bool → Bool };
+
+    /// Whether it would act on the glyphs where they are all its input.
+    fn would_apply(&self, ctx: &WouldApplyContext) -> bool
+        ensures { result ≡ would self.now ctx.now.glyphs.now ctx.now.zero_context };
+}
+
+impl WouldApply for SingleSubst {
+    ghost would = { λ s glyphs zero. single_would s.rows glyphs };
+
+    fn would_apply(&self, ctx: &WouldApplyContext) -> bool {
+        match ctx.glyphs {
+            [glyph] => self.substitute(*glyph).is_some(),
+            _ => false,
+        }
+    }
+}
+
+impl WouldApply for ReverseChainSubst {
+    ghost would = { λ s glyphs zero. single_would s.rows glyphs };
+
+    fn would_apply(&self, ctx: &WouldApplyContext) -> bool {
+        match ctx.glyphs {
+            [glyph] => self.substitute(*glyph).is_some(),
+            _ => false,
+        }
+    }
+}
+
+impl WouldApply for MultipleSubst {
+    ghost would = { λ s glyphs zero. sequence_would s.rows glyphs };
+
+    fn would_apply(&self, ctx: &WouldApplyContext) -> bool {
+        match ctx.glyphs {
+            [glyph] => self.sequence(*glyph).is_some(),
+            _ => false,
+        }
+    }
+}
+
+impl WouldApply for AlternateSubst {
+    ghost would = { λ s glyphs zero. sequence_would s.rows glyphs };
+
+    fn would_apply(&self, ctx: &WouldApplyContext) -> bool {
+        match ctx.glyphs {
+            [glyph] => self.alternates(*glyph).is_some(),
+            _ => false,
+        }
+    }
+}
+
+/// Whether a ligature's components behind the first are such glyphs.
+fn takes(ligature: &Ligature, rest: &[u16]) -> bool
+    ensures { result ≡ pointwise nat_eq ligature.now.components rest.now }
+{
+    ligature.components() == rest
+}
+
+fn any_takes(ligatures: &[Ligature], rest: &[u16]) -> bool
+    ensures { result ≡ list_any (λ l. pointwise nat_eq l.components rest.now) ligatures.now }
+{
+    ligatures.iter().any(|ligature| takes(ligature, rest))
+}
+
+impl WouldApply for LigatureSubst {
+    ghost would = { λ s glyphs zero. ligature_would s glyphs };
+
+    fn would_apply(&self, ctx: &WouldApplyContext) -> bool {
+        let [first, rest @ ..] = ctx.glyphs else {
+            return false;
+        };
+        let Some(set) = self.set_of(*first) else {
+            return false;
+        };
+        any_takes(set.ligatures(), rest)
+    }
+}

@@ -1,0 +1,2 @@
+pub mod NativeOrder
+pub mod Rotation

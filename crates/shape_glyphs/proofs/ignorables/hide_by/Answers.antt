@@ -1,0 +1,6 @@
+use Rattle.std.proofs.Common.{rules}
+use Rattle.shape_glyphs.specs.Ignorables.{hidden_item}
+use Rattle.shape_glyphs.proofs.ignorables.hide_by.Goals as goal
+
+pub returns : goal.returns
+returns c = c.map_glyphs.ensures (hidden_item c.args.invisible) (λ g h r. search rules)

@@ -1,0 +1,9 @@
+-- Glyph flags at the end of shaping.
+use Rattle.std.specs.Prelude.{[], ◌∷◌, map}
+use Rattle.glyph_lists.specs.Items.{item_masked}
+use Rattle.glyph_lists.specs.Events.{Spread}
+use Rattle.glyph_lists.specs.Readings.{View, Read, with_events}
+
+-- the glyphs of each cluster get one set of flags, and a mask has no other bit
+abbrev pub with_flags_spread : View → Read
+with_flags_spread v = with_events (Spread ∷ []) (record v { items = map (item_masked 0) v.items })

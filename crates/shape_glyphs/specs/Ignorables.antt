@@ -1,0 +1,39 @@
+-- Default ignorable characters, which show no glyph.
+use Rattle.std.specs.Prelude.{ℕ, ◌==◌, Bool, if◌then◌else◌, [], Option, Some, None}
+use Rattle.std.specs.Option.{option_or}
+use Rattle.std.specs.Int.RustNames.{bit_and}
+use Rattle.shaping_text.specs.declared.constants.BufferFlags.{BufferFlags}
+use Rattle.font_face.specs.declared.parts.FaceParts.{FaceParts}
+use Rattle.font_face.specs.Glyphs.{nominal_glyph}
+use Rattle.glyph_lists.specs.Items.{Item}
+use Rattle.glyph_lists.specs.Readings.{View, Read, with_events}
+use Rattle.glyph_slices.specs.Events.{deletions}
+use Rattle.glyph_slices.specs.Facts.{items_kept, positions_kept}
+use Rattle.glyph_buffer.specs.Graphemes.{is_default_ignorable}
+use Rattle.text_stages.specs.Stages.{mapped}
+
+-- whether ignorables keep their glyphs, or are to be taken out
+abbrev pub preserves_ignorables : BufferFlags → Bool
+preserves_ignorables flags = bit_and flags.0 4 == 4
+
+abbrev pub removes_ignorables : BufferFlags → Bool
+removes_ignorables flags = bit_and flags.0 8 == 8
+
+-- the glyph that stands for an ignorable: the one that was set, else the font's space; none where they are to be taken out
+abbrev pub invisible_glyph : BufferFlags → Option ℕ → FaceParts → Option ℕ
+invisible_glyph flags set font = if removes_ignorables flags then None else option_or set (nominal_glyph 0x20 font)
+
+abbrev pub hidden_item : ℕ → Item → Item
+hidden_item glyph x = if is_default_ignorable x then record x { number = glyph } else x
+
+-- ignorables go, and their positions with them
+abbrev pub without_ignorables : View → Read
+without_ignorables v = with_events (deletions is_default_ignorable v.items) (record v { items = items_kept is_default_ignorable v.items; positions = positions_kept is_default_ignorable v.items v.positions })
+
+-- an ignorable becomes invisible, or goes where there is no glyph for that
+abbrev pub hidden_by : Option ℕ → View → Read
+hidden_by (Some glyph) v = mapped (hidden_item glyph) v
+hidden_by None v = without_ignorables v
+
+abbrev pub hidden : BufferFlags → Option ℕ → FaceParts → View → Read
+hidden flags set font v = if preserves_ignorables flags then with_events [] v else hidden_by (invisible_glyph flags set font) v

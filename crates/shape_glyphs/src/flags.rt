@@ -1,0 +1,16 @@
+//! Glyph flags at the end of shaping.
+ghost use Rattle.glyph_lists.specs.Readings.{always};
+ghost use Rattle.layout_rules.specs.Ready.{IsDone, IsReady};
+ghost use Rattle.shape_glyphs.specs.Flags.{with_flags_spread};
+
+use glyph_buffer::buffer::hb_buffer_t;
+
+/// Gives the glyphs of each cluster the flags that one of them has; the mask of a glyph of a result has no other bit. It
+/// takes linear time and no memory.
+#[tactic(auto, using(crate::proofs::Ended::spread_done))]
+pub fn propagate_flags(buffer: &mut hb_buffer_t)
+    requires { IsReady buffer.old }
+    ensures { IsDone (always with_flags_spread) buffer.old buffer.new }
+{
+    buffer.propagate_flags();
+}

@@ -1,0 +1,64 @@
+//! Characters as glyphs.
+ghost use Rattle.std.specs.Prelude.{◌≡◌, true};
+ghost use Rattle.glyph_lists.specs.Items.{item_of};
+ghost use Rattle.glyph_lists.specs.Readings.{always};
+ghost use Rattle.glyph_buffer.specs.Graphemes.{is_default_ignorable};
+ghost use Rattle.glyph_buffer.specs.Sides.{items_of};
+ghost use Rattle.layout_rules.specs.Buffers.{are_glyphs};
+ghost use Rattle.layout_rules.specs.Ready.{IsDone, IsReady};
+ghost use Rattle.text_stages.specs.Stages.{IsFollowed};
+ghost use Rattle.shape_glyphs.specs.Glyphs.{are_chosen, synthesized_class, with_glyphs, with_synthesized_classes};
+
+use glyph_buffer::buffer::hb_buffer_t;
+use glyph_types::flags::{GlyphPropsFlags, UnicodeProps};
+use glyph_types::info::hb_glyph_info_t;
+use text_stages::categories::is_nonspacing_mark;
+use text_stages::glyphs::map_glyphs;
+
+/// Puts the glyph that was chosen for each character in its place. It takes linear time and no memory.
+pub fn map_glyphs_fast(buffer: &mut hb_buffer_t)
+    requires { IsReady buffer.old }
+    ensures stage { IsFollowed (always with_glyphs) buffer.old buffer.new }
+    ensures numbers { are_chosen (items_of buffer.old) ≡ true → are_glyphs (items_of buffer.new) ≡ true }
+{
+    map_glyphs(
+        buffer,
+        |glyph| hb_glyph_info_t {
+            glyph_id: glyph.glyph_index,
+            ..*glyph
+        },
+    );
+}
+
+/// Gives glyphs classes by their characters, for a font that doesn't classify them: nonspacing marks that are not ignored
+/// are marks, and all else is a base. It takes linear time and no memory.
+pub fn hb_synthesize_glyph_classes(buffer: &mut hb_buffer_t)
+    requires { IsReady buffer.old }
+    ensures { IsDone (always with_synthesized_classes) buffer.old buffer.new }
+{
+    map_glyphs(
+        buffer,
+        |glyph| hb_glyph_info_t {
+            glyph_props: synthesized_class(glyph),
+            ..*glyph
+        },
+    );
+}
+
+fn synthesized_class(glyph: &hb_glyph_info_t) -> GlyphPropsFlags
+    ensures { result.0 ≡ synthesized_class (item_of glyph.now) }
+{
+    if is_nonspacing_mark(glyph) && !is_default_ignorable(glyph) {
+        GlyphPropsFlags::MARK
+    } else {
+        GlyphPropsFlags::BASE_GLYPH
+    }
+}
+
+/// Whether it is to leave no glyph: it is a default ignorable, and no substitution made it into a glyph.
+pub(crate) fn is_default_ignorable(glyph: &hb_glyph_info_t) -> bool
+    ensures { result ≡ is_default_ignorable (item_of glyph.now) }
+{
+    glyph.unicode_props.0 & UnicodeProps::IGNORABLE.0 != 0
+        && glyph.glyph_props.0 & GlyphPropsFlags::SUBSTITUTED.0 == 0
+}

@@ -1,0 +1,81 @@
+//! Default ignorable characters, which show no glyph.
+ghost use Rattle.std.specs.Prelude.{◌≡◌};
+ghost use Rattle.glyph_lists.specs.Items.{item_of};
+ghost use Rattle.glyph_lists.specs.Origins.{origin_of};
+ghost use Rattle.glyph_lists.specs.Readings.{always};
+ghost use Rattle.layout_rules.specs.Ready.{IsReady};
+ghost use Rattle.text_stages.specs.Stages.{IsFollowed, mapped};
+ghost use Rattle.shape_glyphs.specs.Ignorables.{hidden, hidden_item, invisible_glyph, preserves_ignorables, without_ignorables};
+
+use crate::glyphs::is_default_ignorable;
+use bitflags::Flags;
+use font_face::Face;
+use glyph_buffer::buffer::hb_buffer_t;
+use glyph_types::info::hb_glyph_info_t;
+use shaping_text::constants::BufferFlags;
+use text_stages::glyphs::map_glyphs;
+
+/// Hides default ignorables, unless they are to be preserved: each becomes the invisible glyph that was set, else the font's
+/// space; where they are to be removed, or there is no such glyph, they go, and their clusters stay with a neighbour. It
+/// takes linear time and no memory.
+pub fn hide_default_ignorables(face: &Face, buffer: &mut hb_buffer_t)
+    requires { IsReady buffer.old }
+    ensures { IsFollowed (always (hidden buffer.old.flags buffer.old.invisible face.now)) buffer.old buffer.new }
+{
+    if preserves_ignorables(buffer.flags()) {
+        return;
+    }
+    match invisible_glyph(face, buffer) {
+        Some(glyph) => hide_by(glyph, buffer),
+        None => delete_ignorables(buffer),
+    }
+}
+
+fn preserves_ignorables(flags: BufferFlags) -> bool
+    ensures { result ≡ preserves_ignorables flags }
+{
+    flags.contains(BufferFlags::PRESERVE_DEFAULT_IGNORABLES)
+}
+
+fn invisible_glyph(face: &Face, buffer: &hb_buffer_t) -> Option<u32>
+    ensures { result ≡ invisible_glyph buffer.now.flags buffer.now.invisible face.now }
+{
+    if buffer
+        .flags()
+        .contains(BufferFlags::REMOVE_DEFAULT_IGNORABLES)
+    {
+        return None;
+    }
+    match buffer.invisible() {
+        Some(glyph) => Some(glyph),
+        None => face.get_nominal_glyph(' ').map(u32::from),
+    }
+}
+
+fn hide_by(invisible: u32, buffer: &mut hb_buffer_t)
+    requires { IsReady buffer.old }
+    ensures { IsFollowed (always (mapped (hidden_item invisible))) buffer.old buffer.new }
+{
+    map_glyphs(buffer, |glyph| hidden(invisible, glyph));
+}
+
+fn hidden(invisible: u32, glyph: &hb_glyph_info_t) -> hb_glyph_info_t
+    ensures item { item_of result ≡ hidden_item invisible (item_of glyph.now) }
+    ensures origin { origin_of result ≡ origin_of glyph.now }
+{
+    if is_default_ignorable(glyph) {
+        hb_glyph_info_t {
+            glyph_id: invisible,
+            ..*glyph
+        }
+    } else {
+        *glyph
+    }
+}
+
+fn delete_ignorables(buffer: &mut hb_buffer_t)
+    requires { IsReady buffer.old }
+    ensures { IsFollowed (always without_ignorables) buffer.old buffer.new }
+{
+    buffer.delete_glyphs_inplace(|glyph| is_default_ignorable(glyph));
+}

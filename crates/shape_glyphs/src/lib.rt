@@ -1,0 +1,6 @@
+// Characters as glyphs before the lookups, and what becomes of glyphs after them.
+#![tactic(auto)]
+
+pub mod flags;
+pub mod glyphs;
+pub mod ignorables;

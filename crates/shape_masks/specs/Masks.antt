@@ -1,0 +1,9 @@
+-- Masks as shaping begins.
+use Rattle.std.specs.Prelude.{ℕ, [], ◌∷◌, map}
+use Rattle.glyph_lists.specs.Items.{item_masked}
+use Rattle.glyph_lists.specs.Events.{Reset}
+use Rattle.glyph_lists.specs.Readings.{View, Read, with_events}
+
+-- each item has one mask, and no glyph flag is set
+abbrev pub with_one_mask : ℕ → View → Read
+with_one_mask mask v = with_events (Reset ∷ []) (record v { items = map (item_masked mask) v.items })

@@ -1,0 +1,4 @@
+// The masks of a text's glyphs: which features act on each.
+#![tactic(auto)]
+
+pub mod masks;

@@ -1,0 +1,19 @@
+//! Masks as shaping begins.
+ghost use Rattle.std.specs.Prelude.{◌≡◌};
+ghost use Rattle.std.specs.Int.RustNames.{bit_and};
+ghost use Rattle.glyph_lists.specs.Readings.{always};
+ghost use Rattle.layout_rules.specs.Ready.{IsDone, IsReady};
+ghost use Rattle.shape_masks.specs.Masks.{with_one_mask};
+
+use glyph_buffer::buffer::hb_buffer_t;
+use glyph_types::info::hb_mask_t;
+
+/// Gives each glyph the mask of the features that are on for all, and no glyph flag. It takes linear time and no memory.
+#[tactic(auto, using(crate::proofs::Begun::reset_done))]
+pub fn initialize_masks(global_mask: hb_mask_t, buffer: &mut hb_buffer_t)
+    requires ready { IsReady buffer.old }
+    requires flagless { bit_and global_mask 7 ≡ 0 }
+    ensures { IsDone (always (with_one_mask global_mask)) buffer.old buffer.new }
+{
+    buffer.reset_masks(global_mask);
+}

@@ -1,0 +1,3 @@
+pub mod Prepared
+pub mod Formed
+pub mod Circled

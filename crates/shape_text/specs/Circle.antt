@@ -1,0 +1,86 @@
+-- The dotted circle in front of a text that begins with a mark.
+use Rattle.std.specs.Prelude.{ℕ, ◌+◌, ◌==◌, ◌&&◌, not, Bool, false, nat_le, if◌then◌else◌, is_some, List, [], ◌∷◌, length, Ok, Err}
+use Rattle.std.specs.Int.RustNames.{bit_and, bit_or}
+use Rattle.glyph_types.specs.declared.cause.ShapeCause.TheVariants.{TooLong}
+use Rattle.shaping_text.specs.declared.constants.BufferFlags.{BufferFlags}
+use Rattle.unicode_tables.specs.Tables.{Tables}
+use Rattle.font_face.specs.declared.parts.FaceParts.{FaceParts}
+use Rattle.font_face.specs.Glyphs.{nominal_glyph}
+use Rattle.glyph_properties.specs.Properties.{text_properties_of, character_class, scratch_flags_of}
+use Rattle.glyph_types.specs.declared.info.hb_glyph_info_t.{hb_glyph_info_t}
+use Rattle.glyph_lists.specs.Items.{Item}
+use Rattle.glyph_lists.specs.Events.{Circle}
+use Rattle.glyph_lists.specs.Readings.{Stage, with_events, as_it_is}
+use Rattle.glyph_buffer.specs.Sides.{Sides, all_glyphs, zero_positions}
+use Rattle.normal_forms.specs.Characters.{is_mark}
+
+-- U+25CC DOTTED CIRCLE
+abbrev pub DOTTED_CIRCLE : ℕ
+DOTTED_CIRCLE = 0x25CC
+
+-- the text begins a paragraph, and circles are not switched off
+abbrev pub asks_circle : BufferFlags → Bool
+asks_circle flags = bit_and flags.0 1 == 1 && not (bit_and flags.0 16 == 16)
+
+-- a mark stands first
+abbrev pub begins_with_mark : List Item → Bool
+begins_with_mark [] = false
+begins_with_mark (x ∷ xs) = is_mark x
+
+-- a circle is asked for, no text stands before, a mark stands first, and the font has the circle
+abbrev pub needs_circle : BufferFlags → List ℕ → FaceParts → List Item → Bool
+needs_circle flags context font xs = asks_circle flags && length context == 0 && begins_with_mark xs && is_some (nominal_glyph DOTTED_CIRCLE font)
+
+-- a circle with the mask of the character that it stands before
+abbrev pub circle_like : Tables → Item → Item
+circle_like t x = record {
+  number = DOTTED_CIRCLE;
+  glyph_index = 0;
+  unicode_props = text_properties_of DOTTED_CIRCLE;
+  class = character_class t DOTTED_CIRCLE;
+  glyph_props = 0;
+  lig_props = 0;
+  syllable = 0;
+  category = 0;
+  auxiliary = 0;
+  mask = x.mask;
+}
+
+abbrev pub circled : Tables → List Item → List Item
+circled t [] = []
+circled t (x ∷ xs) = circle_like t x ∷ x ∷ xs
+
+-- a circle before the first character, of its cluster
+abbrev pub with_circle : Tables → Stage
+with_circle t v = if nat_le (length v.items + 1) v.max_len
+    then Ok (with_events (Circle false 0 0 ∷ []) (record v { items = circled t v.items; positions = zero_positions (length v.items + 1); told = bit_or v.told (scratch_flags_of DOTTED_CIRCLE) }))
+    else Err TooLong
+
+-- a text that begins with a mark gets a circle for it to stand on
+abbrev pub first_circle : Tables → FaceParts → BufferFlags → List ℕ → Stage
+first_circle t font flags context v = if needs_circle flags context font v.items then with_circle t v else as_it_is v
+
+-- ---- glyph records
+
+abbrev pub glyph_circle : Tables → hb_glyph_info_t → hb_glyph_info_t
+glyph_circle t g = record {
+  glyph_id = DOTTED_CIRCLE;
+  glyph_index = 0;
+  mask = g.mask;
+  cluster = g.cluster;
+  unicode_props = record { 0 = text_properties_of DOTTED_CIRCLE };
+  modified_combining_class = character_class t DOTTED_CIRCLE;
+  glyph_props = record { 0 = 0 };
+  lig_props = 0;
+  syllable = 0;
+  category = 0;
+  auxiliary = 0;
+}
+
+abbrev pub glyphs_circled : Tables → List hb_glyph_info_t → List hb_glyph_info_t
+glyphs_circled t [] = []
+glyphs_circled t (g ∷ gs) = glyph_circle t g ∷ g ∷ gs
+
+-- a buffer whose first glyph has a circle before it
+abbrev pub with_circle_put : Tables → Sides → Sides
+with_circle_put t s = record s { behind = []; ahead = glyphs_circled t (all_glyphs s); positions = zero_positions (length (all_glyphs s) + 1); scratch_flags = bit_or s.scratch_flags (scratch_flags_of DOTTED_CIRCLE) }

@@ -1,0 +1,34 @@
+-- The graphemes of a text, as clusters.
+use Rattle.std.specs.Prelude.{ℕ, ◌+◌, ◌==◌, not, Bool, if◌then◌else◌, List, [], ◌∷◌}
+use Rattle.std.specs.Int.RustNames.{bit_and}
+use Rattle.glyph_types.specs.declared.level.BufferClusterLevel.{BufferClusterLevel}
+use Rattle.glyph_types.specs.declared.level.BufferClusterLevel.TheVariants.{MonotoneGraphemes, MonotoneCharacters, Characters}
+use Rattle.glyph_lists.specs.Items.{Item}
+use Rattle.glyph_lists.specs.Levels.{InList}
+use Rattle.glyph_lists.specs.Events.{Event, Merge, Break}
+use Rattle.glyph_lists.specs.Readings.{View, Read}
+use Rattle.glyph_slices.specs.Facts.{group_lengths}
+use Rattle.glyph_buffer.specs.Graphemes.{continues}
+
+-- the characters of each grapheme merge where graphemes are to be clusters; else a break between them is unsafe
+abbrev pub grapheme_event : BufferClusterLevel → ℕ → ℕ → Event
+grapheme_event MonotoneGraphemes from to = Merge InList from to
+grapheme_event MonotoneCharacters from to = Break from to
+grapheme_event Characters from to = Break from to
+
+-- graphemes of given lengths from an index on, one after another
+abbrev pub grapheme_events : BufferClusterLevel → ℕ → List ℕ → List Event
+grapheme_events level at [] = []
+grapheme_events level at (n ∷ lens) = grapheme_event level at (at + n) ∷ grapheme_events level (at + n) lens
+
+-- how long the graphemes of a text are
+abbrev pub grapheme_lengths : List Item → List ℕ
+grapheme_lengths xs = group_lengths (λ x y. continues y) xs
+
+-- a text with characters past U+007F
+abbrev pub has_non_ascii : ℕ → Bool
+has_non_ascii told = not (bit_and told 1 == 0)
+
+-- the graphemes of a text are made clusters; below U+0080 each character is one
+abbrev pub with_clusters : View → Read
+with_clusters v = record { view = v; events = λ level. if has_non_ascii v.told then grapheme_events level 0 (grapheme_lengths v.items) else [] }

@@ -1,0 +1,35 @@
+-- What goes on with the character before it (UAX 29, extended grapheme clusters), as far as shaping asks.
+use Rattle.std.specs.Prelude.{ℕ, ◌==◌, ◌&&◌, ◌||◌, not, Bool, nat_le, Option, Some, None}
+use Rattle.unicode.specs.GeneralCategory.{general_category}
+use Rattle.ucd_category.specs.declared.GeneralCategory.TheVariants.{ModifierSymbol}
+use Rattle.unicode_chars.specs.Category.{category_number}
+use Rattle.unicode_tables.specs.Tables.{Tables, is_pictographic}
+use Rattle.glyph_properties.specs.Properties.{is_mark_character}
+use Rattle.shape_text.specs.declared.graphemes.Before.{Before}
+
+-- the skin tones of Fitzpatrick's scale
+abbrev pub is_emoji_modifier : ℕ → Bool
+is_emoji_modifier u = nat_le 0x1F3FB u && nat_le u 0x1F3FF && category_number (general_category u) == category_number ModifierSymbol
+
+-- two of these make the flag of a region
+abbrev pub is_regional_indicator : ℕ → Bool
+is_regional_indicator u = nat_le 0x1F1E6 u && nat_le u 0x1F1FF
+
+-- halfwidth sound marks and tags, which extend a grapheme and are no marks
+abbrev pub is_other_extender : ℕ → Bool
+is_other_extender u = (nat_le 0xFF9E u && nat_le u 0xFF9F) || (nat_le 0xE0020 u && nat_le u 0xE007F)
+
+-- what goes on with any character before it
+abbrev pub is_extender : ℕ → Bool
+is_extender u = is_mark_character u || is_emoji_modifier u || (u == 0x200D) || is_other_extender u
+
+-- the second of two regional indicators, and a pictographic behind a joiner
+abbrev pub is_joined : Tables → Before → ℕ → Bool
+is_joined t before u =
+    (is_regional_indicator u && is_regional_indicator before.character && not before.continues)
+    || (is_pictographic t u && before.character == 0x200D)
+
+-- whether a character goes on with the one before it
+abbrev pub continues : Tables → Option Before → ℕ → Bool
+continues t None u = is_extender u
+continues t (Some before) u = is_extender u || is_joined t before u

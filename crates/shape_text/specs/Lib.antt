@@ -1,0 +1,4 @@
+pub mod Graphemes
+pub mod Properties
+pub mod Circle
+pub mod Clusters

@@ -1,0 +1,56 @@
+-- A text whose characters have their properties.
+use Rattle.std.specs.Prelude.{ℕ, Bool, if◌then◌else◌, fold, List, [], ◌∷◌, Option, Some, None}
+use Rattle.std.specs.Int.RustNames.{bit_or}
+use Rattle.std.specs.List.{list_all}
+use lib.Utf8.{scalar}
+use Rattle.glyph_types.specs.declared.info.hb_glyph_info_t.{hb_glyph_info_t}
+use Rattle.unicode_tables.specs.Tables.{Tables}
+use Rattle.glyph_properties.specs.Properties.{CONTINUATION, properties_of, character_class, scratch_flags_of}
+use Rattle.glyph_lists.specs.Items.{Item}
+use Rattle.glyph_lists.specs.Readings.{View, Read, with_events}
+use Rattle.shape_text.specs.declared.graphemes.Before.{Before}
+use Rattle.shape_text.specs.Graphemes.{continues}
+
+-- the property word of a character, with the bit of those that go on with the one before
+abbrev pub word_of : Bool → ℕ → ℕ
+word_of goes_on u = if goes_on then bit_or (properties_of u) CONTINUATION else properties_of u
+
+-- a character with its property word and its class
+abbrev pub prepared_item : Tables → Bool → Item → Item
+prepared_item t goes_on x = record x { unicode_props = word_of goes_on x.number; class = character_class t x.number }
+
+-- an item stands for a character
+abbrev pub is_character : Item → Bool
+is_character x = scalar x.number
+
+abbrev pub are_characters : List Item → Bool
+are_characters xs = list_all is_character xs
+
+-- a character, as the next one meets it
+abbrev pub met : Tables → Option Before → ℕ → Before
+met t before u = record { character = u; continues = continues t before u }
+
+-- the characters of a text, each with its properties
+abbrev pub prepared : Tables → Option Before → List Item → List Item
+prepared t before [] = []
+prepared t before (x ∷ xs) = prepared_item t (continues t before x.number) x ∷ prepared t (Some (met t before x.number)) xs
+
+-- what characters tell of their text
+abbrev pub told_by : List Item → ℕ → ℕ
+told_by xs told = fold (λ (f : ℕ) (x : Item). bit_or f (scratch_flags_of x.number)) told xs
+
+-- each character gets its properties
+abbrev pub with_properties : Tables → View → Read
+with_properties t v = with_events [] (record v { items = prepared t None v.items; told = told_by v.items v.told })
+
+-- ---- glyph records
+
+abbrev pub glyph_prepared : Tables → Bool → hb_glyph_info_t → hb_glyph_info_t
+glyph_prepared t goes_on g = record g { unicode_props = record { 0 = word_of goes_on g.glyph_id }; modified_combining_class = character_class t g.glyph_id }
+
+abbrev pub glyphs_prepared : Tables → Option Before → List hb_glyph_info_t → List hb_glyph_info_t
+glyphs_prepared t before [] = []
+glyphs_prepared t before (g ∷ gs) = glyph_prepared t (continues t before g.glyph_id) g ∷ glyphs_prepared t (Some (met t before g.glyph_id)) gs
+
+abbrev pub glyphs_told : List hb_glyph_info_t → ℕ → ℕ
+glyphs_told gs told = fold (λ (f : ℕ) (g : hb_glyph_info_t). bit_or f (scratch_flags_of g.glyph_id)) told gs

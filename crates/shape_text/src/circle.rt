@@ -1,0 +1,116 @@
+//! The dotted circle in front of a text that begins with a mark.
+ghost use Rattle.std.specs.Prelude.{◌≡◌, ◌≢◌, ◌<◌, ◌≤◌, ◌+◌, length, bit_or, IfErr, OnOk, Err};
+ghost use Rattle.glyph_lists.specs.Items.{item_of, strip};
+ghost use Rattle.glyph_lists.specs.Readings.{read_of};
+ghost use Rattle.glyph_buffer.specs.Sides.{items_of, run_of, all_glyphs};
+ghost use Rattle.layout_rules.specs.Ready.{IsReady};
+ghost use Rattle.normal_forms.specs.Characters.{is_mark};
+ghost use Rattle.shape_text.specs.Circle.{asks_circle, begins_with_mark, first_circle, glyph_circle, needs_circle, with_circle_put};
+ghost use Rattle.glyph_properties.specs.Properties.{scratch_flags_of};
+ghost use Rattle.text_stages.specs.Stages.{IsFollowed};
+
+use bitflags::Flags;
+use font_face::Face;
+use glyph_buffer::buffer::hb_buffer_t;
+use glyph_properties::info::init_unicode_props;
+use glyph_types::cause::ShapeCause;
+use glyph_types::info::hb_glyph_info_t;
+use shaping_text::constants::{BufferFlags, hb_buffer_scratch_flags_t};
+use text_stages::categories::is_mark;
+use unicode_tables::UnicodeTables;
+
+/// U+25CC DOTTED CIRCLE, for a mark that has no letter to stand on.
+pub const DOTTED_CIRCLE: char = '\u{25CC}';
+
+/// Puts a dotted circle before a text that begins with a mark, where the text begins a paragraph, no text was told to
+/// stand before it, circles are not switched off, and the font has one. The circle is of the first character's cluster
+/// and has its mask.
+///
+/// # Errors
+///
+/// `TooLong` where the text would have more characters than the buffer may hold, or want of memory.
+pub fn insert_dotted_circle(
+    face: &Face,
+    tables: &UnicodeTables,
+    buffer: &mut hb_buffer_t,
+) -> Result<(), ShapeCause>
+    requires ready { IsReady buffer.old }
+    ensures ok { OnOk result
+        (IsFollowed (first_circle tables.now face.now buffer.old.flags buffer.old.pre_context) buffer.old buffer.new) }
+    ensures err { IfErr result (λ e. e ≢ ShapeCause.OutOfMemory
+        → read_of (first_circle tables.now face.now buffer.old.flags buffer.old.pre_context) (run_of buffer.old) ≡ Err e) }
+{
+    if !needs_circle(face, buffer) {
+        return Ok(());
+    }
+    put_circle(tables, buffer)?;
+    Ok(())
+}
+
+fn needs_circle(face: &Face, buffer: &hb_buffer_t) -> bool
+    requires ready { IsReady buffer.now }
+    ensures { result ≡ needs_circle buffer.now.flags buffer.now.pre_context face.now (items_of buffer.now) }
+{
+    asks_circle(buffer.flags())
+        && buffer.pre_context().is_empty()
+        && begins_with_mark(buffer.info_slice())
+        && face.has_glyph(DOTTED_CIRCLE)
+}
+
+fn asks_circle(flags: BufferFlags) -> bool
+    ensures { result ≡ asks_circle flags }
+{
+    flags.contains(BufferFlags::BEGINNING_OF_TEXT)
+        && !flags.contains(BufferFlags::DO_NOT_INSERT_DOTTED_CIRCLE)
+}
+
+fn begins_with_mark(glyphs: &[hb_glyph_info_t]) -> bool
+    ensures { result ≡ begins_with_mark (strip glyphs.now) }
+{
+    match glyphs.first() {
+        Some(first) => is_mark(first),
+        None => false,
+    }
+}
+
+/// Puts a circle before the first glyph.
+fn put_circle(tables: &UnicodeTables, buffer: &mut hb_buffer_t) -> Result<(), ShapeCause>
+    requires ready { IsReady buffer.old }
+    requires there { 0 < length buffer.old.ahead }
+    ensures ok { OnOk result (buffer.new ≡ with_circle_put tables.now buffer.old) }
+    ensures some { OnOk result (0 < length (all_glyphs buffer.old)) }
+    ensures fits { OnOk result (length (all_glyphs buffer.old) + 1 ≤ buffer.old.max_len) }
+    ensures err { IfErr result (λ e. e ≢ ShapeCause.OutOfMemory
+        → (e ≡ ShapeCause.TooLong) × (buffer.old.max_len < length (all_glyphs buffer.old) + 1)) }
+{
+    let mut told = buffer.scratch_flags();
+    let circle = circle_like(tables, buffer.cur(0), &mut told);
+    buffer.set_scratch_flags(told);
+    buffer.clear_output()?;
+    if !buffer.output_info(circle)? {
+        return Err(ShapeCause::TooLong);
+    }
+    if !buffer.sync()? {
+        return Err(ShapeCause::TooLong);
+    }
+    Ok(())
+}
+
+/// A circle of the cluster of a glyph and with its mask.
+fn circle_like(
+    tables: &UnicodeTables,
+    glyph: &hb_glyph_info_t,
+    told: &mut hb_buffer_scratch_flags_t,
+) -> hb_glyph_info_t
+    ensures circle { result ≡ glyph_circle tables.now glyph.now }
+    ensures told { told.new ≡ bit_or told.old (scratch_flags_of DOTTED_CIRCLE) }
+{
+    let mut circle = hb_glyph_info_t {
+        glyph_id: u32::from(DOTTED_CIRCLE),
+        mask: glyph.mask,
+        cluster: glyph.cluster,
+        ..hb_glyph_info_t::default()
+    };
+    init_unicode_props(&mut circle, tables, told);
+    circle
+}

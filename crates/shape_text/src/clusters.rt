@@ -1,0 +1,53 @@
+//! The graphemes of a text, as clusters.
+ghost use Rattle.std.specs.Prelude.{◌≡◌, ◌<◌, ◌≤◌, ◌∷◌, [], length};
+ghost use Rattle.glyph_lists.specs.Readings.{always};
+ghost use Rattle.glyph_buffer.specs.Sides.{all_glyphs, items_of};
+ghost use Rattle.layout_rules.specs.Ready.{IsReady};
+ghost use Rattle.shape_text.specs.Clusters.{grapheme_event, grapheme_events, grapheme_lengths, with_clusters};
+ghost use Rattle.text_stages.specs.Stages.{Happens, IsFollowed};
+
+use glyph_buffer::buffer::hb_buffer_t;
+use glyph_types::level::BufferClusterLevel;
+use shaping_text::constants::HB_BUFFER_SCRATCH_FLAG_HAS_NON_ASCII;
+
+/// Makes each grapheme of the text a cluster, at the level of graphemes; at the others it marks a break within a grapheme
+/// as unsafe. Below U+0080 each character is a grapheme, and the text stays as it is. It takes linear time.
+#[tactic(auto, using(crate::proofs::Formed::clusters_followed, crate::proofs::Formed::none_followed))]
+pub fn form_clusters(buffer: &mut hb_buffer_t)
+    requires { IsReady buffer.old }
+    ensures { IsFollowed (always with_clusters) buffer.old buffer.new }
+{
+    if buffer.scratch_flags() & HB_BUFFER_SCRATCH_FLAG_HAS_NON_ASCII != 0 {
+        form_graphemes(buffer);
+    }
+}
+
+#[tactic(auto, using(crate::proofs::Formed::none_formed, crate::proofs::Formed::next_formed, crate::proofs::Formed::all_formed, crate::proofs::Formed::grapheme_ends, crate::proofs::Formed::same_count))]
+fn form_graphemes(buffer: &mut hb_buffer_t)
+    requires { IsReady buffer.old }
+    ensures { Happens (grapheme_events buffer.old.level 0 (grapheme_lengths (items_of buffer.old))) buffer.old buffer.new }
+{
+    let count = buffer.len();
+    let mut start = 0;
+    while start < count {
+        let end = buffer.next_grapheme(start);
+        form_grapheme(buffer, start, end);
+        start = end;
+    }
+}
+
+#[tactic(auto, using(text_stages::specs::Lemmas::Happened::merge_happens, text_stages::specs::Lemmas::Happened::break_happens, text_stages::specs::Lemmas::Happened::end_of_input))]
+/// Merges the characters of a grapheme, or marks a break between them as unsafe.
+fn form_grapheme(buffer: &mut hb_buffer_t, start: usize, end: usize)
+    requires ready { IsReady buffer.old }
+    requires ordered { start ≤ end }
+    requires within { end ≤ length (all_glyphs buffer.old) }
+    ensures { Happens (grapheme_event buffer.old.level start end ∷ []) buffer.old buffer.new }
+{
+    match buffer.cluster_level() {
+        BufferClusterLevel::MonotoneGraphemes => buffer.merge_clusters(start, end),
+        BufferClusterLevel::MonotoneCharacters | BufferClusterLevel::Characters => {
+            buffer.unsafe_to_break(Some(start), Some(end));
+        }
+    }
+}

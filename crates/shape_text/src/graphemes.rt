@@ -1,0 +1,63 @@
+//! What goes on with the character before it (UAX 29, extended grapheme clusters), as far as shaping asks.
+ghost use Rattle.std.specs.Prelude.{◌≡◌};
+ghost use Rattle.unicode.specs.GeneralCategory.{general_category};
+ghost use Rattle.shape_text.specs.Graphemes.{continues, is_emoji_modifier, is_extender, is_joined, is_other_extender, is_regional_indicator};
+
+use unicode::properties::GeneralCategory;
+use unicode_chars::{CharExt, GeneralCategoryExt};
+use unicode_tables::{CharTablesExt, UnicodeTables};
+
+/// A character that was met, and whether it goes on with the one before it.
+#[derive(Clone, Copy, PartialEq, Eq, Debug)]
+pub struct Before {
+    pub character: char,
+    pub continues: bool,
+}
+
+/// Whether a character goes on with the one before it: marks, emoji modifiers, joiners and extenders do; so does the
+/// second of two regional indicators, and a pictographic character behind a joiner.
+pub fn continues(tables: &UnicodeTables, before: Option<Before>, u: char) -> bool
+    ensures { result ≡ continues tables.now before u }
+{
+    match before {
+        None => is_extender(u),
+        Some(before) => is_extender(u) || is_joined(tables, before, u),
+    }
+}
+
+fn is_extender(u: char) -> bool
+    ensures { result ≡ is_extender u }
+{
+    u.general_category().is_mark()
+        || is_emoji_modifier(u)
+        || u == '\u{200D}'
+        || is_other_extender(u)
+}
+
+fn is_emoji_modifier(u: char) -> bool
+    ensures { result ≡ is_emoji_modifier u }
+{
+    matches!(u, '\u{1F3FB}'..='\u{1F3FF}')
+        && matches!(u.general_category(), GeneralCategory::ModifierSymbol)
+}
+
+fn is_other_extender(u: char) -> bool
+    ensures { result ≡ is_other_extender u }
+{
+    matches!(u, '\u{FF9E}'..='\u{FF9F}' | '\u{E0020}'..='\u{E007F}')
+}
+
+fn is_joined(tables: &UnicodeTables, before: Before, u: char) -> bool
+    ensures { result ≡ is_joined tables.now before u }
+{
+    let joins_region = is_regional_indicator(u)
+        && is_regional_indicator(before.character)
+        && !before.continues;
+    joins_region || before.character == '\u{200D}' && u.is_emoji_extended_pictographic(tables)
+}
+
+pub(crate) fn is_regional_indicator(u: char) -> bool
+    ensures { result ≡ is_regional_indicator u }
+{
+    matches!(u, '\u{1F1E6}'..='\u{1F1FF}')
+}

@@ -1,0 +1,80 @@
+//! The properties of a text's characters.
+ghost use Rattle.std.specs.Prelude.{◌≡◌, true, None};
+ghost use Rattle.std.specs.Char.{IsScalar};
+ghost use Rattle.glyph_properties.specs.Properties.{scratch_flags_of};
+ghost use Rattle.std.specs.Int.RustNames.{bit_or};
+ghost use Rattle.glyph_lists.specs.Items.{strip};
+ghost use Rattle.glyph_lists.specs.Readings.{always};
+ghost use Rattle.glyph_buffer.specs.Sides.{items_of};
+ghost use Rattle.layout_rules.specs.Ready.{IsReady};
+ghost use Rattle.shape_text.specs.Properties.{are_characters, glyph_prepared, glyphs_prepared, glyphs_told, with_properties, word_of};
+ghost use Rattle.text_stages.specs.Stages.{IsFollowed};
+
+use crate::graphemes::{Before, continues};
+use glyph_buffer::buffer::hb_buffer_t;
+use glyph_properties::character::properties_of;
+use glyph_properties::info::init_unicode_props;
+use glyph_types::flags::UnicodeProps;
+use glyph_types::info::hb_glyph_info_t;
+use shaping_text::constants::hb_buffer_scratch_flags_t;
+use unicode_tables::UnicodeTables;
+
+/// Gives each character of the text its property word and its class by Unicode and the tables, and tells the buffer what
+/// they say of the text. The word says whether a character goes on with the one before it.
+pub fn set_unicode_props(tables: &UnicodeTables, buffer: &mut hb_buffer_t)
+    requires ready { IsReady buffer.old }
+    requires characters { are_characters (items_of buffer.old) ≡ true }
+    ensures { IsFollowed (always (with_properties tables.now)) buffer.old buffer.new }
+{
+    let mut told = buffer.scratch_flags();
+    prepare(tables, buffer.info_slice_mut(), &mut told);
+    buffer.set_scratch_flags(told);
+}
+
+#[tactic(auto, using(crate::proofs::Prepared::none_prepared, crate::proofs::Prepared::next_character, crate::proofs::Prepared::next_prepared, crate::proofs::Prepared::all_prepared))]
+fn prepare(
+    tables: &UnicodeTables,
+    glyphs: &mut [hb_glyph_info_t],
+    told: &mut hb_buffer_scratch_flags_t,
+)
+    requires { are_characters (strip glyphs.old) ≡ true }
+    ensures glyphs { glyphs.new ≡ glyphs_prepared tables.now None glyphs.old }
+    ensures told { told.new ≡ glyphs_told glyphs.old told.old }
+{
+    let mut before = None;
+    for glyph in glyphs.iter_mut() {
+        let u = glyph.as_char();
+        let goes_on = continues(tables, before, u);
+        prepare_glyph(tables, goes_on, glyph, told);
+        before = Some(Before {
+            character: u,
+            continues: goes_on,
+        });
+    }
+}
+
+/// Gives a character its property word and its class.
+fn prepare_glyph(
+    tables: &UnicodeTables,
+    goes_on: bool,
+    glyph: &mut hb_glyph_info_t,
+    told: &mut hb_buffer_scratch_flags_t,
+)
+    requires { IsScalar glyph.old.glyph_id }
+    ensures glyph { glyph.new ≡ glyph_prepared tables.now goes_on glyph.old }
+    ensures told { told.new ≡ bit_or told.old (scratch_flags_of glyph.old.glyph_id) }
+{
+    let u = glyph.as_char();
+    init_unicode_props(glyph, tables, told);
+    glyph.unicode_props = UnicodeProps(word_of(goes_on, u));
+}
+
+fn word_of(goes_on: bool, u: char) -> u16
+    ensures { result ≡ word_of goes_on u }
+{
+    if goes_on {
+        properties_of(u) | UnicodeProps::CONTINUATION.0
+    } else {
+        properties_of(u)
+    }
+}
