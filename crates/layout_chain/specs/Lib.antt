@@ -1,0 +1,4 @@
+pub mod Shifts
+pub mod Nested
+pub mod Chains
+pub mod Nesting
