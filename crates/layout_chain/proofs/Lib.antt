@@ -3,3 +3,6 @@ pub mod Rising
 pub mod Around
 pub mod Fitted
 pub mod Matching
+pub mod Cuts
+pub mod Settled
+pub mod Begun
