@@ -11,7 +11,7 @@ use Rattle.font_face.specs.declared.parts.FaceParts.{FaceParts}
 use Rattle.glyph_lists.specs.Parts.{or}
 use Rattle.glyph_lists.specs.Events.{Reverse, Reset}
 use Rattle.glyph_buffer.specs.Segment.{guessed_direction}
-use Rattle.glyph_lists.specs.Readings.{View, Read, Stage, with_events, then_read, then_reading, always, and_then}
+use Rattle.glyph_lists.specs.Readings.{View, Read, Reading, Stage, with_events, then_read, then_reading, always, and_then}
 use Rattle.glyph_lists.specs.Steps.{nothing_then}
 use Rattle.layout_lookups.specs.Lookups.{is_reverse}
 use Rattle.layout_lookups.specs.declared.substitution.SubstLookup.{SubstLookup}
@@ -33,13 +33,13 @@ abbrev empty_view : Direction → View
 empty_view d = record { items = []; positions = []; lig_id = 0; max_ops = pos 0x1FFF_FFFF; random = 1; max_len = 0x3FFF_FFFF; direction = d; told = 0 }
 
 -- no lookup finds an index in no items
-either_empty : (b : Bool) (v : View) → (if b then Ok (with_events [] v) else Ok (with_events [] v)) ≡ Ok (with_events [] v)
-either_empty true v = refl
-either_empty false v = refl
+either_empty : (b : Bool) (r : Reading) → (if b then r else r) ≡ r
+either_empty true r = refl
+either_empty false r = refl
 
 lookup_empty : (font : FaceParts) (o : Option SubstLookup) (m : lookup_map_t) (d : Direction) → lookup_stage font o m (empty_view d) ≡ Ok (with_events [] (empty_view d))
 lookup_empty font None m d = refl
-lookup_empty font (Some lookup) m d = either_empty (is_reverse lookup.subtables) (empty_view d)
+lookup_empty font (Some lookup) m d = either_empty (is_reverse lookup.subtables) (Ok (with_events [] (empty_view d)))
 
 lookups_empty : (font : FaceParts) (table : List SubstLookup) (maps : List lookup_map_t) (d : Direction) → lookups_stage font table maps (empty_view d) ≡ Ok (with_events [] (empty_view d))
 lookups_empty font table [] d = refl

@@ -245,11 +245,7 @@ fn map_text(face: &Face, mask: u32, buffer: &mut hb_buffer_t) -> Result<(), Shap
 }
 
 /// Does the lookups of the map's first stage of substitution, in order.
-fn substitute(
-    face: &Face,
-    map: &hb_ot_map_t,
-    buffer: &mut hb_buffer_t,
-) -> Result<(), ShapeCause>
+fn substitute(face: &Face, map: &hb_ot_map_t, buffer: &mut hb_buffer_t) -> Result<(), ShapeCause>
     requires staged { 0 < length map.now.tables.gsub.stages }
     requires ready { IsReady buffer.old }
     requires numbers { are_glyphs (items_of buffer.old) ≡ true }
@@ -260,12 +256,7 @@ fn substitute(
     let Some(table) = face.gsub() else {
         return Ok(());
     };
-    apply_lookups(
-        face,
-        table,
-        map.stage_lookups(TableIndex::GSUB, 0),
-        buffer,
-    )
+    apply_lookups(face, table, map.stage_lookups(TableIndex::GSUB, 0), buffer)
 }
 
 /// Gives each glyph its advance, and puts the glyphs in the order in which they are drawn.
