@@ -1,0 +1,12 @@
+pub mod Alone
+pub mod Supported
+pub mod Parts
+pub mod Chain
+pub mod Put
+pub mod Select
+pub mod Selections
+pub mod Each
+pub mod Walk
+pub mod Spaces
+pub mod Found
+pub mod Refusals

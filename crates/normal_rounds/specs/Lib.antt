@@ -1,0 +1,3 @@
+pub mod Glyphs
+pub mod Brought
+pub mod Walking
