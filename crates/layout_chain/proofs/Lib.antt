@@ -1,1 +1,5 @@
 pub mod Shifted
+pub mod Rising
+pub mod Around
+pub mod Fitted
+pub mod Matching

@@ -6,3 +6,4 @@ pub mod Multiples
 pub mod Reverses
 pub mod Woulds
 pub mod Ligating
+pub mod Uniting

@@ -20,7 +20,7 @@ use layout_match::{MatchSequence, hb_ot_apply_context_t, match_backtrack, match_
 use layout_substitutions::reverse::ReverseChainSubst;
 
 /// Marks so many glyphs before the cursor, and so many from there on, as unsafe to concat, where that is asked for.
-fn mark_attempt(back: usize, ahead: usize, buffer: &mut hb_buffer_t)
+pub(crate) fn mark_attempt(back: usize, ahead: usize, buffer: &mut hb_buffer_t)
     requires before { back ≤ length buffer.old.behind }
     requires after { ahead ≤ length buffer.old.ahead }
     ensures { IsPassed (Concat (length buffer.old.behind - back) (length buffer.old.behind + ahead)

@@ -34,6 +34,14 @@ impl hb_buffer_t {
         }
     }
 
+    /// How many glyphs stand from the cursor on. What a list takes of memory bounds it.
+    pub fn lookahead_len(&self) -> usize
+        ensures count { result ≡ length self.now.ahead }
+        ensures small { result < 2 ^ 59 }
+    {
+        self.info[self.idx..].len()
+    }
+
     /// The glyph behind the cursor: the last of the output while one is open.
     pub fn prev(&self) -> &hb_glyph_info_t
         requires { 0 < length self.now.behind }

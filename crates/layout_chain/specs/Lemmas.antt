@@ -1,0 +1,3 @@
+-- Lemmas for the loop over the records of a rule.
+pub mod Steps
+pub mod Lengths

@@ -1,0 +1,25 @@
+use Rattle.std.proofs.Common.{ℕ, Bool, if◌then◌else◌, sym, ap, subst, ◌∙◌}
+use Rattle.glyph_buffer.specs.Settings.{next_lig_id}
+use Rattle.layout_gsub.specs.Uniting.{IsMerged}
+use Rattle.layout_gsub.proofs.LigatureMade.{parts_merged, number_given, given_of}
+use Rattle.layout_gsub.proofs.ligate.merge_parts.Goals as goal
+
+pub returns-then-not-parts-clause-merged : goal.returns-then-not-parts-clause-merged
+returns-then-not-parts-clause-merged c =
+    let s = c.args.buffer.now in
+    let m = c.merge_clusters.ensures in
+    let P : Bool → Type 0 = λ b. IsMerged c.args.end (if b then next_lig_id s.lig_id else s.lig_id) s c.merge_clusters.new.self in
+    subst P (sym c.if-not-parts.true) (parts_merged c.args.end c.idx-start.result s c.merge_clusters.new.self c.idx-start.ensures m.merged m.items m.origins)
+
+pub returns-clause-merged : goal.returns-clause-merged
+returns-clause-merged c =
+    let s = c.args.buffer.now in
+    let m = c.merge_clusters.ensures in
+    let id = c.allocate_lig_id.result in
+    let new = c.allocate_lig_id.new.self in
+    let merged = parts_merged c.args.end c.idx-start.result s c.merge_clusters.new.self c.idx-start.ensures m.merged m.items m.origins in
+    let given = number_given c.args.end id s c.merge_clusters.new.self new merged c.allocate_lig_id.ensures.kept in
+    let same = c.allocate_lig_id.ensures.given ∙ ap next_lig_id (given_of c.args.end s c.merge_clusters.new.self merged) in
+    let Q : ℕ → Type 0 = λ n. IsMerged c.args.end n s new in
+    let P : Bool → Type 0 = λ b. IsMerged c.args.end (if b then next_lig_id s.lig_id else s.lig_id) s new in
+    subst P (sym c.if-not-parts.false) (subst Q same given)

@@ -1,0 +1,25 @@
+use Rattle.std.proofs.Common.{◌≡◌, Some, None, Ok, List, false, refl, sym, subst}
+use Rattle.layout_font.specs.Layout.{LigatureTable, ligature_set_of}
+use Rattle.layout_match.specs.Applied.{applied_of}
+use Rattle.layout_rules.specs.Actions.{first_rule}
+use Rattle.layout_rules.specs.Performing.{Performs, cut_with}
+use Rattle.layout_rules.specs.Lemmas.Does.{passed_same}
+use Rattle.layout_gsub.specs.Ligating.{ligature_over}
+use Rattle.layout_gsub.proofs.Found.{ligatures_perform}
+use Rattle.layout_gsub.proofs.ligature_subst.LigatureSubstApply.apply.Goals as goal
+
+pub returns-in-Some-clause-performs : goal.returns-in-Some-clause-performs
+returns-in-Some-clause-performs c =
+    let s = c.args.buffer.now in
+    let ctx = c.args.ctx.now in
+    let new = c.apply_first.new in
+    let some : ligature_set_of c.as_glyph.result.0 c.args.self.now ≡ Some c.in-Some.set.now = sym (rw c.in-Some.is at c.set_of.ensures) in
+    let P : List LigatureTable → Type 0 = λ ls. Performs (first_rule (ligature_over (applied_of ctx)) ls (cut_with ctx.random_state s)) c.apply_first.result ctx.random_state new.ctx.random_state s new.buffer in
+    ligatures_perform (applied_of ctx) c.args.self.now ctx.random_state new.ctx.random_state s new.buffer c.cur.result.now c.as_glyph.result.0 (Some c.in-Some.set.now) c.apply_first.result c.cur.ensures c.as_glyph.ensures some (subst P c.ligatures.ensures c.apply_first.ensures.performs)
+
+pub returns-in-None-clause-performs : goal.returns-in-None-clause-performs
+returns-in-None-clause-performs c =
+    let s = c.args.buffer.now in
+    let ctx = c.args.ctx.now in
+    let none : ligature_set_of c.as_glyph.result.0 c.args.self.now ≡ None = sym (rw c.in-None.is at c.set_of.ensures) in
+    ligatures_perform (applied_of ctx) c.args.self.now ctx.random_state ctx.random_state s s c.cur.result.now c.as_glyph.result.0 None (Ok false) c.cur.ensures c.as_glyph.ensures none (refl, refl, passed_same s)

@@ -1,0 +1,85 @@
+ghost use Rattle.std.specs.Prelude.{◌≡◌, ◌<◌, true, length, map};
+ghost use Rattle.glyph_lists.specs.Items.{strip};
+ghost use Rattle.layout_match.specs.Applied.{applied_of, own_search};
+ghost use Rattle.layout_match.specs.Matches.{input_end};
+ghost use Rattle.layout_match.specs.Sequences.{is_glyph};
+ghost use Rattle.layout_rules.specs.Performing.{Performs, cut_with};
+ghost use Rattle.layout_gsub.specs.Ligating.{ligature_found, ligature_over, ligature_subst};
+
+use crate::apply::{Apply, apply_first};
+use crate::ligate::ligate_input;
+use crate::replacement::replace_glyph;
+use crate::reverse::mark_attempt;
+use glyph_buffer::buffer::hb_buffer_t;
+use glyph_types::cause::ShapeCause;
+use layout_font::ligature::{Ligature, LigatureSubst};
+use layout_match::{
+    MAX_CONTEXT_LENGTH, MatchPositions, MatchSequence, hb_ot_apply_context_t, match_input,
+};
+
+/// Puts a ligature in the place of its parts, where the search finds them from the cursor on.
+fn apply_ligature(
+    ligature: &Ligature,
+    ctx: &hb_ot_apply_context_t,
+    buffer: &mut hb_buffer_t,
+) -> Result<bool, ShapeCause>
+    requires open { buffer.old.is_open ≡ true }
+    requires there { 0 < length buffer.old.ahead }
+    requires few { length ligature.now.components < 64 }
+    ensures { Performs (ligature_found (applied_of ctx.now) ligature.now (input_end (own_search (applied_of ctx.now)
+        (strip buffer.old.ahead)) (map is_glyph ligature.now.components) (strip buffer.old.ahead))
+        (cut_with ctx.now.random_state buffer.old)) result ctx.now.random_state ctx.now.random_state buffer.old
+        buffer.new }
+{
+    let components = MatchSequence::Glyphs(ligature.components());
+    let mut places = MatchPositions::new();
+    match match_input(ctx, &components, buffer, &mut places) {
+        Ok(end) => {
+            let others = &places.as_slice()[1..];
+            ligate_input(others, end, ligature.glyph(), ctx.face, buffer)?;
+            Ok(true)
+        }
+        Err(end) => {
+            mark_attempt(0, end, buffer);
+            Ok(false)
+        }
+    }
+}
+
+/// A ligature whose first part is the glyph at the cursor. One of more parts than a rule may ask for never matches.
+impl Apply for Ligature {
+    ghost action = { λ l a. ligature_over a l };
+
+    fn apply(
+        &self,
+        ctx: &mut hb_ot_apply_context_t,
+        buffer: &mut hb_buffer_t,
+    ) -> Result<bool, ShapeCause> {
+        if self.components().is_empty() {
+            return replace_glyph(ctx, self.glyph(), buffer);
+        }
+        if self.components().len() >= MAX_CONTEXT_LENGTH {
+            return Ok(false);
+        }
+        apply_ligature(self, ctx, buffer)
+    }
+}
+
+/// Ligature substitution (OpenType, GSUB lookup type 4): the first of the subtable's ligatures whose parts are found from the
+/// glyph at the cursor on takes their place. Each before it that begins with the glyph and fails marks what the search read
+/// as unsafe to concat, where that is asked for.
+impl Apply for LigatureSubst {
+    ghost action = { λ s a. ligature_subst a s };
+
+    #[tactic(auto, using(layout_rules::specs::Lemmas::Glyphs::number_ahead))]
+    fn apply(
+        &self,
+        ctx: &mut hb_ot_apply_context_t,
+        buffer: &mut hb_buffer_t,
+    ) -> Result<bool, ShapeCause> {
+        match self.set_of(buffer.cur(0).as_glyph().0) {
+            Some(set) => apply_first(set.ligatures(), ctx, buffer),
+            None => Ok(false),
+        }
+    }
+}
