@@ -1,18 +1,43 @@
 -- What a lookup makes of the glyph at the cursor.
-use Rattle.std.proofs.Common.{ℕ, ◌≡◌, true, false, [], refl, ap, ◌∙◌, slice_get, Some}
+use Rattle.std.proofs.Common.{ℕ, ◌≡◌, true, false, [], refl, sym, ap, subst, ◌∙◌, slice_get, Some}
+use Rattle.std.specs.Prelude.{Bool, Result}
+use Rattle.glyph_types.specs.declared.cause.ShapeCause.{ShapeCause}
 use Rattle.glyph_types.specs.declared.info.hb_glyph_info_t.{hb_glyph_info_t}
 use Rattle.glyph_lists.specs.Items.{item_of}
 use Rattle.glyph_buffer.specs.Sides.{Sides}
 use Rattle.layout_lookups.specs.declared.substitution.SubstLookup.{SubstLookup}
-use Rattle.layout_rules.specs.Masks.{shares_mask}
-use Rattle.layout_rules.specs.Actions.{Passes, at_first}
+use Rattle.layout_match.specs.Applied.{Applied}
+use Rattle.layout_rules.specs.Actions.{Outcome, Passes, Action, at_first}
 use Rattle.layout_rules.specs.Buffers.{cut_of}
+use Rattle.layout_rules.specs.Performing.{cut_with, Performed, Performs, PerformsInPlace}
+use Rattle.layout_rules.specs.Lemmas.Does.{passed_same}
 use Rattle.layout_rules.specs.Lemmas.Glyphs.{first_item}
-use Rattle.layout_stages.specs.Lookups.{lookup_at, lookup_action, first_subtable}
+use Rattle.layout_rules.specs.Lemmas.Performed.{passes_nothing}
+use Rattle.layout_stages.specs.Lookups.{meets, at_met, met_first, lookup_action, reverse_action, first_subtable, first_reverse}
 
--- a lookup passes over a glyph that lacks its mask
-pub lookup_passes : (mask : ℕ) (lookup : SubstLookup) (s : Sides) (g : hb_glyph_info_t) → slice_get s.ahead 0 ≡ Some g → shares_mask mask (item_of g).mask ≡ false → lookup_action mask lookup (cut_of s) ≡ Passes []
-lookup_passes mask lookup s g at none = ap (λ o. at_first (lookup_at mask lookup) o (cut_of s)) (first_item s.ahead g at) ∙ rw none refl
+unmet : (a : Applied) (act : Action) (r : ℕ) (s : Sides) (g : hb_glyph_info_t) → slice_get s.ahead 0 ≡ Some g → meets a (item_of g) ≡ false → met_first a act (cut_with r s) ≡ Passes []
+unmet a act r s g at none = ap (λ o. at_first (at_met a act) o (cut_with r s)) (first_item s.ahead g at) ∙ rw none refl
 
-pub lookup_tries : (mask : ℕ) (lookup : SubstLookup) (s : Sides) (g : hb_glyph_info_t) → slice_get s.ahead 0 ≡ Some g → shares_mask mask (item_of g).mask ≡ true → lookup_action mask lookup (cut_of s) ≡ first_subtable mask lookup.subtables (cut_of s)
-lookup_tries mask lookup s g at some = ap (λ o. at_first (lookup_at mask lookup) o (cut_of s)) (first_item s.ahead g at) ∙ rw some refl
+met : (a : Applied) (act : Action) (r : ℕ) (s : Sides) (g : hb_glyph_info_t) → slice_get s.ahead 0 ≡ Some g → meets a (item_of g) ≡ true → met_first a act (cut_with r s) ≡ act (cut_with r s)
+met a act r s g at some = ap (λ o. at_first (at_met a act) o (cut_with r s)) (first_item s.ahead g at) ∙ rw some refl
+
+-- a lookup passes over a glyph that it doesn't meet
+pub lookup_passes : (a : Applied) (lookup : SubstLookup) (r : ℕ) (s : Sides) (g : hb_glyph_info_t) → slice_get s.ahead 0 ≡ Some g → meets a (item_of g) ≡ false → Performed (lookup_action a lookup (cut_with r s)) false r r s s
+lookup_passes a lookup r s g at none = passes_nothing r s (lookup_action a lookup (cut_with r s)) (unmet a (first_subtable a lookup.subtables) r s g at none)
+
+pub lookup_tries : (a : Applied) (lookup : SubstLookup) (r after : ℕ) (result : Result Bool ShapeCause) (s new : Sides) (g : hb_glyph_info_t) → slice_get s.ahead 0 ≡ Some g → meets a (item_of g) ≡ true
+    → Performs (first_subtable a lookup.subtables (cut_with r s)) result r after s new → Performs (lookup_action a lookup (cut_with r s)) result r after s new
+lookup_tries a lookup r after result s new g at some d =
+    let P : Outcome → Type 0 = λ o. Performs o result r after s new in
+    subst P (sym (met a (first_subtable a lookup.subtables) r s g at some)) d
+
+pub reverse_passes : (a : Applied) (lookup : SubstLookup) (s : Sides) (g : hb_glyph_info_t) → slice_get s.ahead 0 ≡ Some g → meets a (item_of g) ≡ false → PerformsInPlace (reverse_action a lookup (cut_of s)) false s s
+reverse_passes a lookup s g at none =
+    let P : Outcome → Type 0 = λ o. PerformsInPlace o false s s in
+    subst P (sym (unmet a (first_reverse a lookup.subtables) 1 s g at none)) (refl, passed_same s)
+
+pub reverse_tries : (a : Applied) (lookup : SubstLookup) (acted : Bool) (s new : Sides) (g : hb_glyph_info_t) → slice_get s.ahead 0 ≡ Some g → meets a (item_of g) ≡ true
+    → PerformsInPlace (first_reverse a lookup.subtables (cut_of s)) acted s new → PerformsInPlace (reverse_action a lookup (cut_of s)) acted s new
+reverse_tries a lookup acted s new g at some d =
+    let P : Outcome → Type 0 = λ o. PerformsInPlace o acted s new in
+    subst P (sym (met a (first_reverse a lookup.subtables) 1 s g at some)) d

@@ -1,94 +1,143 @@
 -- A lookup on its way over a buffer.
-use Rattle.std.proofs.Common.{ℕ, suc, ◌≡◌, ◌≤◌, ◌<◌, ◌+◌, ◌-◌, true, false, nat_le, [], length, refl, sym, ap, subst, ◌∙◌, arith}
-use Rattle.std.proofs.lemmas.List.{map-append, length-map, length-append, length-replicate}
-use Rattle.std.proofs.lemmas.Bool.Decides.{nat_tests}
+use Rattle.std.proofs.Common.{ℕ, suc, ◌≡◌, ◌≤◌, ◌<◌, ◌+◌, ◌-◌, ◌&&◌, Bool, true, false, not, nat_le, if◌then◌else◌, [], length, Ok, Err, refl, sym, ap, subst, ◌∙◌, arith}
+use Rattle.std.specs.Prelude.{Result, IfErr, IsErrAnd}
+use Rattle.std.proofs.lemmas.List.{map-append, length-map, length-replicate}
+use Rattle.glyph_types.specs.declared.cause.ShapeCause.{ShapeCause}
+use Rattle.glyph_types.specs.declared.cause.ShapeCause.TheVariants.{TooLong}
 use Rattle.glyph_lists.specs.Items.{item_of, strip}
-use Rattle.glyph_lists.specs.Readings.{View, Run, Follows, always, read_of}
-use Rattle.glyph_lists.specs.Steps.{follows_then, follows_from}
+use Rattle.glyph_lists.specs.Readings.{View, Reading, Run, Follows, read_of}
+use Rattle.glyph_lists.specs.Steps.{follows_then, follows_from, refused_first, refused_then}
 use Rattle.glyph_buffer.specs.Sides.{Sides, all_glyphs, view_of, run_of, items_of, told_of, with_output, synced, fits_joined, zero_positions, zero_position}
+use Rattle.layout_match.specs.Applied.{Applied}
 use Rattle.layout_rules.specs.Actions.{view_at, uncut, Action}
-use Rattle.layout_rules.specs.Buffers.{cut_of, are_glyphs, IsStill}
-use Rattle.layout_rules.specs.Ready.{IsReady, IsDone}
-use Rattle.layout_rules.specs.Lemmas.Frames.{still_settings, still_refused, still_limit, still_positions, still_direction, still_told}
-use Rattle.layout_stages.specs.Lookups.{tried, unplaced, looked_up}
-use Rattle.layout_stages.specs.Steps.{IsStep}
+use Rattle.layout_rules.specs.Buffers.{are_glyphs, IsStill}
+use Rattle.layout_rules.specs.Performing.{cut_with}
+use Rattle.layout_rules.specs.Ready.{IsReady, IsDoneFrom, run_with}
+use Rattle.layout_rules.specs.Lemmas.Frames.{still_settings, still_refused, still_positions, still_direction, still_told}
+use Rattle.layout_stages.specs.Lookups.{tried, unplaced, joined, looked_up}
+use Rattle.layout_stages.specs.Steps.{IsStep, IsGivenUp}
 
 -- from an opened buffer so many steps are left
-pub record IsUnderway (act : Action) (count left : ℕ) (start now : Sides) : Type 0 where
+pub record IsUnderway (act : Action) (count left before after : ℕ) (start now : Sides) : Type 0 where
   pub still : IsStill start now
-  pub total : now.read + length now.ahead ≡ start.read + length start.ahead
-  pub front : length now.behind ≤ now.read
   pub enough : length now.ahead ≤ left
   pub numbers : are_glyphs (items_of start) ≡ true → are_glyphs (items_of now) ≡ true
-  pub follows : (v : View) (final : Run) → Follows (tried act v left (cut_of now)) (run_of now) final → Follows (tried act v count (cut_of start)) (run_of start) final
+  pub follows : (v : View) (final : Run) → Follows (tried act v left (cut_with after now)) (run_of now) final → Follows (tried act v count (cut_with before start)) (run_of start) final
+  pub refuses : (v : View) (cause : ShapeCause) → tried act v left (cut_with after now) ≡ Err cause → tried act v count (cut_with before start) ≡ Err cause
 
-pub begun : (act : Action) (count : ℕ) (s : Sides) → length s.ahead ≡ count → s.behind ≡ [] → IsUnderway act count (count - 0) s s
-begun act count s len none =
+pub begun : (act : Action) (count r : ℕ) (s : Sides) → length s.ahead ≡ count → IsUnderway act count (count - 0) r r s s
+begun act count r s len =
     let zero_left : count - 0 ≡ count = omega arith in
     record {
       still = refl;
-      total = refl;
-      front = rw none (omega arith);
       enough = omega (arith, len);
       numbers = λ h. h;
       follows = λ v final f. rw zero_left at f;
+      refuses = λ v cause e. rw zero_left at e;
     }
 
-pub gone_on : (act : Action) (count at : ℕ) (start now next : Sides) → at < count → IsUnderway act count (count - at) start now → IsStep act now next → IsUnderway act count (count - (at + 1)) start next
-gone_on act count at start now next lt u st =
+pub gone_on : (act : Action) (count at before r after : ℕ) (start now next : Sides) → at < count → IsUnderway act count (count - at) before r start now → IsStep act r after now next → IsUnderway act count (count - (at + 1)) before after start next
+gone_on act count at before r after start now next lt u st =
     let more : count - at ≡ suc (count - (at + 1)) = omega (arith, lt) in
     record {
       still = st.still ∙ u.still;
-      total = st.total ∙ u.total;
-      front = omega (arith, u.front, st.front);
       enough = omega (arith, u.enough, st.less, lt);
       numbers = λ h. st.numbers (u.numbers h);
       follows = λ v final f. u.follows v final (rw more (st.follows v (count - (at + 1)) final f));
+      refuses = λ v cause e. u.refuses v cause (rw more (st.refuses v (count - (at + 1)) cause e));
     }
 
--- where so many glyphs as were read are behind the cursor at most, both sides fit in one list
-pub fits : (act : Action) (count left : ℕ) (start now : Sides) → IsUnderway act count left start now → start.has_refused ≡ false → start.read + length start.ahead ≤ start.max_len → fits_joined now ≡ true
-fits act count left start now u unrefused within =
-    let refused : now.has_refused ≡ false = still_refused start now u.still ∙ unrefused in
-    let total = u.total in
-    let front = u.front in
-    let limit = still_limit start now u.still in
-    let sides = length-append now.behind now.ahead in
-    let le : nat_le (length (all_glyphs now) + 0) now.max_len ≡ true = grind (arith, nat_tests, total, front, limit, sides, within) in
-    rw (refused, le) refl
+-- ---- at the end nothing is left to read
 
--- at the end nothing is left to read
-ended_view : (start now : Sides) → IsStill start now → start.positions ≡ [] → view_of now ≡ view_at (view_of start) (cut_of now)
-ended_view start now still none =
-    let v = view_at (view_of start) (cut_of now) in
-    ap (λ xs. record (view_of now) { items = xs }) (map-append item_of now.behind now.ahead)
-    ∙ ap (λ ps. record (view_of now) { items = v.items; positions = ps }) (still_positions start now still ∙ none)
-    ∙ ap (λ d. record v { direction = d; told = told_of now.scratch_flags }) (still_direction start now still)
-    ∙ ap (λ t. record v { told = t }) (still_told start now still)
+ended_view : (r : ℕ) (v : View) (start now : Sides) → v.direction ≡ start.direction → v.told ≡ told_of start.scratch_flags → IsStill start now → start.positions ≡ [] → (run_with r now).view ≡ view_at v (cut_with r now)
+ended_view r v start now direction told still none =
+    let w = view_at v (cut_with r now) in
+    ap (λ xs. record (run_with r now).view { items = xs }) (map-append item_of now.behind now.ahead)
+    ∙ ap (λ ps. record (run_with r now).view { items = w.items; positions = ps }) (still_positions start now still ∙ none)
+    ∙ ap (λ d. record w { direction = d; told = told_of now.scratch_flags }) (still_direction start now still ∙ sym direction)
+    ∙ ap (λ t. record w { told = t }) (still_told start now still ∙ sym told)
 
-synced_follows : (mid : Sides) → Follows (read_of (always unplaced) (run_of mid)) (run_of mid) (run_of (synced mid))
-synced_follows mid = ap (λ n. record (run_of mid) { view = record (view_of mid) { positions = zero_positions n } }) (sym (length-map (all_glyphs mid) item_of))
-
-looked_up_follows : (act : Action) (s mid : Sides) → IsUnderway act (length (all_glyphs s)) 0 (with_output s) mid → Follows (read_of (looked_up act) (run_of s)) (run_of s) (run_of (synced mid))
-looked_up_follows act s mid u =
-    let v = view_of s in
-    let ended : Follows (tried act v 0 (cut_of mid)) (run_of mid) (run_of mid) = ap (λ w. record { view = w; origins = (run_of mid).origins; level = mid.level; asks = (run_of mid).asks }) (ended_view (with_output s) mid u.still refl) in
-    let first : Follows (tried act v (length (all_glyphs s)) (uncut v)) (run_of s) (run_of mid) = follows_from (tried act v (length (all_glyphs s)) (uncut v)) (run_of (with_output s)) (run_of s) (run_of mid) refl refl refl (u.follows v (run_of mid) ended) in
+-- the whole list was tried
+walked : (act : Action) (r after : ℕ) (s mid : Sides) → IsUnderway act (length (all_glyphs s)) 0 r after (with_output s) mid → Follows (tried act (run_with r s).view (length (strip (all_glyphs s))) (uncut (run_with r s).view)) (run_with r s) (run_with after mid)
+walked act r after s mid u =
+    let v = (run_with r s).view in
+    let ended : Follows (tried act v 0 (cut_with after mid)) (run_of mid) (run_with after mid) = ap (λ w. record { view = w; origins = (run_of mid).origins; level = mid.level; asks = (run_of mid).asks }) (ended_view after v (with_output s) mid refl refl u.still refl) in
+    let first : Follows (tried act v (length (all_glyphs s)) (uncut v)) (run_with r s) (run_with after mid) = follows_from (tried act v (length (all_glyphs s)) (uncut v)) (run_of (with_output s)) (run_with r s) (run_with after mid) refl refl refl (u.follows v (run_with after mid) ended) in
     let n : length (strip (all_glyphs s)) ≡ length (all_glyphs s) = length-map (all_glyphs s) item_of in
-    follows_then (tried act v (length (strip (all_glyphs s))) (uncut v)) (always unplaced) (run_of s) (run_of mid) (run_of (synced mid)) (rw n first) (synced_follows mid)
+    rw n first
+
+-- whether both sides are one list is what the reading asks
+room_of : (r : ℕ) (mid : Sides) → mid.has_refused ≡ false → nat_le (length (items_of mid)) mid.max_len ≡ fits_joined mid
+room_of r mid unrefused =
+    let n : length (items_of mid) ≡ length (all_glyphs mid) + 0 = length-map (all_glyphs mid) item_of ∙ sym (omega arith) in
+    ap (λ k. nat_le k mid.max_len) n ∙ rw unrefused refl
+
+synced_follows : (r : ℕ) (mid : Sides) → mid.has_refused ≡ false → fits_joined mid ≡ true → Follows (read_of joined (run_with r mid)) (run_with r mid) (run_with r (synced mid))
+synced_follows r mid unrefused room =
+    let v = (run_with r mid).view in
+    let is : joined v ≡ Ok (unplaced v) = rw (room_of r mid unrefused ∙ room) refl in
+    let P : Reading → Type 0 = λ q. Follows q (run_with r mid) (run_with r (synced mid)) in
+    subst P (sym is) (ap (λ n. record (run_with r mid) { view = record v { positions = zero_positions n } }) (sym (length-map (all_glyphs mid) item_of)))
 
 -- a lookup that was tried everywhere, once both sides are one list
-pub looked_up_done : (act : Action) (count at : ℕ) (s mid new : Sides) → IsReady s → count ≡ length (all_glyphs s) → count ≤ at → IsUnderway act count (count - at) (with_output s) mid → new ≡ synced mid → IsDone (looked_up act) s new
-looked_up_done act count at s mid new ready len le u is =
+pub looked_up_done : (act : Action) (count at r after : ℕ) (s mid new : Sides) → IsReady s → count ≡ length (all_glyphs s) → count ≤ at → IsUnderway act count (count - at) r after (with_output s) mid → fits_joined mid ≡ true → new ≡ synced mid
+    → IsDoneFrom r after (looked_up act) s new
+looked_up_done act count at r after s mid new ready len le u room is =
     let nothing_left : count - at ≡ 0 = omega (arith, le) in
-    let L : ℕ → Type 0 = λ n. IsUnderway act count n (with_output s) mid in
-    let C : ℕ → Type 0 = λ n. IsUnderway act n 0 (with_output s) mid in
-    let done : IsUnderway act (length (all_glyphs s)) 0 (with_output s) mid = subst C len (subst L nothing_left u) in
-    let P : Sides → Type 0 = λ t. IsDone (looked_up act) s t in
-    let kept : IsDone (looked_up act) s (synced mid) = record {
-      follows = looked_up_follows act s mid done;
-      ready = record { closed = refl; front = refl; unread = refl; placed = length-replicate (length (all_glyphs mid)) zero_position; unrefused = still_refused (with_output s) mid u.still ∙ ready.unrefused };
+    let L : ℕ → Type 0 = λ n. IsUnderway act count n r after (with_output s) mid in
+    let C : ℕ → Type 0 = λ n. IsUnderway act n 0 r after (with_output s) mid in
+    let done : IsUnderway act (length (all_glyphs s)) 0 r after (with_output s) mid = subst C len (subst L nothing_left u) in
+    let unrefused : mid.has_refused ≡ false = still_refused (with_output s) mid u.still ∙ ready.unrefused in
+    let v = (run_with r s).view in
+    let P : Sides → Type 0 = λ t. IsDoneFrom r after (looked_up act) s t in
+    let kept : IsDoneFrom r after (looked_up act) s (synced mid) = record {
+      follows = follows_then (tried act v (length v.items) (uncut v)) joined (run_with r s) (run_with after mid) (run_with after (synced mid)) (walked act r after s mid done) (synced_follows after mid unrefused room);
+      ready = record { closed = refl; front = refl; unread = refl; placed = length-replicate (length (all_glyphs mid)) zero_position; unrefused = unrefused };
       settings = still_settings (with_output s) mid u.still;
       numbers = u.numbers;
     } in
     subst P (sym is) kept
+
+-- both sides are too long for one list
+pub looked_up_long : (act : Action) (count at r after : ℕ) (s mid : Sides) → IsReady s → count ≡ length (all_glyphs s) → count ≤ at → IsUnderway act count (count - at) r after (with_output s) mid → fits_joined mid ≡ false
+    → read_of (looked_up act) (run_with r s) ≡ Err TooLong
+looked_up_long act count at r after s mid ready len le u full =
+    let nothing_left : count - at ≡ 0 = omega (arith, le) in
+    let L : ℕ → Type 0 = λ n. IsUnderway act count n r after (with_output s) mid in
+    let C : ℕ → Type 0 = λ n. IsUnderway act n 0 r after (with_output s) mid in
+    let done : IsUnderway act (length (all_glyphs s)) 0 r after (with_output s) mid = subst C len (subst L nothing_left u) in
+    let unrefused : mid.has_refused ≡ false = still_refused (with_output s) mid u.still ∙ ready.unrefused in
+    let v = (run_with r s).view in
+    let long : joined (run_with after mid).view ≡ Err TooLong = rw (room_of after mid unrefused ∙ full) refl in
+    refused_then (tried act v (length v.items) (uncut v)) joined (run_with r s) (run_with after mid) TooLong (walked act r after s mid done) long
+
+-- a step was refused
+pub looked_up_refused : (act : Action) (count at r after : ℕ) (s now : Sides) (cause : ShapeCause) → count ≡ length (all_glyphs s) → at < count → IsUnderway act count (count - at) r after (with_output s) now → IsGivenUp act after now cause
+    → read_of (looked_up act) (run_with r s) ≡ Err cause
+looked_up_refused act count at r after s now cause len lt u given =
+    let v = (run_with r s).view in
+    let more : count - at ≡ suc (count - (at + 1)) = omega (arith, lt) in
+    let here : tried act v (count - at) (cut_with after now) ≡ Err cause = rw more (given v (count - (at + 1))) in
+    let all : tried act v count (uncut v) ≡ Err cause = u.refuses v cause here in
+    let n : length v.items ≡ count = length-map (all_glyphs s) item_of ∙ sym len in
+    refused_first (tried act v (length v.items) (uncut v)) joined cause (rw n all)
+
+-- ---- with what a lookup is applied may be told otherwise
+
+pub gone_on_by : (act : Applied → Action) (a b : Applied) (count at before r after : ℕ) (start now next : Sides) → at < count → a ≡ b → IsUnderway (act b) count (count - at) before r start now → IsStep (act a) r after now next
+    → IsUnderway (act b) count (count - (at + 1)) before after start next
+gone_on_by act a b count at before r after start now next lt same u st =
+    let P : Applied → Type 0 = λ k. IsStep (act k) r after now next in
+    gone_on (act b) count at before r after start now next lt u (subst P same st)
+
+pub looked_up_refused_by : (act : Applied → Action) (a b : Applied) (count at r after : ℕ) (s start now : Sides) (cause : ShapeCause) → count ≡ length (all_glyphs s) → at < count → a ≡ b → start ≡ with_output s → IsUnderway (act b) count (count - at) r after start now
+    → IsGivenUp (act a) after now cause → read_of (looked_up (act b)) (run_with r s) ≡ Err cause
+looked_up_refused_by act a b count at r after s start now cause len lt same opened u given =
+    let P : Applied → Type 0 = λ k. IsGivenUp (act k) after now cause in
+    let S : Sides → Type 0 = λ t. IsUnderway (act b) count (count - at) r after t now in
+    looked_up_refused (act b) count at r after s now cause len lt (subst S opened u) (subst P same given)
+
+-- an error that `?` passes on
+pub passed_on : {A E : Type 0} (r : Result A E) (e : E) (P : E → Type 0) → IsErrAnd r (λ (f : E). f ≡ e) → P e → IfErr r P
+passed_on (Ok a) e P h p = tt
+passed_on (Err f) e P h p = subst P (sym h) p

@@ -1,97 +1,122 @@
-ghost use Rattle.std.specs.Prelude.{◌≡◌, ◌<◌, ◌≤◌, ◌+◌, true, false, [], length, slice_get, IfErr, OnOk};
-ghost use Rattle.glyph_buffer.specs.Sides.{items_of};
+ghost use Rattle.std.specs.Prelude.{◌≡◌, ◌≢◌, true, Err, slice_get, IfErr, OnOk};
+ghost use Rattle.glyph_lists.specs.Readings.{read_of};
+ghost use Rattle.glyph_buffer.specs.Sides.{items_of, run_of};
+ghost use Rattle.map_features.specs.declared.per_table.TableIndex.TheVariants.{GSUB};
+ghost use Rattle.layout_match.specs.Applied.{applied_of};
 ghost use Rattle.layout_rules.specs.Buffers.{are_glyphs};
-ghost use Rattle.layout_stages.specs.Lookups.{looked_up, lookup_action, lookup_stage, lookups_stage};
-ghost use Rattle.layout_rules.specs.Ready.{IsDone, IsReady};
-ghost use Rattle.layout_stages.specs.Steps.{IsStep};
+ghost use Rattle.layout_rules.specs.Ready.{IsDone, IsDoneFrom, IsReady, run_with};
+ghost use Rattle.layout_stages.specs.Lookups.{applied_by, lookup_applied, lookup_stage, lookups_stage, with_own_random};
 
-use crate::lookup::apply_lookup;
+use crate::backward::apply_backward;
+use crate::forward::apply_forward;
+use font_face::Face;
 use glyph_buffer::buffer::hb_buffer_t;
 use glyph_types::cause::ShapeCause;
 use layout_lookups::substitution::{SubstLookup, SubstitutionTable};
+use layout_match::hb_ot_apply_context_t;
 use map_features::lookup::lookup_map_t;
+use map_features::per_table::TableIndex;
 
-/// Tries a lookup at the cursor, and goes on over the glyph where it doesn't act; at the end it does nothing.
-#[tactic(auto, using(crate::proofs::Steps::step_ended, crate::proofs::Steps::step_passed, crate::proofs::Steps::step_acted))]
-fn apply_next(lookup: &SubstLookup, mask: u32, buffer: &mut hb_buffer_t) -> Result<(), ShapeCause>
-    requires open { buffer.old.is_open ≡ true }
-    requires no_positions { buffer.old.positions ≡ [] }
-    requires front { length buffer.old.behind ≤ buffer.old.read }
-    requires limit { buffer.old.read + length buffer.old.ahead ≤ buffer.old.max_len }
-    requires numbers { are_glyphs (items_of buffer.old) ≡ true }
-    ensures ok { OnOk result (IsStep (lookup_action mask lookup.now) buffer.old buffer.new) }
-    ensures err { IfErr result (λ e. e ≡ ShapeCause.OutOfMemory) }
-{
-    if buffer.idx() == buffer.len() {
-        return Ok(());
-    }
-    if apply_lookup(lookup, mask, buffer)? {
-        return Ok(());
-    }
-    if !buffer.next_glyph()? {
-        return Err(ShapeCause::TooLong);
-    }
-    Ok(())
-}
-
-/// Tries a lookup at each glyph once, from the left.
-#[tactic(auto, using(crate::proofs::Passage::begun))]
-fn apply_forward(
+/// Tries a lookup at each glyph: one of reverse chaining from the right in place, any other from the left.
+fn apply_everywhere(
     lookup: &SubstLookup,
-    mask: u32,
+    ctx: &mut hb_ot_apply_context_t,
     buffer: &mut hb_buffer_t,
 ) -> Result<(), ShapeCause>
     requires ready { IsReady buffer.old }
     requires numbers { are_glyphs (items_of buffer.old) ≡ true }
-    ensures ok { OnOk result (IsDone (looked_up (lookup_action mask lookup.now)) buffer.old buffer.new) }
-    ensures err { IfErr result (λ e. e ≡ ShapeCause.OutOfMemory) }
+    ensures ok { OnOk result
+        (IsDoneFrom ctx.old.random_state ctx.new.random_state (lookup_applied
+        (applied_of ctx.old) lookup.now) buffer.old buffer.new) }
+    ensures err { IfErr result (λ e. e ≢ ShapeCause.OutOfMemory → read_of
+        (lookup_applied (applied_of ctx.old) lookup.now) (run_with ctx.old.random_state buffer.old) ≡ Err e) }
+    ensures context { applied_of ctx.new ≡ applied_of ctx.old }
 {
-    let count = buffer.len();
-    buffer.clear_output()?;
-    for _ in 0..count {
-        apply_next(lookup, mask, buffer)?;
+    if lookup.is_reverse() {
+        apply_backward(lookup, ctx, buffer);
+        return Ok(());
     }
-    if !buffer.sync()? {
-        return Err(ShapeCause::TooLong);
-    }
-    Ok(())
+    apply_forward(lookup, ctx, buffer)
+}
+
+/// Applies a lookup from now on: with its own flag, and what the map says of it.
+fn set_lookup(ctx: &mut hb_ot_apply_context_t, lookup: &SubstLookup, lookup_map: &lookup_map_t)
+    requires { ctx.old.table_index ≡ GSUB }
+    ensures applied { applied_of ctx.new ≡ applied_by ctx.old.face.now lookup.now lookup_map.now }
+    ensures state { ctx.new.random_state ≡ ctx.old.random_state }
+{
+    ctx.set_lookup_mask(lookup_map.mask);
+    ctx.auto_zwnj = lookup_map.auto_zwnj;
+    ctx.auto_zwj = lookup_map.auto_zwj;
+    ctx.random = lookup_map.random;
+    ctx.per_syllable = lookup_map.per_syllable;
+    ctx.lookup_props = lookup.props();
 }
 
 /// Does what the lookup at an index of the table does; an index without one does nothing.
 fn apply_mapped(
     table: &SubstitutionTable,
     lookup_map: &lookup_map_t,
+    ctx: &mut hb_ot_apply_context_t,
     buffer: &mut hb_buffer_t,
 ) -> Result<(), ShapeCause>
+    requires substitution { ctx.old.table_index ≡ GSUB }
     requires ready { IsReady buffer.old }
     requires numbers { are_glyphs (items_of buffer.old) ≡ true }
     ensures ok { OnOk result
-        (IsDone (lookup_stage
-        (slice_get table.now.lookups lookup_map.now.index) lookup_map.now.mask) buffer.old buffer.new) }
-    ensures err { IfErr result (λ e. e ≡ ShapeCause.OutOfMemory) }
+        (IsDoneFrom ctx.old.random_state ctx.new.random_state (lookup_stage ctx.old.face.now
+        (slice_get table.now.lookups lookup_map.now.index) lookup_map.now) buffer.old buffer.new) }
+    ensures err { IfErr result (λ e. e ≢ ShapeCause.OutOfMemory → read_of (lookup_stage ctx.old.face.now
+        (slice_get table.now.lookups lookup_map.now.index) lookup_map.now)
+        (run_with ctx.old.random_state buffer.old) ≡ Err e) }
+    ensures table { ctx.new.table_index ≡ GSUB }
+    ensures face { ctx.new.face.now ≡ ctx.old.face.now }
 {
     let Some(lookup) = table.get_lookup(lookup_map.index) else {
         return Ok(());
     };
-    apply_forward(lookup, lookup_map.mask, buffer)?;
+    set_lookup(ctx, lookup, lookup_map);
+    apply_everywhere(lookup, ctx, buffer)
+}
+
+fn apply_all(
+    table: &SubstitutionTable,
+    lookups: &[lookup_map_t],
+    ctx: &mut hb_ot_apply_context_t,
+    buffer: &mut hb_buffer_t,
+) -> Result<(), ShapeCause>
+    requires substitution { ctx.old.table_index ≡ GSUB }
+    requires ready { IsReady buffer.old }
+    requires numbers { are_glyphs (items_of buffer.old) ≡ true }
+    ensures ok { OnOk result
+        (IsDoneFrom ctx.old.random_state ctx.new.random_state (lookups_stage
+        ctx.old.face.now table.now.lookups lookups.now) buffer.old buffer.new) }
+    ensures err { IfErr result (λ e. e ≢ ShapeCause.OutOfMemory → read_of
+        (lookups_stage ctx.old.face.now table.now.lookups lookups.now)
+        (run_with ctx.old.random_state buffer.old) ≡ Err e) }
+{
+    for lookup_map in lookups {
+        apply_mapped(table, lookup_map, ctx, buffer)?;
+    }
     Ok(())
 }
 
-/// Does lookups of a table one after another, each at all glyphs: a lookup is tried at each glyph once, from the left,
-/// and goes on after what it made. Its one error is want of memory.
-#[tactic(auto, using(crate::proofs::Stages::none_done, crate::proofs::Stages::all_done))]
+/// Does lookups of the font's table of substitution one after another, each at all glyphs: from the left, going on after what
+/// it made, or where it is of reverse chaining from the right. Alternates are drawn from 1 on. It refuses for want of memory,
+/// or where a list would have more glyphs than it may.
 pub fn apply_lookups(
+    face: &Face,
     table: &SubstitutionTable,
     lookups: &[lookup_map_t],
     buffer: &mut hb_buffer_t,
 ) -> Result<(), ShapeCause>
     requires ready { IsReady buffer.old }
     requires numbers { are_glyphs (items_of buffer.old) ≡ true }
-    ensures ok { OnOk result (IsDone (lookups_stage table.now.lookups lookups.now) buffer.old buffer.new) }
-    ensures err { IfErr result (λ e. e ≡ ShapeCause.OutOfMemory) }
+    ensures ok { OnOk result
+        (IsDone (with_own_random (lookups_stage face.now table.now.lookups lookups.now)) buffer.old buffer.new) }
+    ensures err { IfErr result (λ e. e ≢ ShapeCause.OutOfMemory → read_of
+        (with_own_random (lookups_stage face.now table.now.lookups lookups.now)) (run_of buffer.old) ≡ Err e) }
 {
-    for lookup_map in lookups {
-        apply_mapped(table, lookup_map, buffer)?;
-    }
-    Ok(())
+    let mut ctx = hb_ot_apply_context_t::new(TableIndex::GSUB, face);
+    apply_all(table, lookups, &mut ctx, buffer)
 }

@@ -2,4 +2,6 @@
 #![tactic(auto)]
 
 pub mod apply;
+pub mod backward;
+pub mod forward;
 pub mod lookup;

@@ -1,16 +1,32 @@
 ghost use Rattle.std.specs.Prelude.{◌≡◌, ◌<◌, true, [], length, IfOk, IfErr};
 ghost use Rattle.glyph_buffer.specs.Sides.{items_of};
-ghost use Rattle.layout_rules.specs.Actions.{first_rule};
+ghost use Rattle.glyph_lists.specs.Items.{item_of};
+ghost use Rattle.layout_match.specs.Applied.{applied_of};
+ghost use Rattle.layout_rules.specs.Actions.{first_rule, within_limit};
 ghost use Rattle.layout_rules.specs.Buffers.{Does, are_glyphs, cut_of};
+ghost use Rattle.layout_rules.specs.Performing.{Performs, PerformsInPlace, cut_with};
 ghost use Rattle.layout_gsub.specs.Ligatures.{ligature_subtable};
-ghost use Rattle.layout_stages.specs.Lookups.{lookup_action, first_subtable};
+ghost use Rattle.layout_gsub.specs.Reverses.{reverse_subtable};
+ghost use Rattle.layout_stages.specs.Lookups.{first_reverse, first_subtable, lookup_action, meets, reverse_action};
 
 use glyph_buffer::buffer::hb_buffer_t;
 use glyph_types::cause::ShapeCause;
+use glyph_types::info::hb_glyph_info_t;
 use layout_font::ligature::LigatureSubst;
+use layout_gsub::apply::apply_first;
 use layout_gsub::ligature::apply_ligature_subst;
+use layout_gsub::reverse::apply_reverse_chain_single_subst;
 use layout_lookups::substitution::{SubstLookup, SubstitutionSubtables};
+use layout_match::hb_ot_apply_context_t;
 use layout_rules::mask::shares_mask;
+use layout_substitutions::reverse::ReverseChainSubst;
+
+/// Whether a lookup meets a glyph: it has a bit of the lookup's mask, and the lookup's flag doesn't leave it out.
+fn meets(ctx: &hb_ot_apply_context_t, info: &hb_glyph_info_t) -> bool
+    ensures { result ≡ meets (applied_of ctx.now) (item_of info.now) }
+{
+    shares_mask(ctx.lookup_mask(), info) && ctx.check_glyph_property(info, ctx.lookup_props)
+}
 
 #[tactic(auto, using(layout_rules::specs::Lemmas::Tried::tried_first, layout_rules::specs::Lemmas::Tried::tried_open, layout_rules::specs::Lemmas::Tried::tried_positions, layout_rules::specs::Lemmas::Tried::tried_limit, layout_rules::specs::Lemmas::Tried::tried_numbers, layout_rules::specs::Lemmas::Tried::tried_next, layout_rules::specs::Lemmas::Tried::tried_acted, layout_rules::specs::Lemmas::Tried::tried_all))]
 fn apply_subtables(
@@ -36,55 +52,146 @@ fn apply_subtables(
     Ok(false)
 }
 
-/// Does what the first of the subtables does that acts: ligature substitution. Subtables of the other types do nothing
-/// yet.
-fn apply_substitution(
-    subtables: &SubstitutionSubtables,
-    mask: u32,
+/// Puts the first ligature that matches in the place of its components, where the output may have one glyph more.
+#[tactic(auto, using(crate::proofs::Plain::plain_full, crate::proofs::Plain::plain_performed))]
+fn apply_ligatures(
+    subtables: &[LigatureSubst],
+    ctx: &hb_ot_apply_context_t,
     buffer: &mut hb_buffer_t,
 ) -> Result<bool, ShapeCause>
     requires open { buffer.old.is_open ≡ true }
     requires no_positions { buffer.old.positions ≡ [] }
     requires there { 0 < length buffer.old.ahead }
-    requires room { length buffer.old.behind < buffer.old.max_len }
     requires number { are_glyphs (items_of buffer.old) ≡ true }
-    ensures ok { IfOk result
-        (λ acted. Does (first_subtable mask subtables.now (cut_of buffer.old)) acted buffer.old buffer.new) }
-    ensures err { IfErr result (λ e. e ≡ ShapeCause.OutOfMemory) }
+    ensures { Performs (within_limit 1 (cut_with ctx.now.random_state buffer.old) (first_rule
+        (ligature_subtable (applied_of ctx.now).mask) subtables.now
+        (cut_with ctx.now.random_state buffer.old))) result ctx.now.random_state ctx.now.random_state buffer.old
+        buffer.new }
+{
+    if buffer.max_len() <= buffer.out_len() {
+        return Err(ShapeCause::TooLong);
+    }
+    apply_subtables(subtables, ctx.lookup_mask(), buffer)
+}
+
+/// Does what the first of the subtables does that acts, at the cursor. Contexts do nothing yet, and reverse chaining is not
+/// applied from the left.
+fn apply_substitution(
+    subtables: &SubstitutionSubtables,
+    ctx: &mut hb_ot_apply_context_t,
+    buffer: &mut hb_buffer_t,
+) -> Result<bool, ShapeCause>
+    requires open { buffer.old.is_open ≡ true }
+    requires no_positions { buffer.old.positions ≡ [] }
+    requires there { 0 < length buffer.old.ahead }
+    requires number { are_glyphs (items_of buffer.old) ≡ true }
+    ensures performs { Performs (first_subtable (applied_of ctx.old) subtables.now
+        (cut_with ctx.old.random_state buffer.old)) result ctx.old.random_state ctx.new.random_state buffer.old
+        buffer.new }
+    ensures context { applied_of ctx.new ≡ applied_of ctx.old }
 {
     match subtables {
-        SubstitutionSubtables::Ligature(subtables) => {
-            apply_subtables(subtables.as_slice(), mask, buffer)
+        SubstitutionSubtables::Single(subtables) => {
+            apply_first(subtables.as_slice(), ctx, buffer)
         }
-        SubstitutionSubtables::Single(_)
-        | SubstitutionSubtables::Multiple(_)
-        | SubstitutionSubtables::Alternate(_)
-        | SubstitutionSubtables::Context(_)
+        SubstitutionSubtables::Multiple(subtables) => {
+            apply_first(subtables.as_slice(), ctx, buffer)
+        }
+        SubstitutionSubtables::Alternate(subtables) => {
+            apply_first(subtables.as_slice(), ctx, buffer)
+        }
+        SubstitutionSubtables::Ligature(subtables) => {
+            apply_ligatures(subtables.as_slice(), ctx, buffer)
+        }
+        SubstitutionSubtables::Context(_)
         | SubstitutionSubtables::ChainContext(_)
         | SubstitutionSubtables::ReverseChainSingle(_) => Ok(false),
     }
 }
 
-#[tactic(auto, using(crate::proofs::First::lookup_passes, crate::proofs::First::lookup_tries, layout_rules::specs::Lemmas::Does::does_nothing))]
-/// Does what a lookup does at the glyph at the cursor, where the glyph has a bit of the mask: what the first of its
-/// subtables does that acts. It tells whether one acted; where none did it changes glyph flags alone. Its one error is
-/// want of memory.
+/// Does what a lookup does at the glyph at the cursor, where it meets it: what the first of its subtables does that acts. It
+/// tells whether one acted; where none did it changed glyph flags alone. It refuses for want of memory, or where the output
+/// would have more glyphs than it may.
+#[tactic(auto, using(crate::proofs::First::lookup_passes, crate::proofs::First::lookup_tries))]
 pub fn apply_lookup(
     lookup: &SubstLookup,
-    mask: u32,
+    ctx: &mut hb_ot_apply_context_t,
     buffer: &mut hb_buffer_t,
 ) -> Result<bool, ShapeCause>
     requires open { buffer.old.is_open ≡ true }
     requires no_positions { buffer.old.positions ≡ [] }
     requires there { 0 < length buffer.old.ahead }
-    requires room { length buffer.old.behind < buffer.old.max_len }
     requires number { are_glyphs (items_of buffer.old) ≡ true }
-    ensures ok { IfOk result
-        (λ acted. Does (lookup_action mask lookup.now (cut_of buffer.old)) acted buffer.old buffer.new) }
-    ensures err { IfErr result (λ e. e ≡ ShapeCause.OutOfMemory) }
+    ensures performs { Performs (lookup_action (applied_of ctx.old) lookup.now
+        (cut_with ctx.old.random_state buffer.old)) result ctx.old.random_state ctx.new.random_state buffer.old
+        buffer.new }
+    ensures context { applied_of ctx.new ≡ applied_of ctx.old }
 {
-    if !shares_mask(mask, buffer.cur(0)) {
+    if !meets(ctx, buffer.cur(0)) {
         return Ok(false);
     }
-    apply_substitution(&lookup.subtables, mask, buffer)
+    apply_substitution(&lookup.subtables, ctx, buffer)
+}
+
+/// Does what the first of some subtables of reverse chaining does that acts, in place.
+#[tactic(auto, using(crate::proofs::InPlace::put_first, crate::proofs::InPlace::put_numbers, crate::proofs::InPlace::put_there, crate::proofs::InPlace::put_acted, crate::proofs::InPlace::put_all))]
+fn apply_reverse_subtables(
+    subtables: &[ReverseChainSubst],
+    ctx: &hb_ot_apply_context_t,
+    buffer: &mut hb_buffer_t,
+) -> bool
+    requires there { 0 < length buffer.old.ahead }
+    requires number { are_glyphs (items_of buffer.old) ≡ true }
+    ensures { PerformsInPlace (first_rule (reverse_subtable (applied_of ctx.now)) subtables.now
+        (cut_of buffer.old)) result buffer.old buffer.new }
+{
+    for subtable in subtables {
+        if apply_reverse_chain_single_subst(subtable, ctx, buffer) {
+            return true;
+        }
+    }
+    false
+}
+
+/// The same where the subtables are of reverse chaining; others do nothing from the right.
+fn apply_reverse_substitution(
+    subtables: &SubstitutionSubtables,
+    ctx: &hb_ot_apply_context_t,
+    buffer: &mut hb_buffer_t,
+) -> bool
+    requires there { 0 < length buffer.old.ahead }
+    requires number { are_glyphs (items_of buffer.old) ≡ true }
+    ensures { PerformsInPlace (first_reverse (applied_of ctx.now) subtables.now
+        (cut_of buffer.old)) result buffer.old buffer.new }
+{
+    match subtables {
+        SubstitutionSubtables::ReverseChainSingle(subtables) => {
+            apply_reverse_subtables(subtables.as_slice(), ctx, buffer)
+        }
+        SubstitutionSubtables::Single(_)
+        | SubstitutionSubtables::Multiple(_)
+        | SubstitutionSubtables::Alternate(_)
+        | SubstitutionSubtables::Ligature(_)
+        | SubstitutionSubtables::Context(_)
+        | SubstitutionSubtables::ChainContext(_) => false,
+    }
+}
+
+/// Does what a lookup of reverse chaining does at the glyph at the cursor of a buffer without an output, where it meets it. It
+/// tells whether it acted; where it didn't, it changed glyph flags alone. It takes no memory.
+#[tactic(auto, using(crate::proofs::First::reverse_passes, crate::proofs::First::reverse_tries))]
+pub fn apply_reverse_lookup(
+    lookup: &SubstLookup,
+    ctx: &hb_ot_apply_context_t,
+    buffer: &mut hb_buffer_t,
+) -> bool
+    requires there { 0 < length buffer.old.ahead }
+    requires number { are_glyphs (items_of buffer.old) ≡ true }
+    ensures { PerformsInPlace (reverse_action (applied_of ctx.now) lookup.now
+        (cut_of buffer.old)) result buffer.old buffer.new }
+{
+    if !meets(ctx, buffer.cur(0)) {
+        return false;
+    }
+    apply_reverse_substitution(&lookup.subtables, ctx, buffer)
 }

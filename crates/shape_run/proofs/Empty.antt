@@ -11,8 +11,9 @@ use Rattle.font_face.specs.declared.parts.FaceParts.{FaceParts}
 use Rattle.glyph_lists.specs.Parts.{or}
 use Rattle.glyph_lists.specs.Events.{Reverse, Reset}
 use Rattle.glyph_buffer.specs.Segment.{guessed_direction}
-use Rattle.glyph_lists.specs.Readings.{View, Read, Stage, with_events, then_read, then_reading, always, and_then}
+use Rattle.glyph_lists.specs.Readings.{View, Read, Reading, Stage, with_events, then_read, then_reading, always, and_then}
 use Rattle.glyph_lists.specs.Steps.{nothing_then}
+use Rattle.layout_lookups.specs.Lookups.{is_reverse}
 use Rattle.layout_lookups.specs.declared.substitution.SubstLookup.{SubstLookup}
 use Rattle.layout_lookups.specs.declared.substitution.SubstitutionTable.{SubstitutionTable}
 use Rattle.map_features.specs.declared.lookup.lookup_map_t.{lookup_map_t}
@@ -32,17 +33,22 @@ abbrev empty_view : Direction → View
 empty_view d = record { items = []; positions = []; lig_id = 0; max_ops = pos 0x1FFF_FFFF; random = 1; max_len = 0x3FFF_FFFF; direction = d; told = 0 }
 
 -- no lookup finds an index in no items
-lookup_empty : (o : Option SubstLookup) (mask : ℕ) (d : Direction) → lookup_stage o mask (empty_view d) ≡ Ok (with_events [] (empty_view d))
-lookup_empty None mask d = refl
-lookup_empty (Some lookup) mask d = refl
+either_empty : (b : Bool) (r : Reading) → (if b then r else r) ≡ r
+either_empty true r = refl
+either_empty false r = refl
 
-lookups_empty : (table : List SubstLookup) (maps : List lookup_map_t) (d : Direction) → lookups_stage table maps (empty_view d) ≡ Ok (with_events [] (empty_view d))
-lookups_empty table [] d = refl
-lookups_empty table (m ∷ maps) d = ap (λ r. and_then r (lookups_stage table maps)) (lookup_empty (slice_get table m.index) m.mask d) ∙ nothing_then (empty_view d) (lookups_stage table maps (empty_view d)) ∙ lookups_empty table maps d
+lookup_empty : (font : FaceParts) (o : Option SubstLookup) (m : lookup_map_t) (d : Direction) → lookup_stage font o m (empty_view d) ≡ Ok (with_events [] (empty_view d))
+lookup_empty font None m d = refl
+lookup_empty font (Some lookup) m d = either_empty (is_reverse lookup.subtables) (Ok (with_events [] (empty_view d)))
 
-substituted_empty : (table : Option SubstitutionTable) (m : OtMapValue) (d : Direction) → substituted table m (empty_view d) ≡ Ok (with_events [] (empty_view d))
-substituted_empty None m d = refl
-substituted_empty (Some table) m d = lookups_empty table.lookups (lookups_of_stage m.tables.gsub 0) d
+lookups_empty : (font : FaceParts) (table : List SubstLookup) (maps : List lookup_map_t) (d : Direction) → lookups_stage font table maps (empty_view d) ≡ Ok (with_events [] (empty_view d))
+lookups_empty font table [] d = refl
+lookups_empty font table (m ∷ maps) d =
+    ap (λ r. and_then r (lookups_stage font table maps)) (lookup_empty font (slice_get table m.index) m d) ∙ nothing_then (empty_view d) (lookups_stage font table maps (empty_view d)) ∙ lookups_empty font table maps d
+
+substituted_empty : (font : FaceParts) (table : Option SubstitutionTable) (m : OtMapValue) (d : Direction) → substituted font table m (empty_view d) ≡ Ok (with_events [] (empty_view d))
+substituted_empty font None m d = refl
+substituted_empty font (Some table) m d = ap (λ r. and_then r (always (λ (w : View). with_events [] (record w { random = 1 })))) (lookups_empty font table.lookups (lookups_of_stage m.tables.gsub 0) d)
 
 -- the list in native order
 abbrev ordered_read : Bool → Direction → Read
@@ -68,4 +74,4 @@ empty_text_gives_empty_line options font here =
     let script = or options.script None in
     let direction = guessed_direction options.direction script in
     let m = substitution_map font script options.features.items in
-    rw (chars-nil, here) (empty_read font options.flags options.cluster_level (asked_of options.buffer_flags) m.global_mask (substituted font.gsub m) (is_turned script direction []) direction (substituted_empty font.gsub m))
+    rw (chars-nil, here) (empty_read font options.flags options.cluster_level (asked_of options.buffer_flags) m.global_mask (substituted font font.gsub m) (is_turned script direction []) direction (substituted_empty font font.gsub m))

@@ -1,10 +1,14 @@
 -- Faults of bytes.
-use Rattle.std.proofs.Common.{◌≡◌, ◌≢◌, ℕ, List, Ok, Err, sym, subst}
+use Rattle.std.proofs.Common.{◌≡◌, ◌≢◌, ℕ, Bool, false, List, Ok, Err, refl, sym, ap, subst}
 use Rattle.std.specs.Prelude.{Option, Some, None, IfSome, Result, IfErr, IsErrAnd}
 use Rattle.run_options.specs.declared.fault.RunFault.{RunFault}
 use Rattle.run_options.specs.declared.fault.RunFault.TheVariants.{OutOfMemory}
 use Rattle.run_options.specs.declared.options.Options.{Options}
-use Rattle.shape_run.specs.Answer.{IsAnswer}
+use Rattle.run_options.specs.Fault.{fault_of_cause}
+use Rattle.glyph_types.specs.declared.cause.ShapeCause.{ShapeCause}
+use Rattle.glyph_types.specs.declared.cause.ShapeCause.TheVariants.{OutOfMemory as NoMemory}
+use Rattle.glyph_lists.specs.Readings.{Reading}
+use Rattle.shape_run.specs.Answer.{IsAnswer, IsUnshaped}
 use Rattle.shape_run.specs.Run.{IsOfBytes, OnKnown}
 
 not_memory : (e : RunFault) → IsOfBytes e → e ≢ OutOfMemory
@@ -25,3 +29,9 @@ known_refused options None fs xs a b c e p q r h k = tt
 pub passed_on : {A E : Type 0} (r : Result A E) (e : E) (P : E → Type 0) → IsErrAnd r (λ (f : E). f ≡ e) → P e → IfErr r P
 passed_on (Ok a) e P h p = tt
 passed_on (Err f) e P h p = subst P (sym h) p
+
+-- a text that doesn't wait, and whose reading refuses
+pub refused_reading : (waiting : Bool) (r : Reading) (cause : ShapeCause) → waiting ≡ false → (cause ≢ NoMemory → r ≡ Err cause) → fault_of_cause cause ≢ OutOfMemory → IsUnshaped waiting r (fault_of_cause cause)
+refused_reading waiting r cause here h not_memory =
+    let P : Bool → Type 0 = λ b. IsUnshaped b r (fault_of_cause cause) in
+    subst P (sym here) (cause, h (λ e. not_memory (ap fault_of_cause e)), refl)

@@ -1,5 +1,5 @@
 -- What is printed of a buffer is what is printed of its reading.
-use Rattle.std.proofs.Common.{ℕ, ◌≡◌, ◌≤◌, ◌+◌, true, false, List, [], ◌∷◌, Ok, Err, refl, sym, ap, ◌∙◌, arith}
+use Rattle.std.proofs.Common.{ℕ, ◌≡◌, ◌≤◌, ◌+◌, Bool, true, false, if◌then◌else◌, List, [], ◌∷◌, Ok, Err, refl, sym, ap, ◌∙◌, arith}
 use Rattle.std.specs.Prelude.{bit_and, All}
 use Rattle.std.specs.List.{list_all}
 use Rattle.std.proofs.lemmas.Nat.{and_mask}
@@ -16,10 +16,11 @@ use Rattle.shape_run.specs.Stages.{is_glyph_number, text_buffer}
 use Rattle.shape_run.specs.Path.{shaping}
 use Rattle.shape_run.specs.Waiting.{waits}
 use Rattle.font_face.specs.declared.parts.FaceParts.{FaceParts}
+use Rattle.run_options.specs.declared.fault.RunFault.{RunFault}
 use Rattle.run_options.specs.declared.fault.RunFault.TheVariants.{NotYet}
 use Rattle.run_options.specs.declared.options.Options.{Options}
 use Rattle.glyph_buffer.specs.Sides.{Sides, all_glyphs, items_of, run_of, empty_buffer}
-use Rattle.shape_run.specs.Answer.{printed_line, line_of, line_of_run, line_of_reading}
+use Rattle.shape_run.specs.Answer.{printed_line, line_of, line_of_run, line_of_reading, IsUnshaped}
 
 -- glyph numbers, as the printing asks for them
 pub glyph_numbers : (gs : List hb_glyph_info_t) → list_all is_glyph_number gs ≡ true → All (λ (g : hb_glyph_info_t). g.glyph_id ≤ 65535) gs
@@ -67,8 +68,16 @@ line_shaped options font text b line fits here f e =
     let r = read_of (shaping font options.features.items s.script) (run_of s) in
     line_of_fitting options font text fits here ∙ line_follows font options.flags r (run_of s) b f ∙ ap Ok (sym e)
 
--- the line of a text that fits and waits
-pub line_waits : (options : Options) (font : FaceParts) (text : List ℕ) → fits_text text empty_buffer ≡ true
-    → waits options.features.items (text_buffer options text).script (text_buffer options text).direction (items_of (text_buffer options text)) ≡ true
-    → line_of options font text ≡ Err NotYet
-line_waits options font text fits here = rw (fits, here) refl
+-- a text that was not shaped has no line
+unshaped_line : (font : FaceParts) (flags : SerializeFlags) (waiting : Bool) (run : Run) (r : Reading) (e : RunFault) → IsUnshaped waiting r e → (if waiting then Err NotYet else line_of_reading font flags run r) ≡ Err e
+unshaped_line font flags true run r e h = ap Err (sym h)
+unshaped_line font flags false run r e h = ap (line_of_reading font flags run) h.1 ∙ ap Err (sym h.2)
+
+-- the line of a text that fits and was not shaped
+pub line_unshaped : (options : Options) (font : FaceParts) (text : List ℕ) (e : RunFault) → fits_text text empty_buffer ≡ true
+    → IsUnshaped (waits options.features.items (text_buffer options text).script (text_buffer options text).direction (items_of (text_buffer options text)))
+    (read_of (shaping font options.features.items (text_buffer options text).script) (run_of (text_buffer options text))) e
+    → line_of options font text ≡ Err e
+line_unshaped options font text e fits h =
+    let s = text_buffer options text in
+    rw fits (unshaped_line font options.flags (waits options.features.items s.script s.direction (items_of s)) (run_of s) (read_of (shaping font options.features.items s.script) (run_of s)) e h)

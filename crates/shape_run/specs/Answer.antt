@@ -1,5 +1,5 @@
 -- What is printed for the bytes of tables, a font and a text, or the first fault that is found in them.
-use Rattle.std.specs.Prelude.{ℕ, pos, ◌==◌, ◌-◌, bit_and, if◌then◌else◌, List, [], ◌∷◌, ◌++◌, length, take, slice_index, Option, Result, Ok, Err}
+use Rattle.std.specs.Prelude.{ℕ, pos, Bool, true, false, ◌≡◌, ◌==◌, ◌-◌, bit_and, if◌then◌else◌, List, [], ◌∷◌, ◌++◌, length, take, slice_index, Option, Result, Ok, Err}
 use Rattle.std.specs.Str.{is_utf8}
 use Rattle.serde_json.specs.Data.{Data}
 use Rattle.glyph_types.specs.declared.info.hb_glyph_info_t.{hb_glyph_info_t}
@@ -9,6 +9,7 @@ use Rattle.shaping_text.specs.declared.direction.Direction.{Direction}
 use Rattle.shaping_text.specs.declared.script.Script.{Script}
 use Rattle.json_values.specs.declared.fault.JsonFault.{JsonFault}
 use Rattle.json_values.specs.declared.fault.JsonFault.TheVariants.{WrongShape}
+use Rattle.glyph_types.specs.declared.cause.ShapeCause.{ShapeCause}
 use Rattle.glyph_types.specs.declared.cause.ShapeCause.TheVariants.{TooLong}
 use Rattle.run_options.specs.declared.fault.RunFault.{RunFault}
 use Rattle.run_options.specs.declared.fault.RunFault.TheVariants.{NotUtf8, NotYet, Shape}
@@ -91,6 +92,11 @@ line_of_reading font flags run (Err e) = Err (fault_of_cause e)
 abbrev pub line_of_text : FaceParts → SerializeFlags → List Feature → Option Script → Run → Result (List ℕ) RunFault
 line_of_text font flags features script run = if waits features script run.view.direction run.view.items then Err NotYet
     else line_of_reading font flags run (read_of (shaping font features script) run)
+
+-- why a text was not shaped: it is not shaped yet, or its reading refuses
+abbrev pub IsUnshaped : Bool → Reading → RunFault → Type 0
+IsUnshaped true reading e = e ≡ NotYet
+IsUnshaped false reading e = (cause : ShapeCause) × (reading ≡ Err cause) × (e ≡ fault_of_cause cause)
 
 -- what flags ask of glyph flags
 abbrev pub asked_of : BufferFlags → Asks

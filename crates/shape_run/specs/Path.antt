@@ -14,7 +14,7 @@ use Rattle.feature_text.specs.Feature.{is_global}
 use Rattle.layout_lookups.specs.declared.substitution.SubstitutionTable.{SubstitutionTable}
 use Rattle.map_features.specs.declared.flags.TheConstants.{F_NONE, F_GLOBAL}
 use Rattle.map_builder.specs.Compiled.{MapRequests, no_requests, with_request, OtMapValue, compiled, lookups_of_stage}
-use Rattle.layout_stages.specs.Lookups.{lookups_stage}
+use Rattle.layout_stages.specs.Lookups.{lookups_stage, with_own_random}
 use Rattle.glyph_buffer.specs.Masks.{item_masked}
 use Rattle.shaping_text.specs.Direction.{direction_of_script, opposite, is_backward}
 use Rattle.shaping_text.specs.declared.direction.Direction.{Direction}
@@ -138,10 +138,10 @@ requests font script features = fold with_asked (with_request liga F_GLOBAL 1 (n
 unfoldable pub substitution_map : FaceParts → Option Script → List Feature → OtMapValue
 substitution_map font script features = compiled (requests font script features)
 
--- the lookups of the first stage of substitution, in order; without pauses there is no other stage
-abbrev pub substituted : Option SubstitutionTable → OtMapValue → Stage
-substituted None m v = as_it_is v
-substituted (Some table) m v = lookups_stage table.lookups (lookups_of_stage m.tables.gsub 0) v
+-- the lookups of the first stage of substitution, in order, with a random state of their own; without pauses there is no other stage
+abbrev pub substituted : FaceParts → Option SubstitutionTable → OtMapValue → Stage
+substituted font None m v = as_it_is v
+substituted font (Some table) m v = with_own_random (lookups_stage font table.lookups (lookups_of_stage m.tables.gsub 0)) v
 
 -- ---- all of it
 
@@ -155,7 +155,7 @@ after_substitution font v = and_then (always (advanced font) v) (always drawn_or
 
 -- the stages, where the substitutions are known
 abbrev pub shaped_with : FaceParts → OtMapValue → Option Script → Stage
-shaped_with font m script v = and_then (and_then (before_substitution font m.global_mask script v) (substituted font.gsub m)) (after_substitution font)
+shaped_with font m script v = and_then (and_then (before_substitution font m.global_mask script v) (substituted font font.gsub m)) (after_substitution font)
 
 abbrev pub shaping : FaceParts → List Feature → Option Script → Stage
 shaping font features script v = shaped_with font (substitution_map font script features) script v

@@ -11,6 +11,8 @@ ghost use Rattle.std.specs.List.{list_any, list_all};
 ghost use Rattle.unicode.specs.GeneralCategory.{general_category};
 ghost use Rattle.shape_run.specs.Path.{advance_position, is_decimal_number, is_letter, is_regional_indicator, is_number_text, is_numeral, native_direction, nominal_glyph, runs_against, script_direction, shaped_with, shaping, substituted, with_numbers, written_direction};
 ghost use Rattle.shape_run.specs.Waiting.{waits};
+ghost use Rattle.shape_run.specs.Answer.{IsUnshaped};
+ghost use Rattle.shape_run.specs.Run.{IsOfRun};
 ghost use Rattle.shape_run.specs.Stages.{drawn, is_glyph_number, mapped_glyph, ordered, with_advances, with_mapped, with_next_advanced, with_next_mapped};
 
 use crate::feature_map::substitution_map;
@@ -243,22 +245,18 @@ fn map_text(face: &Face, mask: u32, buffer: &mut hb_buffer_t) -> Result<(), Shap
 }
 
 /// Does the lookups of the map's first stage of substitution, in order.
-fn substitute(
-    table: Option<&SubstitutionTable>,
-    map: &hb_ot_map_t,
-    buffer: &mut hb_buffer_t,
-) -> Result<(), ShapeCause>
+fn substitute(face: &Face, map: &hb_ot_map_t, buffer: &mut hb_buffer_t) -> Result<(), ShapeCause>
     requires staged { 0 < length map.now.tables.gsub.stages }
     requires ready { IsReady buffer.old }
     requires numbers { are_glyphs (items_of buffer.old) ≡ true }
-    ensures ok { OnOk result (IsDone (substituted (option_copied table.entry) map.now) buffer.old buffer.new) }
-    ensures err { IfErr result (λ e. e ≡ ShapeCause.OutOfMemory) }
+    ensures ok { OnOk result (IsDone (substituted face.now face.now.gsub map.now) buffer.old buffer.new) }
+    ensures err { IfErr result (λ e. e ≢ ShapeCause.OutOfMemory
+        → read_of (substituted face.now face.now.gsub map.now) (run_of buffer.old) ≡ Err e) }
 {
-    let Some(table) = table else {
+    let Some(table) = face.gsub() else {
         return Ok(());
     };
-    apply_lookups(table, map.stage_lookups(TableIndex::GSUB, 0), buffer)?;
-    Ok(())
+    apply_lookups(face, table, map.stage_lookups(TableIndex::GSUB, 0), buffer)
 }
 
 /// Gives each glyph its advance, and puts the glyphs in the order in which they are drawn.
@@ -282,10 +280,11 @@ fn shape_with(face: &Face, map: &hb_ot_map_t, buffer: &mut hb_buffer_t) -> Resul
         (run_of buffer.old) (run_of buffer.new)) }
     ensures numbers { OnOk result (list_all is_glyph_number (all_glyphs buffer.new) ≡ true) }
     ensures still_closed { OnOk result (buffer.new.is_open ≡ false) }
-    ensures err { IfErr result (λ e. e ≡ ShapeCause.OutOfMemory) }
+    ensures err { IfErr result (λ e. e ≢ ShapeCause.OutOfMemory
+        → read_of (shaped_with face.now map.now buffer.old.script) (run_of buffer.old) ≡ Err e) }
 {
     map_text(face, map.get_global_mask(), buffer)?;
-    substitute(face.gsub(), map, buffer)?;
+    substitute(face, map, buffer)?;
     place_glyphs(face, buffer);
     Ok(())
 }
@@ -304,7 +303,8 @@ fn shape_buffer(
         (run_of buffer.old) (run_of buffer.new)) }
     ensures numbers { OnOk result (list_all is_glyph_number (all_glyphs buffer.new) ≡ true) }
     ensures still_closed { OnOk result (buffer.new.is_open ≡ false) }
-    ensures err { IfErr result (λ e. e ≡ ShapeCause.OutOfMemory) }
+    ensures err { IfErr result (λ e. e ≢ ShapeCause.OutOfMemory
+        → read_of (shaping face.now features.now buffer.old.script) (run_of buffer.old) ≡ Err e) }
 {
     let map = substitution_map(alloc, face, buffer.script(), features)?;
     shape_with(face, &map, buffer)
@@ -322,7 +322,9 @@ pub(crate) fn shape(
         (read_of (shaping face.now features.now text.script) (run_of text)) (run_of text) (run_of glyphs)) }
     ensures numbers { IfOk result (λ glyphs. list_all is_glyph_number (all_glyphs glyphs) ≡ true) }
     ensures refused { IfErr result (λ e. e ≢ RunFault.OutOfMemory
-        → (e ≡ RunFault.NotYet) × (waits features.now text.script text.direction (items_of text) ≡ true)) }
+        → IsUnshaped (waits features.now text.script text.direction (items_of text))
+        (read_of (shaping face.now features.now text.script) (run_of text)) e) }
+    ensures kind { IfErr result IsOfRun }
 {
     let mut buffer = text.into_buffer();
     if waits(

@@ -1,0 +1,13 @@
+use Rattle.std.proofs.Common.{◌≡◌, sym, ◌∙◌}
+use Rattle.layout_lookups.specs.Lookups.{is_reverse}
+use Rattle.layout_match.specs.Applied.{applied_of}
+use Rattle.layout_stages.specs.Lookups.{looked_back, looked_up, lookup_action, reverse_action}
+use Rattle.layout_stages.proofs.Stages.{either_done}
+use Rattle.layout_stages.proofs.apply.apply_everywhere.Goals as goal
+
+pub returns-then-is_reverse-clause-ok : goal.returns-then-is_reverse-clause-ok
+returns-then-is_reverse-clause-ok c =
+    let a = applied_of c.args.ctx.now in
+    let lookup = c.args.lookup.now in
+    let r = c.args.ctx.now.random_state in
+    either_done (is_reverse lookup.subtables) (looked_back (reverse_action a lookup)) (looked_up (lookup_action a lookup)) r r c.args.buffer.now c.apply_backward.new.buffer (sym c.is_reverse.ensures ∙ c.if-is_reverse.true) (c.apply_backward.ensures r)

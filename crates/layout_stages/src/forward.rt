@@ -1,0 +1,69 @@
+ghost use Rattle.std.specs.Prelude.{◌≡◌, ◌≢◌, true, [], Err, IfErr, OnOk};
+ghost use Rattle.glyph_lists.specs.Readings.{read_of};
+ghost use Rattle.glyph_buffer.specs.Sides.{items_of};
+ghost use Rattle.layout_match.specs.Applied.{applied_of};
+ghost use Rattle.layout_rules.specs.Buffers.{are_glyphs};
+ghost use Rattle.layout_rules.specs.Ready.{IsDoneFrom, IsReady, run_with};
+ghost use Rattle.layout_stages.specs.Lookups.{looked_up, lookup_action};
+ghost use Rattle.layout_stages.specs.Steps.{IsGivenUp, IsStep};
+
+use crate::lookup::apply_lookup;
+use glyph_buffer::buffer::hb_buffer_t;
+use glyph_types::cause::ShapeCause;
+use layout_lookups::substitution::SubstLookup;
+use layout_match::hb_ot_apply_context_t;
+
+/// Tries a lookup at the cursor, and goes on over the glyph where it doesn't act; at the end it does nothing.
+#[tactic(auto, using(crate::proofs::Steps::step_ended))]
+fn apply_next(
+    lookup: &SubstLookup,
+    ctx: &mut hb_ot_apply_context_t,
+    buffer: &mut hb_buffer_t,
+) -> Result<(), ShapeCause>
+    requires open { buffer.old.is_open ≡ true }
+    requires no_positions { buffer.old.positions ≡ [] }
+    requires numbers { are_glyphs (items_of buffer.old) ≡ true }
+    ensures ok { OnOk result (IsStep (lookup_action
+        (applied_of ctx.old) lookup.now) ctx.old.random_state ctx.new.random_state buffer.old buffer.new) }
+    ensures err { IfErr result (λ e. e ≢ ShapeCause.OutOfMemory
+        → IsGivenUp (lookup_action (applied_of ctx.old) lookup.now) ctx.old.random_state buffer.old e) }
+    ensures context { applied_of ctx.new ≡ applied_of ctx.old }
+{
+    if buffer.idx() == buffer.len() {
+        return Ok(());
+    }
+    if apply_lookup(lookup, ctx, buffer)? {
+        return Ok(());
+    }
+    if !buffer.next_glyph()? {
+        return Err(ShapeCause::TooLong);
+    }
+    Ok(())
+}
+
+/// Tries a lookup at each glyph once, from the left, and goes on after what it made.
+#[tactic(auto, using(crate::proofs::Passage::begun))]
+pub fn apply_forward(
+    lookup: &SubstLookup,
+    ctx: &mut hb_ot_apply_context_t,
+    buffer: &mut hb_buffer_t,
+) -> Result<(), ShapeCause>
+    requires ready { IsReady buffer.old }
+    requires numbers { are_glyphs (items_of buffer.old) ≡ true }
+    ensures ok { OnOk result
+        (IsDoneFrom ctx.old.random_state ctx.new.random_state (looked_up
+        (lookup_action (applied_of ctx.old) lookup.now)) buffer.old buffer.new) }
+    ensures err { IfErr result (λ e. e ≢ ShapeCause.OutOfMemory → read_of (looked_up
+        (lookup_action (applied_of ctx.old) lookup.now)) (run_with ctx.old.random_state buffer.old) ≡ Err e) }
+    ensures context { applied_of ctx.new ≡ applied_of ctx.old }
+{
+    let count = buffer.len();
+    buffer.clear_output()?;
+    for _ in 0..count {
+        apply_next(lookup, ctx, buffer)?;
+    }
+    if !buffer.sync()? {
+        return Err(ShapeCause::TooLong);
+    }
+    Ok(())
+}
