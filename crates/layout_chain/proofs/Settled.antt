@@ -3,7 +3,7 @@ use Rattle.std.proofs.Common.{ℕ, ◌≡◌, ◌<◌, ◌+◌, ◌^◌, List, l
 use Rattle.std.specs.List.{All}
 use Rattle.std.proofs.lemmas.Option.{slice_get_within}
 use Rattle.layout_chain.specs.Places.{AreRising}
-use Rattle.layout_chain.proofs.Rising.{rising_below}
+use Rattle.layout_chain.specs.Lemmas.Rising.{rising_below}
 
 pub in_places : (ps : List ℕ) (i p : ℕ) → slice_get ps i ≡ Some p → i < length ps
 in_places ps i p e = slice_get_within ps i p e
