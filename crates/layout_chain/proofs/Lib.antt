@@ -1,5 +1,7 @@
 pub mod Shifted
-pub mod Rising
 pub mod Around
 pub mod Fitted
 pub mod Matching
+pub mod Cuts
+pub mod Settled
+pub mod Begun

@@ -15,7 +15,7 @@ use Rattle.layout_chain.specs.Fitting.{IsMatched}
 use Rattle.layout_chain.specs.Places.{AreRising}
 use Rattle.layout_chain.specs.Lemmas.Lengths.{front_length, whole_length}
 use Rattle.layout_chain.specs.Lemmas.Steps.{nests_later}
-use Rattle.layout_chain.proofs.Rising.{shifted_rise, wider}
+use Rattle.layout_chain.specs.Lemmas.Rising.{shifted_rise, wider}
 
 -- without an attempt nothing is done
 pub not_tried : (a : Applied) (r : Chain) (random : ℕ) (s : Sides) → ((nest : Option (ℕ → Action)) → chain_rule nest a r (cut_with random s) ≡ Passes []) → (nest : Option (ℕ → Action)) → Nests (chain_rule nest a r (cut_with random s)) (Ok false) random random s s

@@ -1,3 +1,5 @@
 -- Lemmas for the loop over the records of a rule.
 pub mod Steps
 pub mod Lengths
+pub mod Rising
+pub mod Walks

@@ -4,4 +4,5 @@ pub mod Nested
 pub mod Chains
 pub mod Nesting
 pub mod Fitting
+pub mod Records
 pub mod Lemmas

@@ -5,5 +5,11 @@ pub mod chain;
 pub mod counts;
 pub mod marks;
 pub mod places;
+pub mod records;
+pub mod rules;
 
+pub use chain::{ChainRule, match_chain};
+pub use counts::glyph_count;
 pub use places::settle_places;
+pub use records::{begin_record, go_behind, settle_match};
+pub use rules::{class_rule, coverage_rule, glyph_rule};

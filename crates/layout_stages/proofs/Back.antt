@@ -1,5 +1,5 @@
 -- A lookup of reverse chaining on its way back over a buffer.
-use Rattle.std.proofs.Common.{ℕ, suc, ◌≡◌, ◌≤◌, ◌<◌, ◌+◌, ◌-◌, Bool, true, false, if◌then◌else◌, map, List, [], ◌∷◌, ◌++◌, length, take, drop, Ok, Err, refl, sym, ap, subst, ◌∙◌, arith}
+use Rattle.std.proofs.Common.{ℕ, suc, ◌≡◌, ◌+◌, Bool, true, false, if◌then◌else◌, map, List, [], length, Ok, Err, refl, sym, ap, subst, ◌∙◌, arith}
 use Rattle.std.specs.Prelude.{Option, Some, None, Result}
 use Rattle.std.proofs.lemmas.List.{map-append, take-map, drop-map, take-append-drop, length-map, length-append}
 use Rattle.glyph_lists.specs.Items.{Item, item_of, strip}
@@ -8,7 +8,7 @@ use Rattle.glyph_lists.specs.Events.{Event, origins_after}
 use Rattle.glyph_lists.specs.Parts.{first_of}
 use Rattle.glyph_lists.specs.Readings.{View, Reading, Run, Follows, then_reading, with_events, read_of}
 use Rattle.glyph_lists.specs.Steps.{follows_happened, follows_from}
-use Rattle.glyph_buffer.specs.Sides.{Sides, all_glyphs, view_of, run_of, items_of, settings_of, told_of, origins_of, asks_of}
+use Rattle.glyph_buffer.specs.Sides.{Sides, all_glyphs, run_of, items_of, settings_of, told_of, asks_of}
 use Rattle.glyph_buffer.specs.Moving.{moved_to}
 use Rattle.layout_common.specs.Rows.{value_of}
 use Rattle.layout_lookups.specs.declared.substitution.SubstLookup.{SubstLookup}
@@ -18,9 +18,9 @@ use Rattle.layout_substitutions.specs.declared.reverse.ReverseChainSubst.{Revers
 use Rattle.layout_match.specs.Applied.{Applied, context_search}
 use Rattle.layout_match.specs.Matches.{backtrack_end, lookahead_end}
 use Rattle.layout_match.specs.Sequences.{is_covered_by}
-use Rattle.layout_rules.specs.Actions.{Cut, whole, view_at, uncut, Outcome, Passes, Acts, Refuses, Action}
-use Rattle.layout_rules.specs.Buffers.{cut_of, are_glyphs, IsStill, Happened, IsPassed}
-use Rattle.layout_rules.specs.Performing.{cut_with, IsPutInPlace, PerformsInPlace}
+use Rattle.layout_rules.specs.Actions.{Cut, view_at, uncut, Outcome, Passes, Acts, Refuses, Action}
+use Rattle.layout_rules.specs.Buffers.{cut_of, are_glyphs, IsStill, Happened}
+use Rattle.layout_rules.specs.Performing.{cut_with, PerformsInPlace}
 use Rattle.layout_rules.specs.Ready.{IsReady, IsDoneFrom, run_with}
 use Rattle.layout_rules.specs.Lemmas.Frames.{still_settings, still_refused, still_positions, still_direction, still_told, still_open, same_level, same_asks, same_numbers}
 use Rattle.layout_rules.specs.Lemmas.Performed.{same_with}

@@ -1,5 +1,5 @@
 -- A lookup on its way over a buffer.
-use Rattle.std.proofs.Common.{ℕ, suc, ◌≡◌, ◌≤◌, ◌<◌, ◌+◌, ◌-◌, ◌&&◌, Bool, true, false, not, nat_le, if◌then◌else◌, [], length, Ok, Err, refl, sym, ap, subst, ◌∙◌, arith}
+use Rattle.std.proofs.Common.{ℕ, suc, ◌≡◌, ◌≤◌, ◌<◌, ◌+◌, ◌-◌, true, false, nat_le, [], length, Ok, Err, refl, sym, ap, subst, ◌∙◌, arith}
 use Rattle.std.specs.Prelude.{Result, IfErr, IsErrAnd}
 use Rattle.std.proofs.lemmas.List.{map-append, length-map, length-replicate}
 use Rattle.glyph_types.specs.declared.cause.ShapeCause.{ShapeCause}
@@ -7,7 +7,7 @@ use Rattle.glyph_types.specs.declared.cause.ShapeCause.TheVariants.{TooLong}
 use Rattle.glyph_lists.specs.Items.{item_of, strip}
 use Rattle.glyph_lists.specs.Readings.{View, Reading, Run, Follows, read_of}
 use Rattle.glyph_lists.specs.Steps.{follows_then, follows_from, refused_first, refused_then}
-use Rattle.glyph_buffer.specs.Sides.{Sides, all_glyphs, view_of, run_of, items_of, told_of, with_output, synced, fits_joined, zero_positions, zero_position}
+use Rattle.glyph_buffer.specs.Sides.{Sides, all_glyphs, run_of, items_of, told_of, with_output, synced, fits_joined, zero_positions, zero_position}
 use Rattle.layout_match.specs.Applied.{Applied}
 use Rattle.layout_rules.specs.Actions.{view_at, uncut, Action}
 use Rattle.layout_rules.specs.Buffers.{are_glyphs, IsStill}

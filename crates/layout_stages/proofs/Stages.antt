@@ -1,5 +1,5 @@
 -- Lookups one after another.
-use Rattle.std.proofs.Common.{ℕ, ◌≡◌, ◌≤◌, ◌<◌, ◌+◌, List, [], ◌∷◌, length, drop, get_or, true, false, Err, refl, sym, ap, subst, ◌∙◌}
+use Rattle.std.proofs.Common.{ℕ, ◌≡◌, ◌≤◌, ◌<◌, ◌+◌, List, [], ◌∷◌, length, drop, get_or, true, false, Err, refl, sym, subst, ◌∙◌}
 use Rattle.std.specs.Prelude.{slice_get, None, Option, Bool, if◌then◌else◌}
 use Rattle.std.proofs.lemmas.List.{drop_more, drop_all}
 use Rattle.glyph_types.specs.declared.cause.ShapeCause.{ShapeCause}

@@ -17,7 +17,7 @@ use Rattle.layout_match.specs.Searches.{is_left_out}
 use Rattle.layout_rules.specs.Masks.{shares_mask}
 use Rattle.layout_rules.specs.Actions.{Cut, whole, view_at, uncut, past_item, Outcome, Passes, Acts, Refuses, Action, first_rule, at_first, within_limit}
 use Rattle.layout_gsub.specs.Alternates.{alternate_subtable}
-use Rattle.layout_gsub.specs.Ligatures.{ligature_subtable}
+use Rattle.layout_gsub.specs.Ligating.{ligature_subst}
 use Rattle.layout_gsub.specs.Multiples.{multiple_subtable}
 use Rattle.layout_gsub.specs.Replacements.{single_subtable}
 use Rattle.layout_gsub.specs.Reverses.{reverse_subtable}
@@ -32,12 +32,12 @@ applied_by font lookup m = record { table = GSUB; font = font; props = props_of 
 abbrev pub meets : Applied → Item → Bool
 meets a x = shares_mask a.mask x.mask && not (is_left_out a.props a.font.gdef.sets x)
 
--- of a lookup that is tried from the left the first subtable that acts; contexts don't act yet, and ligatures are of items that follow each other
+-- of a lookup that is tried from the left the first subtable that acts; contexts don't act yet
 abbrev pub first_subtable : Applied → SubstitutionSubtables → Action
 first_subtable a (Single subtables) c = first_rule (λ s. single_subtable a.font.gdef s.rows) subtables c
 first_subtable a (Multiple subtables) c = first_rule (λ s. multiple_subtable a.font.gdef s.rows) subtables c
 first_subtable a (Alternate subtables) c = first_rule (λ s. alternate_subtable a.font.gdef a.random a.mask s.rows) subtables c
-first_subtable a (Ligature subtables) c = within_limit 1 c (first_rule (ligature_subtable a.mask) subtables c)
+first_subtable a (Ligature subtables) c = first_rule (ligature_subst a) subtables c
 first_subtable a (Context subtables) c = Passes []
 first_subtable a (ChainContext subtables) c = Passes []
 first_subtable a (ReverseChainSingle subtables) c = Passes []

@@ -1,20 +1,17 @@
-ghost use Rattle.std.specs.Prelude.{◌≡◌, ◌<◌, true, [], length, IfOk, IfErr};
+ghost use Rattle.std.specs.Prelude.{◌≡◌, ◌<◌, true, [], length};
 ghost use Rattle.glyph_buffer.specs.Sides.{items_of};
 ghost use Rattle.glyph_lists.specs.Items.{item_of};
 ghost use Rattle.layout_match.specs.Applied.{applied_of};
-ghost use Rattle.layout_rules.specs.Actions.{first_rule, within_limit};
-ghost use Rattle.layout_rules.specs.Buffers.{Does, are_glyphs, cut_of};
+ghost use Rattle.layout_rules.specs.Actions.{first_rule};
+ghost use Rattle.layout_rules.specs.Buffers.{are_glyphs, cut_of};
 ghost use Rattle.layout_rules.specs.Performing.{Performs, PerformsInPlace, cut_with};
-ghost use Rattle.layout_gsub.specs.Ligatures.{ligature_subtable};
 ghost use Rattle.layout_gsub.specs.Reverses.{reverse_subtable};
 ghost use Rattle.layout_stages.specs.Lookups.{first_reverse, first_subtable, lookup_action, meets, reverse_action};
 
 use glyph_buffer::buffer::hb_buffer_t;
 use glyph_types::cause::ShapeCause;
 use glyph_types::info::hb_glyph_info_t;
-use layout_font::ligature::LigatureSubst;
 use layout_gsub::apply::apply_first;
-use layout_gsub::ligature::apply_ligature_subst;
 use layout_gsub::reverse::apply_reverse_chain_single_subst;
 use layout_lookups::substitution::{SubstLookup, SubstitutionSubtables};
 use layout_match::hb_ot_apply_context_t;
@@ -26,52 +23,6 @@ fn meets(ctx: &hb_ot_apply_context_t, info: &hb_glyph_info_t) -> bool
     ensures { result ≡ meets (applied_of ctx.now) (item_of info.now) }
 {
     shares_mask(ctx.lookup_mask(), info) && ctx.check_glyph_property(info, ctx.lookup_props)
-}
-
-#[tactic(auto, using(layout_rules::specs::Lemmas::Tried::tried_first, layout_rules::specs::Lemmas::Tried::tried_open, layout_rules::specs::Lemmas::Tried::tried_positions, layout_rules::specs::Lemmas::Tried::tried_limit, layout_rules::specs::Lemmas::Tried::tried_numbers, layout_rules::specs::Lemmas::Tried::tried_next, layout_rules::specs::Lemmas::Tried::tried_acted, layout_rules::specs::Lemmas::Tried::tried_all))]
-fn apply_subtables(
-    subtables: &[LigatureSubst],
-    mask: u32,
-    buffer: &mut hb_buffer_t,
-) -> Result<bool, ShapeCause>
-    requires open { buffer.old.is_open ≡ true }
-    requires no_positions { buffer.old.positions ≡ [] }
-    requires there { 0 < length buffer.old.ahead }
-    requires room { length buffer.old.behind < buffer.old.max_len }
-    requires number { are_glyphs (items_of buffer.old) ≡ true }
-    ensures ok { IfOk result
-        (λ acted. Does (first_rule (ligature_subtable mask) subtables.now
-        (cut_of buffer.old)) acted buffer.old buffer.new) }
-    ensures err { IfErr result (λ e. e ≡ ShapeCause.OutOfMemory) }
-{
-    for subtable in subtables {
-        if apply_ligature_subst(subtable, mask, buffer)? {
-            return Ok(true);
-        }
-    }
-    Ok(false)
-}
-
-/// Puts the first ligature that matches in the place of its components, where the output may have one glyph more.
-#[tactic(auto, using(crate::proofs::Plain::plain_full, crate::proofs::Plain::plain_performed))]
-fn apply_ligatures(
-    subtables: &[LigatureSubst],
-    ctx: &hb_ot_apply_context_t,
-    buffer: &mut hb_buffer_t,
-) -> Result<bool, ShapeCause>
-    requires open { buffer.old.is_open ≡ true }
-    requires no_positions { buffer.old.positions ≡ [] }
-    requires there { 0 < length buffer.old.ahead }
-    requires number { are_glyphs (items_of buffer.old) ≡ true }
-    ensures { Performs (within_limit 1 (cut_with ctx.now.random_state buffer.old) (first_rule
-        (ligature_subtable (applied_of ctx.now).mask) subtables.now
-        (cut_with ctx.now.random_state buffer.old))) result ctx.now.random_state ctx.now.random_state buffer.old
-        buffer.new }
-{
-    if buffer.max_len() <= buffer.out_len() {
-        return Err(ShapeCause::TooLong);
-    }
-    apply_subtables(subtables, ctx.lookup_mask(), buffer)
 }
 
 /// Does what the first of the subtables does that acts, at the cursor. Contexts do nothing yet, and reverse chaining is not
@@ -101,7 +52,7 @@ fn apply_substitution(
             apply_first(subtables.as_slice(), ctx, buffer)
         }
         SubstitutionSubtables::Ligature(subtables) => {
-            apply_ligatures(subtables.as_slice(), ctx, buffer)
+            apply_first(subtables.as_slice(), ctx, buffer)
         }
         SubstitutionSubtables::Context(_)
         | SubstitutionSubtables::ChainContext(_)

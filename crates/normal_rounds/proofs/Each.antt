@@ -8,7 +8,7 @@ use Rattle.glyph_lists.specs.Lists.{take_next, drop_next}
 use Rattle.glyph_buffer.specs.Sides.{Sides}
 use Rattle.normal_forms.specs.Arranged.{Arranged, in_turn}
 use Rattle.normal_rounds.specs.Brought.{Brought, Overfills}
-use Rattle.normal_rounds.proofs.Chain.{none_behind, brought_none, brought_more, overfills_after}
+use Rattle.normal_rounds.specs.Lemmas.Chain.{none_behind, brought_none, brought_more, overfills_after}
 
 -- so many of n items ahead are behind the cursor, each as f has it
 pub record IsUnderway (f : Item → Arranged) (n at : ℕ) (start now : Sides) : Type 0 where

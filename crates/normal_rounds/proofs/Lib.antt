@@ -1,7 +1,6 @@
 pub mod Alone
 pub mod Supported
 pub mod Parts
-pub mod Chain
 pub mod Put
 pub mod Select
 pub mod Selections
@@ -9,4 +8,3 @@ pub mod Each
 pub mod Walk
 pub mod Spaces
 pub mod Found
-pub mod Refusals

@@ -20,7 +20,7 @@ use Rattle.normal_forms.specs.SupportedExpansion.{expansion}
 use Rattle.normal_forms.specs.Expanding.{whole_item, part_of, items_for, expanded_item, expanded}
 use Rattle.normal_rounds.specs.Glyphs.{part_glyph, part_glyphs, Puts, count_of}
 use Rattle.normal_rounds.specs.Brought.{Brought, Overfills}
-use Rattle.normal_rounds.proofs.Chain.{overfills_more}
+use Rattle.normal_rounds.specs.Lemmas.Chain.{overfills_more}
 
 origins_same : (o : Origin) (front back : List Origin) (n : ℕ) → replaced_among (length front) 1 n (front ++ o ∷ back) ≡ front ++ replicate n o ++ back
 origins_same o front back n =

@@ -25,7 +25,7 @@ use Rattle.normal_forms.specs.Expanding.{unexpanded, selected, meets_selector, w
 use Rattle.normal_forms.specs.Normalizer.{Normalizer}
 use Rattle.normal_rounds.specs.Brought.{Brought, Overfills, frame_of}
 use Rattle.normal_rounds.specs.Walking.{one_or_none, waits_after, brought_by, PutsWaiting, Selects, SelectsTooMany}
-use Rattle.normal_rounds.proofs.Chain.{none_behind, brought_none, brought_then, overfills_behind}
+use Rattle.normal_rounds.specs.Lemmas.Chain.{none_behind, brought_none, brought_then, overfills_behind}
 
 -- ---- one glyph for a character and a selector
 

@@ -13,7 +13,7 @@ use Rattle.normal_forms.specs.Expanding.{waiting, meets_selector, selected_after
 use Rattle.normal_forms.specs.Normalizer.{Normalizer}
 use Rattle.normal_rounds.specs.Brought.{Brought, Overfills}
 use Rattle.normal_rounds.specs.Walking.{one_or_none, waits_after, brought_by, PutsWaiting, Selects, SelectsTooMany, SelectsAll, SelectsAllTooMany}
-use Rattle.normal_rounds.proofs.Chain.{brought_none, brought_both, overfills_after}
+use Rattle.normal_rounds.specs.Lemmas.Chain.{brought_none, brought_both, overfills_after}
 
 -- so many of k items behind the first were met
 pub record IsSelecting (c : Normalizer) (k at : ℕ) (waits : Bool) (start now : Sides) : Type 0 where

@@ -14,7 +14,7 @@ use Rattle.normal_forms.specs.Expanding.{expanded, expanded_item, selected_after
 use Rattle.normal_forms.specs.Normalizer.{Normalizer, reach_alone, reach_with_marks}
 use Rattle.normal_rounds.specs.Brought.{Brought, Overfills}
 use Rattle.normal_rounds.specs.Walking.{SelectsAll, SelectsAllTooMany, Groups, GroupsTooMany, GoesOn, Walks, WalksTooMany, IsExpanded, ExpandsTooMany}
-use Rattle.normal_rounds.proofs.Chain.{none_behind, brought_none, brought_both, overfills_after}
+use Rattle.normal_rounds.specs.Lemmas.Chain.{none_behind, brought_none, brought_both, overfills_after}
 
 pub one_group : (c : Normalizer) (k : ℕ) (old new : Sides) → k ≡ 0 → ((x : Item) (xs : List Item) → strip old.ahead ≡ x ∷ xs → Brought (expanded c (reach_alone c.mode) x) xs old new) → Groups c k old new
 one_group c k old new none goes x [] ys e len = subst (λ a. Brought a ys old new) (sym (none_behind (expanded c (reach_alone c.mode) x))) (goes x ys e)

@@ -1,3 +1,4 @@
 pub mod Glyphs
 pub mod Brought
 pub mod Walking
+pub mod Lemmas

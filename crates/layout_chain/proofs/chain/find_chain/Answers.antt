@@ -7,7 +7,7 @@ use Rattle.layout_rules.specs.Lemmas.Glyphs.{first_item}
 use Rattle.layout_rules.specs.Performing.{cut_with}
 use Rattle.layout_chain.specs.Fitting.{chain_of}
 use Rattle.layout_chain.proofs.Fitted.{all_fits, backtrack_fails, input_fails, lookahead_fails, other_first, too_many}
-use Rattle.layout_chain.proofs.Rising.{indices_inside, reached_low}
+use Rattle.layout_chain.specs.Lemmas.Rising.{indices_inside, reached_low}
 use Rattle.layout_chain.proofs.chain.find_chain.Goals as goal
 
 pub returns-then-not-fits-clause-says : goal.returns-then-not-fits-clause-says

@@ -2,7 +2,7 @@ use Rattle.std.proofs.Common.{◌<◌, ◌^◌, length, refl, arith}
 use Rattle.layout_match.specs.Applied.{applied_of}
 use Rattle.layout_chain.specs.Fitting.{chain_of}
 use Rattle.layout_chain.proofs.Matching.{matched}
-use Rattle.layout_chain.proofs.Rising.{room_to_move}
+use Rattle.layout_chain.specs.Lemmas.Rising.{room_to_move}
 use Rattle.layout_chain.proofs.chain.match_chain.Goals as goal
 
 pub move_places-requires : goal.move_places-requires

@@ -1,4 +1,4 @@
-use Rattle.std.proofs.Common.{◌≡◌, false, get_or, slice_get, subst, ◌∙◌}
+use Rattle.std.proofs.Common.{false, get_or, slice_get, subst, ◌∙◌}
 use Rattle.font_face.specs.declared.parts.FaceParts.{FaceParts}
 use Rattle.map_features.specs.declared.lookup.lookup_map_t.{lookup_map_t}
 use Rattle.layout_rules.specs.Ready.{IsDoneFrom}

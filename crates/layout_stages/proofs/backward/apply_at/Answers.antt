@@ -1,4 +1,4 @@
-use Rattle.std.proofs.Common.{◌≡◌, Bool, Ok, length, ap, sym, subst, ◌∙◌}
+use Rattle.std.proofs.Common.{◌≡◌, length, ap, sym, ◌∙◌}
 use Rattle.glyph_buffer.specs.Sides.{Sides, all_glyphs}
 use Rattle.glyph_buffer.specs.Moving.{moved_to}
 use Rattle.layout_match.specs.Applied.{applied_of}

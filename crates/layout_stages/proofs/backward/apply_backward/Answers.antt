@@ -1,5 +1,5 @@
-use Rattle.std.proofs.Common.{ℕ, suc, ◌≡◌, ◌<◌, ◌-◌, false, length, refl, ap, sym, subst, arith, ◌∙◌}
-use Rattle.glyph_buffer.specs.Sides.{Sides, all_glyphs}
+use Rattle.std.proofs.Common.{ℕ, suc, ◌≡◌, ◌-◌, false, length, refl, ap, sym, subst, arith, ◌∙◌}
+use Rattle.glyph_buffer.specs.Sides.{all_glyphs}
 use Rattle.glyph_buffer.specs.Moving.{moved_to}
 use Rattle.layout_rules.specs.Lemmas.Frames.{still_open}
 use Rattle.layout_match.specs.Applied.{applied_of}

@@ -1,4 +1,4 @@
-use Rattle.std.proofs.Common.{◌≡◌, ◌≤◌, ◌-◌, true, false, Ok, ap, sym, subst, arith, ◌∙◌}
+use Rattle.std.proofs.Common.{◌≡◌, ◌-◌, true, false, Ok, ap, sym, subst, arith, ◌∙◌}
 use Rattle.glyph_buffer.specs.Sides.{Sides, fits_joined}
 use Rattle.layout_match.specs.Applied.{applied_of}
 use Rattle.layout_stages.specs.Lookups.{lookup_action}

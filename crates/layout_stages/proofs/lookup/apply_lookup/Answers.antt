@@ -1,4 +1,4 @@
-use Rattle.std.proofs.Common.{◌≡◌, sym, ◌∙◌}
+use Rattle.std.proofs.Common.{sym, ◌∙◌}
 use Rattle.layout_match.specs.Applied.{applied_of}
 use Rattle.layout_stages.proofs.First.{lookup_passes, lookup_tries}
 use Rattle.layout_stages.proofs.lookup.apply_lookup.Goals as goal

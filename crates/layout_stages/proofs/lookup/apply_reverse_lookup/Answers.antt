@@ -1,4 +1,4 @@
-use Rattle.std.proofs.Common.{◌≡◌, sym, ◌∙◌}
+use Rattle.std.proofs.Common.{sym, ◌∙◌}
 use Rattle.layout_match.specs.Applied.{applied_of}
 use Rattle.layout_stages.proofs.First.{reverse_passes, reverse_tries}
 use Rattle.layout_stages.proofs.lookup.apply_reverse_lookup.Goals as goal

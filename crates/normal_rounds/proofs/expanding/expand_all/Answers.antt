@@ -1,6 +1,6 @@
 use Rattle.std.proofs.Common.{arith}
 use Rattle.normal_rounds.proofs.Walk.{walk_begun, walk_more, walk_room, walk_last, walk_done, walk_too_many, last_too_many}
-use Rattle.normal_rounds.proofs.Refusals.{passed_on}
+use Rattle.normal_rounds.specs.Lemmas.Refusals.{passed_on}
 use Rattle.normal_rounds.proofs.expanding.expand_all.Goals as goal
 
 pub loop-init : goal.loop-init

@@ -1,5 +1,5 @@
 use Rattle.normal_rounds.proofs.Put.{parts_brought, whole_brought, parts_too_many, whole_too_many}
-use Rattle.normal_rounds.proofs.Refusals.{passed_on}
+use Rattle.normal_rounds.specs.Lemmas.Refusals.{passed_on}
 use Rattle.normal_rounds.proofs.expanding.expand_current.Goals as goal
 
 pub returns-in_err-put_expansion-clause-err : goal.returns-in_err-put_expansion-clause-err

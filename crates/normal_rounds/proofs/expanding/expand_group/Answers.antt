@@ -5,7 +5,7 @@ use Rattle.normal_forms.specs.Normalizer.{reach_alone, reach_with_marks}
 use Rattle.normal_forms.specs.declared.mode.Reach.{Reach}
 use Rattle.normal_rounds.specs.Brought.{Brought, Overfills}
 use Rattle.normal_rounds.proofs.Walk.{one_group, one_too_many, selected_group, selected_too_many, marked_group, marked_too_many}
-use Rattle.normal_rounds.proofs.Refusals.{passed_on}
+use Rattle.normal_rounds.specs.Lemmas.Refusals.{passed_on}
 use Rattle.normal_rounds.proofs.expanding.expand_group.Goals as goal
 
 pub returns-in_err-expand_current-clause-err : goal.returns-in_err-expand_current-clause-err

@@ -1,6 +1,6 @@
 use Rattle.std.proofs.Common.{arith}
 use Rattle.normal_rounds.proofs.Walk.{nothing_expanded, all_expanded, all_too_many}
-use Rattle.normal_rounds.proofs.Refusals.{passed_on}
+use Rattle.normal_rounds.specs.Lemmas.Refusals.{passed_on}
 use Rattle.normal_rounds.proofs.expanding.expand_list.Goals as goal
 
 pub returns-then-count-eq0-clause-ok : goal.returns-then-count-eq0-clause-ok

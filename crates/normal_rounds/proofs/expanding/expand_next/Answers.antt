@@ -1,7 +1,7 @@
 use Rattle.std.proofs.Common.{◌+◌, Bool, ◌∷◌, refl, ap, sym, subst, ◌∙◌}
 use Rattle.normal_rounds.specs.Walking.{GoesOn}
 use Rattle.normal_rounds.proofs.Walk.{mark_there}
-use Rattle.normal_rounds.proofs.Refusals.{passed_on}
+use Rattle.normal_rounds.specs.Lemmas.Refusals.{passed_on}
 use Rattle.normal_rounds.proofs.expanding.expand_next.Goals as goal
 
 pub returns-then-is_mark-clause-ok : goal.returns-then-is_mark-clause-ok

@@ -1,6 +1,6 @@
 use Rattle.std.proofs.Common.{arith}
 use Rattle.normal_rounds.proofs.Selections.{selecting_begun, selecting_room, selecting_more, selecting_too_many, selecting_done, last_room, last_selecting_too_many}
-use Rattle.normal_rounds.proofs.Refusals.{passed_on}
+use Rattle.normal_rounds.specs.Lemmas.Refusals.{passed_on}
 use Rattle.normal_rounds.proofs.selecting.expand_selected.Goals as goal
 
 pub loop-init : goal.loop-init

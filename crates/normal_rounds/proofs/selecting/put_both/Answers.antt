@@ -1,7 +1,7 @@
 use Rattle.std.proofs.Common.{◌∙◌}
 use Rattle.std.specs.Prelude.{is_some}
 use Rattle.normal_rounds.proofs.Select.{both_brought, one_left, second_too_many}
-use Rattle.normal_rounds.proofs.Refusals.{passed_on}
+use Rattle.normal_rounds.specs.Lemmas.Refusals.{passed_on}
 use Rattle.normal_rounds.proofs.selecting.put_both.Goals as goal
 
 pub put_unjoined-requires-clause-open : goal.put_unjoined-requires-clause-open

@@ -1,5 +1,5 @@
 use Rattle.normal_rounds.proofs.Select.{pair_brought, pair_too_many, none_brought, none_too_many}
-use Rattle.normal_rounds.proofs.Refusals.{passed_on}
+use Rattle.normal_rounds.specs.Lemmas.Refusals.{passed_on}
 use Rattle.normal_rounds.proofs.selecting.put_selected.Goals as goal
 
 pub returns-in_ok-join_selector-in-Some-clause-ok : goal.returns-in_ok-join_selector-in-Some-clause-ok

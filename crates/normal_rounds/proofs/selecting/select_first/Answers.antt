@@ -1,6 +1,6 @@
 use Rattle.std.proofs.Common.{sym, ◌∙◌}
 use Rattle.normal_rounds.proofs.Select.{first_waits, first_selector, first_too_many}
-use Rattle.normal_rounds.proofs.Refusals.{passed_on}
+use Rattle.normal_rounds.specs.Lemmas.Refusals.{passed_on}
 use Rattle.normal_rounds.proofs.selecting.select_first.Goals as goal
 
 pub returns-then-not-is_selector-clause-ok : goal.returns-then-not-is_selector-clause-ok

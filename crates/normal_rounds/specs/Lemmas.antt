@@ -1,0 +1,3 @@
+-- Lemmas for what stands above: arrangements brought one after another, refusals passed on.
+pub mod Chain
+pub mod Refusals

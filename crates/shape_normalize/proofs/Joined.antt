@@ -1,0 +1,84 @@
+-- A list that was walked in an open output, once that is the list.
+use Rattle.std.proofs.Common.{ℕ, ◌≡◌, ◌≢◌, ◌≤◌, ◌<◌, ◌+◌, ◌&&◌, true, false, nat_le, [], ◌++◌, Ok, Err, length, refl, sym, ap, subst, ◌∙◌, arith}
+use Rattle.std.specs.Prelude.{not}
+use Rattle.std.proofs.lemmas.Bool.{and_parts, cond-true, cond-false}
+use Rattle.std.proofs.lemmas.Bool.Decides.{nat_tests}
+use Rattle.std.proofs.lemmas.List.{append-nil, map-append, length-map, length-replicate}
+use Rattle.glyph_types.specs.declared.cause.ShapeCause.{ShapeCause}
+use Rattle.glyph_types.specs.declared.cause.ShapeCause.TheVariants.{OutOfMemory, TooLong}
+use Rattle.glyph_lists.specs.Items.{item_of, strip}
+use Rattle.glyph_lists.specs.Readings.{View, Stage}
+use Rattle.glyph_buffer.specs.Sides.{Sides, all_glyphs, told_of, items_of, view_of, origins_by, settings_of, with_output, synced, fits_joined, has_room, zero_position, zero_positions}
+use Rattle.layout_rules.specs.Ready.{IsReady}
+use Rattle.text_stages.specs.Stages.{IsFollowed}
+use Rattle.text_stages.specs.Lemmas.Written.{happened_followed}
+use Rattle.normal_forms.specs.Arranged.{Arranged}
+use Rattle.normal_rounds.specs.Lemmas.Chain.{all_shifted_none}
+use Rattle.normal_rounds.specs.Brought.{Brought, Overfills, with_arranged, within_limit}
+
+further_none : (n : ℕ) → 0 + n ≡ n
+further_none n = omega arith
+
+walked_items : (a : Arranged) (s mid : Sides) → Brought a [] (with_output s) mid → items_of mid ≡ a.items
+walked_items a s mid b = map-append item_of mid.behind mid.ahead ∙ ap (λ xs. xs ++ strip mid.ahead) b.behind ∙ ap (λ xs. a.items ++ xs) b.ahead ∙ append-nil a.items
+
+walked_count : (a : Arranged) (s mid : Sides) → Brought a [] (with_output s) mid → length (all_glyphs mid) ≡ length a.items
+walked_count a s mid b = sym (length-map (all_glyphs mid) item_of) ∙ ap length (walked_items a s mid b)
+
+walked_view : (a : Arranged) (s mid : Sides) → Brought a [] (with_output s) mid → view_of (synced mid) ≡ (with_arranged a (view_of s)).view
+walked_view a s mid b =
+    ap (λ xs. record { items = xs; positions = zero_positions (length (all_glyphs mid)); lig_id = mid.lig_id; max_ops = mid.max_ops; random = 1; max_len = mid.max_len; direction = mid.direction; told = told_of mid.scratch_flags }) (walked_items a s mid b)
+    ∙ ap (λ n. record { items = a.items; positions = zero_positions n; lig_id = mid.lig_id; max_ops = mid.max_ops; random = 1; max_len = mid.max_len; direction = mid.direction; told = told_of mid.scratch_flags }) (walked_count a s mid b)
+    ∙ ap (λ (f : Sides). record { items = a.items; positions = zero_positions (length a.items); lig_id = f.lig_id; max_ops = f.max_ops; random = 1; max_len = f.max_len; direction = f.direction; told = f.scratch_flags }) b.frame
+
+fits_parts : (s : Sides) → fits_joined s ≡ true → length (all_glyphs s) ≤ s.max_len
+fits_parts s fits = let room = (and_parts (not s.has_refused) (has_room 0 s) fits).1 in grind (arith, nat_tests, room)
+
+too_long : (s : Sides) → s.has_refused ≡ false → fits_joined s ≡ false → s.max_len < length (all_glyphs s)
+too_long s unrefused full =
+    let room : has_room 0 s ≡ false = sym (ap (λ t. not t && has_room 0 s) unrefused) ∙ full in
+    grind (arith, nat_tests, room)
+
+-- a reading that has room
+has_limit : (a : Arranged) (v : View) → length a.items ≤ v.max_len → within_limit (length a.items) v (with_arranged a v) ≡ Ok (with_arranged a v)
+has_limit a v le = let t : nat_le (length a.items) v.max_len ≡ true = grind (arith, nat_tests, le) in cond-true _ _ _ t
+
+-- a reading that has none
+past_limit : (a : Arranged) (v : View) (e : ShapeCause) → (e ≡ TooLong) × (v.max_len < length a.items) → within_limit (length a.items) v (with_arranged a v) ≡ Err e
+past_limit a v e over =
+    let lt = over.1 in
+    let t : nat_le (length a.items) v.max_len ≡ false = grind (arith, nat_tests, lt) in
+    cond-false _ _ _ t ∙ ap Err (sym over.0)
+
+same_limit : (a : Arranged) (s mid : Sides) → Brought a [] (with_output s) mid → mid.max_len ≡ s.max_len
+same_limit a s mid b = ap (λ (t : Sides). t.max_len) b.frame
+
+pub list_followed : (stage : Stage) (a : Arranged) (s mid new : Sides) → stage (view_of s) ≡ within_limit (length a.items) (view_of s) (with_arranged a (view_of s)) → IsReady s
+    → Brought a [] (with_output s) mid → fits_joined mid ≡ true → new ≡ synced mid → IsFollowed stage s new
+list_followed stage a s mid new is ready b fits after =
+    let few = fits_parts mid fits in
+    let room : length a.items ≤ s.max_len = omega (arith, few, walked_count a s mid b, same_limit a s mid b) in
+    let P : Sides → Type 0 = λ t. IsFollowed stage s t in
+    subst P (sym after) (happened_followed a.events (with_arranged a (view_of s)).view stage s (synced mid) (walked_view a s mid b)
+    (b.happened ∙ ap (λ es. origins_by es s) (all_shifted_none a.events)) (ap settings_of b.frame)
+    (record {
+      closed = refl;
+      front = refl;
+      unread = refl;
+      placed = length-replicate (length (all_glyphs mid)) zero_position;
+      unrefused = ap (λ (t : Sides). t.has_refused) b.frame ∙ ready.unrefused;
+    })
+    (is ∙ has_limit a (view_of s) room))
+
+pub list_refused : (stage : Stage) (a : Arranged) (s : Sides) (e : ShapeCause) → stage (view_of s) ≡ within_limit (length a.items) (view_of s) (with_arranged a (view_of s)) → Overfills (length a.items) e (with_output s)
+    → e ≢ OutOfMemory → stage (view_of s) ≡ Err e
+list_refused stage a s e is over some =
+    let past = over some in
+    let lt = past.1 in
+    is ∙ past_limit a (view_of s) e (past.0, omega (arith, lt))
+
+pub list_too_long : (stage : Stage) (a : Arranged) (s mid : Sides) → stage (view_of s) ≡ within_limit (length a.items) (view_of s) (with_arranged a (view_of s)) → IsReady s → Brought a [] (with_output s) mid → fits_joined mid ≡ false
+    → stage (view_of s) ≡ Err TooLong
+list_too_long stage a s mid is ready b full =
+    let lt = too_long mid (ap (λ (t : Sides). t.has_refused) b.frame ∙ ready.unrefused) full in
+    is ∙ past_limit a (view_of s) TooLong (refl, omega (arith, lt, walked_count a s mid b, same_limit a s mid b))
