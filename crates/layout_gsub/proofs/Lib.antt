@@ -1,12 +1,8 @@
-pub mod Lists
-pub mod Kept
-pub mod Ligated
 pub mod Parted
 pub mod United
 pub mod Renumbered
 pub mod LigatureMade
 pub mod Found
-pub mod First
 pub mod Replaced
 pub mod Drawn
 pub mod Tested

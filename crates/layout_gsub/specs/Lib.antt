@@ -1,4 +1,3 @@
-pub mod Ligatures
 pub mod Replacements
 pub mod Alternates
 pub mod Putting

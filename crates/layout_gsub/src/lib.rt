@@ -5,7 +5,6 @@ pub mod alternate;
 pub mod apply;
 pub mod ligate;
 pub mod ligature;
-pub mod ligature_subst;
 pub mod multiple;
 mod parts;
 pub mod replacement;

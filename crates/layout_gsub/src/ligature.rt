@@ -1,135 +1,85 @@
-ghost use Rattle.std.specs.Prelude.{◌≡◌, ◌<◌, ◌+◌, ◌∷◌, true, [], length, drop, slice_get, IfOk, IfErr};
-ghost use Rattle.std.specs.Option.{option_copied};
-ghost use Rattle.glyph_lists.specs.Items.{item_of, strip};
-ghost use Rattle.glyph_lists.specs.Events.{Concat};
-ghost use Rattle.glyph_buffer.specs.Sides.{items_of};
-ghost use Rattle.layout_rules.specs.Actions.{first_rule};
-ghost use Rattle.layout_rules.specs.Buffers.{Does, IsPassed, are_glyphs, cut_of};
-ghost use Rattle.layout_gsub.specs.Ligatures.{is_component, mismatch, ligature_rule, ligature_subtable};
+ghost use Rattle.std.specs.Prelude.{◌≡◌, ◌<◌, true, length, map};
+ghost use Rattle.glyph_lists.specs.Items.{strip};
+ghost use Rattle.layout_match.specs.Applied.{applied_of, own_search};
+ghost use Rattle.layout_match.specs.Matches.{input_end};
+ghost use Rattle.layout_match.specs.Sequences.{is_glyph};
+ghost use Rattle.layout_rules.specs.Performing.{Performs, cut_with};
+ghost use Rattle.layout_gsub.specs.Ligating.{ligature_found, ligature_over, ligature_subst};
 
+use crate::apply::{Apply, apply_first};
+use crate::ligate::ligate_input;
+use crate::replacement::replace_glyph;
+use crate::reverse::mark_attempt;
 use glyph_buffer::buffer::hb_buffer_t;
 use glyph_types::cause::ShapeCause;
-use glyph_types::info::hb_glyph_info_t;
 use layout_font::ligature::{Ligature, LigatureSubst};
-use layout_rules::mask::shares_mask;
+use layout_match::{
+    MAX_CONTEXT_LENGTH, MatchPositions, MatchSequence, hb_ot_apply_context_t, match_input,
+};
 
-/// The i-th glyph from the cursor on, where there is one.
-fn ahead(buffer: &hb_buffer_t, i: usize) -> Option<&hb_glyph_info_t>
-    ensures { option_copied result ≡ slice_get buffer.now.ahead i }
-{
-    if buffer.len() - buffer.idx() <= i {
-        return None;
-    }
-    Some(buffer.cur(i))
-}
-
-fn is_component(mask: u32, glyph: u16, info: &hb_glyph_info_t) -> bool
-    ensures { result ≡ is_component mask glyph (item_of info.now) }
-{
-    info.glyph_id == u32::from(glyph) && shares_mask(mask, info)
-}
-
-#[tactic(auto, using(crate::proofs::Lists::fits_there, crate::proofs::Lists::differs_there, crate::proofs::Lists::ends_there, crate::proofs::Lists::all_there))]
-/// Where the glyphs after the one at the cursor are not the components, in order: how many of them tell it.
-fn match_components(components: &[u16], mask: u32, buffer: &hb_buffer_t) -> Option<usize>
-    ensures { result ≡ mismatch mask 0 components.now (drop 1 (strip buffer.now.ahead)) }
-{
-    for (i, component) in components.iter().enumerate() {
-        let Some(info) = ahead(buffer, i + 1) else {
-            return Some(i);
-        };
-        if !is_component(mask, *component, info) {
-            return Some(i + 1);
-        }
-    }
-    None
-}
-
-/// Marks the glyph at the cursor and so many after it as unsafe to concat, where that is asked for.
-#[tactic(auto, using(layout_rules::specs::Lemmas::Attempts::attempt_passed))]
-fn mark_attempt(count: usize, buffer: &mut hb_buffer_t)
-    requires open { buffer.old.is_open ≡ true }
-    requires there { count < length buffer.old.ahead }
-    ensures { IsPassed (Concat (length buffer.old.behind) (length buffer.old.behind + (count + 1))
-        ∷ []) buffer.old buffer.new }
-{
-    let at = buffer.idx();
-    let _end = buffer.len();
-    buffer.unsafe_to_concat(Some(at), Some(at + count + 1));
-}
-
-#[tactic(auto, using(crate::proofs::Ligated::mismatch_fits, crate::proofs::Ligated::ligature_fits, crate::proofs::Ligated::ligature_passes, crate::proofs::Ligated::ligature_does))]
-/// Puts a ligature in the place of its components, where they follow the cursor.
+/// Puts a ligature in the place of its parts, where the search finds them from the cursor on.
 fn apply_ligature(
     ligature: &Ligature,
-    mask: u32,
+    ctx: &hb_ot_apply_context_t,
     buffer: &mut hb_buffer_t,
 ) -> Result<bool, ShapeCause>
     requires open { buffer.old.is_open ≡ true }
-    requires no_positions { buffer.old.positions ≡ [] }
     requires there { 0 < length buffer.old.ahead }
-    requires room { length buffer.old.behind < buffer.old.max_len }
-    ensures ok { IfOk result
-        (λ acted. Does (ligature_rule mask ligature.now (cut_of buffer.old)) acted buffer.old buffer.new) }
-    ensures err { IfErr result (λ e. e ≡ ShapeCause.OutOfMemory) }
+    requires few { length ligature.now.components < 64 }
+    ensures { Performs (ligature_found (applied_of ctx.now) ligature.now (input_end (own_search (applied_of ctx.now)
+        (strip buffer.old.ahead)) (map is_glyph ligature.now.components) (strip buffer.old.ahead))
+        (cut_with ctx.now.random_state buffer.old)) result ctx.now.random_state ctx.now.random_state buffer.old
+        buffer.new }
 {
-    if let Some(count) = match_components(ligature.components(), mask, buffer) {
-        mark_attempt(count, buffer);
-        return Ok(false);
-    }
-    let count = 1 + ligature.components().len();
-    if !buffer.replace_glyphs(count, 1, &[u32::from(ligature.glyph())])? {
-        return Err(ShapeCause::TooLong);
-    }
-    Ok(true)
-}
-
-#[tactic(auto, using(layout_rules::specs::Lemmas::Tried::tried_first, layout_rules::specs::Lemmas::Tried::tried_open, layout_rules::specs::Lemmas::Tried::tried_positions, layout_rules::specs::Lemmas::Tried::tried_limit, layout_rules::specs::Lemmas::Tried::tried_numbers, layout_rules::specs::Lemmas::Tried::tried_next, layout_rules::specs::Lemmas::Tried::tried_acted, layout_rules::specs::Lemmas::Tried::tried_all))]
-/// Puts the first ligature that matches in the place of its components.
-fn apply_ligatures(
-    ligatures: &[Ligature],
-    mask: u32,
-    buffer: &mut hb_buffer_t,
-) -> Result<bool, ShapeCause>
-    requires open { buffer.old.is_open ≡ true }
-    requires no_positions { buffer.old.positions ≡ [] }
-    requires there { 0 < length buffer.old.ahead }
-    requires room { length buffer.old.behind < buffer.old.max_len }
-    ensures ok { IfOk result
-        (λ acted. Does (first_rule (ligature_rule mask) ligatures.now
-        (cut_of buffer.old)) acted buffer.old buffer.new) }
-    ensures err { IfErr result (λ e. e ≡ ShapeCause.OutOfMemory) }
-{
-    for ligature in ligatures {
-        if apply_ligature(ligature, mask, buffer)? {
-            return Ok(true);
+    let components = MatchSequence::Glyphs(ligature.components());
+    let mut places = MatchPositions::new();
+    match match_input(ctx, &components, buffer, &mut places) {
+        Ok(end) => {
+            let others = &places.as_slice()[1..];
+            ligate_input(others, end, ligature.glyph(), ctx.face, buffer)?;
+            Ok(true)
+        }
+        Err(end) => {
+            mark_attempt(0, end, buffer);
+            Ok(false)
         }
     }
-    Ok(false)
 }
 
-#[tactic(auto, using(layout_rules::specs::Lemmas::Glyphs::number_ahead))]
-/// Ligature substitution (OpenType, GSUB lookup type 4) at the cursor: the first of the subtable's ligatures whose
-/// components follow the glyph at the cursor takes their place. It tells whether one did. Each ligature before it that
-/// begins with the glyph and doesn't match marks what it looked at as unsafe to concat, where that is asked for.
-/// Its one error is want of memory.
-pub fn apply_ligature_subst(
-    subtable: &LigatureSubst,
-    mask: u32,
-    buffer: &mut hb_buffer_t,
-) -> Result<bool, ShapeCause>
-    requires open { buffer.old.is_open ≡ true }
-    requires no_positions { buffer.old.positions ≡ [] }
-    requires there { 0 < length buffer.old.ahead }
-    requires room { length buffer.old.behind < buffer.old.max_len }
-    requires number { are_glyphs (items_of buffer.old) ≡ true }
-    ensures ok { IfOk result
-        (λ acted. Does (ligature_subtable mask subtable.now (cut_of buffer.old)) acted buffer.old buffer.new) }
-    ensures err { IfErr result (λ e. e ≡ ShapeCause.OutOfMemory) }
-{
-    let Some(set) = subtable.set_of(buffer.cur(0).as_glyph().0) else {
-        return Ok(false);
-    };
-    let acted = apply_ligatures(set.ligatures(), mask, buffer)?;
-    Ok(acted)
+/// A ligature whose first part is the glyph at the cursor. One of more parts than a rule may ask for never matches.
+impl Apply for Ligature {
+    ghost action = { λ l a. ligature_over a l };
+
+    fn apply(
+        &self,
+        ctx: &mut hb_ot_apply_context_t,
+        buffer: &mut hb_buffer_t,
+    ) -> Result<bool, ShapeCause> {
+        if self.components().is_empty() {
+            return replace_glyph(ctx, self.glyph(), buffer);
+        }
+        if self.components().len() >= MAX_CONTEXT_LENGTH {
+            return Ok(false);
+        }
+        apply_ligature(self, ctx, buffer)
+    }
+}
+
+/// Ligature substitution (OpenType, GSUB lookup type 4): the first of the subtable's ligatures whose parts are found from the
+/// glyph at the cursor on takes their place. Each before it that begins with the glyph and fails marks what the search read
+/// as unsafe to concat, where that is asked for.
+impl Apply for LigatureSubst {
+    ghost action = { λ s a. ligature_subst a s };
+
+    #[tactic(auto, using(layout_rules::specs::Lemmas::Glyphs::number_ahead))]
+    fn apply(
+        &self,
+        ctx: &mut hb_ot_apply_context_t,
+        buffer: &mut hb_buffer_t,
+    ) -> Result<bool, ShapeCause> {
+        match self.set_of(buffer.cur(0).as_glyph().0) {
+            Some(set) => apply_first(set.ligatures(), ctx, buffer),
+            None => Ok(false),
+        }
+    }
 }

@@ -3,7 +3,7 @@ use Rattle.glyph_lists.specs.Items.{strip}
 use Rattle.layout_match.specs.Applied.{applied_of, own_search}
 use Rattle.layout_match.specs.Sequences.{is_glyph}
 use Rattle.layout_gsub.proofs.Found.{input_found}
-use Rattle.layout_gsub.proofs.ligature_subst.apply_ligature.Goals as goal
+use Rattle.layout_gsub.proofs.ligature.apply_ligature.Goals as goal
 
 pub ligate_input-requires-clause-rising : goal.ligate_input-requires-clause-rising
 ligate_input-requires-clause-rising c =

@@ -6,7 +6,7 @@ use Rattle.layout_rules.specs.Performing.{Performs, cut_with}
 use Rattle.layout_rules.specs.Lemmas.Does.{passed_same}
 use Rattle.layout_gsub.specs.Ligating.{ligature_over}
 use Rattle.layout_gsub.proofs.Found.{ligatures_perform}
-use Rattle.layout_gsub.proofs.ligature_subst.LigatureSubstApply.apply.Goals as goal
+use Rattle.layout_gsub.proofs.ligature.LigatureSubstApply.apply.Goals as goal
 
 pub returns-in-Some-clause-performs : goal.returns-in-Some-clause-performs
 returns-in-Some-clause-performs c =
