@@ -1,1 +1,3 @@
 pub mod Joined
+pub mod Room
+pub mod Compositions

@@ -1,4 +1,5 @@
 // The normal form that a text gets for a font, round by round on the buffer.
 #![tactic(auto)]
 
+pub mod composing;
 pub mod rounds;
