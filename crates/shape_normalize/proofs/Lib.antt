@@ -1,3 +1,4 @@
 pub mod Joined
 pub mod Room
 pub mod Compositions
+pub mod Walk

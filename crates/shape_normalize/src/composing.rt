@@ -16,7 +16,7 @@ use normal_rounds::normalizing::Normalizing;
 
 /// Takes the cursor past a glyph of a list that the output may hold.
 #[tactic(auto, using(crate::proofs::Room::fits_next_glyph))]
-fn pass_glyph(buffer: &mut hb_buffer_t) -> Result<(), ShapeCause>
+pub(crate) fn pass_glyph(buffer: &mut hb_buffer_t) -> Result<(), ShapeCause>
     requires room { HasRoom buffer.old }
     requires there { 0 < length buffer.old.ahead }
     ensures moved { OnOk result (buffer.new ≡ moved_on 1 buffer.old) }
@@ -87,7 +87,7 @@ fn write_out(at: usize, info: hb_glyph_info_t, buffer: &mut hb_buffer_t) -> Resu
 }
 
 /// A glyph of the output.
-fn out_at(at: usize, buffer: &hb_buffer_t) -> hb_glyph_info_t
+pub(crate) fn out_at(at: usize, buffer: &hb_buffer_t) -> hb_glyph_info_t
     requires { at < length buffer.now.behind }
     ensures { slice_get buffer.now.behind at ≡ Some result }
 {
@@ -96,7 +96,7 @@ fn out_at(at: usize, buffer: &hb_buffer_t) -> hb_glyph_info_t
 
 /// The mark at the cursor and a glyph of the output become a character, where the glyph stands. It takes the time of a walk
 /// over what stands between the two.
-pub fn compose_mark<N: Normalizing>(
+pub(crate) fn compose_mark<N: Normalizing>(
     by: &N,
     starter: usize,
     u: char,

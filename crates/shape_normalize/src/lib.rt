@@ -3,3 +3,4 @@
 
 pub mod composing;
 pub mod rounds;
+pub mod starters;
