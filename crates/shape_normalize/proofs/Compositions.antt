@@ -1,14 +1,14 @@
 -- A mark that is composed with the last starter, in an open output.
-use Rattle.std.proofs.Common.{zero, suc, ℕ, ◌≡◌, ◌≤◌, ◌<◌, ◌+◌, ◌-◌, List, [], ◌∷◌, ◌++◌, length, map, take, drop, refl, sym, ap, ap₂, subst, ◌∙◌, append_assoc, arith}
+use Rattle.std.proofs.Common.{zero, suc, ℕ, ◌≡◌, ◌≤◌, ◌<◌, ◌+◌, List, [], ◌∷◌, ◌++◌, length, map, take, drop, refl, sym, ap, ap₂, ◌∙◌, arith}
 use Rattle.std.specs.Prelude.{slice_get, slice_set, option_map, Some}
 use Rattle.std.proofs.lemmas.Option.{slice_get-map}
-use Rattle.std.proofs.lemmas.List.{map-append, length-map, length-append, length-drop, take-append-drop, take-map, drop-map, length-take-le}
+use Rattle.std.proofs.lemmas.List.{map-append, length-map, length-append, length-drop, take-map, drop-map, length-take-le}
 use Rattle.std.proofs.Math.Seq.{take-append_seam, drop-append_seam}
 use Rattle.glyph_types.specs.declared.info.hb_glyph_info_t.{hb_glyph_info_t}
 use Rattle.glyph_lists.specs.Items.{Item, item_of, strip}
 use Rattle.glyph_lists.specs.Levels.{InOutput}
-use Rattle.glyph_lists.specs.Origins.{Origin, origin_of, origins}
-use Rattle.glyph_lists.specs.Events.{Merge, Replace, origins_after_event, origins_after}
+use Rattle.glyph_lists.specs.Origins.{origin_of, origins}
+use Rattle.glyph_lists.specs.Events.{Merge, Replace, origins_after}
 use Rattle.glyph_buffer.specs.Sides.{Sides, all_glyphs, asks_of, items_of, origins_of, origins_by, moved_on}
 use Rattle.glyph_buffer.specs.Merging.{with_output_merged, with_skipped}
 use Rattle.glyph_buffer.specs.Lending.{with_glyph_ahead}

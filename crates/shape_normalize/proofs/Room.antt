@@ -1,13 +1,11 @@
 -- Calls of a cursor that either side has room for.
-use Rattle.std.proofs.Common.{ℕ, ◌≡◌, ◌≤◌, ◌<◌, ◌+◌, ◌-◌, ◌&&◌, Bool, true, false, nat_le, nat_lt, List, length, map, take, drop, refl, sym, ap, ◌∙◌, arith, inl, inr, lt-ltb, le-ltb}
-use Rattle.std.specs.Prelude.{not, if◌then◌else◌}
+use Rattle.std.proofs.Common.{ℕ, ◌≡◌, ◌≤◌, ◌<◌, ◌+◌, ◌-◌, ◌&&◌, true, nat_le, length, ap, ◌∙◌, arith, inl, inr, lt-ltb, le-ltb}
+use Rattle.std.specs.Prelude.{not}
 use Rattle.std.proofs.lemmas.Bool.{cases_lt, cond-true, cond-false}
 use Rattle.std.proofs.lemmas.Bool.Decides.{nat_tests}
-use Rattle.std.proofs.lemmas.List.{length-append, length-map, take-append-drop}
-use Rattle.glyph_lists.specs.Items.{item_of}
-use Rattle.glyph_buffer.specs.Sides.{Sides, all_glyphs, items_of, fits_next, has_output_room, moved_on}
-use Rattle.glyph_buffer.specs.Merging.{with_output_merged}
-use Rattle.glyph_buffer.specs.Moving.{moved_to, fits_moved, side_holds, has_room_back}
+use Rattle.std.proofs.lemmas.List.{length-append}
+use Rattle.glyph_buffer.specs.Sides.{Sides, all_glyphs, fits_next, has_output_room}
+use Rattle.glyph_buffer.specs.Moving.{fits_moved, side_holds, has_room_back}
 use Rattle.normal_rounds.specs.Brought.{frame_of}
 use Rattle.shape_normalize.specs.Composed.{HasRoom}
 

@@ -1,5 +1,5 @@
 -- The walk from starter to starter.
-use Rattle.std.proofs.Common.{zero, suc, ℕ, ◌≡◌, ◌≢◌, ◌≤◌, ◌<◌, ◌+◌, ◌==◌, ◌-◌, ◌&&◌, Ok, Err, nat_lt, Bool, true, false, List, [], ◌∷◌, ◌++◌, length, map, take, drop, refl, sym, ap, ap₂, subst, ◌∙◌, append_assoc, arith}
+use Rattle.std.proofs.Common.{ℕ, ◌≡◌, ◌≢◌, ◌≤◌, ◌<◌, ◌+◌, ◌==◌, ◌-◌, ◌&&◌, Ok, Err, nat_lt, Bool, true, false, List, [], ◌∷◌, ◌++◌, length, map, take, drop, refl, sym, ap, ap₂, ◌∙◌, append_assoc, arith}
 use Rattle.std.specs.Prelude.{slice_get, slice_set, option_map, Option, Some, None, if◌then◌else◌, Result, IfOk}
 use Rattle.std.specs.Option.{option_map_or, option_and_then}
 use Rattle.std.proofs.lemmas.Option.{slice_get-map}
@@ -7,18 +7,18 @@ use Rattle.std.proofs.lemmas.Bool.{cond-true, cond-false}
 use Rattle.std.proofs.lemmas.List.{append-nil, map-append, length-map, length-append, take-map, drop-map}
 use Rattle.glyph_types.specs.declared.info.hb_glyph_info_t.{hb_glyph_info_t}
 use Rattle.glyph_lists.specs.Items.{Item, item_of, strip}
-use Rattle.glyph_lists.specs.Origins.{Origin, origins}
+use Rattle.glyph_lists.specs.Origins.{origins}
 use Rattle.glyph_lists.specs.Events.{Event, origins_after}
 use Rattle.glyph_lists.specs.Steps.{origins_after_both}
-use Rattle.glyph_buffer.specs.Sides.{Sides, all_glyphs, asks_of, items_of, origins_of, origins_by, moved_on}
+use Rattle.glyph_buffer.specs.Sides.{Sides, all_glyphs, asks_of, origins_of, origins_by, moved_on}
 use Rattle.normal_forms.specs.Arranged.{Arranged, kept, shifted}
 use Rattle.normal_forms.specs.Characters.{is_mark, mark_class}
 use Rattle.normal_forms.specs.Composing.{becoming, composite, composed_from, composed_list, with_composition, is_reaching, last_class}
 use Rattle.normal_forms.specs.Normalizer.{Normalizer}
 use Rattle.normal_rounds.specs.Brought.{Brought, frame_of}
 use Rattle.normal_rounds.specs.Lemmas.Chain.{all_shifted_none}
-use Rattle.shape_normalize.specs.Composed.{composition_events, HasRoom, IsComposed}
-use Rattle.shape_normalize.specs.Starters.{IsAt, IsPassed, Joins, Composes}
+use Rattle.shape_normalize.specs.Composed.{composition_events, HasRoom}
+use Rattle.shape_normalize.specs.Starters.{IsAt, Joins, Composes}
 use Rattle.shape_normalize.proofs.Room.{room_kept}
 use Rattle.shape_normalize.proofs.Compositions.{room_passed}
 
@@ -92,7 +92,7 @@ set_seam [] x ys z = refl
 set_seam (w ∷ xs) x ys z = ap (λ zs. w ∷ zs) (set_seam xs x ys z)
 
 -- events from a state with the same frame
-by_frame : (fs : List Event) (es : List Event) (start now next : Sides) → frame_of now ≡ frame_of start → origins_of now ≡ origins_by es start → origins_of next ≡ origins_by fs now → origins_of next ≡ origins_by (es ++ fs) start
+pub by_frame : (fs : List Event) (es : List Event) (start now next : Sides) → frame_of now ≡ frame_of start → origins_of now ≡ origins_by es start → origins_of next ≡ origins_by fs now → origins_of next ≡ origins_by (es ++ fs) start
 by_frame fs es start now next frame before after =
     after ∙ ap (λ q. origins_after q now.level fs (origins_of now)) (ap asks_of frame) ∙ ap (λ l. origins_after (asks_of start) l fs (origins_of now)) (ap (λ (t : Sides). t.level) frame)
     ∙ ap (origins_after (asks_of start) start.level fs) before ∙ sym (origins_after_both (asks_of start) start.level es fs (origins_of start))
@@ -261,7 +261,7 @@ nothing_composed c s none = by_case s.ahead refl
 
 -- ---- what a mark reaches
 
-get_seam : {X : Type 0} (xs : List X) (z : X) (zs : List X) → slice_get (xs ++ z ∷ zs) (length xs) ≡ Some z
+pub get_seam : {X : Type 0} (xs : List X) (z : X) (zs : List X) → slice_get (xs ++ z ∷ zs) (length xs) ≡ Some z
 get_seam [] z zs = refl
 get_seam (x ∷ xs) z zs = get_seam xs z zs
 

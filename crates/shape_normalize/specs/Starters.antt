@@ -1,5 +1,5 @@
 -- A walk from starter to starter, in an open output.
-use Rattle.std.specs.Prelude.{ℕ, ◌≡◌, ◌+◌, ◌==◌, ◌++◌, if◌then◌else◌, List, ◌∷◌, length, Option, Some, None, option_map}
+use Rattle.std.specs.Prelude.{ℕ, ◌≡◌, ◌==◌, ◌++◌, if◌then◌else◌, List, ◌∷◌, length, Option, Some, None, option_map}
 use Rattle.glyph_lists.specs.Items.{Item, strip}
 use Rattle.glyph_buffer.specs.Sides.{Sides, all_glyphs, moved_on}
 use Rattle.normal_forms.specs.Characters.{mark_class, standing_for, with_glyph}

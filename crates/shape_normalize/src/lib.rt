@@ -2,5 +2,6 @@
 #![tactic(auto)]
 
 pub mod composing;
+pub mod ordering;
 pub mod rounds;
 pub mod starters;
