@@ -1,11 +1,11 @@
 -- Drawing among sums is drawing: the way between two glyphs is the sum of the advances between them.
-use Rattle.std.proofs.Common.{ℕ, zero, suc, ℤ, pos, ◌+ℤ◌, ◌-ℤ◌, ◌≡◌, ◌≢◌, ◌≤◌, ◌<◌, ◌+◌, ◌-◌, ◌==◌, ◌&&◌, ◌||◌, nat_le, ◌⊎◌, inl, inr, Bool, true, false, if◌then◌else◌, List, [], ◌∷◌, ◌++◌, Option, Some, None, length, map, set, take, drop, arith, refl, ap, sym, subst, ◌∙◌}
+use Rattle.std.proofs.Common.{ℕ, zero, suc, ℤ, pos, ◌+ℤ◌, ◌-ℤ◌, ◌≡◌, ◌≤◌, ◌<◌, ◌+◌, ◌-◌, ◌==◌, ◌&&◌, ◌||◌, nat_le, ◌⊎◌, inl, inr, Bool, true, false, if◌then◌else◌, List, [], ◌∷◌, Option, Some, None, length, map, set, take, drop, arith, refl, ap, sym, subst, ◌∙◌}
 use Rattle.std.specs.Prelude.{slice_range, nat_lt, get_or}
 use Rattle.std.specs.Int.{int_wrap, w32}
 use Rattle.std.specs.List.{fold}
 use Rattle.std.proofs.lemmas.Bool.Decides.{nat_tests, eqb_tells}
-use Rattle.std.proofs.lemmas.Int.{ints, int_wrap_fits, SFits-int_wrap, int_wrap-add_same, int_wrap-add_left, int_wrap-sub_right}
-use Rattle.std.proofs.lemmas.List.{length-set, length-map, take_more}
+use Rattle.std.proofs.lemmas.Int.{ints, int_wrap-add_same, int_wrap-add_left, int_wrap-sub_right}
+use Rattle.std.proofs.lemmas.List.{length-set}
 use Rattle.glyph_lists.specs.Items.{Position}
 use Rattle.glyph_lists.specs.Lists.{seen_at}
 use Rattle.shaping_text.specs.declared.direction.Direction.{Direction}
@@ -16,11 +16,11 @@ use Rattle.layout_links.specs.Links.{position_at, linked, parent, without_link, 
 use Rattle.layout_links.specs.Sums.{Fits, AllFit, pen_down, pen_behind, pen_of, pen_way, pen_before, with_pen, summed_from, summed, apart_from, taken_apart, back_by, on_by, behind_parent, mark_by_sums, drawn_by_sums}
 use Rattle.layout_links.specs.Walks.{is_link, is_open, are_shut}
 use Rattle.layout_links.specs.Trees.{only_advances}
-use Rattle.layout_links.specs.Marks.{total, pen}
+use Rattle.layout_links.specs.Marks.{total}
 use Rattle.layout_links.proofs.Going.{followed_step, followed_none, linked_there}
 use Rattle.layout_links.proofs.Shut.{unlinked_closed}
-use Rattle.layout_links.proofs.Drawn.{set_advances, drawn_advances}
-use Rattle.layout_links.proofs.Totals.{pen_forward, pen_backward, fold_back, fold_on, twice}
+use Rattle.layout_links.proofs.Drawn.{drawn_advances}
+use Rattle.layout_links.proofs.Totals.{pen_forward, fold_back, fold_on, twice}
 use Rattle.layout_links.proofs.Kept.{same_length, followed_advances, finished_advances}
 
 -- ---- sums in a list
@@ -52,11 +52,12 @@ summed_here i ps lt = summed_rest pen_down i ps ∙ ap (λ (q : Pen). with_pen q
 -- the pen in front of a glyph
 before_here : (i : ℕ) (ps : List Position) → i < length ps → pen_before i (summed ps) ≡ pens pen_down (take i ps)
 before_here i ps lt = elim (eqb_tells i 0) [
-    inl is ↦ ap (λ (b : Bool). if b then pen_down else pen_of (position_at (i - 1) (summed ps))) is.0 ∙ ap (λ (n : ℕ). pens pen_down (take n ps)) (sym is.1)
+  | inl is ↦ ap (λ (b : Bool). if b then pen_down else pen_of (position_at (i - 1) (summed ps))) is.0 ∙ ap (λ (n : ℕ). pens pen_down (take n ps)) (sym is.1)
   | inr other ↦
       let apart = other.1 in
       let e : i - 1 + 1 ≡ i = omega (arith, apart) in
-      ap (λ (b : Bool). if b then pen_down else pen_of (position_at (i - 1) (summed ps))) other.0 ∙ summed_pen pen_down (i - 1) ps (omega (arith, apart, lt)) ∙ ap (λ (n : ℕ). pens pen_down (take n ps)) e ]
+      ap (λ (b : Bool). if b then pen_down else pen_of (position_at (i - 1) (summed ps))) other.0 ∙ summed_pen pen_down (i - 1) ps (omega (arith, apart, lt)) ∙ ap (λ (n : ℕ). pens pen_down (take n ps)) e
+]
 
 set_summed : (p : Pen) (i : ℕ) (q : Position) (ps : List Position) → only_advances q ≡ only_advances (position_at i ps)
     → summed_from p (set ps i q) ≡ set (summed_from p ps) i (with_pen (pen_of (position_at i (summed_from p ps))) q)
@@ -215,8 +216,9 @@ before_parent false i j ps le = ap (λ rs. fold on_over (offset_by (position_at 
 
 mark_seen : (forward : Bool) (i j : ℕ) (ps : List Position) → i < length ps → j < length ps → mark_by_sums forward i j (summed ps) ≡ with_pen (sum_to (i + 1) ps) (mark_drawn forward i j ps)
 mark_seen forward i j ps li lj = elim (ltb_tells j i) [
-    inl is ↦ ap (λ (b : Bool). if b then behind_parent forward i j (summed ps) else offset_by (position_at j (summed ps)) (position_at i (summed ps))) is.0 ∙ behind_seen forward i j ps is.1 li
-  | inr other ↦ ap (λ (b : Bool). if b then behind_parent forward i j (summed ps) else offset_by (position_at j (summed ps)) (position_at i (summed ps))) other.0 ∙ offset_seen i j ps li lj ∙ ap (with_pen (sum_to (i + 1) ps)) (sym (before_parent forward i j ps other.1)) ]
+  | inl is ↦ ap (λ (b : Bool). if b then behind_parent forward i j (summed ps) else offset_by (position_at j (summed ps)) (position_at i (summed ps))) is.0 ∙ behind_seen forward i j ps is.1 li
+  | inr other ↦ ap (λ (b : Bool). if b then behind_parent forward i j (summed ps) else offset_by (position_at j (summed ps)) (position_at i (summed ps))) other.0 ∙ offset_seen i j ps li lj ∙ ap (with_pen (sum_to (i + 1) ps)) (sym (before_parent forward i j ps other.1))
+]
   where
     ltb_tells : (j i : ℕ) → ((nat_lt j i ≡ true) × (j < i)) ⊎ ((nat_lt j i ≡ false) × (i ≤ j))
     ltb_tells j i = by_less (nat_lt j i) refl

@@ -59,13 +59,15 @@ child_chain false q p = refl
 
 pub drawn_advances : (d : Direction) (i j : ℕ) (ps : List Position) → only_advances (drawn_position d i j ps) ≡ only_advances (position_at i ps)
 drawn_advances d i j ps = elim ((position_at i ps).attach_type == 2) as (λ b. only_advances (if b then child_drawn (is_horizontal d) (position_at j ps) (position_at i ps) else mark_drawn (is_forward d) i j ps) ≡ only_advances (position_at i ps)) [
-    true ↦ child_advances (is_horizontal d) (position_at j ps) (position_at i ps)
-  | false ↦ mark_keeps only_advances (λ p q. refl) (λ p r. refl) (λ p r. refl) (is_forward d) i j ps ]
+  | true ↦ child_advances (is_horizontal d) (position_at j ps) (position_at i ps)
+  | false ↦ mark_keeps only_advances (λ p q. refl) (λ p r. refl) (λ p r. refl) (is_forward d) i j ps
+]
 
 pub drawn_chain : (d : Direction) (i j : ℕ) (ps : List Position) → (drawn_position d i j ps).attach_chain ≡ (position_at i ps).attach_chain
 drawn_chain d i j ps = elim ((position_at i ps).attach_type == 2) as (λ b. (if b then child_drawn (is_horizontal d) (position_at j ps) (position_at i ps) else mark_drawn (is_forward d) i j ps).attach_chain ≡ (position_at i ps).attach_chain) [
-    true ↦ child_chain (is_horizontal d) (position_at j ps) (position_at i ps)
-  | false ↦ mark_keeps (λ (p : Position). p.attach_chain) (λ p q. refl) (λ p r. refl) (λ p r. refl) (is_forward d) i j ps ]
+  | true ↦ child_chain (is_horizontal d) (position_at j ps) (position_at i ps)
+  | false ↦ mark_keeps (λ (p : Position). p.attach_chain) (λ p q. refl) (λ p r. refl) (λ p r. refl) (is_forward d) i j ps
+]
 
 -- a place is written with another of the same advances
 pub set_advances : (i : ℕ) (p : Position) (ps : List Position) → only_advances p ≡ only_advances (position_at i ps) → map only_advances (set ps i p) ≡ map only_advances ps
@@ -113,8 +115,9 @@ AreLesser depth ps = (k j : ℕ) → parent k ps ≡ Some j → depth j < depth 
 lesser_unlinked : (depth : ℕ → ℕ) (i : ℕ) (ps : List Position) → i < length ps → AreLesser depth ps → AreLesser depth (unlinked i ps)
 unfolding AreLesser
 lesser_unlinked depth i ps lt lesser k j e = elim (eqb_tells k i) [
-    inl is ↦ none_or_some j (parent k (unlinked i ps)) (ap (λ (m : ℕ). parent m (unlinked i ps)) is.1 ∙ parent_unlinked i ps lt) e
-  | inr other ↦ lesser k j (sym (parent_elsewhere i k (without_link (position_at i ps)) ps other.1) ∙ e) ]
+  | inl is ↦ none_or_some j (parent k (unlinked i ps)) (ap (λ (m : ℕ). parent m (unlinked i ps)) is.1 ∙ parent_unlinked i ps lt) e
+  | inr other ↦ lesser k j (sym (parent_elsewhere i k (without_link (position_at i ps)) ps other.1) ∙ e)
+]
 
 same_without : (p : Position) → p.attach_chain ≡ pos 0 → without_link p ≡ p
 same_without p e = ap (λ (z : ℤ). record p { attach_chain = z }) (sym e)
@@ -176,19 +179,22 @@ drawn_more d recorded before now i p done lt is partly undone same drawn_here pa
       long = length-set now i p ∙ long ∙ len_before;
       advances = set_advances i p now same ∙ partly.advances ∙ adv_before;
       kept = λ k e. elim (eqb_tells k i) [
-          inl is_i ↦ absurd (not_both (marked i done k) (ap (marked i done) is_i.1 ∙ marked_here i done) e)
-        | inr other ↦ elsewhere i k p now other.1 ∙ partly.kept k (sym (marked_else i k done other.1) ∙ e) ∙ same_before k other.1 ];
+        | inl is_i ↦ absurd (not_both (marked i done k) (ap (marked i done) is_i.1 ∙ marked_here i done) e)
+        | inr other ↦ elsewhere i k p now other.1 ∙ partly.kept k (sym (marked_else i k done other.1) ∙ e) ∙ same_before k other.1
+      ];
       drawn = λ k lt_k e. elim (eqb_tells k i) [
-          inl is_i ↦ subst (λ (m : ℕ). position_at m (set now i p) ≡ final d recorded (set now i p) m) (sym is_i.1) (position_here i p now within ∙ drawn_here)
+        | inl is_i ↦ subst (λ (m : ℕ). position_at m (set now i p) ≡ final d recorded (set now i p) m) (sym is_i.1) (position_here i p now within ∙ drawn_here)
         | inr other ↦
             let done_k = sym (marked_else i k done other.1) ∙ e in
             let lt_before : k < length before = omega (arith, len_before, lt_k) in
             let there : position_at k now ≡ drawn_from d before now k (parent k recorded) = partly.drawn k lt_before done_k ∙ ap (drawn_from d before now k) (parent_before k other.1) in
             elsewhere i k p now other.1 ∙ there ∙ sym (final_elsewhere d before recorded now i k p (parent k recorded) partly.long lt_before other.1 (sym (same_before k other.1)) same
-                (λ j f. (undone_other j (partly.closed k j done_k (parent_before k other.1 ∙ f)), apart k j f))) ];
+            (λ j f. (undone_other j (partly.closed k j done_k (parent_before k other.1 ∙ f)), apart k j f)))
+      ];
       closed = λ k j e f. elim (eqb_tells k i) [
-          inl is_i ↦ marked_more i j done (parents j (sym (ap (λ (m : ℕ). parent m recorded) is_i.1) ∙ f))
-        | inr other ↦ marked_more i j done (partly.closed k j (sym (marked_else i k done other.1) ∙ e) (parent_before k other.1 ∙ f)) ];
+        | inl is_i ↦ marked_more i j done (parents j (sym (ap (λ (m : ℕ). parent m recorded) is_i.1) ∙ f))
+        | inr other ↦ marked_more i j done (partly.closed k j (sym (marked_else i k done other.1) ∙ e) (parent_before k other.1 ∙ f))
+      ];
     }
 
 -- ---- one glyph followed
@@ -206,14 +212,15 @@ unlinked_partly d recorded now i done lt undone partly apart =
       long = length-set now i q ∙ long ∙ sym len;
       advances = set_advances i q now refl ∙ partly.advances ∙ sym (set_advances i r recorded refl);
       kept = λ k e. elim (eqb_tells k i) [
-          inl is ↦ ap (λ (m : ℕ). position_at m (unlinked i now)) is.1 ∙ position_here i q now within ∙ ap without_link kept_here ∙ sym (position_here i r recorded lt) ∙ ap (λ (m : ℕ). position_at m (unlinked i recorded)) (sym is.1)
-        | inr other ↦ elsewhere i k q now other.1 ∙ partly.kept k e ∙ sym (elsewhere i k r recorded other.1) ];
+        | inl is ↦ ap (λ (m : ℕ). position_at m (unlinked i now)) is.1 ∙ position_here i q now within ∙ ap without_link kept_here ∙ sym (position_here i r recorded lt) ∙ ap (λ (m : ℕ). position_at m (unlinked i recorded)) (sym is.1)
+        | inr other ↦ elsewhere i k q now other.1 ∙ partly.kept k e ∙ sym (elsewhere i k r recorded other.1)
+      ];
       drawn = λ k lt_k e.
-        let other = undone_other k e in
-        let lt_rec : k < length recorded = omega (arith, len, lt_k) in
-        elsewhere i k q now other ∙ partly.drawn k lt_rec e
-        ∙ sym (ap (drawn_from d (unlinked i recorded) (unlinked i now) k) (parent_elsewhere i k r recorded other)
-             ∙ final_elsewhere d recorded (unlinked i recorded) now i k q (parent k recorded) long lt_rec other (elsewhere i k r recorded other) refl (λ j f. (undone_other j (partly.closed k j e f), apart k j f)));
+          let other = undone_other k e in
+          let lt_rec : k < length recorded = omega (arith, len, lt_k) in
+          elsewhere i k q now other ∙ partly.drawn k lt_rec e
+          ∙ sym (ap (drawn_from d (unlinked i recorded) (unlinked i now) k) (parent_elsewhere i k r recorded other)
+          ∙ final_elsewhere d recorded (unlinked i recorded) now i k q (parent k recorded) long lt_rec other (elsewhere i k r recorded other) refl (λ j f. (undone_other j (partly.closed k j e f), apart k j f)));
       closed = λ k j e f. partly.closed k j e (sym (parent_elsewhere i k r recorded (undone_other k e)) ∙ f);
     }
 
@@ -242,15 +249,18 @@ follow_partly d depth (suc fuel) i recorded now done lesser low lt partly = by_d
         let within : i < length now = omega (arith, long, lt) in
         let chain : (position_at i now).attach_chain ≡ pos 0 = ap (λ (p : Position). p.attach_chain) (partly.drawn i lt e) ∙ final_chain d recorded now i (parent i recorded) within in
         subst (λ (xs : List Position). IsDrawnWith d recorded xs done depth i) (sym (followed_linkless d (suc fuel) fuel i now refl chain))
-            record { marks = done; partly = partly; here = e; more = λ k f. f; only = λ k f. inl f }
+        record { marks = done; partly = partly; here = e; more = λ k f. f; only = λ k f. inl f }
     by_done false e before_it = by_parent (parent i recorded) refl
       where
         here_now : position_at i now ≡ position_at i recorded
         here_now = partly.kept i e
+
         parent_now : parent i now ≡ parent i recorded
         parent_now = ap (λ (n : ℕ). linked n i (position_at i now).attach_chain) partly.long ∙ ap (λ (p : Position). linked (length recorded) i p.attach_chain) here_now
+
         own : (k j : ℕ) → parent k recorded ≡ Some j → j ≢ k
         own = never_own depth recorded lesser
+
         by_parent : (o : Option ℕ) → parent i recorded ≡ o → IsDrawnWith d recorded (followed (drawn_position d) (suc fuel) i now) done depth i
         by_parent None f =
             let unlinked_is : followed (drawn_position d) (suc fuel) i now ≡ unlinked i now = followed_step (drawn_position d) (suc fuel) fuel i now refl ∙ ap (λ (o : Option ℕ). hung_on (drawn_position d) (followed (drawn_position d) fuel) i o now) (parent_now ∙ f) in
@@ -264,13 +274,13 @@ follow_partly d depth (suc fuel) i recorded now done lesser low lt partly = by_d
             let more_drawn = drawn_more d recorded before (unlinked i now) i q done lt refl mid e (ap only_advances (sym mid_here)) is_final (λ j g. none_or_some j (parent i recorded) f g) own in
             let written : set (unlinked i now) i q ≡ unlinked i now = ap (λ (p : Position). set (unlinked i now) i p) (sym mid_here) ∙ set-get_or (unlinked i now) i zero_position in
             subst (λ (xs : List Position). IsDrawnWith d recorded xs done depth i) (sym unlinked_is)
-                record {
-                    marks = marked i done;
-                    partly = subst (λ (xs : List Position). ArePartlyDrawn d recorded xs (marked i done)) written more_drawn;
-                    here = marked_here i done;
-                    more = λ k g. marked_more i k done g;
-                    only = λ k g. elim (eqb_tells k i) [ inl is ↦ inr (let same = ap depth is.1 in omega (arith, same)) | inr other ↦ inl (sym (marked_else i k done other.1) ∙ g) ];
-                }
+            record {
+              marks = marked i done;
+              partly = subst (λ (xs : List Position). ArePartlyDrawn d recorded xs (marked i done)) written more_drawn;
+              here = marked_here i done;
+              more = λ k g. marked_more i k done g;
+              only = λ k g. elim (eqb_tells k i) [ inl is ↦ inr (let same = ap depth is.1 in omega (arith, same)) | inr other ↦ inl (sym (marked_else i k done other.1) ∙ g) ];
+            }
         by_parent (Some j) f =
             let step : followed (drawn_position d) (suc fuel) i now ≡ hung (drawn_position d) i j (followed (drawn_position d) fuel j (unlinked i now)) = followed_step (drawn_position d) (suc fuel) fuel i now refl ∙ ap (λ (o : Option ℕ). hung_on (drawn_position d) (followed (drawn_position d) fuel) i o now) (parent_now ∙ f) in
             let before = unlinked i recorded in
@@ -294,22 +304,23 @@ follow_partly d depth (suc fuel) i recorded now done lesser low lt partly = by_d
                 let here : position_at i now' ≡ r = first.partly.kept i undone ∙ position_here i r recorded lt in
                 let j_other : j ≢ i = own i j f in
                 let is_final : p ≡ final d recorded (set now' i p) i =
-                    drawn_same d i j now' (set (set now' i p) i r) (here ∙ sym (position_here i r (set now' i p) (let l = length-set now' i p in omega (arith, l, within))))
-                        (sym (elsewhere i j r (set now' i p) j_other ∙ elsewhere i j p now' j_other))
-                        (sym (set_advances i r (set now' i p) (sym (ap only_advances (position_here i p now' within) ∙ drawn_advances d i j now' ∙ ap only_advances here)) ∙ set_advances i p now' (drawn_advances d i j now')))
-                    ∙ sym (ap (drawn_from d recorded (set now' i p) i) f) in
+                drawn_same d i j now' (set (set now' i p) i r) (here ∙ sym (position_here i r (set now' i p) (let l = length-set now' i p in omega (arith, l, within))))
+                (sym (elsewhere i j r (set now' i p) j_other ∙ elsewhere i j p now' j_other))
+                (sym (set_advances i r (set now' i p) (sym (ap only_advances (position_here i p now' within) ∙ drawn_advances d i j now' ∙ ap only_advances here)) ∙ set_advances i p now' (drawn_advances d i j now')))
+                ∙ sym (ap (drawn_from d recorded (set now' i p) i) f) in
                 let more_drawn = drawn_more d recorded (unlinked i recorded) now' i p first.marks lt refl first.partly undone (drawn_advances d i j now') is_final
-                    (λ m g. let same : Some m ≡ Some j = sym g ∙ f in let is : m ≡ j = cc in ap first.marks is ∙ first.here) own in
+                (λ m g. let same : Some m ≡ Some j = sym g ∙ f in let is : m ≡ j = cc in ap first.marks is ∙ first.here) own in
                 subst (λ (xs : List Position). IsDrawnWith d recorded xs done depth i) (sym step)
-                    record {
-                        marks = marked i first.marks;
-                        partly = more_drawn;
-                        here = marked_here i first.marks;
-                        more = λ k g. marked_more i k first.marks (first.more k g);
-                        only = λ k g. elim (eqb_tells k i) [
-                            inl is ↦ inr (let same = ap depth is.1 in omega (arith, same))
-                          | inr other ↦ elim (first.only k (sym (marked_else i k first.marks other.1) ∙ g)) [ inl was ↦ inl was | inr le ↦ inr (omega (arith, le, lower)) ] ];
-                    }
+                record {
+                  marks = marked i first.marks;
+                  partly = more_drawn;
+                  here = marked_here i first.marks;
+                  more = λ k g. marked_more i k first.marks (first.more k g);
+                  only = λ k g. elim (eqb_tells k i) [
+                    | inl is ↦ inr (let same = ap depth is.1 in omega (arith, same))
+                    | inr other ↦ elim (first.only k (sym (marked_else i k first.marks other.1) ∙ g)) [ inl was ↦ inl was | inr le ↦ inr (omega (arith, le, lower)) ]
+                  ];
+                }
 
 -- ---- all glyphs followed
 
@@ -327,8 +338,9 @@ follow_all d depth recorded have (suc n) i now e a =
     let low = have.within i lt in
     let one = follow_partly d depth (length now) i recorded now a.marks have.lesser (omega (arith, long, low)) lt a.partly in
     let next : AreFollowed d recorded (followed (drawn_position d) (length now) i now) (i + 1) = record {
-        marks = one.marks; partly = one.partly;
-        each = λ k lt_k. elim (eqb_tells k i) [ inl is ↦ ap one.marks is.1 ∙ one.here | inr other ↦ one.more k (a.each k (let apart = other.1 in omega (arith, lt_k, apart))) ];
+      marks = one.marks;
+      partly = one.partly;
+      each = λ k lt_k. elim (eqb_tells k i) [ inl is ↦ ap one.marks is.1 ∙ one.here | inr other ↦ one.more k (a.each k (let apart = other.1 in omega (arith, lt_k, apart))) ];
     } in
     let sum : i + 1 + n ≡ i + suc n = omega arith in
     subst (λ (m : ℕ). AreFollowed d recorded (followed_from (drawn_position d) (i + 1) n (followed (drawn_position d) (length now) i now)) m) sum (follow_all d depth recorded have n (i + 1) (followed (drawn_position d) (length now) i now) (sum ∙ e) next)

@@ -5,9 +5,9 @@ use Rattle.std.proofs.lemmas.List.{take_at, length-map, length-set}
 use Rattle.std.proofs.lemmas.Nat.{and_assoc}
 use Rattle.glyph_lists.specs.Items.{Position}
 use Rattle.glyph_lists.specs.Lists.{map_step}
-use Rattle.glyph_lists.specs.Readings.{View, Read, Stage, always, with_events, Follows}
+use Rattle.glyph_lists.specs.Readings.{View, Read, always, with_events, Follows}
 use Rattle.glyph_buffer.specs.Lending.{refilled, with_positions_refilled}
-use Rattle.glyph_buffer.specs.Sides.{Sides, run_of, zero_position, settings_of, told_of, view_of}
+use Rattle.glyph_buffer.specs.Sides.{Sides, run_of, zero_position, told_of, view_of}
 use Rattle.layout_rules.specs.Ready.{IsDone, IsReady}
 use Rattle.layout_links.specs.Links.{finished, position_at}
 use Rattle.layout_links.specs.Finishing.{has_attachments, all_drawn, drawn_if, links_followed}
@@ -23,21 +23,21 @@ written_done : (ps : List Position) (stage : View → Read) (s : Sides) → leng
     → IsDone (always stage) s (with_positions_refilled ps s)
 written_done ps stage s len e ready =
     subst (λ (qs : List Position). IsDone (always stage) s (record s { positions = qs })) (sym (refilled_whole ps s.positions len)) record {
-        follows = subst (λ (r : Read). Follows (Ok r) (run_of s) (run_of (record s { positions = ps }))) (sym e) refl;
-        settings = refl;
-        ready = record { closed = ready.closed; front = ready.front; unread = ready.unread; placed = len ∙ ready.placed; unrefused = ready.unrefused };
-        numbers = λ are. are;
+      follows = subst (λ (r : Read). Follows (Ok r) (run_of s) (run_of (record s { positions = ps }))) (sym e) refl;
+      settings = refl;
+      ready = record { closed = ready.closed; front = ready.front; unread = ready.unread; placed = len ∙ ready.placed; unrefused = ready.unrefused };
+      numbers = λ are. are;
     }
 
 pub cleared_done : (ps : List Position) (s new : Sides) → new ≡ with_positions_refilled ps s → ps ≡ map unattached s.positions → IsReady s → IsDone (always links_cleared) s new
 cleared_done ps s new e is ready =
     subst (λ (n : Sides). IsDone (always links_cleared) s n) (sym (e ∙ ap (λ (qs : List Position). with_positions_refilled qs s) is))
-        (written_done (map unattached s.positions) links_cleared s (length-map s.positions unattached) refl ready)
+    (written_done (map unattached s.positions) links_cleared s (length-map s.positions unattached) refl ready)
 
 pub drawn_done : (ps : List Position) (s new : Sides) → new ≡ with_positions_refilled ps s → ps ≡ finished s.direction s.positions → IsReady s → IsDone (always all_drawn) s new
 drawn_done ps s new e is ready =
     subst (λ (n : Sides). IsDone (always all_drawn) s n) (sym (e ∙ ap (λ (qs : List Position). with_positions_refilled qs s) is))
-        (written_done (finished s.direction s.positions) all_drawn s (finished_length s.direction s.positions) refl ready)
+    (written_done (finished s.direction s.positions) all_drawn s (finished_length s.direction s.positions) refl ready)
 
 -- ---- whether glyphs were attached
 
@@ -47,10 +47,10 @@ attachments_told flags = ap (λ (n : ℕ). not (n == 0)) (and_assoc 8 flags 0xFF
 
 stage_is : (b : Bool) (s new : Sides) → not (bit_and s.scratch_flags 8 == 0) ≡ b → IsDone (always (drawn_if b)) s new → IsDone (always links_followed) s new
 stage_is b s new e done = record {
-    follows = subst (λ (c : Bool). Follows (Ok (drawn_if c (view_of s))) (run_of s) (run_of new)) (sym (attachments_told s.scratch_flags ∙ e)) done.follows;
-    settings = done.settings;
-    ready = done.ready;
-    numbers = done.numbers;
+  follows = subst (λ (c : Bool). Follows (Ok (drawn_if c (view_of s))) (run_of s) (run_of new)) (sym (attachments_told s.scratch_flags ∙ e)) done.follows;
+  settings = done.settings;
+  ready = done.ready;
+  numbers = done.numbers;
 }
 
 pub attached_done : (s new : Sides) → (bit_and s.scratch_flags 8 == 0) ≡ false → IsDone (always all_drawn) s new → IsDone (always links_followed) s new

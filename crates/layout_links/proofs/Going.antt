@@ -1,5 +1,5 @@
 -- A walk's steps.
-use Rattle.std.proofs.Common.{ℕ, suc, ℤ, pos, negsuc, ◌+ℤ◌, ◌≡◌, ◌≢◌, ◌<◌, ◌+◌, ◌-◌, ◌==◌, ◌&&◌, inl, inr, Bool, true, false, nat_le, not, if◌then◌else◌, List, [], ◌∷◌, Option, Some, None, length, set, arith, refl, ap, sym, subst, ◌∙◌, add-one}
+use Rattle.std.proofs.Common.{ℕ, suc, ℤ, pos, negsuc, ◌+ℤ◌, ◌≡◌, ◌≢◌, ◌<◌, ◌+◌, ◌-◌, ◌==◌, ◌&&◌, inl, inr, Bool, true, false, not, if◌then◌else◌, List, [], ◌∷◌, Option, Some, None, length, set, arith, refl, ap, sym, subst, ◌∙◌, add-one}
 use Rattle.std.specs.Prelude.{nat_abs, int_le, int_lt}
 use Rattle.std.proofs.lemmas.Int.{ints}
 use Rattle.std.proofs.lemmas.Bool.Decides.{nat_tests, eqb_tells}
@@ -69,9 +69,13 @@ trail_elsewhere ps k q at by [] t a = tt
 trail_elsewhere ps k q at by (c ∷ rest) t a =
     let same : position_at c (set ps k q) ≡ position_at c ps = elsewhere k c q ps (λ e. a.0 (sym e)) in
     let len = length-set ps k q in
-    let within = t.0 in
-    (omega (arith, len, within), ap is_open same ∙ t.1, t.2, t.3,
-     subst (λ (p : Position). Trail (set ps k q) c p.attach_chain rest) (sym same) (trail_elsewhere ps k q c (position_at c ps).attach_chain rest t.4 a.1))
+    let within = t.0 in (
+      omega (arith, len, within),
+      ap is_open same ∙ t.1,
+      t.2,
+      t.3,
+      subst (λ (p : Position). Trail (set ps k q) c p.attach_chain rest) (sym same) (trail_elsewhere ps k q c (position_at c ps).attach_chain rest t.4 a.1),
+    )
 
 -- ---- along
 
@@ -92,18 +96,22 @@ going_on d goal count fuel next at by depth ps j g e shut_here to =
     let long_now : length ps' ≡ count = len ∙ long in
     let there_now : j < count = omega (arith, long, there.0) in
     let depth_is = w.depth_is in
-    let trail : Trail ps' j p.attach_chain (at ∷ w.stack) =
-        (omega (arith, len, within), ap is_open same ∙ open_opened by p g.moves, there.1, apart,
-         subst (λ (q : Position). Trail ps' at q.attach_chain w.stack) (sym same) (trail_elsewhere ps at (opened by p) at by w.stack w.trail apart)) in
+    let trail : Trail ps' j p.attach_chain (at ∷ w.stack) = (
+      omega (arith, len, within),
+      ap is_open same ∙ open_opened by p g.moves,
+      there.1,
+      apart,
+      subst (λ (q : Position). Trail ps' at q.attach_chain w.stack) (sym same) (trail_elsewhere ps at (opened by p) at by w.stack w.trail apart),
+    ) in
     let only : (k : ℕ) → is_open (position_at k ps') ≡ true → Apart k (at ∷ w.stack) → ⊥ =
-        λ k o a. w.only k (sym (ap is_open (elsewhere at k (opened by p) ps a.0)) ∙ o) a.1 in
+    λ k o a. w.only k (sym (ap is_open (elsewhere at k (opened by p) ps a.0)) ∙ o) a.1 in
     let step = followed_step (drawn_by_sums d) fuel next at (all_shut ps) (e ∙ add-one next) in
     let hangs = ap (λ (o : Option ℕ). hung_on (drawn_by_sums d) (followed (drawn_by_sums d) next) at o (all_shut ps)) (parent_shut at ps shut_here ∙ to) in
     let beyond = ap (λ (qs : List Position). hung (drawn_by_sums d) at j (followed (drawn_by_sums d) next j qs)) (opened_shut at by ps g.moves shut_here) in
     record {
-        walk = record { stack = at ∷ w.stack; long = long_now; here = there_now; trail = trail; depth_is = omega (arith, depth_is); only = only };
-        moves = linked_moves (length ps) at p.attach_chain j to;
-        leads = ap (unwound d at w.stack) (beyond ∙ sym (step ∙ hangs)) ∙ g.leads;
+      walk = record { stack = at ∷ w.stack; long = long_now; here = there_now; trail = trail; depth_is = omega (arith, depth_is); only = only };
+      moves = linked_moves (length ps) at p.attach_chain j to;
+      leads = ap (unwound d at w.stack) (beyond ∙ sym (step ∙ hangs)) ∙ g.leads;
     }
 
 -- at a glyph that the walk came through
@@ -132,12 +140,13 @@ going_stops d goal count fuel at by depth ps g n shut_here to =
     let step = followed_step (drawn_by_sums d) fuel (fuel - 1) at (all_shut ps) e in
     let stops = ap (λ (o : Option ℕ). hung_on (drawn_by_sums d) (followed (drawn_by_sums d) (fuel - 1)) at o (all_shut ps)) (parent_shut at ps shut_here ∙ to) in
     let only : (k : ℕ) → is_open (position_at k (unlinked at ps)) ≡ true → Apart k w.stack → ⊥ =
-        λ k o a. elim (eqb_tells k at) [
-            inl is ↦ closed_not_open (is_open (position_at k (unlinked at ps))) o (ap (λ (m : ℕ). is_open (position_at m (unlinked at ps))) is.1 ∙ ap is_open same ∙ unlinked_closed p)
-          | inr other ↦ w.only k (sym (ap is_open (elsewhere at k (without_link p) ps other.1)) ∙ o) a ] in
+    λ k o a. elim (eqb_tells k at) [
+      | inl is ↦ closed_not_open (is_open (position_at k (unlinked at ps))) o (ap (λ (m : ℕ). is_open (position_at m (unlinked at ps))) is.1 ∙ ap is_open same ∙ unlinked_closed p)
+      | inr other ↦ w.only k (sym (ap is_open (elsewhere at k (without_link p) ps other.1)) ∙ o) a
+    ] in
     record {
-        walk = record { stack = w.stack; long = length-set ps at (without_link p) ∙ long; here = here; trail = trail_elsewhere ps at (without_link p) at by w.stack w.trail apart; depth_is = w.depth_is; only = only };
-        leads = ap (unwound d at w.stack) (unlinked_shut at ps shut_here) ∙ sym (ap (unwound d at w.stack) (step ∙ stops)) ∙ g.leads;
+      walk = record { stack = w.stack; long = length-set ps at (without_link p) ∙ long; here = here; trail = trail_elsewhere ps at (without_link p) at by w.stack w.trail apart; depth_is = w.depth_is; only = only };
+      leads = ap (unwound d at w.stack) (unlinked_shut at ps shut_here) ∙ sym (ap (unwound d at w.stack) (step ∙ stops)) ∙ g.leads;
     }
 
 -- where no more links may be followed
@@ -178,12 +187,13 @@ back_at_top d goal count at by next ps qs c rest link long len t only leads b =
     let seen : all_shut (set mid c r) ≡ hung (drawn_by_sums d) c at (all_shut ps) = hung_shut d c at mid shut_mid ∙ ap (hung (drawn_by_sums d) c at) still in
     let trail : Trail (set mid c r) c p.attach_chain rest = trail_elsewhere mid c r c p.attach_chain rest (trail_elsewhere ps c (shut p) c p.attach_chain rest t.4 t.3) t.3 in
     let only_now : (k : ℕ) → is_open (position_at k (set mid c r)) ≡ true → Apart k rest → ⊥ =
-        λ k o a. elim (eqb_tells k c) [
-            inl is ↦ closed_not_open (is_open (position_at k (set mid c r))) o (ap (λ (m : ℕ). is_open (position_at m (set mid c r))) is.1 ∙ shut_here)
-          | inr other ↦ only k (sym (ap is_open (elsewhere c k r mid other.1 ∙ elsewhere c k (shut p) ps other.1)) ∙ o) (other.1, a) ] in
+    λ k o a. elim (eqb_tells k c) [
+      | inl is ↦ closed_not_open (is_open (position_at k (set mid c r))) o (ap (λ (m : ℕ). is_open (position_at m (set mid c r))) is.1 ∙ shut_here)
+      | inr other ↦ only k (sym (ap is_open (elsewhere c k r mid other.1 ∙ elsewhere c k (shut p) ps other.1)) ∙ o) (other.1, a)
+    ] in
     let there : IsComing d goal count c p.attach_chain next (set mid c r) = record {
-        walk = record { stack = rest; long = long_drawn ∙ long_mid ∙ long; here = omega (arith, within, long); trail = trail; depth_is = len; only = only_now };
-        leads = ap (unwound d c rest) seen ∙ leads;
+      walk = record { stack = rest; long = long_drawn ∙ long_mid ∙ long; here = omega (arith, within, long); trail = trail; depth_is = len; only = only_now };
+      leads = ap (unwound d c rest) seen ∙ leads;
     } in
     let at_link = subst (λ (l : ℤ). IsComing d goal count c l next (set mid c r)) (sym b.1) there in
     subst (λ (xs : List Position). IsComing d goal count c link next xs) (sym b.3) at_link
@@ -209,12 +219,12 @@ all_same (p ∷ ps) s = rw (shut_closed p (s 0), all_same ps (λ k. s (suc k))) 
 
 pub going_first : (d : Direction) (count at : ℕ) (ps : List Position) → length ps ≡ count → at < count → are_shut ps → IsGoing d (followed (drawn_by_sums d) count at ps) count (count - 0) at (pos 1) 0 ps
 going_first d count at ps long here s =
-  let none : count ≡ count - 0 = omega arith in
-  subst (λ (n : ℕ). IsGoing d (followed (drawn_by_sums d) count at ps) count n at (pos 1) 0 ps) none record {
-    walk = record { stack = []; long = long; here = here; trail = tt; depth_is = refl; only = λ k o a. closed_not_open (is_open (position_at k ps)) o (s k) };
-    moves = refl;
-    leads = ap (followed (drawn_by_sums d) count at) (all_same ps s);
-}
+    let none : count ≡ count - 0 = omega arith in
+    subst (λ (n : ℕ). IsGoing d (followed (drawn_by_sums d) count at ps) count n at (pos 1) 0 ps) none record {
+      walk = record { stack = []; long = long; here = here; trail = tt; depth_is = refl; only = λ k o a. closed_not_open (is_open (position_at k ps)) o (s k) };
+      moves = refl;
+      leads = ap (followed (drawn_by_sums d) count at) (all_same ps s);
+    }
 
 -- nothing is left
 pub coming_last : (d : Direction) (goal : List Position) (count at : ℕ) (by : ℤ) (ps : List Position) → IsComing d goal count at by 0 ps → (ps ≡ goal) × are_shut ps
@@ -223,6 +233,7 @@ coming_last d goal count at by ps g = by_stack g.walk.stack g.walk.depth_is g.wa
     none_open : (b : Bool) → (b ≡ true → ⊥) → b ≡ false
     none_open true n = absurd (n refl)
     none_open false n = refl
+
     by_stack : (stack : List ℕ) → length stack ≡ 0 → ((k : ℕ) → is_open (position_at k ps) ≡ true → Apart k stack → ⊥) → unwound d at stack (all_shut ps) ≡ goal → (ps ≡ goal) × are_shut ps
     by_stack [] len only leads =
         let s : are_shut ps = λ k. none_open (is_open (position_at k ps)) (λ o. only k o tt) in
@@ -245,8 +256,9 @@ pub going_stopped : (goal : Direction → List Position) (count i at : ℕ) (by 
 going_stopped goal count i at by ps qs g lt stops d =
     let n : count - i ≢ 0 = omega (arith, lt) in
     elim stops [
-        inl here ↦ subst (λ (xs : List Position). IsComing d (goal d) count at by i xs) (sym here.1) (going_stops_open d (goal d) count (count - i) at by i ps (g d) n here.0)
-      | inr none ↦ subst (λ (xs : List Position). IsComing d (goal d) count at by i xs) (sym none.2) (going_stops d (goal d) count (count - i) at by i ps (g d) n none.0 none.1) ]
+      | inl here ↦ subst (λ (xs : List Position). IsComing d (goal d) count at by i xs) (sym here.1) (going_stops_open d (goal d) count (count - i) at by i ps (g d) n here.0)
+      | inr none ↦ subst (λ (xs : List Position). IsComing d (goal d) count at by i xs) (sym none.2) (going_stops d (goal d) count (count - i) at by i ps (g d) n none.0 none.1)
+    ]
 
 pub going_done : (goal : Direction → List Position) (count i at : ℕ) (by : ℤ) (ps : List Position)
     → ((d : Direction) → IsGoing d (goal d) count (count - i) at by i ps) → i ≡ count

@@ -1,5 +1,5 @@
 -- Links are cleared, and advances and positions without links stay.
-use Rattle.std.proofs.Common.{ℕ, zero, suc, pos, ◌≡◌, ◌≢◌, ◌≤◌, ◌<◌, ◌+◌, ◌-◌, inl, inr, Bool, true, false, if◌then◌else◌, List, [], ◌∷◌, ◌++◌, Option, Some, None, length, map, take, drop, arith, refl, ap, sym, ◌∙◌}
+use Rattle.std.proofs.Common.{ℕ, zero, suc, pos, ◌≡◌, ◌≢◌, ◌≤◌, ◌<◌, ◌+◌, ◌-◌, inl, inr, true, false, if◌then◌else◌, List, [], ◌∷◌, Option, Some, None, length, map, arith, refl, ap, sym, ◌∙◌}
 use Rattle.std.proofs.lemmas.Bool.Decides.{eqb_tells}
 use Rattle.std.proofs.lemmas.List.{length-map, length-set}
 use Rattle.glyph_lists.specs.Items.{Position}
@@ -29,8 +29,9 @@ followed_advances d (suc fuel) i ps = ap (map only_advances) (followed_step (dra
 linkless_stays : (d : Direction) (fuel i k : ℕ) (ps : List Position) → (position_at k ps).attach_chain ≡ pos 0 → position_at k (followed (drawn_position d) fuel i ps) ≡ position_at k ps
 linkless_stays d zero i k ps e = ap (position_at k) (followed_none (drawn_position d) i ps)
 linkless_stays d (suc fuel) i k ps e = elim (eqb_tells k i) [
-    inl is ↦ ap (position_at k) (followed_linkless d (suc fuel) fuel i ps refl (sym (ap (λ (m : ℕ). (position_at m ps).attach_chain) is.1) ∙ e))
-  | inr other ↦ ap (position_at k) (followed_step (drawn_position d) (suc fuel) fuel i ps refl) ∙ by_parent other.1 (parent i ps) (λ j qs f. linkless_stays d fuel j k qs f) ]
+  | inl is ↦ ap (position_at k) (followed_linkless d (suc fuel) fuel i ps refl (sym (ap (λ (m : ℕ). (position_at m ps).attach_chain) is.1) ∙ e))
+  | inr other ↦ ap (position_at k) (followed_step (drawn_position d) (suc fuel) fuel i ps refl) ∙ by_parent other.1 (parent i ps) (λ j qs f. linkless_stays d fuel j k qs f)
+]
   where
     by_parent : k ≢ i → (o : Option ℕ) → ((j : ℕ) (qs : List Position) → (position_at k qs).attach_chain ≡ pos 0 → position_at k (followed (drawn_position d) fuel j qs) ≡ position_at k qs) → position_at k (hung_on (drawn_position d) (followed (drawn_position d) fuel) i o ps) ≡ position_at k ps
     by_parent other None before = elsewhere i k (without_link (position_at i ps)) ps other
@@ -45,6 +46,7 @@ followed_clears d fuel next i ps is lt = ap (λ (qs : List Position). (position_
   where
     free : (position_at i (unlinked i ps)).attach_chain ≡ pos 0
     free = ap (λ (p : Position). p.attach_chain) (position_here i (without_link (position_at i ps)) ps lt)
+
     by_parent : (o : Option ℕ) → (position_at i (hung_on (drawn_position d) (followed (drawn_position d) next) i o ps)).attach_chain ≡ pos 0
     by_parent None = free
     by_parent (Some j) =
@@ -70,16 +72,17 @@ from_clears d (suc n) i k ps e le lt =
     let now = followed (drawn_position d) (length ps) i ps in
     let len = same_length now ps (followed_advances d (length ps) i ps) in
     elim (eqb_tells k i) [
-        inl is ↦
-            let own : (position_at k now).attach_chain ≡ pos 0 = ap (λ (m : ℕ). (position_at m now).attach_chain) is.1 ∙ followed_clears d (length ps) (length ps - 1) i ps (omega (arith, e)) (omega (arith, e)) in
-            ap (λ (p : Position). p.attach_chain) (from_linkless d n (i + 1) k now own) ∙ own
-      | inr other ↦ let apart = other.1 in from_clears d n (i + 1) k now (omega (arith, e, len)) (omega (arith, le, apart)) (omega (arith, lt, len)) ]
+      | inl is ↦
+          let own : (position_at k now).attach_chain ≡ pos 0 = ap (λ (m : ℕ). (position_at m now).attach_chain) is.1 ∙ followed_clears d (length ps) (length ps - 1) i ps (omega (arith, e)) (omega (arith, e)) in
+          ap (λ (p : Position). p.attach_chain) (from_linkless d n (i + 1) k now own) ∙ own
+      | inr other ↦ let apart = other.1 in from_clears d n (i + 1) k now (omega (arith, e, len)) (omega (arith, le, apart)) (omega (arith, lt, len))
+    ]
 
 each_link_is_cleared : (d : Direction) (ps : List Position) → IsFinished ps (all_followed (drawn_position d) ps)
 each_link_is_cleared d ps = record {
-    advances = from_advances d (length ps) 0 ps;
-    cleared = λ k lt. from_clears d (length ps) 0 k ps (omega arith) (omega arith) lt;
-    linkless = λ k e. from_linkless d (length ps) 0 k ps e;
+  advances = from_advances d (length ps) 0 ps;
+  cleared = λ k lt. from_clears d (length ps) 0 k ps (omega arith) (omega arith) lt;
+  linkless = λ k e. from_linkless d (length ps) 0 k ps e;
 }
 
 -- ---- links of no kind
@@ -99,11 +102,11 @@ links_are_cleared d ps =
     let there = each_link_is_cleared d (kinds_tested ps) in
     let tested : (k : ℕ) → position_at k (kinds_tested ps) ≡ kind_tested (position_at k ps) = λ k. seen_at kind_tested ps k zero_position in
     record {
-        advances = there.advances ∙ all_tested_advances ps;
-        cleared = λ k lt. there.cleared k (let len = length-map ps kind_tested in omega (arith, len, lt));
-        linkless = λ k e.
-            let same = tested k ∙ tested_linkless (position_at k ps) e in
-            there.linkless k (ap (λ (p : Position). p.attach_chain) same ∙ e) ∙ same;
+      advances = there.advances ∙ all_tested_advances ps;
+      cleared = λ k lt. there.cleared k (let len = length-map ps kind_tested in omega (arith, len, lt));
+      linkless = λ k e.
+          let same = tested k ∙ tested_linkless (position_at k ps) e in
+          there.linkless k (ap (λ (p : Position). p.attach_chain) same ∙ e) ∙ same;
     }
 
 pub finished_length : (d : Direction) (ps : List Position) → length (finished d ps) ≡ length ps

@@ -1,6 +1,5 @@
 -- Sums made and taken apart, one position after another.
-use Rattle.std.proofs.Common.{ℕ, zero, suc, ℤ, pos, ◌≡◌, ◌≢◌, ◌≤◌, ◌<◌, ◌+◌, ◌-◌, inl, inr, List, [], ◌∷◌, ◌++◌, length, map, set, take, drop, arith, refl, ap, sym, subst, ◌∙◌}
-use Rattle.std.specs.Prelude.{get_or}
+use Rattle.std.proofs.Common.{ℕ, zero, suc, pos, ◌≡◌, ◌≤◌, ◌<◌, ◌+◌, inl, inr, List, [], ◌∷◌, ◌++◌, length, set, take, drop, arith, refl, ap, sym, subst, ◌∙◌}
 use Rattle.std.proofs.lemmas.Bool.Decides.{eqb_tells, leb_tells}
 use Rattle.std.proofs.lemmas.List.{length-set, get_or-set_same, get_or-set_other, take_more, drop_more, take-set-le, drop-set-lt, take_all, drop_all, append-nil, append_assoc}
 use Rattle.std.specs.Int.{int_wrap, w32}
@@ -21,7 +20,7 @@ step run s s' q i ps lt e =
     let len = length-set ps i q in
     let within : i < length (set ps i q) = omega (arith, len, lt) in
     let one : take (i + 1) (set ps i q) ≡ take i ps ++ q ∷ [] =
-        take_more (set ps i q) i zero_position within ∙ ap (λ xs. xs ++ position_at i (set ps i q) ∷ []) (take-set-le i ps i q (omega arith)) ∙ ap (λ p. take i ps ++ p ∷ []) (get_or-set_same ps i q zero_position lt) in
+    take_more (set ps i q) i zero_position within ∙ ap (λ xs. xs ++ position_at i (set ps i q) ∷ []) (take-set-le i ps i q (omega arith)) ∙ ap (λ p. take i ps ++ p ∷ []) (get_or-set_same ps i q zero_position lt) in
     ap (λ xs. xs ++ run s' (drop (i + 1) (set ps i q))) one ∙ ap (λ xs. (take i ps ++ q ∷ []) ++ run s' xs) (drop-set-lt (i + 1) ps i q (omega arith))
     ∙ append_assoc (take i ps) (q ∷ []) (run s' (drop (i + 1) ps)) ∙ ap (λ xs. take i ps ++ xs) (sym e) ∙ ap (λ xs. take i ps ++ run s xs) (sym (drop_more ps i zero_position lt))
 
@@ -37,12 +36,13 @@ summing_more old i pen ps s lt fits =
     let p = kind_tested (position_at i ps) in
     let q = with_pen (pen_behind pen p) p in
     record {
-        leads = step (λ pen xs. summed_from pen (kinds_tested xs)) pen (pen_behind pen p) q i ps lt refl ∙ s.leads;
-        long = length-set ps i q ∙ s.long;
-        left = λ k le. get_or-set_other ps i k q zero_position (omega (arith, le)) ∙ s.left k (omega (arith, le));
-        fit = λ k lt_k. elim (eqb_tells k i) [
-            inl is ↦ subst (λ (r : Position). Fits r) (s.left i (omega arith) ∙ ap (λ (m : ℕ). position_at m old) (sym is.1)) fits
-          | inr other ↦ let apart = other.1 in s.fit k (omega (arith, apart, lt_k)) ];
+      leads = step (λ pen xs. summed_from pen (kinds_tested xs)) pen (pen_behind pen p) q i ps lt refl ∙ s.leads;
+      long = length-set ps i q ∙ s.long;
+      left = λ k le. get_or-set_other ps i k q zero_position (omega (arith, le)) ∙ s.left k (omega (arith, le));
+      fit = λ k lt_k. elim (eqb_tells k i) [
+        | inl is ↦ subst (λ (r : Position). Fits r) (s.left i (omega arith) ∙ ap (λ (m : ℕ). position_at m old) (sym is.1)) fits
+        | inr other ↦ let apart = other.1 in s.fit k (omega (arith, apart, lt_k))
+      ];
     }
 
 pub summing_next : (old : List Position) (i : ℕ) (pen pen' : Pen) (ps : List Position) (p q : Position) → IsSumming old i pen ps → i < length ps → p ≡ kind_tested (position_at i ps) → Fits (position_at i ps)
@@ -67,8 +67,9 @@ outside_fits (suc k) (p ∷ ps) le = outside_fits k ps (omega (arith, le))
 
 pub summing_fits : (old : List Position) (i : ℕ) (pen : Pen) (ps : List Position) → IsSumming old i pen ps → length ps ≤ i → AllFit old
 summing_fits old i pen ps s le k = elim (leb_tells i k) [
-    inl outside ↦ let long = s.long in let beyond = outside.1 in outside_fits k old (omega (arith, le, long, beyond))
-  | inr inside ↦ s.fit k inside.1 ]
+  | inl outside ↦ let long = s.long in let beyond = outside.1 in outside_fits k old (omega (arith, le, long, beyond))
+  | inr inside ↦ s.fit k inside.1
+]
 
 pub parting_first : (ps : List Position) → IsParting ps 0 pen_down ps
 parting_first ps = record { leads = refl; long = refl }

@@ -131,13 +131,14 @@ axis_drawn v o axis false i j drawn list lt adv base =
     let x = o (mark_drawn false i j list) in
     let pens : t +ℤ a ≡ pen v false j drawn = sym (pen_backward v i j drawn (omega (arith, lt)) ∙ ap (λ (n : ℤ). n +ℤ a) (sym (range_total v axis.alone (j + 1) (i + 1) list drawn adv))) in
     let over : int_wrap w32 x ≡ int_wrap w32 ((o p +ℤ o q) +ℤ t) =
-        fold_on v o axis.on (offset_by q p) (slice_range list (j + 1) (i + 1)) ∙ ap (λ (n : ℤ). int_wrap w32 (n +ℤ t)) (axis.base q p) ∙ int_wrap-add_same w32 (int_wrap w32 (o p +ℤ o q)) (o p +ℤ o q) t (twice (o p +ℤ o q)) in
+    fold_on v o axis.on (offset_by q p) (slice_range list (j + 1) (i + 1)) ∙ ap (λ (n : ℤ). int_wrap w32 (n +ℤ t)) (axis.base q p) ∙ int_wrap-add_same w32 (int_wrap w32 (o p +ℤ o q)) (o p +ℤ o q) t (twice (o p +ℤ o q)) in
     ap (int_wrap w32) (backward_sum a x) ∙ int_wrap-add_same w32 x ((o p +ℤ o q) +ℤ t) a over ∙ ap (int_wrap w32) (backward_base a (o p) (o q) t) ∙ ap (λ (n : ℤ). int_wrap w32 ((n +ℤ o q) +ℤ o p)) pens ∙ ap (λ (r : Position). int_wrap w32 ((pen v false j drawn +ℤ o r) +ℤ o p)) base
 
 not_cursive : (d : Direction) (i j : ℕ) (ps : List Position) → (position_at i ps).attach_type ≢ 2 → drawn_position d i j ps ≡ mark_drawn (is_forward d) i j ps
 not_cursive d i j ps n = elim (eqb_tells (position_at i ps).attach_type 2) [
-    inl is ↦ absurd (n is.1)
-  | inr other ↦ ap (λ (b : Bool). if b then child_drawn (is_horizontal d) (position_at j ps) (position_at i ps) else mark_drawn (is_forward d) i j ps) other.0 ]
+  | inl is ↦ absurd (n is.1)
+  | inr other ↦ ap (λ (b : Bool). if b then child_drawn (is_horizontal d) (position_at j ps) (position_at i ps) else mark_drawn (is_forward d) i j ps) other.0
+]
 
 -- a glyph that hangs on another is there
 parent_within : (i j : ℕ) (ps : List Position) → parent i ps ≡ Some j → j < i → i < length ps
@@ -167,10 +168,10 @@ each_mark_is_drawn d depth ps have i j e kind lt =
     let x_axis : IsAxis (λ (p : Position). p.x_advance) (λ (p : Position). p.x_offset) = record { alone = λ p. refl; base = λ q p. refl; back = λ p r. refl; on = λ p r. refl } in
     let y_axis : IsAxis (λ (p : Position). p.y_advance) (λ (p : Position). p.y_offset) = record { alone = λ p. refl; base = λ q p. refl; back = λ p r. refl; on = λ p r. refl } in
     record {
-        x = ap (λ (p : Position). int_wrap w32 (pen (λ (p : Position). p.x_advance) (is_forward d) i new +ℤ p.x_offset)) is_mark ∙ axis_drawn (λ (p : Position). p.x_advance) (λ (p : Position). p.x_offset) x_axis (is_forward d) i j new list lt adv base
-            ∙ ap (λ (p : Position). int_wrap w32 (drawn_x d j new +ℤ p.x_offset)) here;
-        y = ap (λ (p : Position). int_wrap w32 (pen (λ (p : Position). p.y_advance) (is_forward d) i new +ℤ p.y_offset)) is_mark ∙ axis_drawn (λ (p : Position). p.y_advance) (λ (p : Position). p.y_offset) y_axis (is_forward d) i j new list lt adv base
-            ∙ ap (λ (p : Position). int_wrap w32 (drawn_y d j new +ℤ p.y_offset)) here;
+      x = ap (λ (p : Position). int_wrap w32 (pen (λ (p : Position). p.x_advance) (is_forward d) i new +ℤ p.x_offset)) is_mark ∙ axis_drawn (λ (p : Position). p.x_advance) (λ (p : Position). p.x_offset) x_axis (is_forward d) i j new list lt adv base
+          ∙ ap (λ (p : Position). int_wrap w32 (drawn_x d j new +ℤ p.x_offset)) here;
+      y = ap (λ (p : Position). int_wrap w32 (pen (λ (p : Position). p.y_advance) (is_forward d) i new +ℤ p.y_offset)) is_mark ∙ axis_drawn (λ (p : Position). p.y_advance) (λ (p : Position). p.y_offset) y_axis (is_forward d) i j new list lt adv base
+          ∙ ap (λ (p : Position). int_wrap w32 (drawn_y d j new +ℤ p.y_offset)) here;
     }
 
 -- ---- links of no kind
@@ -190,6 +191,6 @@ marks_are_drawn d depth ps have i j e kind lt =
     let there = each_mark_is_drawn d depth (kinds_tested ps) have i j (linked_same ∙ e) other lt in
     let new = finished d ps in
     record {
-        x = there.x ∙ ap (λ (p : Position). int_wrap w32 (drawn_x d j new +ℤ p.x_offset)) same;
-        y = there.y ∙ ap (λ (p : Position). int_wrap w32 (drawn_y d j new +ℤ p.y_offset)) same;
+      x = there.x ∙ ap (λ (p : Position). int_wrap w32 (drawn_x d j new +ℤ p.x_offset)) same;
+      y = there.y ∙ ap (λ (p : Position). int_wrap w32 (drawn_y d j new +ℤ p.y_offset)) same;
     }

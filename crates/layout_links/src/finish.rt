@@ -30,7 +30,11 @@ fn clear_links(positions: &mut [GlyphPosition])
 fn unattached(position: GlyphPosition) -> GlyphPosition
     ensures { result ≡ unattached position }
 {
-    GlyphPosition { attach_chain: 0, attach_type: 0, ..position }
+    GlyphPosition {
+        attach_chain: 0,
+        attach_type: 0,
+        ..position
+    }
 }
 
 /// After positioning: nothing is left to be done to the advances.

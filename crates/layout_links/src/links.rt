@@ -66,11 +66,20 @@ fn pen_before(positions: &[GlyphPosition], at: usize) -> Pen
     requires { at < length positions.now }
     ensures { result ≡ pen_before at positions.now }
 {
-    if at == 0 { PEN_DOWN } else { pen_of(positions[at - 1]) }
+    if at == 0 {
+        PEN_DOWN
+    } else {
+        pen_of(positions[at - 1])
+    }
 }
 
 /// A mark drawn, where the glyph that it hangs on is drawn.
-fn mark_drawn(positions: &[GlyphPosition], child: usize, parent: usize, is_forward: bool) -> GlyphPosition
+fn mark_drawn(
+    positions: &[GlyphPosition],
+    child: usize,
+    parent: usize,
+    is_forward: bool,
+) -> GlyphPosition
     requires child { child < length positions.now }
     requires parent { parent < length positions.now }
     ensures { result ≡ mark_by_sums is_forward child parent positions.now }
@@ -80,9 +89,15 @@ fn mark_drawn(positions: &[GlyphPosition], child: usize, parent: usize, is_forwa
         return based;
     }
     if is_forward {
-        return back_by(pen_way(pen_before(positions, parent), pen_before(positions, child)), based);
+        return back_by(
+            pen_way(pen_before(positions, parent), pen_before(positions, child)),
+            based,
+        );
     }
-    on_by(pen_way(pen_of(positions[parent]), pen_of(positions[child])), based)
+    on_by(
+        pen_way(pen_of(positions[parent]), pen_of(positions[child])),
+        based,
+    )
 }
 
 /// Draws a glyph, where the glyph that it hangs on is drawn.
@@ -167,7 +182,10 @@ fn go_on(positions: &mut [GlyphPosition], last: Step) -> Option<Step>
         return None;
     };
     positions[at] = opened(place, last.by);
-    Some(Step { by: link, at: there })
+    Some(Step {
+        by: link,
+        at: there,
+    })
 }
 
 /// The glyph that a walk came from.
@@ -194,7 +212,10 @@ fn go_back(positions: &mut [GlyphPosition], last: Step, direction: Direction) ->
     let link = place.attach_chain;
     positions[child] = shut(place);
     hang(positions, child, last.at, direction);
-    Step { by: link, at: child }
+    Step {
+        by: link,
+        at: child,
+    }
 }
 
 /// Goes along links from a glyph until one leads nowhere, or to a glyph that it came through.

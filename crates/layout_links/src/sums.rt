@@ -29,25 +29,38 @@ pub(crate) fn minus(a: i32, b: i32) -> i32
 pub(crate) fn pen_of(place: GlyphPosition) -> Pen
     ensures { result ≡ pen_of place }
 {
-    Pen { x: place.x_advance, y: place.y_advance }
+    Pen {
+        x: place.x_advance,
+        y: place.y_advance,
+    }
 }
 
 pub(crate) fn pen_way(from: Pen, to: Pen) -> Pen
     ensures { result ≡ pen_way from to }
 {
-    Pen { x: minus(to.x, from.x), y: minus(to.y, from.y) }
+    Pen {
+        x: minus(to.x, from.x),
+        y: minus(to.y, from.y),
+    }
 }
 
 fn pen_behind(pen: Pen, place: GlyphPosition) -> Pen
     ensures { result ≡ pen_behind pen place }
 {
-    Pen { x: plus(pen.x, place.x_advance), y: plus(pen.y, place.y_advance) }
+    Pen {
+        x: plus(pen.x, place.x_advance),
+        y: plus(pen.y, place.y_advance),
+    }
 }
 
 fn with_pen(pen: Pen, place: GlyphPosition) -> GlyphPosition
     ensures { result ≡ with_pen pen place }
 {
-    GlyphPosition { x_advance: pen.x, y_advance: pen.y, ..place }
+    GlyphPosition {
+        x_advance: pen.x,
+        y_advance: pen.y,
+        ..place
+    }
 }
 
 fn has_kind(place: GlyphPosition) -> bool
@@ -61,7 +74,14 @@ fn kind_tested(place: GlyphPosition) -> GlyphPosition
     ensures value { result ≡ kind_tested place }
     ensures fits { Fits place }
 {
-    if has_kind(place) { place } else { GlyphPosition { attach_chain: 0, ..place } }
+    if has_kind(place) {
+        place
+    } else {
+        GlyphPosition {
+            attach_chain: 0,
+            ..place
+        }
+    }
 }
 
 /// Puts in the place of each advance the sum up to it, and clears links of no kind.

@@ -169,8 +169,8 @@ fn position(row: [i32; 8]) -> GlyphPosition {
         y_advance: row[1],
         x_offset: row[2],
         y_offset: row[3],
-        attach_chain: row[4] as i16,
-        attach_type: row[5] as u8,
+        attach_chain: i16::try_from(row[4]).unwrap_or(0),
+        attach_type: u8::try_from(row[5]).unwrap_or(0),
     }
 }
 
@@ -216,7 +216,13 @@ fn rings_are_cleared(rt: HostRuntime) -> Result<(), Fail> {
         assert_eq!(&rt; drawn.attach_chain, 0);
     }
     // a link of no kind, and one that leads outside
-    let mut others = [mark(2), GlyphPosition { attach_type: 129, ..mark(-1) }];
+    let mut others = [
+        mark(2),
+        GlyphPosition {
+            attach_type: 129,
+            ..mark(-1)
+        },
+    ];
     finish_offsets(&mut others, Direction::RightToLeft);
     for drawn in others {
         assert_eq!(&rt; drawn.attach_chain, 0);
@@ -228,7 +234,10 @@ fn rings_are_cleared(rt: HostRuntime) -> Result<(), Fail> {
 #[test]
 fn many_marks_hang_on_a_base(rt: HostRuntime) -> Result<(), Fail> {
     let mut positions = Vec::new(rt.alloc());
-    positions.push(GlyphPosition { x_advance: 500, ..GlyphPosition::default() })?;
+    positions.push(GlyphPosition {
+        x_advance: 500,
+        ..GlyphPosition::default()
+    })?;
     for link in 1..i16::MAX {
         positions.push(mark(link.saturating_neg()))?;
     }

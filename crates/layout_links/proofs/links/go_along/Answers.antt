@@ -17,10 +17,11 @@ returns-in_default c =
 
 pub loop-depth-preserved : goal.loop-depth-preserved
 loop-depth-preserved c =
-    let ps = c.args.positions.now in
-    (going_next (λ (d : Direction). followed (drawn_by_sums d) (length ps) c.args.start ps) (length ps) c.loop-depth.depth c.loop-depth.last.at c.loop-depth.last.by c.loop-depth.positions c.go_on.new.positions c.in-Some.step.at c.in-Some.step.by c.loop-depth.invariant.0 c.loop-depth-test.true c.in-Some.ensures,
-     refl,
-     goes_here c.in-Some.step.at c.in-Some.step.by c.loop-depth.last.at c.loop-depth.last.by c.loop-depth.positions c.go_on.new.positions c.in-Some.ensures)
+    let ps = c.args.positions.now in (
+      going_next (λ (d : Direction). followed (drawn_by_sums d) (length ps) c.args.start ps) (length ps) c.loop-depth.depth c.loop-depth.last.at c.loop-depth.last.by c.loop-depth.positions c.go_on.new.positions c.in-Some.step.at c.in-Some.step.by c.loop-depth.invariant.0 c.loop-depth-test.true c.in-Some.ensures,
+      refl,
+      goes_here c.in-Some.step.at c.in-Some.step.by c.loop-depth.last.at c.loop-depth.last.by c.loop-depth.positions c.go_on.new.positions c.in-Some.ensures,
+    )
 
 pub returns : goal.returns
 returns c =

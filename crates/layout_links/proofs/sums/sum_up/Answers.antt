@@ -1,4 +1,4 @@
-use Rattle.std.proofs.Common.{rules, refl}
+use Rattle.std.proofs.Common.{rules}
 use Rattle.layout_links.proofs.Summing.{summing_next}
 use Rattle.layout_links.proofs.sums.sum_up.Goals as goal
 
