@@ -22,7 +22,7 @@ use Rattle.layout_rules.specs.Actions.{Cut, Outcome, Acts, Action, at_first}
 use Rattle.layout_rules.specs.Buffers.{cut_of, are_glyphs, IsPassed}
 use Rattle.layout_rules.specs.Performing.{IsPutInPlace, PerformsInPlace}
 use Rattle.layout_rules.specs.Lemmas.Attempts.{cut_with_glyphs}
-use Rattle.layout_rules.specs.Lemmas.Frames.{telling_still, then_happened, still_settings, same_numbers}
+use Rattle.layout_rules.specs.Lemmas.Frames.{then_happened, still_settings, same_numbers}
 use Rattle.layout_rules.specs.Lemmas.Glyphs.{all_of_both, all_of_front, all_of_back, all_dropped, first_item}
 use Rattle.layout_gsub.specs.Replacements.{substituted_item, substituted_props}
 use Rattle.layout_gsub.specs.Reverses.{attempt_around, put_after, put_around, put_before, put_in_place, reverse_subtable}
@@ -30,18 +30,18 @@ use Rattle.layout_gsub.proofs.Replaced.{substituted_numbers}
 
 flagged_passed : (from to : ℕ) (s : Sides) (b : Bool) → from ≤ to → origins_of (if b then with_flagged 2 from to s else s) ≡ origins_by (Concat from to ∷ []) s → IsPassed (Concat from to ∷ []) s (if b then with_flagged 2 from to s else s)
 flagged_passed from to s true le happened = record {
-  cut_is = cut_with_glyphs (glyphs_flagged 2 from to (all_glyphs s)) s (strip_flagged 2 from to (all_glyphs s) (omega arith) le);
+  cut_is = cut_with_glyphs (nat_lt from to) (glyphs_flagged 2 from to (all_glyphs s)) s (strip_flagged 2 from to (all_glyphs s) (omega arith) le);
   happened = happened;
-  still = telling_still (nat_lt from to) s;
+  still = refl;
   read = refl;
 }
 flagged_passed from to s false le happened = record { cut_is = refl; happened = happened; still = refl; read = refl }
 
 marked_passed : (from to : ℕ) (s : Sides) → from ≤ to → origins_of (with_marked 3 from to s) ≡ origins_by (Break from to ∷ []) s → IsPassed (Break from to ∷ []) s (with_marked 3 from to s)
 marked_passed from to s le happened = record {
-  cut_is = cut_with_glyphs (glyphs_marked 3 from to (all_glyphs s)) s (strip_marked 3 from to (all_glyphs s) (omega arith) le);
+  cut_is = cut_with_glyphs (tells_apart (stretch from to (clusters (all_glyphs s)))) (glyphs_marked 3 from to (all_glyphs s)) s (strip_marked 3 from to (all_glyphs s) (omega arith) le);
   happened = happened;
-  still = telling_still (tells_apart (stretch from to (clusters (all_glyphs s)))) s;
+  still = refl;
   read = refl;
 }
 
@@ -106,6 +106,7 @@ glyph_in_place gdef n p s new g at le is there =
       happened = map-append origin_of s.behind t.ahead ∙ ap (λ os. origins s.behind ++ os) (put_origins n p s.ahead g at) ∙ sym (map-append origin_of s.behind s.ahead);
       still = refl;
       read = refl;
+      positions = refl;
       numbers = λ h.
           let before = ap are_glyphs (sym (map-append item_of s.behind s.ahead)) ∙ h in
           ap are_glyphs (map-append item_of s.behind t.ahead ∙ ap (λ xs. strip s.behind ++ xs) items)
@@ -130,6 +131,7 @@ then_put es cut a b c f g = record {
   happened = then_happened es [] a b c (still_settings a b f.still) f.happened g.happened;
   still = g.still ∙ f.still;
   read = g.read ∙ f.read;
+  positions = g.positions ∙ ap (λ (c : Cut). c.positions) f.cut_is;
   numbers = λ h. g.numbers (ap are_glyphs (same_numbers a b f.cut_is) ∙ h);
 }
 
