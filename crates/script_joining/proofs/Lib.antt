@@ -1,0 +1,3 @@
+pub mod Formed
+pub mod Marked
+pub mod Joined

@@ -1,0 +1,5 @@
+pub mod Types
+pub mod Forms
+pub mod Joining
+pub mod Glyphs
+pub mod Flagged

@@ -1,0 +1,12 @@
+// Arabic joining: the forms of letters between their neighbours, and the order of Arabic marks.
+#![tactic(auto)]
+
+mod flags;
+mod forms;
+mod letters;
+mod masks;
+mod types;
+
+pub use forms::letter_form;
+pub use masks::setup_masks_inner;
+pub use types::joining_type;
