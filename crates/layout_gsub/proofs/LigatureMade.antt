@@ -138,6 +138,7 @@ ligature_made gdef glyph end r others x passed ahead s a b new g small ends le a
     let made : Cut = record c { front = c.front ++ map (ligature_item gdef glyph ps id) (take 1 xs) ++ real; rest = after_parts ps id (slice_get xs (last_place (0 ∷ others))) (drop end xs); lig_id = given } in
     let ahead-b : length b.ahead ≡ length a.ahead - end = ap (λ (t : Sides). length t.ahead) u.others ∙ ap (λ k. length (drop k a.ahead)) (sym ends) ∙ count_dropped end a.ahead in
     let ahead-new : length new.ahead ≡ length b.ahead = sym (length-map new.ahead origin_of) ∙ ap length f.origin ∙ length-map b.ahead origin_of in
+    let long-new : length new.behind ≡ length b.behind = ap length behind-new in
     let p : Item → Bool = λ y. nat_le y.number 65535 in
     acts_within n r r (Acts made events) true s new room (
       refl,
@@ -146,6 +147,7 @@ ligature_made gdef glyph end r others x passed ahead s a b new g small ends le a
         happened = then_happened (Merge InList (length (strip s.behind)) (length (strip s.behind) + end) ∷ []) (parts_gone (length (strip s.behind)) 0 others) s a new (still_settings s a m.still) merge gone;
         still = still-new ∙ still-b ∙ m.still;
         fewer = omega (arith, forth, ahead-b, ahead-new, ahead-a, le);
+        kept = omega (arith, long-a, long-b, long-new);
         numbers = λ h.
             let before : are_glyphs (strip s.behind ++ xs) ≡ true = ap are_glyphs (sym (map-append item_of s.behind s.ahead)) ∙ h in
             let back : are_glyphs xs ≡ true = all_of_back p (strip s.behind) xs before in

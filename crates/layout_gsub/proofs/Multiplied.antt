@@ -161,6 +161,10 @@ output_made gdef glyphs i r g s now new there at some small all within a is =
     let le = a.room (omega (arith, last, some)) in
     let room : nat_le (length s.behind + n) s.max_len ≡ true = grind (arith, nat_tests, le, last) in
     let left : length new.ahead ≡ length (drop 1 s.ahead) = ap length ahead in
+    let out : length (strip new.behind) ≡ length new.behind = length-map new.behind item_of in
+    let back : length (strip s.behind) ≡ length s.behind = length-map s.behind item_of in
+    let shown : length (strip new.behind) ≡ length (strip s.behind ++ component_items gdef x 0 glyphs) = ap length items in
+    let grown = length-append (strip s.behind) (component_items gdef x 0 glyphs) in
     let p : Item → Bool = λ y. nat_le y.number 65535 in
     acts_within n r r (Acts (multiplied_cut gdef glyphs c) (Replace (length c.front) 1 n ∷ [])) true s new room (
       refl,
@@ -169,6 +173,7 @@ output_made gdef glyphs i r g s now new there at some small all within a is =
         happened = happened;
         still = ap frame_of after;
         fewer = omega (arith, left, counts);
+        kept = omega (arith, out, back, shown, grown);
         numbers = λ h.
             let before = ap are_glyphs (sym (map-append item_of s.behind s.ahead)) ∙ h in
             ap are_glyphs (map-append item_of new.behind new.ahead ∙ ap (λ xs. xs ++ strip new.ahead) items ∙ ap (λ xs. strip s.behind ++ component_items gdef x 0 glyphs ++ xs) rest)
@@ -208,6 +213,7 @@ glyph_deleted r s new there is read behind left items followed =
         happened = followed ∙ ap (λ n. origins_by (Delete n ∷ []) s) (sym f);
         still = k.still;
         fewer = omega (arith, left);
+        kept = omega (arith, behind);
         numbers = λ h.
             let before = ap are_glyphs (sym (map-append item_of s.behind s.ahead)) ∙ h in
             ap are_glyphs items ∙ all_of_both p (strip s.behind) (drop 1 (strip s.ahead)) (all_of_front p (strip s.behind) (strip s.ahead) before) (all_dropped p 1 (strip s.ahead) (all_of_back p (strip s.behind) (strip s.ahead) before));

@@ -1,9 +1,9 @@
 -- What a rule does to a list that is cut at the index where it is tried.
-use Rattle.std.specs.Prelude.{ℕ, ℤ, ◌+◌, nat_le, if◌then◌else◌, List, [], ◌∷◌, ◌++◌, length, take, drop, Option, Some, None}
+use Rattle.std.specs.Prelude.{ℕ, ℤ, ◌+◌, ◌-◌, nat_le, if◌then◌else◌, List, [], ◌∷◌, ◌++◌, length, take, drop, Option, Some, None}
 use Rattle.glyph_types.specs.declared.cause.ShapeCause.{ShapeCause}
 use Rattle.glyph_types.specs.declared.cause.ShapeCause.TheVariants.{TooLong}
 use Rattle.glyph_lists.specs.Items.{Item, Position}
-use Rattle.glyph_lists.specs.Events.{Event}
+use Rattle.glyph_lists.specs.Events.{Event, Concat}
 use Rattle.glyph_lists.specs.Readings.{View}
 
 -- a list cut in two, what is done and what is left, and what rules keep beside it
@@ -58,6 +58,10 @@ Action = Cut → Outcome
 -- where what is done would be so many items more, and so more than a side of the list may hold, a rule gives up
 abbrev pub within_limit : ℕ → Cut → Outcome → Outcome
 within_limit n c o = if nat_le (length c.front + n) c.max_len then o else Refuses TooLong
+
+-- from so many items before the cut to so many from there on a rule was tried, and failed
+abbrev pub attempt_around : ℕ → ℕ → Cut → Outcome
+attempt_around back ahead c = Passes (Concat (length c.front - back) (length c.front + ahead) ∷ [])
 
 -- an outcome that comes after some events
 abbrev pub later : List Event → Outcome → Outcome

@@ -39,6 +39,7 @@ pub record IsRead (old new : Sides) : Type 0 where
   pub forth : old.read < new.read
   pub total : new.read + length new.ahead ≡ old.read + length old.ahead
   pub front : length new.behind + old.read ≤ length old.behind + new.read
+  pub kept : length old.behind ≤ length new.behind
 
 -- a rule made a cut of a buffer, and so much happened to where its glyphs come from
 pub record IsActed (cut : Cut) (events : List Event) (old new : Sides) : Type 0 where

@@ -1,4 +1,7 @@
 // The normal form that a text gets for a font, round by round on the buffer.
 #![tactic(auto)]
 
+pub mod composing;
+pub mod ordering;
 pub mod rounds;
+pub mod starters;

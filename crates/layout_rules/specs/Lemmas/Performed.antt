@@ -7,7 +7,7 @@ use Rattle.glyph_buffer.specs.Sides.{Sides, items_of}
 use Rattle.layout_rules.specs.Actions.{Cut, Outcome, Passes, Acts, Refuses, Action, later, first_rule}
 use Rattle.layout_rules.specs.Buffers.{cut_of, are_glyphs, IsStill, IsPassed, IsActed}
 use Rattle.layout_rules.specs.Performing.{cut_with, IsMade, Performed, Performs}
-use Rattle.layout_rules.specs.Lemmas.Frames.{still_open, still_settings, then_happened, same_lengths, same_numbers}
+use Rattle.layout_rules.specs.Lemmas.Frames.{still_open, still_refused, still_settings, then_happened, same_lengths, same_numbers}
 use Rattle.layout_rules.specs.Lemmas.Does.{passed_same, then_passed}
 
 -- a cut, and the same with a random state
@@ -22,6 +22,7 @@ made_of_acted cut es r old new a =
       happened = a.happened;
       still = a.still;
       fewer = omega (arith, counts.forth, counts.total);
+      kept = counts.kept;
       numbers = a.numbers;
     }
 
@@ -33,11 +34,13 @@ then_made : (es fs : List Event) (cut : Cut) (r : ℕ) (a b c : Sides) → IsPas
 then_made es fs cut r a b c f g =
     let long = same_lengths a b f.cut_is in
     let fewer = g.fewer in
+    let kept = g.kept in
     record {
       cut_is = g.cut_is;
       happened = then_happened es fs a b c (still_settings a b f.still) f.happened g.happened;
       still = g.still ∙ f.still;
       fewer = omega (arith, long.1, fewer);
+      kept = omega (arith, long.0, kept);
       numbers = λ h. g.numbers (ap are_glyphs (same_numbers a b f.cut_is) ∙ h);
     }
 
@@ -65,6 +68,9 @@ passed_first act all r s = record { cut_is = refl; still = refl; behind = refl; 
 
 pub passed_open : {R : Type 0} (act : R → Action) (all left : List R) (r : ℕ) (start now : Sides) → ArePassed act all left r start now → start.is_open ≡ true → now.is_open ≡ true
 passed_open act all left r start now t e = still_open start now t.still ∙ e
+
+pub passed_unrefused : {R : Type 0} (act : R → Action) (all left : List R) (r : ℕ) (start now : Sides) → ArePassed act all left r start now → start.has_refused ≡ false → now.has_refused ≡ false
+passed_unrefused act all left r start now t e = still_refused start now t.still ∙ e
 
 pub passed_numbers : {R : Type 0} (act : R → Action) (all left : List R) (r : ℕ) (start now : Sides) → ArePassed act all left r start now → are_glyphs (items_of start) ≡ true → are_glyphs (items_of now) ≡ true
 passed_numbers act all left r start now t e = ap are_glyphs (same_numbers start now t.cut_is) ∙ e
