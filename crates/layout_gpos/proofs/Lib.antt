@@ -1,2 +1,3 @@
-pub mod Around
 pub mod Placed
+pub mod Read
+pub mod Paired

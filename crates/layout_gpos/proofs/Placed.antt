@@ -1,23 +1,23 @@
 -- Positions written, and the cursor moved on: what rules of positioning do to a buffer.
-use Rattle.std.proofs.Common.{ℕ, ◌≡◌, ◌<◌, ◌≤◌, ◌+◌, ◌-◌, Bool, true, false, List, [], ◌∷◌, ◌++◌, Option, Some, None, length, map, set, take, drop, arith, refl, sym, ap, subst, ◌∙◌, slice_get}
+use Rattle.std.proofs.Common.{ℕ, ◌≡◌, ◌<◌, ◌≤◌, ◌+◌, ◌-◌, true, false, List, [], ◌∷◌, ◌++◌, Some, None, length, take, drop, arith, refl, sym, ap, subst, ◌∙◌, slice_get}
 use Rattle.std.proofs.lemmas.List.{take_at, length-set, length-map, length-drop, length-append, map-append, take-map, drop-map, take-append-drop, append_assoc}
 use Rattle.shaping_text.specs.declared.direction.Direction.{Direction}
 use Rattle.glyph_types.specs.declared.info.hb_glyph_info_t.{hb_glyph_info_t}
 use Rattle.glyph_lists.specs.Items.{Item, Position, item_of, strip}
 use Rattle.glyph_lists.specs.Origins.{origins}
-use Rattle.glyph_lists.specs.Events.{Event}
-use Rattle.glyph_buffer.specs.Lending.{refilled, with_positions_refilled}
-use Rattle.glyph_buffer.specs.Sides.{Sides, all_glyphs, items_of, moved_on, origins_of, told_of}
+use Rattle.glyph_lists.specs.Events.{Break}
+use Rattle.glyph_buffer.specs.Lending.{with_positions_refilled}
+use Rattle.glyph_buffer.specs.Sides.{Sides, all_glyphs, moved_on, told_of}
 use Rattle.layout_common.specs.Rows.{value_of}
 use Rattle.layout_common.specs.declared.glyph_row.GlyphRow.{GlyphRow}
 use Rattle.layout_positions.specs.declared.value.ValueRecord.{ValueRecord}
-use Rattle.layout_rules.specs.Actions.{Cut, Outcome, Acts, Passes, at_first}
-use Rattle.layout_rules.specs.Buffers.{are_glyphs}
+use Rattle.layout_rules.specs.Actions.{Outcome, Acts, at_first}
+use Rattle.layout_rules.specs.Buffers.{IsPassed, are_glyphs, cut_of}
 use Rattle.layout_rules.specs.Performing.{IsMade, Performed, cut_with}
 use Rattle.layout_rules.specs.Lemmas.Glyphs.{first_item}
 use Rattle.layout_rules.specs.Lemmas.Performed.{passes_nothing}
 use Rattle.layout_gpos.specs.Values.{adjusted_at}
-use Rattle.layout_gpos.specs.Moving.{placed_past}
+use Rattle.layout_gpos.specs.Moving.{break_around, placed_past}
 use Rattle.layout_gpos.specs.Singles.{single_adjusted, single_subtable}
 
 -- as many positions come back as were lent
@@ -41,17 +41,18 @@ placed_made n r f ps s some le =
     let c = cut_with r s in
     let len = length-drop n s.ahead in
     record {
-        cut_is = ap (λ (xs : List Item). record c { front = xs; rest = strip (drop n s.ahead); positions = ps; told = told_of f }) front
-               ∙ ap (λ (xs : List Item). record c { front = c.front ++ take n c.rest; rest = xs; positions = ps; told = told_of f }) rest;
-        happened = ap origins (same_all n s);
-        still = refl;
-        fewer = omega (arith, some, le, len);
-        numbers = λ h. ap (λ gs. are_glyphs (strip gs)) (same_all n s) ∙ h;
+      cut_is = ap (λ (xs : List Item). record c { front = xs; rest = strip (drop n s.ahead); positions = ps; told = told_of f }) front
+          ∙ ap (λ (xs : List Item). record c { front = c.front ++ take n c.rest; rest = xs; positions = ps; told = told_of f }) rest;
+      happened = ap origins (same_all n s);
+      still = refl;
+      fewer = omega (arith, some, le, len);
+      kept = let more = length-append s.behind (take n s.ahead) in omega (arith, more);
+      numbers = λ h. ap (λ gs. are_glyphs (strip gs)) (same_all n s) ∙ h;
     }
 
 -- ---- single adjustment
 
-front_count : (r : ℕ) (s : Sides) → length s.behind ≡ length (cut_with r s).front
+pub front_count : (r : ℕ) (s : Sides) → length s.behind ≡ length (cut_with r s).front
 front_count r s = sym (length-map s.behind item_of)
 
 first_is : (r n : ℕ) (d : Direction) (rows : List (GlyphRow ValueRecord)) (s : Sides) (g : hb_glyph_info_t) → slice_get s.ahead 0 ≡ Some g → n ≡ g.glyph_id
@@ -66,8 +67,15 @@ pub single_acted : (r n i : ℕ) (v : ValueRecord) (rows : List (GlyphRow ValueR
     → new ≡ moved_on 1 (record s { positions = adjusted_at s.direction i v s.positions }) → Performed (single_subtable s.direction rows (cut_with r s)) true r r s new
 single_acted r n i v rows s new g at is some here there e =
     let acts : single_subtable s.direction rows (cut_with r s) ≡ Acts (placed_past 1 (adjusted_at s.direction i v s.positions) (cut_with r s)) [] =
-        first_is r n s.direction rows s g at is ∙ ap (λ o. single_adjusted s.direction o (cut_with r s)) some
-        ∙ ap (λ k. Acts (placed_past 1 (adjusted_at s.direction k v s.positions) (cut_with r s)) []) (sym (here ∙ front_count r s)) in
+    first_is r n s.direction rows s g at is ∙ ap (λ o. single_adjusted s.direction o (cut_with r s)) some
+    ∙ ap (λ k. Acts (placed_past 1 (adjusted_at s.direction k v s.positions) (cut_with r s)) []) (sym (here ∙ front_count r s)) in
     let P : Outcome → Type 0 = λ o. Performed o true r r s new in
     let Q : Sides → Type 0 = λ t. IsMade (placed_past 1 (adjusted_at s.direction i v s.positions) (cut_with r s)) [] r s t in
     subst P (sym acts) (refl, subst Q (sym e) (placed_made 1 r s.scratch_flags (adjusted_at s.direction i v s.positions) s (omega arith) there))
+
+-- ---- marks that come or not
+
+pub break_passed : (back ahead : ℕ) (s new : Sides) → IsPassed (Break (length s.behind - back) (length s.behind + ahead) ∷ []) s new → IsPassed (break_around back ahead (cut_of s)) s new
+break_passed back ahead s new p =
+    let P : ℕ → Type 0 = λ k. IsPassed (Break (k - back) (k + ahead) ∷ []) s new in
+    subst P (sym (length-map s.behind item_of)) p

@@ -1,9 +1,9 @@
 -- Pair adjustment (OpenType, GPOS lookup type 2).
-use Rattle.std.specs.Prelude.{ℕ, ◌+◌, ◌==◌, ◌&&◌, Bool, true, false, not, if◌then◌else◌, List, [], ◌∷◌, length, Option, Some, None, Result, Ok, Err, slice_get, option_and_then}
+use Rattle.std.specs.Prelude.{ℕ, ◌+◌, ◌==◌, ◌&&◌, Bool, true, not, if◌then◌else◌, List, [], length, Option, Some, None, Result, Ok, Err, slice_get, option_and_then}
 use Rattle.std.specs.List.{list_any}
 use Rattle.shaping_text.specs.declared.direction.Direction.{Direction}
 use Rattle.glyph_lists.specs.Items.{Item, Position}
-use Rattle.glyph_lists.specs.Events.{Event, Break}
+use Rattle.glyph_lists.specs.Events.{Event}
 use Rattle.glyph_lists.specs.Parts.{first_of}
 use Rattle.layout_common.specs.Coverage.{is_covered}
 use Rattle.layout_positions.specs.Pairs.{glyph_pair_values, class_pair_values}
@@ -14,9 +14,9 @@ use Rattle.layout_positions.specs.declared.pair.PairPos.TheVariants.{Glyphs, Cla
 use Rattle.layout_match.specs.Applied.{Applied, own_search}
 use Rattle.layout_match.specs.Searches.{answer, is_skippable}
 use Rattle.layout_match.specs.Matches.{nearest_from}
-use Rattle.layout_rules.specs.Actions.{Cut, Outcome, Action, Passes, Acts, at_first}
+use Rattle.layout_rules.specs.Actions.{Cut, Action, Passes, Acts, at_first, attempt_around}
 use Rattle.layout_gpos.specs.Values.{adjusted_at, is_zero}
-use Rattle.layout_gpos.specs.Moving.{placed_past, failed_ahead}
+use Rattle.layout_gpos.specs.Moving.{placed_past, break_around}
 
 -- the second glyph is adjusted where it has a record
 abbrev pub second_adjusted : Direction → ℕ → Option ValueRecord → List Position → List Position
@@ -38,16 +38,16 @@ has_no_effect (Some v) = is_zero v
 
 -- a pair with a record that isn't zero is unsafe to break
 abbrev pub pair_events : PairValues → ℕ → Cut → List Event
-pair_events v apart c = if is_zero v.first && has_no_effect v.second then [] else Break (length c.front) (length c.front + (apart + 1)) ∷ []
+pair_events v apart c = if is_zero v.first && has_no_effect v.second then [] else break_around 0 (apart + 1) c
 
 -- the item so many behind the cut is the second: where the two are no pair, all from the first to it is unsafe to concat
 abbrev pub pair_of : Direction → ℕ → Option PairValues → Action
-pair_of d apart None c = failed_ahead (apart + 1) c
+pair_of d apart None c = attempt_around 0 (apart + 1) c
 pair_of d apart (Some v) c = Acts (placed_past (pair_length apart v.second) (pair_adjusted d (length c.front) (length c.front + apart) v c.positions) c) (pair_events v apart c)
 
 -- the second is the nearest behind the first that the lookup does not pass over
 abbrev pub pair_second : Direction → (Item → Option PairValues) → Result ℕ ℕ → Action
-pair_second d values (Err end) c = failed_ahead end c
+pair_second d values (Err end) c = attempt_around 0 end c
 pair_second d values (Ok apart) c = pair_of d apart (option_and_then values (slice_get c.rest apart)) c
 
 -- the nearest item behind the first

@@ -3,6 +3,7 @@
 
 pub mod apply;
 pub mod marking;
+pub mod pair;
 pub mod placing;
 pub mod single;
 pub mod value;

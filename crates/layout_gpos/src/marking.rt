@@ -6,7 +6,6 @@ ghost use Rattle.layout_rules.specs.Buffers.{IsPassed};
 use glyph_buffer::buffer::hb_buffer_t;
 
 /// Marks so many glyphs before the cursor, and so many from there on, as unsafe to concat, where that is asked for.
-#[tactic(auto, using(crate::proofs::Around::concat_around))]
 pub(crate) fn mark_attempt(back: usize, ahead: usize, buffer: &mut hb_buffer_t)
     requires before { back ≤ length buffer.old.behind }
     requires after { ahead ≤ length buffer.old.ahead }
@@ -20,7 +19,6 @@ pub(crate) fn mark_attempt(back: usize, ahead: usize, buffer: &mut hb_buffer_t)
 }
 
 /// Marks such glyphs outside the least cluster among them as unsafe to break.
-#[tactic(auto, using(crate::proofs::Around::break_around))]
 pub(crate) fn mark_match(back: usize, ahead: usize, buffer: &mut hb_buffer_t)
     requires before { back ≤ length buffer.old.behind }
     requires after { ahead ≤ length buffer.old.ahead }

@@ -22,11 +22,17 @@ fn advanced(is_horizontal: bool, value: ValueRecord, position: GlyphPosition) ->
 {
     if is_horizontal {
         let x_advance = plus(position.x_advance, i32::from(value.x_advance));
-        return GlyphPosition { x_advance, ..position };
+        return GlyphPosition {
+            x_advance,
+            ..position
+        };
     }
     // Downward an advance is negative.
     let y_advance = minus(position.y_advance, i32::from(value.y_advance));
-    GlyphPosition { y_advance, ..position }
+    GlyphPosition {
+        y_advance,
+        ..position
+    }
 }
 
 /// A position adjusted: placements always act, an advance along the line alone.
