@@ -5,3 +5,4 @@ pub mod apply;
 pub mod backward;
 pub mod forward;
 pub mod lookup;
+pub mod nested;
