@@ -10,8 +10,8 @@ use crate::sums::{PEN_DOWN, Pen, minus, pen_of, pen_way, plus, sum_up, take_apar
 use glyph_types::position::GlyphPosition;
 use shaping_text::direction::Direction;
 
-/// Where a link of a place leads to.
-pub(crate) fn linked(count: usize, at: usize, link: i16) -> Option<usize>
+/// Where a link of a position leads to, among so many: none where it is 0 or leads outside.
+pub fn linked(count: usize, at: usize, link: i16) -> Option<usize>
     ensures { result ≡ linked count at link }
 {
     if link == 0 {

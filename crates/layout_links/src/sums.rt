@@ -14,13 +14,15 @@ pub(crate) struct Pen {
 
 pub(crate) const PEN_DOWN: Pen = Pen { x: 0, y: 0 };
 
-pub(crate) fn plus(a: i32, b: i32) -> i32
+/// A sum modulo 2^32.
+pub fn plus(a: i32, b: i32) -> i32
     ensures { result ≡ plus a b }
 {
     a.wrapping_add(b)
 }
 
-pub(crate) fn minus(a: i32, b: i32) -> i32
+/// A difference modulo 2^32.
+pub fn minus(a: i32, b: i32) -> i32
     ensures { result ≡ minus a b }
 {
     a.wrapping_sub(b)

@@ -6,3 +6,5 @@ pub mod backward;
 pub mod forward;
 pub mod lookup;
 pub mod nested;
+pub mod pause;
+pub mod substitute;

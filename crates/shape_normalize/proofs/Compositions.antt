@@ -74,17 +74,17 @@ mark_ahead s a b d e kept items back gone =
 pub mark_frame : (from to n : ℕ) (s a b d e : Sides) → a ≡ moved_on 1 s → b ≡ with_output_merged from to a → d ≡ moved_to n b → e ≡ with_skipped d → frame_of e ≡ frame_of s
 mark_frame from to n s a b d e next merges back gone = ap frame_of gone ∙ ap frame_of back ∙ ap frame_of merges ∙ ap frame_of next
 
-length_set : {X : Type 0} (xs : List X) (i : ℕ) (x : X) → length (slice_set xs i x) ≡ length xs
+pub length_set : {X : Type 0} (xs : List X) (i : ℕ) (x : X) → length (slice_set xs i x) ≡ length xs
 length_set [] i x = refl
 length_set (y ∷ xs) zero x = refl
 length_set (y ∷ xs) (suc i) x = ap suc (length_set xs i x)
 
-set_seen : {X Y : Type 0} (f : X → Y) (xs : List X) (i : ℕ) (x : X) → map f (slice_set xs i x) ≡ slice_set (map f xs) i (f x)
+pub set_seen : {X Y : Type 0} (f : X → Y) (xs : List X) (i : ℕ) (x : X) → map f (slice_set xs i x) ≡ slice_set (map f xs) i (f x)
 set_seen f [] i x = refl
 set_seen f (y ∷ xs) zero x = refl
 set_seen f (y ∷ xs) (suc i) x = ap (λ ys. f y ∷ ys) (set_seen f xs i x)
 
-set_same : {X : Type 0} (xs : List X) (i : ℕ) (x : X) → slice_get xs i ≡ Some x → slice_set xs i x ≡ xs
+pub set_same : {X : Type 0} (xs : List X) (i : ℕ) (x : X) → slice_get xs i ≡ Some x → slice_set xs i x ≡ xs
 set_same [] i x at = refl
 set_same (y ∷ xs) zero x at = let e : y ≡ x = cc in ap (λ z. z ∷ xs) (sym e)
 set_same (y ∷ xs) (suc i) x at = ap (λ ys. y ∷ ys) (set_same xs i x at)

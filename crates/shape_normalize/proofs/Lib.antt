@@ -4,3 +4,5 @@ pub mod Compositions
 pub mod Walk
 pub mod Sorted
 pub mod Runs
+pub mod Shown
+pub mod Whole

@@ -1,11 +1,12 @@
 -- Calls of a cursor that either side has room for.
-use Rattle.std.proofs.Common.{ℕ, ◌≡◌, ◌≤◌, ◌<◌, ◌+◌, ◌-◌, ◌&&◌, true, nat_le, length, ap, ◌∙◌, arith, inl, inr, lt-ltb, le-ltb}
+use Rattle.std.proofs.Common.{subst, sym, refl, ℕ, ◌≡◌, ◌≤◌, ◌<◌, ◌+◌, ◌-◌, ◌&&◌, true, nat_le, length, ap, ◌∙◌, arith, inl, inr, lt-ltb, le-ltb}
 use Rattle.std.specs.Prelude.{not}
 use Rattle.std.proofs.lemmas.Bool.{cases_lt, cond-true, cond-false}
 use Rattle.std.proofs.lemmas.Bool.Decides.{nat_tests}
 use Rattle.std.proofs.lemmas.List.{length-append}
-use Rattle.glyph_buffer.specs.Sides.{Sides, all_glyphs, fits_next, has_output_room}
+use Rattle.glyph_buffer.specs.Sides.{Sides, all_glyphs, fits_joined, fits_next, has_output_room, has_room, with_output}
 use Rattle.glyph_buffer.specs.Moving.{fits_moved, side_holds, has_room_back}
+use Rattle.layout_rules.specs.Ready.{IsReady}
 use Rattle.normal_rounds.specs.Brought.{frame_of}
 use Rattle.shape_normalize.specs.Composed.{HasRoom}
 
@@ -45,3 +46,14 @@ room_kept s t same few room =
       unrefused = ap (λ (q : Sides). q.has_refused) same ∙ room.unrefused;
       fits = omega (arith, limit, fits, few);
     }
+
+-- the list that both sides make has room
+pub fits_whole : (s : Sides) → HasRoom s → fits_joined s ≡ true
+fits_whole s room =
+    let fits = room.fits in
+    let t : has_room 0 s ≡ true = grind (arith, nat_tests, fits) in
+    ap (λ b. not b && has_room 0 s) room.unrefused ∙ t
+
+-- an output that was opened over a list within the limit
+pub opened_room : (s t : Sides) → IsReady s → t ≡ with_output s → length (all_glyphs s) ≤ s.max_len → HasRoom t
+opened_room s t ready e le = subst HasRoom (sym e) (record { is_open = refl; unrefused = ready.unrefused; fits = le })

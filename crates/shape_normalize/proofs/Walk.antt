@@ -87,7 +87,7 @@ composing_behind c count at n start now w =
     let starts = w.starts in
     omega (arith, seen, starts, length-map now.behind item_of, length-append w.done (w.x ∷ w.between))
 
-set_seam : {X : Type 0} (xs : List X) (x : X) (ys : List X) (z : X) → slice_set (xs ++ x ∷ ys) (length xs) z ≡ xs ++ z ∷ ys
+pub set_seam : {X : Type 0} (xs : List X) (x : X) (ys : List X) (z : X) → slice_set (xs ++ x ∷ ys) (length xs) z ≡ xs ++ z ∷ ys
 set_seam [] x ys z = refl
 set_seam (w ∷ xs) x ys z = ap (λ zs. w ∷ zs) (set_seam xs x ys z)
 

@@ -65,11 +65,12 @@ fn take_mark(starter: usize, buffer: &mut hb_buffer_t) -> Result<(), ShapeCause>
     Ok(())
 }
 
-fn write_current(info: hb_glyph_info_t, buffer: &mut hb_buffer_t)
-    requires { 0 < length buffer.old.ahead }
-    ensures { buffer.new ≡ with_glyph_ahead 0 info buffer.old }
+/// Writes the i-th glyph from the cursor on.
+pub(crate) fn write_ahead(i: usize, info: hb_glyph_info_t, buffer: &mut hb_buffer_t)
+    requires { i < length buffer.old.ahead }
+    ensures { buffer.new ≡ with_glyph_ahead i info buffer.old }
 {
-    *buffer.cur_mut(0) = info;
+    *buffer.cur_mut(i) = info;
 }
 
 /// Writes a glyph of the output. The cursor goes there and back, so that what is known of the clusters' order stays known.
@@ -81,7 +82,7 @@ fn write_out(at: usize, info: hb_glyph_info_t, buffer: &mut hb_buffer_t) -> Resu
 {
     let count = buffer.out_len();
     go_to(at, buffer)?;
-    write_current(info, buffer);
+    write_ahead(0, info, buffer);
     go_to(count, buffer)?;
     Ok(())
 }

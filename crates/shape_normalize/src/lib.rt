@@ -2,6 +2,8 @@
 #![tactic(auto)]
 
 pub mod composing;
+pub mod joiners;
+pub mod normalize;
 pub mod ordering;
 pub mod rounds;
 pub mod starters;

@@ -44,6 +44,7 @@ fn sort_marks(
     buffer.sort(alloc, start, end, |glyph| u32::from(mark_class(glyph)))
 }
 
+/// Puts a run of marks in the order of its classes.
 fn sort_run(
     alloc: Global,
     start: usize,

@@ -113,6 +113,7 @@ fn compose_all<N: Normalizing>(
     requires counted { count ≡ length buffer.old.ahead }
     requires some { 0 < count }
     ensures ok { OnOk result (Brought (composed_list (N.normalizer by.now) (strip buffer.old.ahead)) [] buffer.old buffer.new) }
+    ensures room { OnOk result (HasRoom buffer.new) }
     ensures err { IfErr result (λ e. e ≡ ShapeCause.OutOfMemory) }
 {
     pass_glyph(buffer)?;
@@ -138,6 +139,7 @@ pub(crate) fn compose_list<N: Normalizing>(
     requires front { buffer.old.behind ≡ [] }
     requires counted { count ≡ length buffer.old.ahead }
     ensures ok { OnOk result (Brought (composed_list (N.normalizer by.now) (strip buffer.old.ahead)) [] buffer.old buffer.new) }
+    ensures room { OnOk result (HasRoom buffer.new) }
     ensures err { IfErr result (λ e. e ≡ ShapeCause.OutOfMemory) }
 {
     if count == 0 {

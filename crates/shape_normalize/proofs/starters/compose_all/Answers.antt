@@ -20,3 +20,6 @@ returns-clause-ok g c =
     let ended = c.loop-test.false in
     composing_done (g.N.Normalizing.normalizer c.args.by.now) c.args.count c.loop.counter c.loop.starter c.args.buffer.now c.pass_glyph.new.buffer c.loop.buffer (omega (arith, ended)) c.requires.front
     c.requires.counted c.requires.some c.in_ok-pass_glyph.ensures.moved c.in_ok-pass_glyph.ensures.kept c.loop.invariant
+
+pub returns-clause-room : goal.returns-clause-room
+returns-clause-room g c = c.loop.invariant.room
