@@ -1,5 +1,4 @@
 pub mod Shifted
-pub mod Around
 pub mod Fitted
 pub mod Matching
 pub mod Cuts

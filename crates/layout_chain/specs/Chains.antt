@@ -2,7 +2,7 @@
 use Rattle.std.specs.Prelude.{ℕ, ◌+◌, ◌-◌, nat_le, Bool, false, ◌&&◌, if◌then◌else◌, List, [], ◌∷◌, length, map, drop, Option, Result, Ok, Err}
 use Rattle.glyph_lists.specs.Items.{Item}
 use Rattle.glyph_lists.specs.Parts.{first_of}
-use Rattle.glyph_lists.specs.Events.{Break, Concat}
+use Rattle.glyph_lists.specs.Events.{Break}
 use Rattle.layout_contexts.specs.declared.context.SequenceLookupRecord.{SequenceLookupRecord}
 use Rattle.layout_contexts.specs.declared.context.SequenceRule.{SequenceRule}
 use Rattle.layout_contexts.specs.declared.context.ClassRules.{ClassRules}
@@ -11,7 +11,7 @@ use Rattle.layout_contexts.specs.declared.context.ContextSubtable.TheVariants.{G
 use Rattle.layout_match.specs.Applied.{Applied, own_search, context_search}
 use Rattle.layout_match.specs.Matches.{input_end, input_indices, lookahead_end, backtrack_end}
 use Rattle.layout_match.specs.Sequences.{is_glyph, is_of_class, is_covered_by}
-use Rattle.layout_rules.specs.Actions.{Cut, Outcome, Passes, Action, later, first_rule, at_first}
+use Rattle.layout_rules.specs.Actions.{Cut, Outcome, Passes, Action, later, first_rule, at_first, attempt_around}
 use Rattle.layout_chain.specs.Nested.{each_nested, cut_behind}
 
 -- what a rule asks of the items before its input, the nearest first, of its input with the first item, and of those after it; and the lookups that it then applies
@@ -34,10 +34,6 @@ coverage_chain r = record { backtrack = map is_covered_by r.backtrack; input = m
 abbrev pub begins : List (Item → Bool) → Item → Bool
 begins [] x = false
 begins (test ∷ tests) x = test x
-
--- from so many items before the cut to so many from there on a rule was tried, and failed
-abbrev pub attempt_around : ℕ → ℕ → Cut → Outcome
-attempt_around back ahead c = Passes (Concat (length c.front - back) (length c.front + ahead) ∷ [])
 
 -- the places of the input, which ends at an index; the records are done at them, and the list is cut behind the input
 abbrev pub nested_lookups : Option (ℕ → Action) → Applied → Chain → ℕ → Cut → Outcome

@@ -5,7 +5,7 @@ use Rattle.glyph_lists.specs.Events.{Break}
 use Rattle.glyph_buffer.specs.Sides.{Sides}
 use Rattle.layout_match.specs.Applied.{Applied}
 use Rattle.layout_match.specs.Sequences.{tests_of}
-use Rattle.layout_rules.specs.Actions.{Cut, Passes, Action, later, whole}
+use Rattle.layout_rules.specs.Actions.{Cut, Passes, Action, later, whole, attempt_around}
 use Rattle.layout_rules.specs.Buffers.{cut_of, IsStill}
 use Rattle.layout_rules.specs.Performing.{cut_with}
 use Rattle.layout_chain.specs.declared.chain.ChainRule.{ChainRule}
@@ -13,7 +13,7 @@ use Rattle.layout_chain.specs.declared.chain.ChainFit.{ChainFit}
 use Rattle.layout_chain.specs.declared.chain.ChainFit.TheVariants.{NoAttempt, Fails, Fits}
 use Rattle.layout_chain.specs.Places.{AreRising}
 use Rattle.layout_chain.specs.Nested.{each_nested, cut_behind}
-use Rattle.layout_chain.specs.Chains.{Chain, attempt_around, chain_rule}
+use Rattle.layout_chain.specs.Chains.{Chain, chain_rule}
 use Rattle.layout_chain.specs.Nesting.{Nests}
 
 -- what a rule asks for, told by sequences

@@ -3,3 +3,6 @@ pub mod Steps
 pub mod Lengths
 pub mod Rising
 pub mod Walks
+pub mod Inside
+pub mod Acting
+pub mod Subtables

@@ -5,4 +5,6 @@ pub mod Chains
 pub mod Nesting
 pub mod Fitting
 pub mod Records
+pub mod Rules
+pub mod Inside
 pub mod Lemmas

@@ -18,13 +18,13 @@ use layout_match::MatchPositions;
 /// Puts the cursor at a place.
 #[tactic(auto, using(crate::proofs::Cuts::went_there, crate::proofs::Cuts::held_is, crate::proofs::Cuts::not_held, crate::proofs::Cuts::short_memory))]
 fn go_to(place: usize, buffer: &mut hb_buffer_t) -> Result<(), ShapeCause>
-    requires open { buffer.old.is_open ≡ true }
     requires kept { buffer.old.has_refused ≡ false }
     requires there { place ≤ length (whole (cut_of buffer.old)) }
     ensures held { OnOk result (holds place (cut_of buffer.old) ≡ true) }
     ensures ok { OnOk result (IsMoved place buffer.old buffer.new) }
     ensures err { IfErr result (λ e. IsMoveRefusal place (cut_of buffer.old) e) }
 {
+    let _count = buffer.len();
     if !buffer.move_to(place)? {
         return Err(ShapeCause::TooLong);
     }
@@ -61,7 +61,6 @@ pub fn begin_record(
     places: &MatchPositions,
     buffer: &mut hb_buffer_t,
 ) -> Result<Option<usize>, ShapeCause>
-    requires open { buffer.old.is_open ≡ true }
     requires kept { buffer.old.has_refused ≡ false }
     ensures { Begins lookup_record.now places.now.items result buffer.old buffer.new }
 {
@@ -111,7 +110,6 @@ pub fn settle_match(
 
 /// Puts the cursor behind the match, which ends at an index, or at the end of the list where that lies past it.
 pub fn go_behind(end: usize, buffer: &mut hb_buffer_t) -> Result<bool, ShapeCause>
-    requires open { buffer.old.is_open ≡ true }
     requires kept { buffer.old.has_refused ≡ false }
     ensures { (random : ℕ) → Nests (cut_behind (Walks (cut_with random buffer.old) [] end
         [])) result random random buffer.old buffer.new }

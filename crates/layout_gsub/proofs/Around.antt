@@ -1,80 +1,27 @@
--- Glyphs on both sides of the cursor that are marked, and what is put in place.
-use Rattle.std.proofs.Common.{ℕ, ◌≡◌, ◌≤◌, ◌+◌, ◌-◌, nat_lt, nat_le, true, false, Bool, if◌then◌else◌, List, [], ◌∷◌, ◌++◌, length, map, take, drop, Some, Ok, refl, sym, ap, subst, ◌∙◌, arith, slice_get}
+-- What is put in place, with what is marked on both sides of the cursor.
+use Rattle.std.proofs.Common.{ℕ, ◌≡◌, ◌≤◌, ◌+◌, ◌-◌, nat_le, true, false, Bool, List, [], ◌∷◌, ◌++◌, length, map, take, drop, Some, Ok, refl, sym, ap, subst, ◌∙◌, slice_get}
 use Rattle.std.specs.Prelude.{slice_set, Option, Result}
 use Rattle.std.proofs.lemmas.List.{length-map, map-append}
 use Rattle.glyph_types.specs.declared.flags.GlyphPropsFlags.{GlyphPropsFlags}
 use Rattle.glyph_types.specs.declared.info.hb_glyph_info_t.{hb_glyph_info_t}
-use Rattle.glyph_lists.specs.Items.{Item, item_of, strip, clusters}
-use Rattle.glyph_lists.specs.Parts.{stretch}
+use Rattle.glyph_lists.specs.Items.{Item, item_of, strip}
 use Rattle.glyph_lists.specs.Origins.{origins, origin_of}
-use Rattle.glyph_lists.specs.Glyphs.{glyphs_flagged, glyphs_marked, tells_apart}
-use Rattle.glyph_lists.specs.Lemmas.Glyphs.{strip_flagged, strip_marked}
 use Rattle.glyph_lists.specs.Events.{Event, Break, Concat}
-use Rattle.glyph_buffer.specs.Sides.{Sides, all_glyphs, origins_of, origins_by}
+use Rattle.glyph_buffer.specs.Sides.{Sides}
 use Rattle.glyph_buffer.specs.Lending.{with_glyph_ahead}
-use Rattle.glyph_buffer.specs.Marking.{asks_concat, concat_marked_across, marked_across, end_in_all, with_flagged, with_marked}
 use Rattle.font_face.specs.declared.parts.GlyphDefinition.{GlyphDefinition}
 use Rattle.layout_common.specs.Rows.{value_of}
 use Rattle.layout_substitutions.specs.declared.reverse.ReverseChainSubst.{ReverseChainSubst}
 use Rattle.layout_match.specs.Applied.{Applied}
 use Rattle.layout_match.specs.Sequences.{is_covered_by}
-use Rattle.layout_rules.specs.Actions.{Cut, Outcome, Acts, Action, at_first}
+use Rattle.layout_rules.specs.Actions.{Cut, Outcome, Acts, Action, at_first, attempt_around}
 use Rattle.layout_rules.specs.Buffers.{cut_of, are_glyphs, IsPassed}
 use Rattle.layout_rules.specs.Performing.{IsPutInPlace, PerformsInPlace}
-use Rattle.layout_rules.specs.Lemmas.Attempts.{cut_with_glyphs}
-use Rattle.layout_rules.specs.Lemmas.Frames.{telling_still, then_happened, still_settings, same_numbers}
+use Rattle.layout_rules.specs.Lemmas.Frames.{then_happened, still_settings, same_numbers}
 use Rattle.layout_rules.specs.Lemmas.Glyphs.{all_of_both, all_of_front, all_of_back, all_dropped, first_item}
 use Rattle.layout_gsub.specs.Replacements.{substituted_item, substituted_props}
-use Rattle.layout_gsub.specs.Reverses.{attempt_around, put_after, put_around, put_before, put_in_place, reverse_subtable}
+use Rattle.layout_gsub.specs.Reverses.{put_after, put_around, put_before, put_in_place, reverse_subtable}
 use Rattle.layout_gsub.proofs.Replaced.{substituted_numbers}
-
-flagged_passed : (from to : ℕ) (s : Sides) (b : Bool) → from ≤ to → origins_of (if b then with_flagged 2 from to s else s) ≡ origins_by (Concat from to ∷ []) s → IsPassed (Concat from to ∷ []) s (if b then with_flagged 2 from to s else s)
-flagged_passed from to s true le happened = record {
-  cut_is = cut_with_glyphs (glyphs_flagged 2 from to (all_glyphs s)) s (strip_flagged 2 from to (all_glyphs s) (omega arith) le);
-  happened = happened;
-  still = telling_still (nat_lt from to) s;
-  read = refl;
-}
-flagged_passed from to s false le happened = record { cut_is = refl; happened = happened; still = refl; read = refl }
-
-marked_passed : (from to : ℕ) (s : Sides) → from ≤ to → origins_of (with_marked 3 from to s) ≡ origins_by (Break from to ∷ []) s → IsPassed (Break from to ∷ []) s (with_marked 3 from to s)
-marked_passed from to s le happened = record {
-  cut_is = cut_with_glyphs (glyphs_marked 3 from to (all_glyphs s)) s (strip_marked 3 from to (all_glyphs s) (omega arith) le);
-  happened = happened;
-  still = telling_still (tells_apart (stretch from to (clusters (all_glyphs s)))) s;
-  read = refl;
-}
-
--- an end that is told from the cursor on
-end_there : (at ahead : ℕ) (s : Sides) → at ≡ s.read → end_in_all (Some (at + ahead)) s ≡ length s.behind + ahead
-end_there at ahead s here = omega (arith, here)
-
-pub concat_around : (back ahead at n : ℕ) (s new : Sides) → at ≡ s.read → n ≡ length s.behind → back ≤ length s.behind → new ≡ concat_marked_across (Some (n - back)) (Some (at + ahead)) s → origins_of new ≡ origins_by (Concat (n - back) (end_in_all (Some (at + ahead)) s) ∷ []) s
-    → IsPassed (Concat (length s.behind - back) (length s.behind + ahead) ∷ []) s new
-concat_around back ahead at n s new here count le is happened =
-    let end = end_there at ahead s here in
-    let from = n - back in
-    let to = length s.behind + ahead in
-    let b = asks_concat s in
-    let same : new ≡ (if b then with_flagged 2 from to s else s) = is ∙ ap (λ k. if b then with_flagged 2 from k s else s) end in
-    let P : Sides → Type 0 = λ t. IsPassed (Concat from to ∷ []) s t in
-    let passed = subst P (sym same) (flagged_passed from to s b (omega (arith, count)) (ap origins_of (sym same) ∙ happened ∙ ap (λ k. origins_by (Concat from k ∷ []) s) end)) in
-    let Q : ℕ → Type 0 = λ k. IsPassed (Concat k to ∷ []) s new in
-    let start : from ≡ length s.behind - back = omega (arith, count) in
-    subst Q start passed
-
-pub break_around : (back ahead at n : ℕ) (s new : Sides) → at ≡ s.read → n ≡ length s.behind → back ≤ length s.behind → new ≡ marked_across 3 (Some (n - back)) (Some (at + ahead)) s → origins_of new ≡ origins_by (Break (n - back) (end_in_all (Some (at + ahead)) s) ∷ []) s
-    → IsPassed (Break (length s.behind - back) (length s.behind + ahead) ∷ []) s new
-break_around back ahead at n s new here count le is happened =
-    let end = end_there at ahead s here in
-    let from = n - back in
-    let to = length s.behind + ahead in
-    let same : new ≡ with_marked 3 from to s = is ∙ ap (λ k. with_marked 3 from k s) end in
-    let P : Sides → Type 0 = λ t. IsPassed (Break from to ∷ []) s t in
-    let passed = subst P (sym same) (marked_passed from to s (omega (arith, count)) (ap origins_of (sym same) ∙ happened ∙ ap (λ k. origins_by (Break from k ∷ []) s) end)) in
-    let Q : ℕ → Type 0 = λ k. IsPassed (Break k to ∷ []) s new in
-    let start : from ≡ length s.behind - back = omega (arith, count) in
-    subst Q start passed
 
 -- ---- in place
 
@@ -106,6 +53,7 @@ glyph_in_place gdef n p s new g at le is there =
       happened = map-append origin_of s.behind t.ahead ∙ ap (λ os. origins s.behind ++ os) (put_origins n p s.ahead g at) ∙ sym (map-append origin_of s.behind s.ahead);
       still = refl;
       read = refl;
+      positions = refl;
       numbers = λ h.
           let before = ap are_glyphs (sym (map-append item_of s.behind s.ahead)) ∙ h in
           ap are_glyphs (map-append item_of s.behind t.ahead ∙ ap (λ xs. strip s.behind ++ xs) items)
@@ -130,6 +78,7 @@ then_put es cut a b c f g = record {
   happened = then_happened es [] a b c (still_settings a b f.still) f.happened g.happened;
   still = g.still ∙ f.still;
   read = g.read ∙ f.read;
+  positions = g.positions ∙ ap (λ (c : Cut). c.positions) f.cut_is;
   numbers = λ h. g.numbers (ap are_glyphs (same_numbers a b f.cut_is) ∙ h);
 }
 

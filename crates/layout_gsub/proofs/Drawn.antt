@@ -18,7 +18,6 @@ use Rattle.layout_rules.specs.Buffers.{cut_of, frame_of, IsPassed}
 use Rattle.layout_rules.specs.Performing.{cut_with, Performs}
 use Rattle.layout_rules.specs.Lemmas.Performed.{performs_later, same_with}
 use Rattle.layout_rules.specs.Lemmas.Attempts.{cut_with_glyphs}
-use Rattle.layout_rules.specs.Lemmas.Frames.{telling_still}
 use Rattle.layout_match.specs.Applied.{drawn}
 use Rattle.layout_gsub.specs.Replacements.{substituted_cut, substituted}
 use Rattle.layout_gsub.specs.Alternates.{alternate_of, alternate_of_value, drawn_alternate, is_drawn}
@@ -34,9 +33,9 @@ all_marked s new is happened =
     let n = end_in_all None s in
     let same : new ≡ with_marked 3 0 n s = is in
     record {
-      cut_is = ap cut_of same ∙ cut_with_glyphs (glyphs_marked 3 0 n (all_glyphs s)) s (strip_marked 3 0 n (all_glyphs s) (omega arith) (omega arith));
+      cut_is = ap cut_of same ∙ cut_with_glyphs (tells_apart (stretch 0 n (clusters (all_glyphs s)))) (glyphs_marked 3 0 n (all_glyphs s)) s (strip_marked 3 0 n (all_glyphs s) (omega arith) (omega arith));
       happened = happened ∙ ap (λ m. origins_by (Break 0 m ∷ []) s) (whole_length s);
-      still = ap frame_of same ∙ telling_still (tells_apart (stretch 0 n (clusters (all_glyphs s)))) s;
+      still = ap frame_of same;
       read = ap (λ (t : Sides). t.read) same;
     }
 

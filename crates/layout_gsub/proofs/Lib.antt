@@ -8,5 +8,4 @@ pub mod Drawn
 pub mod Tested
 pub mod Merged
 pub mod Multiplied
-pub mod Firsts
 pub mod Around

@@ -20,7 +20,7 @@ use Rattle.layout_rules.specs.Actions.{Cut, Acts, Refuses}
 use Rattle.layout_rules.specs.Buffers.{cut_of, are_glyphs, frame_of, Happened}
 use Rattle.layout_rules.specs.Performing.{cut_with, Performed}
 use Rattle.layout_rules.specs.Lemmas.Attempts.{cut_with_glyphs}
-use Rattle.layout_rules.specs.Lemmas.Frames.{telling_still, then_happened, still_settings, still_limit}
+use Rattle.layout_rules.specs.Lemmas.Frames.{then_happened, still_settings, still_limit}
 use Rattle.layout_rules.specs.Lemmas.Glyphs.{and_both, all_of_both, all_of_front, all_of_back, all_taken, all_dropped}
 use Rattle.layout_gsub.specs.Ligating.{after_parts, are_marks, component_count, following_items, items_at, last_given, last_place, ligated_over, ligature_category, ligature_item, ligature_props, own_number, parts_gone, passed_item, passed_items, has_own_number, components_at, with_component}
 use Rattle.layout_gsub.specs.Uniting.{AreUnited, IsMerged, IsRenumbered, end_of}
@@ -32,7 +32,7 @@ use Rattle.layout_gsub.proofs.Renumbered.{item_at}
 merged_same : (from to : ℕ) (s : Sides) → items_of (with_merged from to s) ≡ items_of s → cut_of (with_merged from to s) ≡ cut_of s
 merged_same from to s items =
     let gs = glyphs_merged_at s.level from to (all_glyphs s) in
-    cut_with_glyphs gs s (ap strip (sym (take-append-drop (length s.behind) gs)) ∙ items)
+    cut_with_glyphs (is_marked_at s.level from to (clusters (all_glyphs s))) gs s (ap strip (sym (take-append-drop (length s.behind) gs)) ∙ items)
 
 pub parts_merged : (end start : ℕ) (s new : Sides) → start ≡ s.read → new ≡ with_merged (index_in_all start s) (index_in_all (start + end) s) s → items_of new ≡ items_of s → origins_of new ≡ origins_by (Merge InList (index_in_all start s) (index_in_all (start + end) s) ∷ []) s → IsMerged end s.lig_id s new
 parts_merged end start s new here is items happened =
@@ -43,7 +43,7 @@ parts_merged end start s new here is items happened =
     record {
       cut_is = ap cut_of is ∙ merged_same i j s (ap items_of (sym is) ∙ items);
       happened = happened ∙ ap (λ n. origins_by (Merge InList n j ∷ []) s) from ∙ ap (λ n. origins_by (Merge InList (length s.behind) n ∷ []) s) to;
-      still = ap frame_of is ∙ telling_still (is_marked_at s.level i j (clusters (all_glyphs s))) s;
+      still = ap frame_of is;
       read = ap (λ (t : Sides). t.read) is;
     }
 
@@ -136,11 +136,9 @@ ligature_made gdef glyph end r others x passed ahead s a b new g small ends le a
     let merge : Happened (Merge InList (length (strip s.behind)) (length (strip s.behind) + end) ∷ []) s a = m.happened ∙ ap (λ k. origins_by (Merge InList k (k + end) ∷ []) s) (sym (length-map s.behind item_of)) in
     let events : List Event = Merge InList (length c.front) (length c.front + end) ∷ parts_gone (length c.front) 0 others in
     let made : Cut = record c { front = c.front ++ map (ligature_item gdef glyph ps id) (take 1 xs) ++ real; rest = after_parts ps id (slice_get xs (last_place (0 ∷ others))) (drop end xs); lig_id = given } in
-    let read-b : b.read ≡ a.read + end = ap (λ (t : Sides). t.read) u.others ∙ ap (λ k. a.read + k) (sym ends) in
-    let read-new : new.read ≡ b.read = ap (λ (t : Sides). t.read) f.others in
-    let read-a = m.read in
     let ahead-b : length b.ahead ≡ length a.ahead - end = ap (λ (t : Sides). length t.ahead) u.others ∙ ap (λ k. length (drop k a.ahead)) (sym ends) ∙ count_dropped end a.ahead in
     let ahead-new : length new.ahead ≡ length b.ahead = sym (length-map new.ahead origin_of) ∙ ap length f.origin ∙ length-map b.ahead origin_of in
+    let long-new : length new.behind ≡ length b.behind = ap length behind-new in
     let p : Item → Bool = λ y. nat_le y.number 65535 in
     acts_within n r r (Acts made events) true s new room (
       refl,
@@ -148,8 +146,8 @@ ligature_made gdef glyph end r others x passed ahead s a b new g small ends le a
         cut_is = cut;
         happened = then_happened (Merge InList (length (strip s.behind)) (length (strip s.behind) + end) ∷ []) (parts_gone (length (strip s.behind)) 0 others) s a new (still_settings s a m.still) merge gone;
         still = still-new ∙ still-b ∙ m.still;
-        forth = omega (arith, forth, read-b, read-new, read-a);
-        total = omega (arith, read-b, read-new, read-a, ahead-b, ahead-new, ahead-a, le);
+        fewer = omega (arith, forth, ahead-b, ahead-new, ahead-a, le);
+        kept = omega (arith, long-a, long-b, long-new);
         numbers = λ h.
             let before : are_glyphs (strip s.behind ++ xs) ≡ true = ap are_glyphs (sym (map-append item_of s.behind s.ahead)) ∙ h in
             let back : are_glyphs xs ≡ true = all_of_back p (strip s.behind) xs before in

@@ -12,9 +12,9 @@ use Rattle.glyph_lists.specs.Origins.{Origin, origin_of, origins, merged_as, man
 use Rattle.glyph_lists.specs.Events.{Replace, Delete}
 use Rattle.glyph_buffer.specs.Sides.{Sides, items_of, origins_of, origins_by, has_output_room}
 use Rattle.glyph_buffer.specs.Merging.{with_put, with_skipped}
+use Rattle.glyph_buffer.specs.Told.{told_telling}
 use Rattle.glyph_buffer.specs.Grouping.{with_deleted}
 use Rattle.glyph_clusters.specs.Deleting.{deletion_marks}
-use Rattle.layout_rules.specs.Lemmas.Frames.{telling_still}
 use Rattle.font_face.specs.declared.parts.GlyphDefinition.{GlyphDefinition}
 use Rattle.layout_rules.specs.Actions.{Acts, Refuses}
 use Rattle.layout_rules.specs.Buffers.{are_glyphs, frame_of, IsStill}
@@ -160,8 +160,11 @@ output_made gdef glyphs i r g s now new there at some small all within a is =
     let counts = dropped_length s.ahead there in
     let le = a.room (omega (arith, last, some)) in
     let room : nat_le (length s.behind + n) s.max_len ≡ true = grind (arith, nat_tests, le, last) in
-    let read : new.read ≡ s.read + 1 = ap (λ (t : Sides). t.read) after in
     let left : length new.ahead ≡ length (drop 1 s.ahead) = ap length ahead in
+    let out : length (strip new.behind) ≡ length new.behind = length-map new.behind item_of in
+    let back : length (strip s.behind) ≡ length s.behind = length-map s.behind item_of in
+    let shown : length (strip new.behind) ≡ length (strip s.behind ++ component_items gdef x 0 glyphs) = ap length items in
+    let grown = length-append (strip s.behind) (component_items gdef x 0 glyphs) in
     let p : Item → Bool = λ y. nat_le y.number 65535 in
     acts_within n r r (Acts (multiplied_cut gdef glyphs c) (Replace (length c.front) 1 n ∷ [])) true s new room (
       refl,
@@ -169,8 +172,8 @@ output_made gdef glyphs i r g s now new there at some small all within a is =
         cut_is = cut;
         happened = happened;
         still = ap frame_of after;
-        forth = omega (arith, read);
-        total = omega (arith, read, left, counts);
+        fewer = omega (arith, left, counts);
+        kept = omega (arith, out, back, shown, grown);
         numbers = λ h.
             let before = ap are_glyphs (sym (map-append item_of s.behind s.ahead)) ∙ h in
             ap are_glyphs (map-append item_of new.behind new.ahead ∙ ap (λ xs. xs ++ strip new.ahead) items ∙ ap (λ xs. strip s.behind ++ component_items gdef x 0 glyphs ++ xs) rest)
@@ -188,7 +191,7 @@ gone : (r : ℕ) (s new : Sides) (gs : List hb_glyph_info_t) → s.ahead ≡ gs 
 gone r s new [] at lt is = absurd (omega (arith, lt))
 gone r s new (g ∷ back) at lt is =
     let P : Sides → Type 0 = λ t. IsGone r s t in
-    let left : IsGone r s (with_deleted g back s) = record { still = telling_still (deletion_marks s.level (clusters s.behind) g.cluster (clusters back)) s; cut_is = refl } in
+    let left : IsGone r s (with_deleted g back s) = record { still = refl; cut_is = ap (λ (t : ℕ). record (cut_with r s) { front = strip (with_deleted g back s).behind; rest = strip (with_deleted g back s).ahead; told = t }) (told_telling (deletion_marks s.level (clusters s.behind) g.cluster (clusters back)) s.scratch_flags) } in
     subst P (sym (is g back at)) left
 
 same_front : {X : Type 0} (xs ys zs ws : List X) → xs ++ ys ≡ zs ++ ws → length xs ≡ length zs → (xs ≡ zs) × (ys ≡ ws)
@@ -209,8 +212,8 @@ glyph_deleted r s new there is read behind left items followed =
         cut_is = k.cut_is ∙ ap (λ (xs : List Item). record (cut_with r s) { front = xs; rest = strip new.ahead }) sides.0 ∙ ap (λ (xs : List Item). record (cut_with r s) { rest = xs }) sides.1;
         happened = followed ∙ ap (λ n. origins_by (Delete n ∷ []) s) (sym f);
         still = k.still;
-        forth = omega (arith, read);
-        total = omega (arith, read, left);
+        fewer = omega (arith, left);
+        kept = omega (arith, behind);
         numbers = λ h.
             let before = ap are_glyphs (sym (map-append item_of s.behind s.ahead)) ∙ h in
             ap are_glyphs items ∙ all_of_both p (strip s.behind) (drop 1 (strip s.ahead)) (all_of_front p (strip s.behind) (strip s.ahead) before) (all_dropped p 1 (strip s.ahead) (all_of_back p (strip s.behind) (strip s.ahead) before));

@@ -74,7 +74,7 @@ glyph_acted gdef n p s mid new g at some le is there after followed =
     let left = left_count p s.ahead g some in
     let more = taken_count n ahead in
     let long = length-append s.behind put in
-    let counts : IsRead s (with_renumbered n (with_glyph_ahead 0 (recast p g) s)) = record { forth = omega arith; total = omega (arith, left); front = omega (arith, more, long) } in
+    let counts : IsRead s (with_renumbered n (with_glyph_ahead 0 (recast p g) s)) = record { forth = omega arith; total = omega (arith, left); front = omega (arith, more, long); kept = omega (arith, long) } in
     let start : origins_of mid ≡ origins_of s = ap origins_of there ∙ map-append origin_of s.behind ahead ∙ ap (λ os. origins s.behind ++ os) (same_origins p s.ahead g at) ∙ sym (map-append origin_of s.behind s.ahead) in
     let items : items_of new ≡ (strip s.behind ++ map (substituted_item gdef n) (take 1 (strip s.ahead))) ++ drop 1 (strip s.ahead) = map-append item_of new.behind new.ahead ∙ ap whole (ap cut_of same ∙ cut) in
     record {

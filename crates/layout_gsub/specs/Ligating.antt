@@ -13,9 +13,8 @@ use Rattle.layout_match.specs.Applied.{Applied, own_search}
 use Rattle.layout_match.specs.LigatureWords.{component_word, is_base_glyph, is_mark, lig_comp, lig_id, lig_num_comps, ligature_word}
 use Rattle.layout_match.specs.Matches.{input_end, input_indices}
 use Rattle.layout_match.specs.Sequences.{is_glyph}
-use Rattle.layout_rules.specs.Actions.{Passes, Acts, Action, at_first, first_rule, within_limit}
+use Rattle.layout_rules.specs.Actions.{Passes, Acts, Action, at_first, first_rule, within_limit, attempt_around}
 use Rattle.layout_gsub.specs.Replacements.{glyph_props_of, substituted}
-use Rattle.layout_gsub.specs.Reverses.{attempt_around}
 
 -- ---- parts
 

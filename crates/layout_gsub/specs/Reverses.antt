@@ -2,19 +2,15 @@
 use Rattle.std.specs.Prelude.{ℕ, ◌+◌, ◌-◌, Bool, List, [], ◌∷◌, ◌++◌, length, map, take, drop, Option, Some, None, Result, Ok, Err}
 use Rattle.glyph_lists.specs.Items.{Item}
 use Rattle.glyph_lists.specs.Parts.{first_of}
-use Rattle.glyph_lists.specs.Events.{Break, Concat}
+use Rattle.glyph_lists.specs.Events.{Break}
 use Rattle.layout_common.specs.Rows.{value_of}
 use Rattle.font_face.specs.declared.parts.GlyphDefinition.{GlyphDefinition}
 use Rattle.layout_substitutions.specs.declared.reverse.ReverseChainSubst.{ReverseChainSubst}
 use Rattle.layout_match.specs.Applied.{Applied, context_search}
 use Rattle.layout_match.specs.Matches.{backtrack_end, lookahead_end}
 use Rattle.layout_match.specs.Sequences.{is_covered_by}
-use Rattle.layout_rules.specs.Actions.{Cut, Outcome, Passes, Acts, Action, at_first}
+use Rattle.layout_rules.specs.Actions.{Cut, Outcome, Passes, Acts, Action, at_first, attempt_around}
 use Rattle.layout_gsub.specs.Replacements.{substituted_item}
-
--- from so many items before the cut to so many from there on
-abbrev pub attempt_around : ℕ → ℕ → Cut → Outcome
-attempt_around back ahead c = Passes (Concat (length c.front - back) (length c.front + ahead) ∷ [])
 
 -- the item at the cut has another glyph, and is not passed
 abbrev pub put_in_place : GlyphDefinition → ℕ → Cut → Cut

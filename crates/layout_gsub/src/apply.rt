@@ -21,7 +21,6 @@ pub trait Apply {
         buffer: &mut hb_buffer_t,
     ) -> Result<bool, ShapeCause>
         requires open { buffer.old.is_open ≡ true }
-        requires no_positions { buffer.old.positions ≡ [] }
         requires there { 0 < length buffer.old.ahead }
         requires number { are_glyphs (items_of buffer.old) ≡ true }
         ensures performs { Performs (action self.now (applied_of ctx.old)
@@ -31,14 +30,13 @@ pub trait Apply {
 }
 
 /// Does what the first of some subtables does that acts.
-#[tactic(auto, using(layout_rules::specs::Lemmas::Performed::passed_first, layout_rules::specs::Lemmas::Performed::passed_open, layout_rules::specs::Lemmas::Performed::passed_positions, layout_rules::specs::Lemmas::Performed::passed_numbers, layout_rules::specs::Lemmas::Performed::passed_all))]
+#[tactic(auto, using(layout_rules::specs::Lemmas::Performed::passed_first, layout_rules::specs::Lemmas::Performed::passed_open, layout_rules::specs::Lemmas::Performed::passed_numbers, layout_rules::specs::Lemmas::Performed::passed_all))]
 pub fn apply_first<S: Apply>(
     subtables: &[S],
     ctx: &mut hb_ot_apply_context_t,
     buffer: &mut hb_buffer_t,
 ) -> Result<bool, ShapeCause>
     requires open { buffer.old.is_open ≡ true }
-    requires no_positions { buffer.old.positions ≡ [] }
     requires there { 0 < length buffer.old.ahead }
     requires number { are_glyphs (items_of buffer.old) ≡ true }
     ensures performs { Performs (first_rule (λ s. S.action s (applied_of ctx.old)) subtables.now

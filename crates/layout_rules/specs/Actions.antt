@@ -1,15 +1,17 @@
 -- What a rule does to a list that is cut at the index where it is tried.
-use Rattle.std.specs.Prelude.{ℕ, ℤ, ◌+◌, nat_le, if◌then◌else◌, List, [], ◌∷◌, ◌++◌, length, take, drop, Option, Some, None}
+use Rattle.std.specs.Prelude.{ℕ, ℤ, ◌+◌, ◌-◌, nat_le, if◌then◌else◌, List, [], ◌∷◌, ◌++◌, length, take, drop, Option, Some, None}
 use Rattle.glyph_types.specs.declared.cause.ShapeCause.{ShapeCause}
 use Rattle.glyph_types.specs.declared.cause.ShapeCause.TheVariants.{TooLong}
-use Rattle.glyph_lists.specs.Items.{Item}
-use Rattle.glyph_lists.specs.Events.{Event}
+use Rattle.glyph_lists.specs.Items.{Item, Position}
+use Rattle.glyph_lists.specs.Events.{Event, Concat}
 use Rattle.glyph_lists.specs.Readings.{View}
 
 -- a list cut in two, what is done and what is left, and what rules keep beside it
 pub record Cut : Type 0 where
   pub front : List Item
   pub rest : List Item
+  -- a position for each item, done or left; none where substitutions make a list
+  pub positions : List Position
   -- the ligature number that was given last
   pub lig_id : ℕ
   -- how many nested lookups may still be done
@@ -18,18 +20,24 @@ pub record Cut : Type 0 where
   pub random : ℕ
   -- how many items a side of the list may hold
   pub max_len : ℕ
+  -- what the stages of shaping tell each other
+  pub told : ℕ
 
 -- the list that was cut
 abbrev pub whole : Cut → List Item
 whole c = c.front ++ c.rest
 
--- the cut at the front of what is seen, with nothing done
+-- the cut at the front of what is seen, with nothing done, as substitutions take it: without positions
 abbrev pub uncut : View → Cut
-uncut v = record { front = []; rest = v.items; lig_id = v.lig_id; max_ops = v.max_ops; random = v.random; max_len = v.max_len }
+uncut v = record { front = []; rest = v.items; positions = []; lig_id = v.lig_id; max_ops = v.max_ops; random = v.random; max_len = v.max_len; told = v.told }
 
--- what is seen of a list that rules cut; while an output is open there are no positions
+-- the same with the positions
+abbrev pub uncut_placed : View → Cut
+uncut_placed v = record (uncut v) { positions = v.positions }
+
+-- what is seen of a list that rules cut
 abbrev pub view_at : View → Cut → View
-view_at v c = record { items = whole c; positions = []; lig_id = c.lig_id; max_ops = c.max_ops; random = c.random; max_len = c.max_len; direction = v.direction; told = v.told }
+view_at v c = record { items = whole c; positions = c.positions; lig_id = c.lig_id; max_ops = c.max_ops; random = c.random; max_len = c.max_len; direction = v.direction; told = c.told }
 
 -- one item more is done
 abbrev pub past_item : Cut → Cut
@@ -50,6 +58,10 @@ Action = Cut → Outcome
 -- where what is done would be so many items more, and so more than a side of the list may hold, a rule gives up
 abbrev pub within_limit : ℕ → Cut → Outcome → Outcome
 within_limit n c o = if nat_le (length c.front + n) c.max_len then o else Refuses TooLong
+
+-- from so many items before the cut to so many from there on a rule was tried, and failed
+abbrev pub attempt_around : ℕ → ℕ → Cut → Outcome
+attempt_around back ahead c = Passes (Concat (length c.front - back) (length c.front + ahead) ∷ [])
 
 -- an outcome that comes after some events
 abbrev pub later : List Event → Outcome → Outcome

@@ -1,32 +1,30 @@
--- What a rule does to a buffer whose output is open.
+-- What a rule does to a buffer.
 use Rattle.std.specs.Prelude.{ℕ, ◌≡◌, ◌≤◌, ◌<◌, ◌+◌, Bool, true, false, nat_le, List, length}
 use Rattle.std.specs.List.{list_all}
 use Rattle.shaping_text.specs.declared.direction.Direction.{Direction}
-use Rattle.glyph_lists.specs.Items.{Item, Position, strip}
+use Rattle.glyph_lists.specs.Items.{Item, strip}
 use Rattle.glyph_lists.specs.Events.{Event}
 use Rattle.glyph_buffer.specs.Sides.{Sides, Settings, settings_of, items_of, origins_of, origins_by, told_of}
 use Rattle.layout_rules.specs.Actions.{Cut, Outcome, Passes, Acts, Refuses}
 
--- the buffer's list without clusters, cut at the cursor; each lookup draws alternates from 1
+-- the buffer's list without clusters, cut at the cursor, with its positions, of which a buffer with an open output has none; each lookup draws alternates from 1
 abbrev pub cut_of : Sides → Cut
-cut_of s = record { front = strip s.behind; rest = strip s.ahead; lig_id = s.lig_id; max_ops = s.max_ops; random = 1; max_len = s.max_len }
+cut_of s = record { front = strip s.behind; rest = strip s.ahead; positions = s.positions; lig_id = s.lig_id; max_ops = s.max_ops; random = 1; max_len = s.max_len; told = told_of s.scratch_flags }
 
 -- each item has a number that a glyph can have
 abbrev pub are_glyphs : List Item → Bool
 are_glyphs xs = list_all (λ (x : Item). nat_le x.number 65535) xs
 
--- what no rule changes of a buffer whose output is open
+-- what no rule changes of a buffer
 pub record Frame : Type 0 where
   pub settings : Settings
-  pub positions : List Position
   pub is_open : Bool
   pub has_refused : Bool
   pub max_len : ℕ
   pub direction : Direction
-  pub told : ℕ
 
 abbrev pub frame_of : Sides → Frame
-frame_of s = record { settings = settings_of s; positions = s.positions; is_open = s.is_open; has_refused = s.has_refused; max_len = s.max_len; direction = s.direction; told = told_of s.scratch_flags }
+frame_of s = record { settings = settings_of s; is_open = s.is_open; has_refused = s.has_refused; max_len = s.max_len; direction = s.direction }
 
 -- a rule leaves all else
 abbrev pub IsStill : Sides → Sides → Type 0
@@ -41,6 +39,7 @@ pub record IsRead (old new : Sides) : Type 0 where
   pub forth : old.read < new.read
   pub total : new.read + length new.ahead ≡ old.read + length old.ahead
   pub front : length new.behind + old.read ≤ length old.behind + new.read
+  pub kept : length old.behind ≤ length new.behind
 
 -- a rule made a cut of a buffer, and so much happened to where its glyphs come from
 pub record IsActed (cut : Cut) (events : List Event) (old new : Sides) : Type 0 where

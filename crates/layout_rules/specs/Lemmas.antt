@@ -6,3 +6,5 @@ pub mod Does
 pub mod Tried
 pub mod Attempts
 pub mod Performed
+pub mod Firsts
+pub mod Around

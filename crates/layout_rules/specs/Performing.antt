@@ -1,5 +1,5 @@
 -- What a call does that performs a rule on a buffer, and what it answers: one relation over both.
-use Rattle.std.specs.Prelude.{ℕ, ◌≡◌, ◌≢◌, ◌+◌, ◌<◌, Bool, true, false, List, length, Result, Ok, Err}
+use Rattle.std.specs.Prelude.{ℕ, ◌≡◌, ◌≢◌, ◌≤◌, ◌<◌, Bool, true, false, List, length, Result, Ok, Err}
 use Rattle.glyph_types.specs.declared.cause.ShapeCause.{ShapeCause}
 use Rattle.glyph_types.specs.declared.cause.ShapeCause.TheVariants.{OutOfMemory}
 use Rattle.glyph_lists.specs.Events.{Event}
@@ -11,13 +11,13 @@ use Rattle.layout_rules.specs.Buffers.{cut_of, are_glyphs, IsStill, Happened, Is
 abbrev pub cut_with : ℕ → Sides → Cut
 cut_with random s = record (cut_of s) { random = random }
 
--- a rule made a cut of a buffer and left a random state, and so much happened to where its glyphs come from; glyphs were read
+-- a rule made a cut of a buffer and left a random state, and so much happened to where its glyphs come from; fewer glyphs are ahead, and what was done stays so
 pub record IsMade (cut : Cut) (events : List Event) (random : ℕ) (old new : Sides) : Type 0 where
   pub cut_is : cut_with random new ≡ cut
   pub happened : Happened events old new
   pub still : IsStill old new
-  pub forth : old.read < new.read
-  pub total : new.read + length new.ahead ≡ old.read + length old.ahead
+  pub fewer : length new.ahead < length old.ahead
+  pub kept : length old.behind ≤ length new.behind
   pub numbers : are_glyphs (items_of old) ≡ true → are_glyphs (items_of new) ≡ true
 
 -- a call answers whether a rule acted, and did what the rule does, from one random state to another
@@ -31,12 +31,13 @@ abbrev pub Performs : Outcome → Result Bool ShapeCause → ℕ → ℕ → Sid
 Performs o (Ok acted) before after old new = Performed o acted before after old new
 Performs o (Err cause) before after old new = cause ≢ OutOfMemory → o ≡ Refuses cause
 
--- a rule made a cut of a list without an output, in place: the cursor stays
+-- a rule made a cut of a list without an output, in place: the cursor stays, and so do the positions
 pub record IsPutInPlace (cut : Cut) (events : List Event) (old new : Sides) : Type 0 where
   pub cut_is : cut_of new ≡ cut
   pub happened : Happened events old new
   pub still : IsStill old new
   pub read : new.read ≡ old.read
+  pub positions : new.positions ≡ old.positions
   pub numbers : are_glyphs (items_of old) ≡ true → are_glyphs (items_of new) ≡ true
 
 -- a call performs in place a rule that never refuses, and takes no memory

@@ -8,7 +8,7 @@ use Rattle.glyph_lists.specs.Events.{Event, origins_after}
 use Rattle.glyph_lists.specs.Parts.{first_of}
 use Rattle.glyph_lists.specs.Readings.{View, Reading, Run, Follows, then_reading, with_events, read_of}
 use Rattle.glyph_lists.specs.Steps.{follows_happened, follows_from}
-use Rattle.glyph_buffer.specs.Sides.{Sides, all_glyphs, run_of, items_of, settings_of, told_of, asks_of}
+use Rattle.glyph_buffer.specs.Sides.{Sides, all_glyphs, run_of, items_of, settings_of, asks_of}
 use Rattle.glyph_buffer.specs.Moving.{moved_to}
 use Rattle.layout_common.specs.Rows.{value_of}
 use Rattle.layout_lookups.specs.declared.substitution.SubstLookup.{SubstLookup}
@@ -18,11 +18,11 @@ use Rattle.layout_substitutions.specs.declared.reverse.ReverseChainSubst.{Revers
 use Rattle.layout_match.specs.Applied.{Applied, context_search}
 use Rattle.layout_match.specs.Matches.{backtrack_end, lookahead_end}
 use Rattle.layout_match.specs.Sequences.{is_covered_by}
-use Rattle.layout_rules.specs.Actions.{Cut, view_at, uncut, Outcome, Passes, Acts, Refuses, Action}
+use Rattle.layout_rules.specs.Actions.{Cut, view_at, uncut_placed, Outcome, Passes, Acts, Refuses, Action}
 use Rattle.layout_rules.specs.Buffers.{cut_of, are_glyphs, IsStill, Happened}
 use Rattle.layout_rules.specs.Performing.{cut_with, PerformsInPlace}
 use Rattle.layout_rules.specs.Ready.{IsReady, IsDoneFrom, run_with}
-use Rattle.layout_rules.specs.Lemmas.Frames.{still_settings, still_refused, still_positions, still_direction, still_told, still_open, same_level, same_asks, same_numbers}
+use Rattle.layout_rules.specs.Lemmas.Frames.{still_settings, still_refused, still_direction, still_open, same_level, same_asks, same_numbers}
 use Rattle.layout_rules.specs.Lemmas.Performed.{same_with}
 use Rattle.layout_gsub.specs.Reverses.{put_after, put_around, put_before, reverse_subtable}
 use Rattle.layout_stages.specs.Lookups.{after_outcome, cut_at, tried_back, looked_back, meets, at_met, reverse_action, first_reverse}
@@ -136,15 +136,11 @@ gone_back act count at start now next u st = record {
   follows = λ r v final f. u.follows r v final (st.follows r v final f);
 }
 
-back_view : (r : ℕ) (s new : Sides) → IsStill s new → (run_with r new).view ≡ record (view_at (run_with r s).view (cut_with r new)) { positions = s.positions }
+back_view : (r : ℕ) (s new : Sides) → IsStill s new → (run_with r new).view ≡ view_at (run_with r s).view (cut_with r new)
 back_view r s new still =
-    let w = record (view_at (run_with r s).view (cut_with r new)) { positions = s.positions } in
-    ap (λ xs. record (run_with r new).view { items = xs }) (map-append item_of new.behind new.ahead)
-    ∙ ap (λ ps. record (run_with r new).view { items = w.items; positions = ps }) (still_positions s new still)
-    ∙ ap (λ d. record w { direction = d; told = told_of new.scratch_flags }) (still_direction s new still)
-    ∙ ap (λ t. record w { told = t }) (still_told s new still)
+    ap (λ xs. record (run_with r new).view { items = xs }) (map-append item_of new.behind new.ahead) ∙ ap (λ d. record (view_at (run_with r s).view (cut_with r new)) { direction = d }) (still_direction s new still)
 
-ready_cut : (r : ℕ) (s : Sides) → s.behind ≡ [] → cut_with r s ≡ uncut (run_with r s).view
+ready_cut : (r : ℕ) (s : Sides) → s.behind ≡ [] → cut_with r s ≡ uncut_placed (run_with r s).view
 ready_cut r s none = rw none refl
 
 -- without an output as many glyphs were read as stand behind the cursor
@@ -162,11 +158,11 @@ looked_back_done act end k s now new ready counted v0 input count is placed r =
     let same : run_with r new ≡ run_with r now = ap (run_with r) is ∙ ap (λ gs. record (run_with r now) { view = record (run_with r now).view { items = strip gs }; origins = origins gs }) (moved_all 0 now) in
     let settings = still_settings s now still in
     let ended : Follows (tried_back act v 0 (cut_with r now)) (run_of now) (run_with r now) = ap (λ w. record { view = w; origins = (run_of now).origins; level = now.level; asks = (run_of now).asks }) (back_view r s now still) in
-    let start : cut_with r s ≡ uncut v = ready_cut r s ready.front in
+    let start : cut_with r s ≡ uncut_placed v = ready_cut r s ready.front in
     let Q : Cut → Type 0 = λ c. Follows (tried_back act v (length (all_glyphs s)) c) (run_of s) (run_with r now) in
     let walked = subst Q start (u.follows r v (run_with r now) ended) in
     let n : length (strip (all_glyphs s)) ≡ length (all_glyphs s) = length-map (all_glyphs s) item_of in
-    let there : Follows (tried_back act v (length v.items) (uncut v)) (run_with r s) (run_with r now) = rw n (follows_from (tried_back act v (length (all_glyphs s)) (uncut v)) (run_of s) (run_with r s) (run_with r now) refl refl refl walked) in
+    let there : Follows (tried_back act v (length v.items) (uncut_placed v)) (run_with r s) (run_with r now) = rw n (follows_from (tried_back act v (length (all_glyphs s)) (uncut_placed v)) (run_of s) (run_with r s) (run_with r now) refl refl refl walked) in
     let F : Run → Type 0 = λ q. Follows (read_of (looked_back act) (run_with r s)) (run_with r s) q in
     record {
       follows = subst F (sym same) there;
@@ -183,6 +179,6 @@ looked_back_done act end k s now new ready counted v0 input count is placed r =
 
 -- what is done in place leaves the positions
 pub acted_still : (o : Outcome) (acted : Bool) (s new : Sides) → PerformsInPlace o acted s new → new.positions ≡ s.positions
-acted_still (Passes es) acted s new d = still_positions s new d.1.still
-acted_still (Acts cut es) acted s new d = still_positions s new d.1.still
+acted_still (Passes es) acted s new d = ap (λ (c : Cut). c.positions) d.1.cut_is
+acted_still (Acts cut es) acted s new d = d.1.positions
 acted_still (Refuses cause) acted s new d = absurd d

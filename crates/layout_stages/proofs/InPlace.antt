@@ -15,6 +15,7 @@ then_put es fs cut a b c f g = record {
   happened = then_happened es fs a b c (still_settings a b f.still) f.happened g.happened;
   still = g.still ∙ f.still;
   read = g.read ∙ f.read;
+  positions = g.positions ∙ ap (λ (c : Cut). c.positions) f.cut_is;
   numbers = λ h. g.numbers (ap are_glyphs (same_numbers a b f.cut_is) ∙ h);
 }
 

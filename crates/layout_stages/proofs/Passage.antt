@@ -1,5 +1,5 @@
 -- A lookup on its way over a buffer.
-use Rattle.std.proofs.Common.{ℕ, suc, ◌≡◌, ◌≤◌, ◌<◌, ◌+◌, ◌-◌, true, false, nat_le, [], length, Ok, Err, refl, sym, ap, subst, ◌∙◌, arith}
+use Rattle.std.proofs.Common.{ℕ, suc, ◌≡◌, ◌≤◌, ◌<◌, ◌+◌, ◌-◌, true, false, nat_le, length, Ok, Err, refl, sym, ap, subst, ◌∙◌, arith}
 use Rattle.std.specs.Prelude.{Result, IfErr, IsErrAnd}
 use Rattle.std.proofs.lemmas.List.{map-append, length-map, length-replicate}
 use Rattle.glyph_types.specs.declared.cause.ShapeCause.{ShapeCause}
@@ -7,13 +7,13 @@ use Rattle.glyph_types.specs.declared.cause.ShapeCause.TheVariants.{TooLong}
 use Rattle.glyph_lists.specs.Items.{item_of, strip}
 use Rattle.glyph_lists.specs.Readings.{View, Reading, Run, Follows, read_of}
 use Rattle.glyph_lists.specs.Steps.{follows_then, follows_from, refused_first, refused_then}
-use Rattle.glyph_buffer.specs.Sides.{Sides, all_glyphs, run_of, items_of, told_of, with_output, synced, fits_joined, zero_positions, zero_position}
+use Rattle.glyph_buffer.specs.Sides.{Sides, all_glyphs, run_of, items_of, with_output, synced, fits_joined, zero_positions, zero_position}
 use Rattle.layout_match.specs.Applied.{Applied}
 use Rattle.layout_rules.specs.Actions.{view_at, uncut, Action}
 use Rattle.layout_rules.specs.Buffers.{are_glyphs, IsStill}
 use Rattle.layout_rules.specs.Performing.{cut_with}
 use Rattle.layout_rules.specs.Ready.{IsReady, IsDoneFrom, run_with}
-use Rattle.layout_rules.specs.Lemmas.Frames.{still_settings, still_refused, still_positions, still_direction, still_told}
+use Rattle.layout_rules.specs.Lemmas.Frames.{still_settings, still_refused, still_direction}
 use Rattle.layout_stages.specs.Lookups.{tried, unplaced, joined, looked_up}
 use Rattle.layout_stages.specs.Steps.{IsStep, IsGivenUp}
 
@@ -49,19 +49,15 @@ gone_on act count at before r after start now next lt u st =
 
 -- ---- at the end nothing is left to read
 
-ended_view : (r : ℕ) (v : View) (start now : Sides) → v.direction ≡ start.direction → v.told ≡ told_of start.scratch_flags → IsStill start now → start.positions ≡ [] → (run_with r now).view ≡ view_at v (cut_with r now)
-ended_view r v start now direction told still none =
-    let w = view_at v (cut_with r now) in
-    ap (λ xs. record (run_with r now).view { items = xs }) (map-append item_of now.behind now.ahead)
-    ∙ ap (λ ps. record (run_with r now).view { items = w.items; positions = ps }) (still_positions start now still ∙ none)
-    ∙ ap (λ d. record w { direction = d; told = told_of now.scratch_flags }) (still_direction start now still ∙ sym direction)
-    ∙ ap (λ t. record w { told = t }) (still_told start now still ∙ sym told)
+ended_view : (r : ℕ) (v : View) (start now : Sides) → v.direction ≡ start.direction → IsStill start now → (run_with r now).view ≡ view_at v (cut_with r now)
+ended_view r v start now direction still =
+    ap (λ xs. record (run_with r now).view { items = xs }) (map-append item_of now.behind now.ahead) ∙ ap (λ d. record (view_at v (cut_with r now)) { direction = d }) (still_direction start now still ∙ sym direction)
 
 -- the whole list was tried
 walked : (act : Action) (r after : ℕ) (s mid : Sides) → IsUnderway act (length (all_glyphs s)) 0 r after (with_output s) mid → Follows (tried act (run_with r s).view (length (strip (all_glyphs s))) (uncut (run_with r s).view)) (run_with r s) (run_with after mid)
 walked act r after s mid u =
     let v = (run_with r s).view in
-    let ended : Follows (tried act v 0 (cut_with after mid)) (run_of mid) (run_with after mid) = ap (λ w. record { view = w; origins = (run_of mid).origins; level = mid.level; asks = (run_of mid).asks }) (ended_view after v (with_output s) mid refl refl u.still refl) in
+    let ended : Follows (tried act v 0 (cut_with after mid)) (run_of mid) (run_with after mid) = ap (λ w. record { view = w; origins = (run_of mid).origins; level = mid.level; asks = (run_of mid).asks }) (ended_view after v (with_output s) mid refl u.still) in
     let first : Follows (tried act v (length (all_glyphs s)) (uncut v)) (run_with r s) (run_with after mid) = follows_from (tried act v (length (all_glyphs s)) (uncut v)) (run_of (with_output s)) (run_with r s) (run_with after mid) refl refl refl (u.follows v (run_with after mid) ended) in
     let n : length (strip (all_glyphs s)) ≡ length (all_glyphs s) = length-map (all_glyphs s) item_of in
     rw n first

@@ -69,12 +69,11 @@ acted_step act before after s new (Passes es) lt e d = cc
 acted_step act before after s new (Refuses cause) lt e d = absurd d
 acted_step act before after s new (Acts cut es) lt e d =
     let a = d.1 in
-    let forth = a.forth in
-    let total = a.total in
+    let fewer = a.fewer in
     let is : (v : View) (n : ℕ) → tried act v (suc n) (cut_with before s) ≡ then_reading (with_events es (view_at v cut)) (tried act v n cut) = λ v n. going_on act v n before s lt ∙ ap (λ o. after_outcome (gone_over o (cut_with before s)) (tried act v n) v (cut_with before s)) e in
     record {
       still = a.still;
-      less = omega (arith, forth, total);
+      less = omega (arith, fewer);
       numbers = a.numbers;
       follows = λ v n final f. then_tried act v n before after es (view_at v cut) cut s new final (is v n) a.cut_is a.still a.happened f;
       refuses = λ v n cause g. then_refused act v n before after es (view_at v cut) cut s new cause (is v n) a.cut_is g;

@@ -15,7 +15,7 @@ use Rattle.map_features.specs.declared.per_table.TableIndex.TheVariants.{GSUB}
 use Rattle.layout_match.specs.Applied.{Applied}
 use Rattle.layout_match.specs.Searches.{is_left_out}
 use Rattle.layout_rules.specs.Masks.{shares_mask}
-use Rattle.layout_rules.specs.Actions.{Cut, whole, view_at, uncut, past_item, Outcome, Passes, Acts, Refuses, Action, first_rule, at_first, within_limit}
+use Rattle.layout_rules.specs.Actions.{Cut, whole, view_at, uncut, uncut_placed, past_item, Outcome, Passes, Acts, Refuses, Action, first_rule, at_first, within_limit}
 use Rattle.layout_gsub.specs.Alternates.{alternate_subtable}
 use Rattle.layout_gsub.specs.Ligating.{ligature_subst}
 use Rattle.layout_gsub.specs.Multiples.{multiple_subtable}
@@ -108,12 +108,12 @@ cut_at i c = record c { front = take i (whole c); rest = drop i (whole c) }
 
 -- a rule tried in place at so many indices from the first, the last of them first
 abbrev pub tried_back : Action → View → ℕ → Cut → Reading
-tried_back act v zero c = Ok (with_events [] (record (view_at v c) { positions = v.positions }))
+tried_back act v zero c = Ok (with_events [] (view_at v c))
 tried_back act v (suc n) c = after_outcome (act (cut_at n c)) (tried_back act v n) v (cut_at n c)
 
 -- a rule tried at each index of a list once, from the right
 abbrev pub looked_back : Action → Stage
-looked_back act v = tried_back act v (length v.items) (uncut v)
+looked_back act v = tried_back act v (length v.items) (uncut_placed v)
 
 abbrev pub lookup_applied : Applied → SubstLookup → Stage
 lookup_applied a lookup v = if is_reverse lookup.subtables then looked_back (reverse_action a lookup) v else looked_up (lookup_action a lookup) v

@@ -79,7 +79,7 @@ fn apply_mapped(
     apply_everywhere(lookup, ctx, buffer)
 }
 
-fn apply_all(
+pub(crate) fn apply_all(
     table: &SubstitutionTable,
     lookups: &[lookup_map_t],
     ctx: &mut hb_ot_apply_context_t,
@@ -94,6 +94,8 @@ fn apply_all(
     ensures err { IfErr result (λ e. e ≢ ShapeCause.OutOfMemory → read_of
         (lookups_stage ctx.old.face.now table.now.lookups lookups.now)
         (run_with ctx.old.random_state buffer.old) ≡ Err e) }
+    ensures table { ctx.new.table_index ≡ GSUB }
+    ensures face { ctx.new.face.now ≡ ctx.old.face.now }
 {
     for lookup_map in lookups {
         apply_mapped(table, lookup_map, ctx, buffer)?;

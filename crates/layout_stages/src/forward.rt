@@ -21,7 +21,6 @@ fn apply_next(
     buffer: &mut hb_buffer_t,
 ) -> Result<(), ShapeCause>
     requires open { buffer.old.is_open ≡ true }
-    requires no_positions { buffer.old.positions ≡ [] }
     requires numbers { are_glyphs (items_of buffer.old) ≡ true }
     ensures ok { OnOk result (IsStep (lookup_action
         (applied_of ctx.old) lookup.now) ctx.old.random_state ctx.new.random_state buffer.old buffer.new) }

@@ -5,3 +5,5 @@ pub mod apply;
 pub mod backward;
 pub mod forward;
 pub mod lookup;
+pub mod pause;
+pub mod substitute;

@@ -33,7 +33,6 @@ fn apply_substitution(
     buffer: &mut hb_buffer_t,
 ) -> Result<bool, ShapeCause>
     requires open { buffer.old.is_open ≡ true }
-    requires no_positions { buffer.old.positions ≡ [] }
     requires there { 0 < length buffer.old.ahead }
     requires number { are_glyphs (items_of buffer.old) ≡ true }
     ensures performs { Performs (first_subtable (applied_of ctx.old) subtables.now
@@ -70,7 +69,6 @@ pub fn apply_lookup(
     buffer: &mut hb_buffer_t,
 ) -> Result<bool, ShapeCause>
     requires open { buffer.old.is_open ≡ true }
-    requires no_positions { buffer.old.positions ≡ [] }
     requires there { 0 < length buffer.old.ahead }
     requires number { are_glyphs (items_of buffer.old) ≡ true }
     ensures performs { Performs (lookup_action (applied_of ctx.old) lookup.now

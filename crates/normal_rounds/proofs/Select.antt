@@ -30,7 +30,7 @@ use Rattle.normal_rounds.specs.Lemmas.Chain.{none_behind, brought_none, brought_
 -- ---- one glyph for a character and a selector
 
 merged_cut : (n : ℕ) (s : Sides) → cut_of (with_merged (length s.behind) (length s.behind + n) s) ≡ cut_of s
-merged_cut n s = cut_with_glyphs (glyphs_merged_at s.level (length s.behind) (length s.behind + n) (all_glyphs s)) s (strip_merged_at s.level (length s.behind) (length s.behind + n) (all_glyphs s) (omega arith))
+merged_cut n s = cut_with_glyphs (is_marked_at s.level (length s.behind) (length s.behind + n) (clusters (all_glyphs s))) (glyphs_merged_at s.level (length s.behind) (length s.behind + n) (all_glyphs s)) s (strip_merged_at s.level (length s.behind) (length s.behind + n) (all_glyphs s) (omega arith))
 
 -- a copy of the first glyph is a copy of its item
 copy_item : (ds : List hb_glyph_info_t) (o : Option hb_glyph_info_t) (k : ℕ) (x : Item) (xs : List Item) → strip ds ≡ x ∷ xs → strip (copied glyph_numbered (or (first_of ds) o) (k ∷ [])) ≡ item_numbered x k ∷ []

@@ -1,4 +1,5 @@
 pub mod Glyphs
 pub mod Brought
+pub mod Rearranged
 pub mod Walking
 pub mod Lemmas

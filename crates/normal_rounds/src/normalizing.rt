@@ -1,7 +1,12 @@
 //! What normalising asks of a font, of tables and of a shaper.
-ghost use Rattle.std.specs.Prelude.{◌≡◌};
+ghost use Rattle.std.specs.Prelude.{◌≡◌, ◌≤◌, List, length};
+ghost use Rattle.glyph_lists.specs.Items.{Item};
+ghost use Rattle.glyph_buffer.specs.Sides.{all_glyphs};
+ghost use Rattle.layout_rules.specs.Ready.{IsReady};
 ghost use Rattle.normal_forms.specs.Normalizer.{Normalizer};
+ghost use Rattle.normal_rounds.specs.Rearranged.{Rearranges};
 
+use glyph_buffer::buffer::hb_buffer_t;
 use normal_forms::NormalizationMode;
 use unicode_tables::UnicodeTables;
 
@@ -40,4 +45,13 @@ pub trait Normalizing {
     /// What two characters compose to.
     fn compose(&self, a: u32, b: u32) -> Option<char>
         ensures { result ≡ (normalizer self.now).composes a b };
+
+    /// Does what the shaper does to a run of marks from `start` up to before `end`, which is in the order of its classes.
+    fn reorder_marks(&self, buffer: &mut hb_buffer_t, start: usize, end: usize)
+        requires ready { IsReady buffer.old }
+        requires ordered { start ≤ end }
+        requires within { end ≤ length (all_glyphs buffer.old) }
+        ensures { Rearranges (normalizer self.now).reorders start end buffer.old buffer.new };
+
+    ghost keeps_count: { (s : Self) (run : List Item) → length ((normalizer s).reorders run).items ≡ length run };
 }

@@ -1,3 +1,4 @@
 pub mod Glyphs
 pub mod Ignorables
 pub mod Flags
+pub mod Classes

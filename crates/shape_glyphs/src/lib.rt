@@ -1,6 +1,7 @@
 // Characters as glyphs before the lookups, and what becomes of glyphs after them.
 #![tactic(auto)]
 
+pub mod classes;
 pub mod flags;
 pub mod glyphs;
 pub mod ignorables;

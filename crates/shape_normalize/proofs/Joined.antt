@@ -7,14 +7,13 @@ use Rattle.std.proofs.lemmas.List.{append-nil, map-append, length-map, length-re
 use Rattle.glyph_types.specs.declared.cause.ShapeCause.{ShapeCause}
 use Rattle.glyph_types.specs.declared.cause.ShapeCause.TheVariants.{OutOfMemory, TooLong}
 use Rattle.glyph_lists.specs.Items.{item_of, strip}
-use Rattle.glyph_lists.specs.Readings.{View, Stage}
+use Rattle.glyph_lists.specs.Readings.{Read, View}
 use Rattle.glyph_buffer.specs.Sides.{Sides, all_glyphs, told_of, items_of, view_of, origins_by, settings_of, with_output, synced, fits_joined, has_room, zero_position, zero_positions}
 use Rattle.layout_rules.specs.Ready.{IsReady}
-use Rattle.text_stages.specs.Stages.{IsFollowed}
-use Rattle.text_stages.specs.Lemmas.Written.{happened_followed}
 use Rattle.normal_forms.specs.Arranged.{Arranged}
 use Rattle.normal_rounds.specs.Lemmas.Chain.{all_shifted_none}
 use Rattle.normal_rounds.specs.Brought.{Brought, Overfills, with_arranged, within_limit}
+use Rattle.shape_normalize.specs.Rounds.{IsArranged}
 
 further_none : (n : ℕ) → 0 + n ≡ n
 further_none n = omega arith
@@ -40,45 +39,42 @@ too_long s unrefused full =
     grind (arith, nat_tests, room)
 
 -- a reading that has room
-has_limit : (a : Arranged) (v : View) → length a.items ≤ v.max_len → within_limit (length a.items) v (with_arranged a v) ≡ Ok (with_arranged a v)
-has_limit a v le = let t : nat_le (length a.items) v.max_len ≡ true = grind (arith, nat_tests, le) in cond-true _ _ _ t
+pub has_limit : (n : ℕ) (r : Read) (v : View) → n ≤ v.max_len → within_limit n v r ≡ Ok r
+has_limit n r v le = let t : nat_le n v.max_len ≡ true = grind (arith, nat_tests, le) in cond-true _ _ _ t
 
 -- a reading that has none
-past_limit : (a : Arranged) (v : View) (e : ShapeCause) → (e ≡ TooLong) × (v.max_len < length a.items) → within_limit (length a.items) v (with_arranged a v) ≡ Err e
-past_limit a v e over =
+pub past_limit : (n : ℕ) (r : Read) (v : View) (e : ShapeCause) → (e ≡ TooLong) × (v.max_len < n) → within_limit n v r ≡ Err e
+past_limit n r v e over =
     let lt = over.1 in
-    let t : nat_le (length a.items) v.max_len ≡ false = grind (arith, nat_tests, lt) in
+    let t : nat_le n v.max_len ≡ false = grind (arith, nat_tests, lt) in
     cond-false _ _ _ t ∙ ap Err (sym over.0)
 
 same_limit : (a : Arranged) (s mid : Sides) → Brought a [] (with_output s) mid → mid.max_len ≡ s.max_len
 same_limit a s mid b = ap (λ (t : Sides). t.max_len) b.frame
 
-pub list_followed : (stage : Stage) (a : Arranged) (s mid new : Sides) → stage (view_of s) ≡ within_limit (length a.items) (view_of s) (with_arranged a (view_of s)) → IsReady s
-    → Brought a [] (with_output s) mid → fits_joined mid ≡ true → new ≡ synced mid → IsFollowed stage s new
-list_followed stage a s mid new is ready b fits after =
-    let few = fits_parts mid fits in
-    let room : length a.items ≤ s.max_len = omega (arith, few, walked_count a s mid b, same_limit a s mid b) in
-    let P : Sides → Type 0 = λ t. IsFollowed stage s t in
-    subst P (sym after) (happened_followed a.events (with_arranged a (view_of s)).view stage s (synced mid) (walked_view a s mid b)
-    (b.happened ∙ ap (λ es. origins_by es s) (all_shifted_none a.events)) (ap settings_of b.frame)
-    (record {
-      closed = refl;
-      front = refl;
-      unread = refl;
-      placed = length-replicate (length (all_glyphs mid)) zero_position;
-      unrefused = ap (λ (t : Sides). t.has_refused) b.frame ∙ ready.unrefused;
+-- a list that was walked is all of the buffer
+pub list_arranged : (a : Arranged) (s mid new : Sides) → IsReady s → Brought a [] (with_output s) mid → new ≡ synced mid → IsArranged a s new
+list_arranged a s mid new ready b after =
+    subst (IsArranged a s) (sym after) (record {
+      view = walked_view a s mid b;
+      origins = b.happened ∙ ap (λ es. origins_by es s) (all_shifted_none a.events);
+      settings = ap settings_of b.frame;
+      ready = record {
+        closed = refl;
+        front = refl;
+        unread = refl;
+        placed = length-replicate (length (all_glyphs mid)) zero_position;
+        unrefused = ap (λ (t : Sides). t.has_refused) b.frame ∙ ready.unrefused;
+      };
     })
-    (is ∙ has_limit a (view_of s) room))
 
-pub list_refused : (stage : Stage) (a : Arranged) (s : Sides) (e : ShapeCause) → stage (view_of s) ≡ within_limit (length a.items) (view_of s) (with_arranged a (view_of s)) → Overfills (length a.items) e (with_output s)
-    → e ≢ OutOfMemory → stage (view_of s) ≡ Err e
-list_refused stage a s e is over some =
-    let past = over some in
-    let lt = past.1 in
-    is ∙ past_limit a (view_of s) e (past.0, omega (arith, lt))
+pub list_fits : (a : Arranged) (s mid : Sides) → Brought a [] (with_output s) mid → fits_joined mid ≡ true → length a.items ≤ s.max_len
+list_fits a s mid b fits = let few = fits_parts mid fits in omega (arith, few, walked_count a s mid b, same_limit a s mid b)
 
-pub list_too_long : (stage : Stage) (a : Arranged) (s mid : Sides) → stage (view_of s) ≡ within_limit (length a.items) (view_of s) (with_arranged a (view_of s)) → IsReady s → Brought a [] (with_output s) mid → fits_joined mid ≡ false
-    → stage (view_of s) ≡ Err TooLong
-list_too_long stage a s mid is ready b full =
+pub list_overfills : (a : Arranged) (s : Sides) (e : ShapeCause) → Overfills (length a.items) e (with_output s) → e ≢ OutOfMemory → (e ≡ TooLong) × (s.max_len < length a.items)
+list_overfills a s e over some = let past = over some in let lt = past.1 in (past.0, omega (arith, lt))
+
+pub list_too_long : (a : Arranged) (s mid : Sides) → IsReady s → Brought a [] (with_output s) mid → fits_joined mid ≡ false → s.max_len < length a.items
+list_too_long a s mid ready b full =
     let lt = too_long mid (ap (λ (t : Sides). t.has_refused) b.frame ∙ ready.unrefused) full in
-    is ∙ past_limit a (view_of s) TooLong (refl, omega (arith, lt, walked_count a s mid b, same_limit a s mid b))
+    omega (arith, lt, walked_count a s mid b, same_limit a s mid b)

@@ -1,1 +1,4 @@
 pub mod Rounds
+pub mod Composed
+pub mod Starters
+pub mod Runs

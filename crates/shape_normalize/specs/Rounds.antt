@@ -1,10 +1,22 @@
--- The rounds of normalising, each as a stage of shaping.
-use Rattle.std.specs.Prelude.{length}
+-- The normal form of a text as a stage of shaping, and what its rounds leave.
+use Rattle.std.specs.Prelude.{◌≡◌, length}
 use Rattle.glyph_lists.specs.Readings.{Stage}
+use Rattle.glyph_buffer.specs.Sides.{Sides, origins_by, origins_of, settings_of, view_of}
+use Rattle.layout_rules.specs.Ready.{IsReady}
+use Rattle.normal_forms.specs.Arranged.{Arranged}
 use Rattle.normal_forms.specs.Expanding.{expanded_list}
+use Rattle.normal_forms.specs.NormalizedList.{normalized}
 use Rattle.normal_forms.specs.Normalizer.{Normalizer}
 use Rattle.normal_rounds.specs.Brought.{with_arranged, within_limit}
 
--- the first round: characters are split, and selectors join what they select
-abbrev pub expansion_round : Normalizer → Stage
-expansion_round c v = within_limit (length (expanded_list c v.items).items) v (with_arranged (expanded_list c v.items) v)
+-- the normalised list with its events, at positions of nothing; it gives up where the list that the characters expand to has
+-- more than `max_len` items
+abbrev pub normalization : Normalizer → Stage
+normalization c v = within_limit (length (expanded_list c v.items).items) v (with_arranged (normalized c v.items) v)
+
+-- an arrangement is all of a buffer, at positions of nothing
+pub record IsArranged (a : Arranged) (old new : Sides) : Type 0 where
+  pub view : view_of new ≡ (with_arranged a (view_of old)).view
+  pub origins : origins_of new ≡ origins_by a.events old
+  pub settings : settings_of new ≡ settings_of old
+  pub ready : IsReady new

@@ -1,11 +1,13 @@
-//! The rounds, each as a stage of shaping.
-ghost use Rattle.std.specs.Prelude.{◌≡◌, ◌≢◌, IfErr, OnOk, Err};
-ghost use Rattle.glyph_lists.specs.Readings.{read_of};
-ghost use Rattle.glyph_buffer.specs.Sides.{run_of};
+//! The first and the third round, each over an output of its own.
+ghost use Rattle.std.specs.Prelude.{◌≡◌, ◌≢◌, ◌≤◌, ◌<◌, length, IfErr, OnOk};
+ghost use Rattle.glyph_buffer.specs.Sides.{items_of, synced};
 ghost use Rattle.layout_rules.specs.Ready.{IsReady};
-ghost use Rattle.text_stages.specs.Stages.{IsFollowed};
-ghost use Rattle.shape_normalize.specs.Rounds.{expansion_round};
+ghost use Rattle.normal_forms.specs.Composing.{composed_list};
+ghost use Rattle.normal_forms.specs.Expanding.{expanded_list};
+ghost use Rattle.shape_normalize.specs.Composed.{HasRoom};
+ghost use Rattle.shape_normalize.specs.Rounds.{IsArranged};
 
+use crate::starters::compose_list;
 use glyph_buffer::buffer::hb_buffer_t;
 use glyph_types::cause::ShapeCause;
 use normal_rounds::expanding::expand_list;
@@ -17,17 +19,54 @@ use normal_rounds::normalizing::Normalizing;
 /// # Errors
 ///
 /// `TooLong` where the list would have more characters than the buffer may hold, or want of memory.
-#[tactic(auto, using(crate::proofs::Joined::list_followed, crate::proofs::Joined::list_refused, crate::proofs::Joined::list_too_long))]
-pub fn expand_characters<N: Normalizing>(by: &N, buffer: &mut hb_buffer_t) -> Result<(), ShapeCause>
+#[tactic(auto, using(crate::proofs::Joined::list_overfills))]
+pub(crate) fn expand_characters<N: Normalizing>(
+    by: &N,
+    buffer: &mut hb_buffer_t,
+) -> Result<(), ShapeCause>
     requires ready { IsReady buffer.old }
-    ensures ok { OnOk result (IsFollowed (expansion_round (N.normalizer by.now)) buffer.old buffer.new) }
-    ensures err { IfErr result (λ e. e ≢ ShapeCause.OutOfMemory
-        → read_of (expansion_round (N.normalizer by.now)) (run_of buffer.old) ≡ Err e) }
+    ensures ok { OnOk result (IsArranged (expanded_list (N.normalizer by.now) (items_of buffer.old)) buffer.old buffer.new) }
+    ensures fits { OnOk result (length (expanded_list (N.normalizer by.now) (items_of buffer.old)).items ≤ buffer.old.max_len) }
+    ensures err { IfErr result (λ e. e ≢ ShapeCause.OutOfMemory → (e ≡ ShapeCause.TooLong) × (buffer.old.max_len < length (expanded_list (N.normalizer by.now) (items_of buffer.old)).items)) }
 {
     buffer.clear_output()?;
     expand_list(by, buffer)?;
     if !buffer.sync()? {
         return Err(ShapeCause::TooLong);
     }
+    Ok(())
+}
+
+/// Puts an output that has room for the whole list in the list's place.
+#[tactic(auto, using(crate::proofs::Room::fits_whole))]
+fn join_output(buffer: &mut hb_buffer_t) -> Result<(), ShapeCause>
+    requires room { HasRoom buffer.old }
+    ensures ok { OnOk result (buffer.new ≡ synced buffer.old) }
+    ensures err { IfErr result (λ e. e ≡ ShapeCause.OutOfMemory) }
+{
+    if !buffer.sync()? {
+        return Err(ShapeCause::TooLong);
+    }
+    Ok(())
+}
+
+/// The third round: marks are composed with their base, as far as the font has what they compose to. It takes linear time,
+/// and for each mark that is composed that of a walk over what stands between it and its base.
+///
+/// # Errors
+///
+/// Want of memory.
+pub(crate) fn compose_characters<N: Normalizing>(
+    by: &N,
+    buffer: &mut hb_buffer_t,
+) -> Result<(), ShapeCause>
+    requires ready { IsReady buffer.old }
+    ensures ok { OnOk result (IsArranged (composed_list (N.normalizer by.now) (items_of buffer.old)) buffer.old buffer.new) }
+    ensures err { IfErr result (λ e. e ≡ ShapeCause.OutOfMemory) }
+{
+    let count = buffer.len();
+    buffer.clear_output()?;
+    compose_list(by, count, buffer)?;
+    join_output(buffer)?;
     Ok(())
 }

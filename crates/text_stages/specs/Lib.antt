@@ -1,3 +1,4 @@
 pub mod Stages
 pub mod Lemmas
 pub mod Categories
+pub mod Places

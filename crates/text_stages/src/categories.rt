@@ -2,7 +2,7 @@
 ghost use Rattle.std.specs.Prelude.{◌≡◌, [], ◌∷◌};
 ghost use Rattle.ucd_category.specs.declared.GeneralCategory.{GeneralCategory};
 ghost use Rattle.glyph_lists.specs.Items.{item_of};
-ghost use Rattle.normal_forms.specs.Characters.{is_mark};
+ghost use Rattle.normal_forms.specs.Characters.{is_mark, is_space};
 ghost use Rattle.text_stages.specs.Categories.{has_category, is_decimal_number, is_letter, is_nonspacing_mark};
 
 use glyph_types::info::hb_glyph_info_t;
@@ -47,4 +47,11 @@ pub fn is_nonspacing_mark(glyph: &hb_glyph_info_t) -> bool
     ensures { result ≡ is_nonspacing_mark (item_of glyph.now) }
 {
     has_category(GeneralCategory::NonspacingMark, glyph)
+}
+
+/// Whether the character is a space.
+pub fn is_space(glyph: &hb_glyph_info_t) -> bool
+    ensures { result ≡ is_space (item_of glyph.now) }
+{
+    has_category(GeneralCategory::SpaceSeparator, glyph)
 }

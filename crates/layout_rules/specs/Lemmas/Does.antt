@@ -25,7 +25,7 @@ then_acted es fs cut a b c f g =
       cut_is = g.cut_is;
       happened = then_happened es fs a b c (still_settings a b f.still) f.happened g.happened;
       still = g.still ∙ f.still;
-      counts = record { forth = omega (arith, read, counts.forth); total = omega (arith, read, long.1, counts.total); front = omega (arith, read, long.0, counts.front) };
+      counts = record { forth = omega (arith, read, counts.forth); total = omega (arith, read, long.1, counts.total); front = omega (arith, read, long.0, counts.front); kept = omega (arith, long.0, counts.kept) };
       numbers = λ h. g.numbers (ap are_glyphs (same_numbers a b f.cut_is) ∙ h);
     }
 

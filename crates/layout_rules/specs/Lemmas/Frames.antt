@@ -1,5 +1,5 @@
 -- What stays while rules are tried.
-use Rattle.std.proofs.Common.{ℕ, ◌≡◌, Bool, List, ◌++◌, length, sym, ap, ◌∙◌}
+use Rattle.std.proofs.Common.{◌≡◌, List, ◌++◌, length, sym, ap, ◌∙◌}
 use Rattle.std.proofs.lemmas.List.{length-map, map-append}
 use Rattle.std.specs.Prelude.{bit_and, ◌==◌}
 use Rattle.glyph_types.specs.declared.level.BufferClusterLevel.{BufferClusterLevel}
@@ -8,11 +8,9 @@ use Rattle.glyph_lists.specs.Items.{item_of}
 use Rattle.glyph_lists.specs.Origins.{Asks}
 use Rattle.glyph_lists.specs.Events.{Event, origins_after}
 use Rattle.glyph_lists.specs.Steps.{origins_after_both}
-use Rattle.glyph_buffer.specs.Sides.{Sides, Settings, settings_of, items_of, origins_of, asks_of, told_of}
-use Rattle.glyph_buffer.specs.Merging.{telling_flags}
-use Rattle.glyph_buffer.specs.Told.{told_telling}
+use Rattle.glyph_buffer.specs.Sides.{Sides, Settings, settings_of, items_of, origins_of, asks_of}
 use Rattle.layout_rules.specs.Actions.{Cut, whole}
-use Rattle.layout_rules.specs.Buffers.{cut_of, Frame, frame_of, IsStill, Happened}
+use Rattle.layout_rules.specs.Buffers.{cut_of, Frame, IsStill, Happened}
 
 abbrev pub asks_with : BufferFlags → Asks
 asks_with f = record { concat = bit_and f.0 64 == 64; tatweel = bit_and f.0 128 == 128 }
@@ -33,9 +31,6 @@ still_settings a b e = ap (λ (f : Frame). f.settings) e
 pub still_open : (a b : Sides) → IsStill a b → b.is_open ≡ a.is_open
 still_open a b e = ap (λ (f : Frame). f.is_open) e
 
-pub still_positions : (a b : Sides) → IsStill a b → b.positions ≡ a.positions
-still_positions a b e = ap (λ (f : Frame). f.positions) e
-
 pub still_refused : (a b : Sides) → IsStill a b → b.has_refused ≡ a.has_refused
 still_refused a b e = ap (λ (f : Frame). f.has_refused) e
 
@@ -44,13 +39,6 @@ still_limit a b e = ap (λ (f : Frame). f.max_len) e
 
 pub still_direction : (a b : Sides) → IsStill a b → b.direction ≡ a.direction
 still_direction a b e = ap (λ (f : Frame). f.direction) e
-
-pub still_told : (a b : Sides) → IsStill a b → told_of b.scratch_flags ≡ told_of a.scratch_flags
-still_told a b e = ap (λ (f : Frame). f.told) e
-
--- that there are glyph flags is not in the frame
-pub telling_still : (any : Bool) (s : Sides) → record (frame_of s) { told = told_of (telling_flags any s.scratch_flags) } ≡ frame_of s
-telling_still any s = ap (λ (t : ℕ). record (frame_of s) { told = t }) (told_telling any s.scratch_flags)
 
 -- events one after another
 pub then_happened : (es fs : List Event) (a b c : Sides) → settings_of b ≡ settings_of a → Happened es a b → Happened fs b c → Happened (es ++ fs) a c

@@ -7,7 +7,7 @@ use Rattle.glyph_buffer.specs.Sides.{Sides, items_of}
 use Rattle.layout_rules.specs.Actions.{Cut, Outcome, Passes, Acts, Refuses, Action, later, first_rule}
 use Rattle.layout_rules.specs.Buffers.{cut_of, are_glyphs, IsStill, IsPassed, IsActed}
 use Rattle.layout_rules.specs.Performing.{cut_with, IsMade, Performed, Performs}
-use Rattle.layout_rules.specs.Lemmas.Frames.{still_open, still_positions, still_settings, then_happened, same_lengths, same_numbers}
+use Rattle.layout_rules.specs.Lemmas.Frames.{still_open, still_refused, still_settings, then_happened, same_lengths, same_numbers}
 use Rattle.layout_rules.specs.Lemmas.Does.{passed_same, then_passed}
 
 -- a cut, and the same with a random state
@@ -16,14 +16,15 @@ same_with r a b e = ap (λ (c : Cut). record c { random = r }) e
 
 -- what was made with the state that a cut of the buffer has, whatever it is
 pub made_of_acted : (cut : Cut) (es : List Event) (r : ℕ) (old new : Sides) → IsActed cut es old new → IsMade (record cut { random = r }) es r old new
-made_of_acted cut es r old new a = record {
-  cut_is = ap (λ (c : Cut). record c { random = r }) a.cut_is;
-  happened = a.happened;
-  still = a.still;
-  forth = a.counts.forth;
-  total = a.counts.total;
-  numbers = a.numbers;
-}
+made_of_acted cut es r old new a =
+    let counts = a.counts in record {
+      cut_is = ap (λ (c : Cut). record c { random = r }) a.cut_is;
+      happened = a.happened;
+      still = a.still;
+      fewer = omega (arith, counts.forth, counts.total);
+      kept = counts.kept;
+      numbers = a.numbers;
+    }
 
 -- nothing was done by a rule that passes without events
 pub passes_nothing : (r : ℕ) (s : Sides) (o : Outcome) → o ≡ Passes [] → Performed o false r r s s
@@ -32,15 +33,14 @@ passes_nothing r s o e = let P : Outcome → Type 0 = λ p. Performed p false r 
 then_made : (es fs : List Event) (cut : Cut) (r : ℕ) (a b c : Sides) → IsPassed es a b → IsMade cut fs r b c → IsMade cut (es ++ fs) r a c
 then_made es fs cut r a b c f g =
     let long = same_lengths a b f.cut_is in
-    let read = f.read in
-    let forth = g.forth in
-    let total = g.total in
+    let fewer = g.fewer in
+    let kept = g.kept in
     record {
       cut_is = g.cut_is;
       happened = then_happened es fs a b c (still_settings a b f.still) f.happened g.happened;
       still = g.still ∙ f.still;
-      forth = omega (arith, read, forth);
-      total = omega (arith, read, long.1, total);
+      fewer = omega (arith, long.1, fewer);
+      kept = omega (arith, long.0, kept);
       numbers = λ h. g.numbers (ap are_glyphs (same_numbers a b f.cut_is) ∙ h);
     }
 
@@ -69,8 +69,8 @@ passed_first act all r s = record { cut_is = refl; still = refl; behind = refl; 
 pub passed_open : {R : Type 0} (act : R → Action) (all left : List R) (r : ℕ) (start now : Sides) → ArePassed act all left r start now → start.is_open ≡ true → now.is_open ≡ true
 passed_open act all left r start now t e = still_open start now t.still ∙ e
 
-pub passed_positions : {R : Type 0} (act : R → Action) (all left : List R) (r : ℕ) (start now : Sides) → ArePassed act all left r start now → start.positions ≡ [] → now.positions ≡ []
-passed_positions act all left r start now t e = still_positions start now t.still ∙ e
+pub passed_unrefused : {R : Type 0} (act : R → Action) (all left : List R) (r : ℕ) (start now : Sides) → ArePassed act all left r start now → start.has_refused ≡ false → now.has_refused ≡ false
+passed_unrefused act all left r start now t e = still_refused start now t.still ∙ e
 
 pub passed_numbers : {R : Type 0} (act : R → Action) (all left : List R) (r : ℕ) (start now : Sides) → ArePassed act all left r start now → are_glyphs (items_of start) ≡ true → are_glyphs (items_of now) ≡ true
 passed_numbers act all left r start now t e = ap are_glyphs (same_numbers start now t.cut_is) ∙ e

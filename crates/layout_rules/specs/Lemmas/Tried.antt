@@ -4,7 +4,7 @@ use Rattle.std.proofs.lemmas.List.{drop_more, drop_all}
 use Rattle.glyph_buffer.specs.Sides.{Sides, items_of}
 use Rattle.layout_rules.specs.Actions.{Outcome, Passes, Acts, Refuses, Action, later, first_rule}
 use Rattle.layout_rules.specs.Buffers.{cut_of, are_glyphs, IsStill, Does}
-use Rattle.layout_rules.specs.Lemmas.Frames.{still_open, still_positions, still_limit, same_lengths, same_numbers}
+use Rattle.layout_rules.specs.Lemmas.Frames.{still_open, still_limit, same_lengths, same_numbers}
 use Rattle.layout_rules.specs.Lemmas.Does.{does_nothing, does_later}
 
 -- some rules passed; whatever the others do from here, all do from the start
@@ -20,9 +20,6 @@ tried_first act all s = record { cut_is = refl; still = refl; behind = refl; ahe
 
 pub tried_open : {R : Type 0} (act : R → Action) (all left : List R) (start now : Sides) → IsTried act all left start now → start.is_open ≡ true → now.is_open ≡ true
 tried_open act all left start now t e = still_open start now t.still ∙ e
-
-pub tried_positions : {R : Type 0} (act : R → Action) (all left : List R) (start now : Sides) → IsTried act all left start now → start.positions ≡ [] → now.positions ≡ []
-tried_positions act all left start now t e = still_positions start now t.still ∙ e
 
 pub tried_limit : {R : Type 0} (act : R → Action) (all left : List R) (start now : Sides) → IsTried act all left start now → length start.behind < start.max_len → length now.behind < now.max_len
 tried_limit act all left start now t lt = let limit = still_limit start now t.still in omega (arith, t.behind, limit, lt)

@@ -1,7 +1,7 @@
 use Rattle.std.proofs.Common.{◌≡◌, ◌≤◌, ◌<◌, true, Some, length, slice_get, ap, sym, ◌∙◌, arith}
 use Rattle.layout_rules.specs.Actions.{Cut, whole}
 use Rattle.layout_rules.specs.Buffers.{cut_of}
-use Rattle.layout_rules.specs.Lemmas.Frames.{still_open, still_refused}
+use Rattle.layout_rules.specs.Lemmas.Frames.{still_refused}
 use Rattle.layout_chain.specs.Nested.{has_budget}
 use Rattle.layout_chain.proofs.Begun.{begun, beyond, no_way, unpaid}
 use Rattle.layout_chain.proofs.records.begin_record.Goals as goal
@@ -20,9 +20,6 @@ returns-then-not-spend c =
     let ps = c.args.places.now.items in
     let at : Some c.in-Some.place ≡ slice_get ps c.args.lookup_record.now.sequence_index = sym c.in-Some.is ∙ c.place_at.ensures ∙ ap (slice_get ps) c.from.ensures in
     unpaid c.args.lookup_record.now ps c.in-Some.place s c.spend.new.buffer at (sym c.spend.ensures.left ∙ c.if-not-spend.true) (c.spend.ensures.none c.if-not-spend.true)
-
-pub go_to-requires-clause-open : goal.go_to-requires-clause-open
-go_to-requires-clause-open c = still_open c.args.buffer.now c.spend.new.buffer (c.spend.ensures.taken c.if-not-spend.false 1).still ∙ c.requires.open
 
 pub go_to-requires-clause-kept : goal.go_to-requires-clause-kept
 go_to-requires-clause-kept c = still_refused c.args.buffer.now c.spend.new.buffer (c.spend.ensures.taken c.if-not-spend.false 1).still ∙ c.requires.kept

@@ -1,15 +1,20 @@
-use Rattle.std.proofs.Common.{[], Ok, ap, refl, sym, subst, ◌∙◌}
+use Rattle.std.proofs.Common.{[], Ok, ap, sym, subst, ◌∙◌}
 use Rattle.glyph_lists.specs.Items.{strip}
 use Rattle.glyph_buffer.specs.Sides.{Sides, items_of}
 use Rattle.normal_forms.specs.Expanding.{expanded_list}
 use Rattle.normal_rounds.specs.Brought.{Brought}
-use Rattle.shape_normalize.specs.Rounds.{expansion_round}
-use Rattle.shape_normalize.proofs.Joined.{list_followed}
+use Rattle.shape_normalize.proofs.Joined.{list_arranged, list_fits}
 use Rattle.shape_normalize.proofs.rounds.expand_characters.Goals as goal
 
 pub returns-clause-ok : goal.returns-clause-ok
 returns-clause-ok g c =
     let there = c.in_ok-sync.was ∙ ap Ok c.if-not-branch.false in
-    list_followed (expansion_round (g.N.Normalizing.normalizer c.args.by.now)) (expanded_list (g.N.Normalizing.normalizer c.args.by.now) (items_of c.args.buffer.now)) c.args.buffer.now c.expand_list.new.buffer c.sync.new.self refl c.requires.ready
+    list_arranged (expanded_list (g.N.Normalizing.normalizer c.args.by.now) (items_of c.args.buffer.now)) c.args.buffer.now c.expand_list.new.buffer c.sync.new.self c.requires.ready
     (subst (λ (s : Sides). Brought (expanded_list (g.N.Normalizing.normalizer c.args.by.now) (strip s.ahead)) [] s c.expand_list.new.buffer) c.clear_output.ensures.after c.in_ok-expand_list.ensures.ok)
-    (sym c.in_ok-sync.ensures.held ∙ c.if-not-branch.false) (c.sync.ensures.joined there)
+    (c.sync.ensures.joined there)
+
+pub returns-clause-fits : goal.returns-clause-fits
+returns-clause-fits g c =
+    list_fits (expanded_list (g.N.Normalizing.normalizer c.args.by.now) (items_of c.args.buffer.now)) c.args.buffer.now c.expand_list.new.buffer
+    (subst (λ (s : Sides). Brought (expanded_list (g.N.Normalizing.normalizer c.args.by.now) (strip s.ahead)) [] s c.expand_list.new.buffer) c.clear_output.ensures.after c.in_ok-expand_list.ensures.ok)
+    (sym c.in_ok-sync.ensures.held ∙ c.if-not-branch.false)

@@ -9,22 +9,21 @@ use Rattle.glyph_buffer.specs.Sides.{Sides, all_glyphs, origins_of, origins_by}
 use Rattle.glyph_buffer.specs.Marking.{asks_concat, concat_marked_across, marked_across, end_in_all, with_flagged, with_marked}
 use Rattle.layout_rules.specs.Buffers.{IsPassed}
 use Rattle.layout_rules.specs.Lemmas.Attempts.{cut_with_glyphs}
-use Rattle.layout_rules.specs.Lemmas.Frames.{telling_still}
 
 flagged_passed : (from to : ℕ) (s : Sides) (b : Bool) → from ≤ to → origins_of (if b then with_flagged 2 from to s else s) ≡ origins_by (Concat from to ∷ []) s → IsPassed (Concat from to ∷ []) s (if b then with_flagged 2 from to s else s)
 flagged_passed from to s true le happened = record {
-  cut_is = cut_with_glyphs (glyphs_flagged 2 from to (all_glyphs s)) s (strip_flagged 2 from to (all_glyphs s) (omega arith) le);
+  cut_is = cut_with_glyphs (nat_lt from to) (glyphs_flagged 2 from to (all_glyphs s)) s (strip_flagged 2 from to (all_glyphs s) (omega arith) le);
   happened = happened;
-  still = telling_still (nat_lt from to) s;
+  still = refl;
   read = refl;
 }
 flagged_passed from to s false le happened = record { cut_is = refl; happened = happened; still = refl; read = refl }
 
 marked_passed : (from to : ℕ) (s : Sides) → from ≤ to → origins_of (with_marked 3 from to s) ≡ origins_by (Break from to ∷ []) s → IsPassed (Break from to ∷ []) s (with_marked 3 from to s)
 marked_passed from to s le happened = record {
-  cut_is = cut_with_glyphs (glyphs_marked 3 from to (all_glyphs s)) s (strip_marked 3 from to (all_glyphs s) (omega arith) le);
+  cut_is = cut_with_glyphs (tells_apart (stretch from to (clusters (all_glyphs s)))) (glyphs_marked 3 from to (all_glyphs s)) s (strip_marked 3 from to (all_glyphs s) (omega arith) le);
   happened = happened;
-  still = telling_still (tells_apart (stretch from to (clusters (all_glyphs s)))) s;
+  still = refl;
   read = refl;
 }
 

@@ -1,0 +1,3 @@
+pub mod Placed
+pub mod Read
+pub mod Paired

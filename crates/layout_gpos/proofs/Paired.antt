@@ -1,0 +1,98 @@
+-- Pairs adjusted at the cursor.
+use Rattle.std.proofs.Common.{ℕ, ◌≡◌, ◌<◌, ◌≤◌, ◌+◌, ◌-◌, ◌&&◌, Bool, true, false, if◌then◌else◌, List, [], ◌∷◌, ◌++◌, Option, Some, None, Result, Ok, Err, length, arith, refl, sym, ap, subst, ◌∙◌, slice_get}
+use Rattle.std.specs.Prelude.{option_and_then}
+use Rattle.std.proofs.lemmas.List.{append-nil}
+use Rattle.shaping_text.specs.declared.direction.Direction.{Direction}
+use Rattle.glyph_types.specs.declared.info.hb_glyph_info_t.{hb_glyph_info_t}
+use Rattle.glyph_lists.specs.Items.{Item, Position, item_of, strip}
+use Rattle.glyph_lists.specs.Events.{Event, Break, Concat}
+use Rattle.glyph_buffer.specs.Sides.{Sides, moved_on}
+use Rattle.layout_match.specs.Applied.{Applied}
+use Rattle.layout_positions.specs.declared.value.ValueRecord.{ValueRecord}
+use Rattle.layout_positions.specs.declared.pair.PairValues.{PairValues}
+use Rattle.layout_positions.specs.declared.pair.PairPos.{PairPos}
+use Rattle.layout_rules.specs.Actions.{Cut, Outcome, Acts, Passes, at_first, attempt_around}
+use Rattle.layout_rules.specs.Buffers.{IsPassed, cut_of, Frame}
+use Rattle.layout_rules.specs.Performing.{IsMade, Performed, cut_with}
+use Rattle.layout_rules.specs.Lemmas.Glyphs.{first_item}
+use Rattle.layout_rules.specs.Lemmas.Performed.{passes_nothing, same_with, performs_later}
+use Rattle.layout_rules.specs.Lemmas.Does.{passed_same}
+use Rattle.layout_gpos.specs.Moving.{break_around, placed_past}
+use Rattle.layout_gpos.specs.Values.{is_zero}
+use Rattle.layout_gpos.specs.Pairs.{begins_pair, has_no_effect, next_item, pair_adjusted, pair_events, pair_from, pair_length, pair_of, pair_second, pair_subtable, pair_values}
+use Rattle.layout_gpos.proofs.Placed.{break_passed, front_count, placed_made}
+use Rattle.layout_gpos.proofs.Read.{item_at}
+
+-- ---- an attempt that failed
+
+pub attempt_performed : (back ahead r : ℕ) (s new : Sides) → IsPassed (Concat (length s.behind - back) (length s.behind + ahead) ∷ []) s new → Performed (attempt_around back ahead (cut_with r s)) false r r s new
+attempt_performed back ahead r s new p =
+    let P : ℕ → Type 0 = λ k. IsPassed (Concat (k - back) (k + ahead) ∷ []) s new in
+    (refl, refl, subst P (front_count r s) p)
+
+-- ---- rules that act behind a mark: the marks come first
+
+pub marked_made : (es : List Event) (n r : ℕ) (ps : Cut → List Position) (s mid new : Sides) → IsPassed es s mid → 0 < n → n ≤ length mid.ahead
+    → new ≡ moved_on n (record mid { positions = ps (cut_with r mid) }) → IsMade (placed_past n (ps (cut_with r s)) (cut_with r s)) es r s new
+marked_made es n r ps s mid new p some le e =
+    let Q : Sides → Type 0 = λ t. IsMade (placed_past n (ps (cut_with r mid)) (cut_with r mid)) [] r mid t in
+    let made = subst Q (sym e) (placed_made n r mid.scratch_flags (ps (cut_with r mid)) mid some le) in
+    let all = (performs_later es (Acts (placed_past n (ps (cut_with r mid)) (cut_with r mid)) []) (Ok true) r r s mid new p (refl, made)).1 in
+    let R : Cut → Type 0 = λ c. IsMade (placed_past n (ps c) c) (es ++ []) r s new in
+    let at_start = subst R (same_with r s mid p.cut_is) all in
+    subst (λ (fs : List Event). IsMade (placed_past n (ps (cut_with r s)) (cut_with r s)) fs r s new) (append-nil es) at_start
+
+-- ---- a pair
+
+pub pair_marked : (v : PairValues) (apart : ℕ) (s new : Sides) → (is_zero v.first && has_no_effect v.second) ≡ false → IsPassed (Break (length s.behind - 0) (length s.behind + (apart + 1)) ∷ []) s new → IsPassed (pair_events v apart (cut_of s)) s new
+pair_marked v apart s new e p = subst (λ (b : Bool). IsPassed (if b then [] else break_around 0 (apart + 1) (cut_of s)) s new) (sym e) (break_passed 0 (apart + 1) s new p)
+
+pub pair_unmarked : (v : PairValues) (apart : ℕ) (s : Sides) → (is_zero v.first && has_no_effect v.second) ≡ true → IsPassed (pair_events v apart (cut_of s)) s s
+pair_unmarked v apart s e = subst (λ (b : Bool). IsPassed (if b then [] else break_around 0 (apart + 1) (cut_of s)) s s) (sym e) (passed_same s)
+
+pair_long : (apart : ℕ) (o : Option ValueRecord) (count : ℕ) → 0 < apart → apart < count → (0 < pair_length apart o) × (pair_length apart o ≤ count)
+pair_long apart None count some lt = (some, omega (arith, lt))
+pair_long apart (Some v) count some lt = (omega arith, omega (arith, lt))
+
+pub pair_acted : (r apart i : ℕ) (v : PairValues) (s mid new : Sides) → IsPassed (pair_events v apart (cut_of s)) s mid → 0 < apart → apart < length mid.ahead → i ≡ length mid.behind
+    → new ≡ moved_on (pair_length apart v.second) (record mid { positions = pair_adjusted mid.direction i (i + apart) v mid.positions }) → Performed (pair_of s.direction apart (Some v) (cut_with r s)) true r r s new
+pair_acted r apart i v s mid new p some lt here e =
+    let long = pair_long apart v.second (length mid.ahead) some lt in
+    let ps : Cut → List Position = λ c. pair_adjusted s.direction (length c.front) (length c.front + apart) v c.positions in
+    let way : mid.direction ≡ s.direction = ap (λ (f : Frame). f.direction) p.still in
+    let at : i ≡ length (cut_with r mid).front = here ∙ front_count r mid in
+    let there : new ≡ moved_on (pair_length apart v.second) (record mid { positions = ps (cut_with r mid) }) =
+    e ∙ ap (λ (d : Direction). moved_on (pair_length apart v.second) (record mid { positions = pair_adjusted d i (i + apart) v mid.positions })) way
+    ∙ ap (λ (k : ℕ). moved_on (pair_length apart v.second) (record mid { positions = pair_adjusted s.direction k (k + apart) v mid.positions })) at in
+    (refl, marked_made (pair_events v apart (cut_of s)) (pair_length apart v.second) r ps s mid new p long.0 long.1 there)
+
+-- ---- the second glyph
+
+pub second_found : (r apart : ℕ) (d : Direction) (values : Item → Option PairValues) (o : Option PairValues) (found : Result ℕ ℕ) (acted : Bool) (s new : Sides) (g : hb_glyph_info_t) → slice_get s.ahead apart ≡ Some g → o ≡ values (item_of g) → found ≡ Ok apart
+    → Performed (pair_of d apart o (cut_with r s)) acted r r s new → Performed (pair_second d values found (cut_with r s)) acted r r s new
+second_found r apart d values o found acted s new g at is e done =
+    let same : pair_second d values found (cut_with r s) ≡ pair_of d apart o (cut_with r s) =
+    ap (λ f. pair_second d values f (cut_with r s)) e ∙ ap (λ q. pair_of d apart (option_and_then values q) (cut_with r s)) (item_at s.ahead apart g at) ∙ ap (λ q. pair_of d apart q (cut_with r s)) (sym is) in
+    subst (λ (o : Outcome). Performed o acted r r s new) (sym same) done
+
+pub second_failed : (r end : ℕ) (d : Direction) (values : Item → Option PairValues) (found : Result ℕ ℕ) (s new : Sides) → found ≡ Err end
+    → Performed (attempt_around 0 end (cut_with r s)) false r r s new → Performed (pair_second d values found (cut_with r s)) false r r s new
+second_failed r end d values found s new e done = subst (λ (f : Result ℕ ℕ). Performed (pair_second d values f (cut_with r s)) false r r s new) (sym e) done
+
+-- ---- the subtable
+
+subtable_is : (r n : ℕ) (d : Direction) (a : Applied) (t : PairPos) (s : Sides) (g : hb_glyph_info_t) → slice_get s.ahead 0 ≡ Some g → n ≡ g.glyph_id
+    → pair_subtable d a t (cut_with r s) ≡ (if begins_pair t n then pair_second d (λ y. pair_values t n y.number) (next_item a (strip s.ahead)) (cut_with r s) else Passes [])
+subtable_is r n d a t s g at is = ap (λ q. at_first (pair_from d a t) q (cut_with r s)) (first_item s.ahead g at)
+    ∙ ap (λ (m : ℕ). if begins_pair t m then pair_second d (λ y. pair_values t m y.number) (next_item a (strip s.ahead)) (cut_with r s) else Passes []) (sym is)
+
+pub pair_begun : (r n : ℕ) (d : Direction) (a : Applied) (t : PairPos) (acted : Bool) (s new : Sides) (g : hb_glyph_info_t) → slice_get s.ahead 0 ≡ Some g → n ≡ g.glyph_id → begins_pair t n ≡ true
+    → Performed (pair_second d (λ y. pair_values t n y.number) (next_item a (strip s.ahead)) (cut_with r s)) acted r r s new → Performed (pair_subtable d a t (cut_with r s)) acted r r s new
+pair_begun r n d a t acted s new g at is e done =
+    let same = subtable_is r n d a t s g at is ∙ ap (λ (b : Bool). if b then pair_second d (λ y. pair_values t n y.number) (next_item a (strip s.ahead)) (cut_with r s) else Passes []) e in
+    subst (λ (o : Outcome). Performed o acted r r s new) (sym same) done
+
+pub pair_not_begun : (r n : ℕ) (d : Direction) (a : Applied) (t : PairPos) (s : Sides) (g : hb_glyph_info_t) → slice_get s.ahead 0 ≡ Some g → n ≡ g.glyph_id → begins_pair t n ≡ false
+    → Performed (pair_subtable d a t (cut_with r s)) false r r s s
+pair_not_begun r n d a t s g at is e =
+    passes_nothing r s (pair_subtable d a t (cut_with r s)) (subtable_is r n d a t s g at is ∙ ap (λ (b : Bool). if b then pair_second d (λ y. pair_values t n y.number) (next_item a (strip s.ahead)) (cut_with r s) else Passes []) e)

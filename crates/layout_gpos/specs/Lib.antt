@@ -1,0 +1,4 @@
+pub mod Values
+pub mod Moving
+pub mod Singles
+pub mod Pairs

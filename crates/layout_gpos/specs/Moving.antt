@@ -1,0 +1,13 @@
+-- What rules of positioning do to a cut, beside the positions that they change.
+use Rattle.std.specs.Prelude.{ℕ, ◌+◌, ◌-◌, List, [], ◌∷◌, ◌++◌, length, take, drop}
+use Rattle.glyph_lists.specs.Items.{Position}
+use Rattle.glyph_lists.specs.Events.{Event, Break}
+use Rattle.layout_rules.specs.Actions.{Cut}
+
+-- so many items more are done, and the positions are these
+abbrev pub placed_past : ℕ → List Position → Cut → Cut
+placed_past n ps c = record c { front = c.front ++ take n c.rest; rest = drop n c.rest; positions = ps }
+
+-- from so many items before the cut to so many from there on, a break is unsafe
+abbrev pub break_around : ℕ → ℕ → Cut → List Event
+break_around back ahead c = Break (length c.front - back) (length c.front + ahead) ∷ []

@@ -1,0 +1,71 @@
+-- Pair adjustment (OpenType, GPOS lookup type 2).
+use Rattle.std.specs.Prelude.{ℕ, ◌+◌, ◌==◌, ◌&&◌, Bool, true, not, if◌then◌else◌, List, [], length, Option, Some, None, Result, Ok, Err, slice_get, option_and_then}
+use Rattle.std.specs.List.{list_any}
+use Rattle.shaping_text.specs.declared.direction.Direction.{Direction}
+use Rattle.glyph_lists.specs.Items.{Item, Position}
+use Rattle.glyph_lists.specs.Events.{Event}
+use Rattle.glyph_lists.specs.Parts.{first_of}
+use Rattle.layout_common.specs.Coverage.{is_covered}
+use Rattle.layout_positions.specs.Pairs.{glyph_pair_values, class_pair_values}
+use Rattle.layout_positions.specs.declared.value.ValueRecord.{ValueRecord}
+use Rattle.layout_positions.specs.declared.pair.PairValues.{PairValues}
+use Rattle.layout_positions.specs.declared.pair.PairPos.{PairPos}
+use Rattle.layout_positions.specs.declared.pair.PairPos.TheVariants.{Glyphs, Classes}
+use Rattle.layout_match.specs.Applied.{Applied, own_search}
+use Rattle.layout_match.specs.Searches.{answer, is_skippable}
+use Rattle.layout_match.specs.Matches.{nearest_from}
+use Rattle.layout_rules.specs.Actions.{Cut, Action, Passes, Acts, at_first, attempt_around}
+use Rattle.layout_gpos.specs.Values.{adjusted_at, is_zero}
+use Rattle.layout_gpos.specs.Moving.{placed_past, break_around}
+
+-- the second glyph is adjusted where it has a record
+abbrev pub second_adjusted : Direction → ℕ → Option ValueRecord → List Position → List Position
+second_adjusted d i None ps = ps
+second_adjusted d i (Some v) ps = adjusted_at d i v ps
+
+-- two glyphs adjusted
+abbrev pub pair_adjusted : Direction → ℕ → ℕ → PairValues → List Position → List Position
+pair_adjusted d first second v ps = second_adjusted d second v.second (adjusted_at d first v.first ps)
+
+-- behind a second glyph with a record the text goes on; without one that glyph may begin the next pair
+abbrev pub pair_length : ℕ → Option ValueRecord → ℕ
+pair_length apart None = apart
+pair_length apart (Some v) = apart + 1
+
+abbrev pub has_no_effect : Option ValueRecord → Bool
+has_no_effect None = true
+has_no_effect (Some v) = is_zero v
+
+-- a pair with a record that isn't zero is unsafe to break
+abbrev pub pair_events : PairValues → ℕ → Cut → List Event
+pair_events v apart c = if is_zero v.first && has_no_effect v.second then [] else break_around 0 (apart + 1) c
+
+-- the item so many behind the cut is the second: where the two are no pair, all from the first to it is unsafe to concat
+abbrev pub pair_of : Direction → ℕ → Option PairValues → Action
+pair_of d apart None c = attempt_around 0 (apart + 1) c
+pair_of d apart (Some v) c = Acts (placed_past (pair_length apart v.second) (pair_adjusted d (length c.front) (length c.front + apart) v c.positions) c) (pair_events v apart c)
+
+-- the second is the nearest behind the first that the lookup does not pass over
+abbrev pub pair_second : Direction → (Item → Option PairValues) → Result ℕ ℕ → Action
+pair_second d values (Err end) c = attempt_around 0 end c
+pair_second d values (Ok apart) c = pair_of d apart (option_and_then values (slice_get c.rest apart)) c
+
+-- the nearest item behind the first
+abbrev pub next_item : Applied → List Item → Result ℕ ℕ
+next_item a rest = nearest_from (answer (own_search a rest) (λ x. not (is_skippable (own_search a rest) x))) 1 rest
+
+-- the adjustments of two glyphs
+abbrev pub pair_values : PairPos → ℕ → ℕ → Option PairValues
+pair_values (Glyphs p) first second = glyph_pair_values first second p.rows
+pair_values (Classes p) first second = class_pair_values first second p
+
+-- whether a glyph begins pairs
+abbrev pub begins_pair : PairPos → ℕ → Bool
+begins_pair (Glyphs p) first = list_any (λ r. r.first == first) p.rows
+begins_pair (Classes p) first = is_covered first p.coverage
+
+abbrev pub pair_from : Direction → Applied → PairPos → Item → Action
+pair_from d a s x c = if begins_pair s x.number then pair_second d (λ y. pair_values s x.number y.number) (next_item a c.rest) c else Passes []
+
+abbrev pub pair_subtable : Direction → Applied → PairPos → Action
+pair_subtable d a s c = at_first (pair_from d a s) (first_of c.rest) c

@@ -1,0 +1,18 @@
+-- Single adjustment (OpenType, GPOS lookup type 1).
+use Rattle.std.specs.Prelude.{List, [], length, Option, Some, None}
+use Rattle.shaping_text.specs.declared.direction.Direction.{Direction}
+use Rattle.glyph_lists.specs.Parts.{first_of}
+use Rattle.layout_common.specs.Rows.{value_of}
+use Rattle.layout_common.specs.declared.glyph_row.GlyphRow.{GlyphRow}
+use Rattle.layout_positions.specs.declared.value.ValueRecord.{ValueRecord}
+use Rattle.layout_rules.specs.Actions.{Action, Passes, Acts, at_first}
+use Rattle.layout_gpos.specs.Values.{adjusted_at}
+use Rattle.layout_gpos.specs.Moving.{placed_past}
+
+-- a covered item is adjusted
+abbrev pub single_adjusted : Direction → Option ValueRecord → Action
+single_adjusted d None c = Passes []
+single_adjusted d (Some v) c = Acts (placed_past 1 (adjusted_at d (length c.front) v c.positions) c) []
+
+abbrev pub single_subtable : Direction → List (GlyphRow ValueRecord) → Action
+single_subtable d rows c = at_first (λ x. single_adjusted d (value_of x.number rows)) (first_of c.rest) c

@@ -1,0 +1,29 @@
+-- Value records (OpenType, GPOS): how a position is adjusted.
+use Rattle.std.specs.Prelude.{ℕ, ℤ, ◌==◌, ◌&&◌, nat_abs, Bool, true, false, List, set}
+use Rattle.glyph_lists.specs.Items.{Position}
+use Rattle.shaping_text.specs.declared.direction.Direction.{Direction}
+use Rattle.shaping_text.specs.Direction.{is_horizontal}
+use Rattle.layout_positions.specs.declared.value.ValueRecord.{ValueRecord}
+use Rattle.layout_links.specs.Links.{plus, minus, position_at}
+
+-- an advance along the line grows; downward it grows by what is taken from it
+abbrev pub advanced : Bool → ValueRecord → Position → Position
+advanced true v p = record p { x_advance = plus p.x_advance v.x_advance }
+advanced false v p = record p { y_advance = minus p.y_advance v.y_advance }
+
+abbrev pub moved : ValueRecord → Position → Position
+moved v p = record p { x_offset = plus p.x_offset v.x_placement; y_offset = plus p.y_offset v.y_placement }
+
+-- a position adjusted: placements always act, an advance along the line alone
+abbrev pub adjusted : Direction → ValueRecord → Position → Position
+adjusted d v p = advanced (is_horizontal d) v (moved v p)
+
+abbrev pub adjusted_at : Direction → ℕ → ValueRecord → List Position → List Position
+adjusted_at d i v ps = set ps i (adjusted d v (position_at i ps))
+
+abbrev pub is_none : ℤ → Bool
+is_none a = nat_abs a == 0
+
+-- a record of zeros
+abbrev pub is_zero : ValueRecord → Bool
+is_zero v = is_none v.x_placement && is_none v.y_placement && is_none v.x_advance && is_none v.y_advance

@@ -1,0 +1,26 @@
+//! What all subtables of positioning do.
+ghost use Rattle.std.specs.Prelude.{ℕ, ◌≡◌, ◌<◌, Ok, true, false, [], length};
+ghost use Rattle.glyph_buffer.specs.Sides.{all_glyphs, items_of};
+ghost use Rattle.layout_match.specs.Applied.{Applied, applied_of};
+ghost use Rattle.layout_rules.specs.Actions.{Action};
+ghost use Rattle.layout_rules.specs.Buffers.{are_glyphs};
+ghost use Rattle.layout_rules.specs.Performing.{Performed, cut_with};
+ghost use Rattle.shaping_text.specs.declared.direction.Direction.{Direction};
+
+use glyph_buffer::buffer::hb_buffer_t;
+use layout_match::hb_ot_apply_context_t;
+
+/// A subtable of a positioning lookup, applied at the cursor of a buffer without an output.
+pub trait Apply {
+    ghost action: { Self → Direction → Applied → Action };
+
+    /// Does what the subtable does at the glyph at the cursor, and tells whether it acted. It changes positions and glyph
+    /// flags alone, and where it acted the cursor goes on; where it didn't, it changed glyph flags alone. It takes no memory.
+    fn apply(&self, ctx: &hb_ot_apply_context_t, buffer: &mut hb_buffer_t) -> bool
+        requires closed { buffer.old.is_open ≡ false }
+        requires there { 0 < length buffer.old.ahead }
+        requires placed { length buffer.old.positions ≡ length (all_glyphs buffer.old) }
+        requires number { are_glyphs (items_of buffer.old) ≡ true }
+        ensures { (random : ℕ) → Performed (action self.now buffer.old.direction (applied_of ctx.now) (cut_with random
+            buffer.old)) result random random buffer.old buffer.new };
+}

@@ -1,0 +1,167 @@
+//! Pair adjustment.
+ghost use Rattle.std.specs.Prelude.{ℕ, ◌≡◌, ◌<◌, ◌≤◌, ◌+◌, ◌==◌, ◌&&◌, IfErr, IfOk, false, true, length, option_and_then, slice_get};
+ghost use Rattle.std.specs.List.{list_any};
+ghost use Rattle.glyph_buffer.specs.Sides.{all_glyphs, items_of};
+ghost use Rattle.glyph_lists.specs.Items.{strip};
+ghost use Rattle.layout_match.specs.Applied.{applied_of};
+ghost use Rattle.layout_rules.specs.Buffers.{IsPassed, are_glyphs, cut_of};
+ghost use Rattle.layout_rules.specs.Performing.{Performed, cut_with};
+ghost use Rattle.layout_gpos.specs.Values.{is_zero};
+ghost use Rattle.layout_gpos.specs.Pairs.{begins_pair, has_no_effect, next_item, pair_adjusted, pair_events, pair_length, pair_of, pair_second, pair_subtable, pair_values};
+
+use crate::apply::Apply;
+use crate::marking::{mark_attempt, mark_match};
+use crate::placing::{adjust_glyph, pass};
+use crate::value::is_zero;
+use glyph_buffer::buffer::hb_buffer_t;
+use layout_match::{hb_ot_apply_context_t, skipping_iterator_t};
+use layout_positions::pair::{PairPos, PairRow, PairValues};
+use layout_positions::value::ValueRecord;
+
+fn has_first(rows: &[PairRow], first: u16) -> bool
+    ensures { result ≡ list_any (λ r. r.first == first) rows.now }
+{
+    rows.iter().any(|row| row.first == first)
+}
+
+fn begins_pair(subtable: &PairPos, first: u16) -> bool
+    ensures { result ≡ begins_pair subtable.now first }
+{
+    match subtable {
+        PairPos::Glyphs(pairs) => has_first(pairs.rows.as_slice(), first),
+        PairPos::Classes(pairs) => pairs.coverage.contains(first),
+    }
+}
+
+fn pair_values(subtable: &PairPos, first: u16, second: u16) -> Option<PairValues>
+    ensures { result ≡ pair_values subtable.now first second }
+{
+    match subtable {
+        PairPos::Glyphs(pairs) => pairs.values(first, second),
+        PairPos::Classes(pairs) => pairs.values(first, second),
+    }
+}
+
+/// The nearest glyph behind the one at the cursor that the lookup doesn't pass over, from the cursor on; else how far the
+/// search read.
+#[tactic(auto, using(crate::proofs::Read::read_inside, crate::proofs::Read::found_ahead))]
+pub(crate) fn next_glyph(ctx: &hb_ot_apply_context_t, buffer: &hb_buffer_t) -> Result<usize, usize>
+    requires { 0 < length buffer.now.ahead }
+    ensures found { result ≡ next_item (applied_of ctx.now) (strip buffer.now.ahead) }
+    ensures inside { IfOk result (λ at. (0 < at) × (at < length buffer.now.ahead)) }
+    ensures read { IfErr result (λ end. end ≤ length buffer.now.ahead) }
+{
+    let mut iter = skipping_iterator_t::new(ctx, buffer, 1, false);
+    iter.next(buffer)
+}
+
+fn has_no_effect(value: Option<ValueRecord>) -> bool
+    ensures { result ≡ has_no_effect value }
+{
+    match value {
+        None => true,
+        Some(value) => is_zero(value),
+    }
+}
+
+fn pair_has_no_effect(values: PairValues) -> bool
+    ensures { result ≡ (is_zero values.first && has_no_effect values.second) }
+{
+    is_zero(values.first) && has_no_effect(values.second)
+}
+
+/// The length of a pair whose second glyph is so far behind the first: with its second glyph where that has a record.
+fn pair_length(apart: usize, value: Option<ValueRecord>) -> usize
+    requires { apart < 0xFFFF_FFFF_FFFF_FFFF }
+    ensures { result ≡ pair_length apart value }
+{
+    match value {
+        None => apart,
+        Some(_) => apart + 1,
+    }
+}
+
+/// Marks a pair as unsafe to break where it has a record that isn't zero.
+#[tactic(auto, using(crate::proofs::Paired::pair_marked, crate::proofs::Paired::pair_unmarked))]
+fn mark_pair(values: PairValues, apart: usize, buffer: &mut hb_buffer_t)
+    requires { apart < length buffer.old.ahead }
+    ensures { IsPassed (pair_events values apart (cut_of buffer.old)) buffer.old buffer.new }
+{
+    let _end = buffer.len();
+    if !pair_has_no_effect(values) {
+        mark_match(0, apart + 1, buffer);
+    }
+}
+
+/// Adjusts the glyph with an index, and one so far behind it where that has a record.
+fn adjust_pair(buffer: &mut hb_buffer_t, first: usize, apart: usize, values: PairValues)
+    requires closed { buffer.old.is_open ≡ false }
+    requires second { first + apart < length buffer.old.positions }
+    ensures { buffer.new ≡ record buffer.old { positions = pair_adjusted buffer.old.direction first (first + apart) values buffer.old.positions } }
+{
+    let _count = buffer.pos_slice().len();
+    adjust_glyph(buffer, first, values.first);
+    if let Some(value) = values.second {
+        adjust_glyph(buffer, first + apart, value);
+    }
+}
+
+/// Does to two glyphs what a pair's values say, where they are a pair.
+#[tactic(auto, using(crate::proofs::Paired::attempt_performed, crate::proofs::Paired::pair_acted))]
+fn apply_values(values: Option<PairValues>, apart: usize, buffer: &mut hb_buffer_t) -> bool
+    requires closed { buffer.old.is_open ≡ false }
+    requires some { 0 < apart }
+    requires there { apart < length buffer.old.ahead }
+    requires placed { length buffer.old.positions ≡ length (all_glyphs buffer.old) }
+    ensures { (random : ℕ) → Performed (pair_of buffer.old.direction apart values (cut_with random buffer.old)) result
+        random random buffer.old buffer.new }
+{
+    let _end = buffer.len();
+    let Some(values) = values else {
+        mark_attempt(0, apart + 1, buffer);
+        return false;
+    };
+    mark_pair(values, apart, buffer);
+    let first = buffer.out_len();
+    adjust_pair(buffer, first, apart, values);
+    pass(buffer, pair_length(apart, values.second));
+    true
+}
+
+impl Apply for PairPos {
+    ghost action = { λ s d a. pair_subtable d a s };
+
+    #[tactic(auto, using(layout_rules::specs::Lemmas::Glyphs::number_ahead, crate::proofs::Paired::pair_begun, crate::proofs::Paired::pair_not_begun))]
+    fn apply(&self, ctx: &hb_ot_apply_context_t, buffer: &mut hb_buffer_t) -> bool {
+        let first = buffer.cur(0).as_glyph().0;
+        begins_pair(self, first) && apply_from(self, first, ctx, buffer)
+    }
+}
+
+/// Pair adjustment (OpenType, GPOS lookup type 2) of the glyph at the cursor, which begins pairs, and the nearest behind it.
+#[tactic(auto, using(crate::proofs::Read::number_beyond, crate::proofs::Read::found_ahead, crate::proofs::Paired::attempt_performed, crate::proofs::Paired::second_found, crate::proofs::Paired::second_failed))]
+fn apply_from(
+    subtable: &PairPos,
+    first: u16,
+    ctx: &hb_ot_apply_context_t,
+    buffer: &mut hb_buffer_t,
+) -> bool
+    requires closed { buffer.old.is_open ≡ false }
+    requires there { 0 < length buffer.old.ahead }
+    requires placed { length buffer.old.positions ≡ length (all_glyphs buffer.old) }
+    requires number { are_glyphs (items_of buffer.old) ≡ true }
+    ensures { (random : ℕ) → Performed (pair_second buffer.old.direction
+        (λ y. pair_values subtable.now first y.number) (next_item (applied_of ctx.now) (strip buffer.old.ahead)) (cut_with
+        random buffer.old)) result random random buffer.old buffer.new }
+{
+    match next_glyph(ctx, buffer) {
+        Ok(apart) => {
+            let second = buffer.cur(apart).as_glyph().0;
+            apply_values(pair_values(subtable, first, second), apart, buffer)
+        }
+        Err(end) => {
+            mark_attempt(0, end, buffer);
+            false
+        }
+    }
+}

@@ -1,0 +1,28 @@
+//! Positions written at the cursor, and the cursor moved on.
+ghost use Rattle.std.specs.Prelude.{ℕ, ◌≡◌, ◌<◌, ◌≤◌, false, true, [], length};
+ghost use Rattle.glyph_buffer.specs.Sides.{moved_on};
+ghost use Rattle.layout_gpos.specs.Values.{adjusted_at};
+
+use crate::value::adjust;
+use glyph_buffer::buffer::hb_buffer_t;
+use layout_positions::value::ValueRecord;
+
+/// Adjusts the position of a glyph, by its index.
+#[tactic(auto, using(crate::proofs::Placed::adjusted_back))]
+pub(crate) fn adjust_glyph(buffer: &mut hb_buffer_t, at: usize, value: ValueRecord)
+    requires closed { buffer.old.is_open ≡ false }
+    requires here { at < length buffer.old.positions }
+    ensures { buffer.new ≡ record buffer.old { positions = adjusted_at buffer.old.direction at value buffer.old.positions } }
+{
+    let direction = buffer.direction();
+    adjust(buffer.pos_slice_mut(), at, value, direction);
+}
+
+/// The cursor goes on over glyphs; without an output that takes no memory and is never refused.
+pub(crate) fn pass(buffer: &mut hb_buffer_t, count: usize)
+    requires closed { buffer.old.is_open ≡ false }
+    requires there { count ≤ length buffer.old.ahead }
+    ensures { buffer.new ≡ moved_on count buffer.old }
+{
+    let _passed = buffer.next_glyphs(count);
+}

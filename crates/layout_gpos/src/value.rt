@@ -1,0 +1,58 @@
+//! Value records on a list of positions.
+ghost use Rattle.std.specs.Prelude.{◌≡◌, ◌<◌, length};
+ghost use Rattle.layout_gpos.specs.Values.{adjusted, adjusted_at, advanced, is_zero, moved};
+
+use glyph_types::position::GlyphPosition;
+use layout_links::sums::{minus, plus};
+use layout_positions::value::ValueRecord;
+use shaping_text::direction::Direction;
+
+fn moved(value: ValueRecord, position: GlyphPosition) -> GlyphPosition
+    ensures { result ≡ moved value position }
+{
+    GlyphPosition {
+        x_offset: plus(position.x_offset, i32::from(value.x_placement)),
+        y_offset: plus(position.y_offset, i32::from(value.y_placement)),
+        ..position
+    }
+}
+
+fn advanced(is_horizontal: bool, value: ValueRecord, position: GlyphPosition) -> GlyphPosition
+    ensures { result ≡ advanced is_horizontal value position }
+{
+    if is_horizontal {
+        let x_advance = plus(position.x_advance, i32::from(value.x_advance));
+        return GlyphPosition {
+            x_advance,
+            ..position
+        };
+    }
+    // Downward an advance is negative.
+    let y_advance = minus(position.y_advance, i32::from(value.y_advance));
+    GlyphPosition {
+        y_advance,
+        ..position
+    }
+}
+
+/// A position adjusted: placements always act, an advance along the line alone.
+pub fn adjusted(direction: Direction, value: ValueRecord, position: GlyphPosition) -> GlyphPosition
+    ensures { result ≡ adjusted direction value position }
+{
+    advanced(direction.is_horizontal(), value, moved(value, position))
+}
+
+/// Adjusts the position with an index.
+pub fn adjust(positions: &mut [GlyphPosition], at: usize, value: ValueRecord, direction: Direction)
+    requires here { at < length positions.old }
+    ensures { positions.new ≡ adjusted_at direction at value positions.old }
+{
+    positions[at] = adjusted(direction, value, positions[at]);
+}
+
+/// Whether a record has nothing but zeros.
+pub fn is_zero(value: ValueRecord) -> bool
+    ensures { result ≡ is_zero value }
+{
+    value.x_placement == 0 && value.y_placement == 0 && value.x_advance == 0 && value.y_advance == 0
+}

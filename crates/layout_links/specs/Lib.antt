@@ -1,0 +1,9 @@
+pub mod Links
+pub mod Trees
+pub mod Marks
+pub mod Kept
+pub mod Finishing
+pub mod Sums
+pub mod Walks
+pub mod Summing
+pub mod Starting

@@ -1,0 +1,33 @@
+-- Where a mark is drawn: at its recorded offset from where its base is drawn.
+use Rattle.std.specs.Prelude.{ℕ, ℤ, pos, ◌+ℤ◌, ◌+◌, ◌≡◌, ◌<◌, Bool, true, false, List, [], ◌∷◌, take, drop, Some}
+use Rattle.std.specs.Int.{int_wrap, w32}
+use Rattle.glyph_lists.specs.Items.{Position}
+use Rattle.shaping_text.specs.declared.direction.Direction.{Direction}
+use Rattle.shaping_text.specs.Direction.{is_forward}
+use Rattle.layout_links.specs.Links.{position_at, parent, kinds_tested, finished}
+use Rattle.layout_links.specs.Trees.{HaveDepths}
+
+-- a sum over positions
+abbrev pub total : (Position → ℤ) → List Position → ℤ
+total v [] = pos 0
+total v (p ∷ ps) = v p +ℤ total v ps
+
+-- where the pen stands when a glyph is drawn: forward the glyphs before it were drawn, backward those behind it
+abbrev pub pen : (Position → ℤ) → Bool → ℕ → List Position → ℤ
+pen v true i ps = total v (take i ps)
+pen v false i ps = total v (drop (i + 1) ps)
+
+abbrev pub drawn_x : Direction → ℕ → List Position → ℤ
+drawn_x d i ps = pen (λ (p : Position). p.x_advance) (is_forward d) i ps +ℤ (position_at i ps).x_offset
+
+abbrev pub drawn_y : Direction → ℕ → List Position → ℤ
+drawn_y d i ps = pen (λ (p : Position). p.y_advance) (is_forward d) i ps +ℤ (position_at i ps).y_offset
+
+-- glyph i is drawn at its recorded offset from where glyph j is drawn, modulo 2^32
+pub record IsDrawnFrom (d : Direction) (recorded drawn : List Position) (i j : ℕ) : Type 0 where
+  pub x : int_wrap w32 (drawn_x d i drawn) ≡ int_wrap w32 (drawn_x d j drawn +ℤ (position_at i recorded).x_offset)
+  pub y : int_wrap w32 (drawn_y d i drawn) ≡ int_wrap w32 (drawn_y d j drawn +ℤ (position_at i recorded).y_offset)
+
+-- each mark that is linked backward
+abbrev pub MarksAreDrawn : Type 0
+MarksAreDrawn = (d : Direction) (depth : ℕ → ℕ) (ps : List Position) → HaveDepths depth (kinds_tested ps) → (i j : ℕ) → parent i ps ≡ Some j → (position_at i ps).attach_type ≡ 1 → j < i → IsDrawnFrom d ps (finished d ps) i j

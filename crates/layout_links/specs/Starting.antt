@@ -1,0 +1,12 @@
+-- Positions before positioning.
+use Rattle.std.specs.Prelude.{pos, [], map}
+use Rattle.glyph_lists.specs.Items.{Position}
+use Rattle.glyph_lists.specs.Readings.{View, Read, with_events}
+
+-- a position that hangs on nothing
+abbrev pub unattached : Position → Position
+unattached p = record p { attach_chain = pos 0; attach_type = 0 }
+
+-- no glyph hangs on another
+abbrev pub links_cleared : View → Read
+links_cleared v = with_events [] (record v { positions = map unattached v.positions })

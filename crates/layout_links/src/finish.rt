@@ -1,0 +1,67 @@
+//! Positioning begun and ended, on the buffer.
+ghost use Rattle.std.specs.Prelude.{◌≡◌, map};
+ghost use Rattle.glyph_lists.specs.Readings.{always};
+ghost use Rattle.layout_rules.specs.Ready.{IsDone, IsReady};
+ghost use Rattle.layout_links.specs.Finishing.{all_drawn, links_followed};
+ghost use Rattle.layout_links.specs.Starting.{links_cleared, unattached};
+
+use crate::links::finish_offsets;
+use glyph_buffer::buffer::hb_buffer_t;
+use glyph_types::position::GlyphPosition;
+use shaping_text::constants::HB_BUFFER_SCRATCH_FLAG_HAS_GPOS_ATTACHMENT;
+
+/// Before positioning: no glyph hangs on another. It takes linear time and no memory.
+#[tactic(auto, using(crate::proofs::Ended::cleared_done))]
+pub fn position_start(buffer: &mut hb_buffer_t)
+    requires { IsReady buffer.old }
+    ensures { IsDone (always links_cleared) buffer.old buffer.new }
+{
+    clear_links(buffer.pos_slice_mut());
+}
+
+fn clear_links(positions: &mut [GlyphPosition])
+    ensures { positions.new ≡ map unattached positions.old }
+{
+    for i in 0..positions.len() {
+        positions[i] = unattached(positions[i]);
+    }
+}
+
+fn unattached(position: GlyphPosition) -> GlyphPosition
+    ensures { result ≡ unattached position }
+{
+    GlyphPosition {
+        attach_chain: 0,
+        attach_type: 0,
+        ..position
+    }
+}
+
+/// After positioning: nothing is left to be done to the advances.
+pub fn position_finish_advances(buffer: &mut hb_buffer_t)
+    ensures { buffer.new ≡ buffer.old }
+{
+    let _none = buffer;
+}
+
+/// After positioning: draws all glyphs where their links say, where glyphs were attached to others
+/// (`HB_BUFFER_SCRATCH_FLAG_HAS_GPOS_ATTACHMENT`). A mark's offset counts from where the glyph that it hangs on is drawn,
+/// a cursive child's across the line so. Each link is cleared. It takes linear time and no memory.
+#[tactic(auto, using(crate::proofs::Ended::attached_done, crate::proofs::Ended::unattached_done))]
+pub fn position_finish_offsets(buffer: &mut hb_buffer_t)
+    requires { IsReady buffer.old }
+    ensures { IsDone (always links_followed) buffer.old buffer.new }
+{
+    if buffer.scratch_flags() & HB_BUFFER_SCRATCH_FLAG_HAS_GPOS_ATTACHMENT != 0 {
+        follow_links(buffer);
+    }
+}
+
+#[tactic(auto, using(crate::proofs::Ended::drawn_done))]
+fn follow_links(buffer: &mut hb_buffer_t)
+    requires { IsReady buffer.old }
+    ensures { IsDone (always all_drawn) buffer.old buffer.new }
+{
+    let direction = buffer.direction();
+    finish_offsets(buffer.pos_slice_mut(), direction);
+}

@@ -1,0 +1,273 @@
+//! Glyphs drawn where their links say, on a list of positions.
+ghost use Rattle.std.specs.Prelude.{◌≡◌, ◌<◌, length};
+ghost use Rattle.shaping_text.specs.declared.direction.Direction.{Direction as Way};
+ghost use Rattle.std.specs.Prelude.{MatchOption, true, false, pos, ◌+ℤ◌};
+ghost use Rattle.layout_links.specs.Links.{linked, hung, unlinked, position_at, finished, followed, all_followed, offset_by, child_drawn};
+ghost use Rattle.layout_links.specs.Sums.{drawn_by_sums, mark_by_sums, pen_before, back_by, on_by};
+ghost use Rattle.layout_links.specs.Walks.{IsComing, Stops, Goes, CameFrom, GoesBack, are_shut, is_open, opened, shut};
+
+use crate::sums::{PEN_DOWN, Pen, minus, pen_of, pen_way, plus, sum_up, take_apart};
+use glyph_types::position::GlyphPosition;
+use shaping_text::direction::Direction;
+
+/// Where a link of a position leads to, among so many: none where it is 0 or leads outside.
+pub fn linked(count: usize, at: usize, link: i16) -> Option<usize>
+    ensures { result ≡ linked count at link }
+{
+    if link == 0 {
+        return None;
+    }
+    let there = at.checked_add_signed(isize::from(link))?;
+    if there < count { Some(there) } else { None }
+}
+
+fn offset_by(base: GlyphPosition, place: GlyphPosition) -> GlyphPosition
+    ensures { result ≡ offset_by base place }
+{
+    let mut based = place;
+    based.x_offset = plus(place.x_offset, base.x_offset);
+    based.y_offset = plus(place.y_offset, base.y_offset);
+    based
+}
+
+fn child_drawn(across: bool, base: GlyphPosition, place: GlyphPosition) -> GlyphPosition
+    ensures { result ≡ child_drawn across base place }
+{
+    let mut drawn = place;
+    if across {
+        drawn.y_offset = plus(place.y_offset, base.y_offset);
+    } else {
+        drawn.x_offset = plus(place.x_offset, base.x_offset);
+    }
+    drawn
+}
+
+/// A position moved along the line.
+fn back_by(way: Pen, place: GlyphPosition) -> GlyphPosition
+    ensures { result ≡ back_by way place }
+{
+    let mut moved = place;
+    moved.x_offset = minus(place.x_offset, way.x);
+    moved.y_offset = minus(place.y_offset, way.y);
+    moved
+}
+
+fn on_by(way: Pen, place: GlyphPosition) -> GlyphPosition
+    ensures { result ≡ on_by way place }
+{
+    let mut moved = place;
+    moved.x_offset = plus(place.x_offset, way.x);
+    moved.y_offset = plus(place.y_offset, way.y);
+    moved
+}
+
+/// The pen in front of a glyph.
+fn pen_before(positions: &[GlyphPosition], at: usize) -> Pen
+    requires { at < length positions.now }
+    ensures { result ≡ pen_before at positions.now }
+{
+    if at == 0 {
+        PEN_DOWN
+    } else {
+        pen_of(positions[at - 1])
+    }
+}
+
+/// A mark drawn, where the glyph that it hangs on is drawn.
+fn mark_drawn(
+    positions: &[GlyphPosition],
+    child: usize,
+    parent: usize,
+    is_forward: bool,
+) -> GlyphPosition
+    requires child { child < length positions.now }
+    requires parent { parent < length positions.now }
+    ensures { result ≡ mark_by_sums is_forward child parent positions.now }
+{
+    let based = offset_by(positions[parent], positions[child]);
+    if parent >= child {
+        return based;
+    }
+    if is_forward {
+        return back_by(
+            pen_way(pen_before(positions, parent), pen_before(positions, child)),
+            based,
+        );
+    }
+    on_by(
+        pen_way(pen_of(positions[parent]), pen_of(positions[child])),
+        based,
+    )
+}
+
+/// Draws a glyph, where the glyph that it hangs on is drawn.
+fn hang(positions: &mut [GlyphPosition], child: usize, parent: usize, direction: Direction)
+    requires child { child < length positions.old }
+    requires parent { parent < length positions.old }
+    ensures { positions.new ≡ hung (drawn_by_sums direction) child parent positions.old }
+{
+    let place = positions[child];
+    positions[child] = if place.attach_type == 2 {
+        child_drawn(direction.is_horizontal(), positions[parent], place)
+    } else {
+        mark_drawn(positions, child, parent, direction.is_forward())
+    };
+}
+
+/// What is added to the kind of a link while a walk is beyond it.
+const OPEN: u8 = 128;
+
+/// A glyph, and the link by which a walk came to it.
+#[derive(Clone, Copy)]
+struct Step {
+    by: i16,
+    at: usize,
+}
+
+/// Where a walk ends, and how many glyphs it came through.
+#[derive(Clone, Copy)]
+struct Walk {
+    last: Step,
+    depth: usize,
+}
+
+fn is_open(place: &GlyphPosition) -> bool
+    ensures { result ≡ is_open place.now }
+{
+    place.attach_type >= OPEN && place.attach_chain != 0
+}
+
+fn opened(place: GlyphPosition, by: i16) -> GlyphPosition
+    requires { place.attach_type < 128 }
+    ensures { result ≡ opened by place }
+{
+    let mut open = place;
+    open.attach_chain = by;
+    open.attach_type += OPEN;
+    open
+}
+
+fn shut(place: GlyphPosition) -> GlyphPosition
+    requires { is_open place ≡ true }
+    ensures value { result ≡ shut place }
+    ensures closed { is_open result ≡ false }
+{
+    let mut closed = place;
+    closed.attach_chain = 0;
+    closed.attach_type -= OPEN;
+    closed
+}
+
+/// Clears a glyph's link.
+fn unlink(positions: &mut [GlyphPosition], at: usize)
+    requires here { at < length positions.old }
+    ensures { positions.new ≡ unlinked at positions.old }
+{
+    positions[at].attach_chain = 0;
+}
+
+/// Goes on along a glyph's link, and leaves there the link by which the walk came to the glyph.
+fn go_on(positions: &mut [GlyphPosition], last: Step) -> Option<Step>
+    requires here { last.at < length positions.old }
+    ensures { MatchOption result (Stops last.at positions.old positions.new) (λ s. Goes s.at s.by last.at last.by positions.old positions.new) }
+{
+    let at = last.at;
+    let place = positions[at];
+    if is_open(&place) {
+        return None;
+    }
+    let link = place.attach_chain;
+    let Some(there) = linked(positions.len(), at, link) else {
+        unlink(positions, at);
+        return None;
+    };
+    positions[at] = opened(place, last.by);
+    Some(Step {
+        by: link,
+        at: there,
+    })
+}
+
+/// The glyph that a walk came from.
+#[tactic(auto, using(crate::proofs::Going::came_open))]
+fn came_from(positions: &[GlyphPosition], last: Step) -> usize
+    requires here { last.at < length positions.now }
+    requires came { CameFrom last.at last.by positions.now }
+    ensures within { result < length positions.now }
+    ensures link { pos last.at ≡ pos result +ℤ last.by }
+    ensures open { is_open (position_at result positions.now) ≡ true }
+{
+    let _count = positions.len();
+    (last.at as isize - isize::from(last.by)) as usize
+}
+
+/// Goes back to the glyph that a walk came from, and draws it.
+fn go_back(positions: &mut [GlyphPosition], last: Step, direction: Direction) -> Step
+    requires here { last.at < length positions.old }
+    requires came { CameFrom last.at last.by positions.old }
+    ensures { GoesBack direction result.at result.by last.at last.by positions.old positions.new }
+{
+    let child = came_from(positions, last);
+    let place = positions[child];
+    let link = place.attach_chain;
+    positions[child] = shut(place);
+    hang(positions, child, last.at, direction);
+    Step {
+        by: link,
+        at: child,
+    }
+}
+
+/// Goes along links from a glyph until one leads nowhere, or to a glyph that it came through.
+fn go_along(positions: &mut [GlyphPosition], start: usize) -> Walk
+    requires here { start < length positions.old }
+    requires shut { are_shut positions.old }
+    ensures { (d : Way) → IsComing d (followed (drawn_by_sums d) (length positions.old) start positions.old) (length positions.old) result.last.at result.last.by result.depth positions.new }
+{
+    let count = positions.len();
+    let mut last = Step { by: 1, at: start };
+    for depth in 0..count {
+        let Some(step) = go_on(positions, last) else {
+            return Walk { last, depth };
+        };
+        last = step;
+    }
+    Walk { last, depth: count }
+}
+
+/// Draws a glyph with all that it hangs on. It goes along the links and leaves in each glyph the link by which it came
+/// there; then it goes back by these, and draws. So it needs neither memory nor a stack.
+fn follow(positions: &mut [GlyphPosition], start: usize, direction: Direction)
+    requires here { start < length positions.old }
+    requires shut { are_shut positions.old }
+    ensures drawn { positions.new ≡ followed (drawn_by_sums direction) (length positions.old) start positions.old }
+    ensures shut { are_shut positions.new }
+{
+    let walk = go_along(positions, start);
+    let mut last = walk.last;
+    for _behind in 0..walk.depth {
+        last = go_back(positions, last, direction);
+    }
+}
+
+/// Draws all glyphs, among sums.
+fn follow_all(positions: &mut [GlyphPosition], direction: Direction)
+    requires shut { are_shut positions.old }
+    ensures { positions.new ≡ all_followed (drawn_by_sums direction) positions.old }
+{
+    for i in 0..positions.len() {
+        follow(positions, i, direction);
+    }
+}
+
+/// Draws all glyphs where their links say: a mark counts its offset from where the glyph that it hangs on is drawn, a
+/// cursive child counts its offset across the line so. Each link is cleared as it is followed, rings included; a link
+/// whose kind is neither is cleared alone. It takes linear time, and neither memory nor a stack.
+#[tactic(auto, using(crate::proofs::BySums::finished_by_sums, crate::proofs::BySums::summed_shut))]
+pub fn finish_offsets(positions: &mut [GlyphPosition], direction: Direction)
+    ensures { positions.new ≡ finished direction positions.old }
+{
+    sum_up(positions);
+    follow_all(positions, direction);
+    take_apart(positions);
+}

@@ -1,0 +1,114 @@
+//! Advances as sums, so that the way between two glyphs is a difference.
+ghost use Rattle.std.specs.Prelude.{◌≡◌};
+ghost use Rattle.layout_links.specs.Links.{plus, minus, kinds_tested, kind_tested, has_kind};
+ghost use Rattle.layout_links.specs.Sums.{AllFit, Fits, pen_down, pen_behind, pen_of, pen_way, with_pen, summed, taken_apart};
+
+use glyph_types::position::GlyphPosition;
+
+/// Where the pen stands, in font units from the beginning of the line, modulo 2^32.
+#[derive(Clone, Copy, PartialEq, Eq, Debug)]
+pub(crate) struct Pen {
+    pub x: i32,
+    pub y: i32,
+}
+
+pub(crate) const PEN_DOWN: Pen = Pen { x: 0, y: 0 };
+
+/// A sum modulo 2^32.
+pub fn plus(a: i32, b: i32) -> i32
+    ensures { result ≡ plus a b }
+{
+    a.wrapping_add(b)
+}
+
+/// A difference modulo 2^32.
+pub fn minus(a: i32, b: i32) -> i32
+    ensures { result ≡ minus a b }
+{
+    a.wrapping_sub(b)
+}
+
+pub(crate) fn pen_of(place: GlyphPosition) -> Pen
+    ensures { result ≡ pen_of place }
+{
+    Pen {
+        x: place.x_advance,
+        y: place.y_advance,
+    }
+}
+
+pub(crate) fn pen_way(from: Pen, to: Pen) -> Pen
+    ensures { result ≡ pen_way from to }
+{
+    Pen {
+        x: minus(to.x, from.x),
+        y: minus(to.y, from.y),
+    }
+}
+
+fn pen_behind(pen: Pen, place: GlyphPosition) -> Pen
+    ensures { result ≡ pen_behind pen place }
+{
+    Pen {
+        x: plus(pen.x, place.x_advance),
+        y: plus(pen.y, place.y_advance),
+    }
+}
+
+fn with_pen(pen: Pen, place: GlyphPosition) -> GlyphPosition
+    ensures { result ≡ with_pen pen place }
+{
+    GlyphPosition {
+        x_advance: pen.x,
+        y_advance: pen.y,
+        ..place
+    }
+}
+
+fn has_kind(place: GlyphPosition) -> bool
+    ensures { result ≡ has_kind place }
+{
+    place.attach_type == 1 || place.attach_type == 2
+}
+
+/// A position with its link, where that is a mark's or a cursive child's.
+fn kind_tested(place: GlyphPosition) -> GlyphPosition
+    ensures value { result ≡ kind_tested place }
+    ensures fits { Fits place }
+{
+    if has_kind(place) {
+        place
+    } else {
+        GlyphPosition {
+            attach_chain: 0,
+            ..place
+        }
+    }
+}
+
+/// Puts in the place of each advance the sum up to it, and clears links of no kind.
+#[tactic(auto, using(crate::proofs::Summing::summing_first, crate::proofs::Summing::summing_next, crate::proofs::Summing::summing_last, crate::proofs::Summing::summing_fits))]
+pub(crate) fn sum_up(positions: &mut [GlyphPosition])
+    ensures fits { AllFit positions.old }
+    ensures value { positions.new ≡ summed (kinds_tested positions.old) }
+{
+    let mut pen = PEN_DOWN;
+    for i in 0..positions.len() {
+        let place = kind_tested(positions[i]);
+        pen = pen_behind(pen, place);
+        positions[i] = with_pen(pen, place);
+    }
+}
+
+/// Puts in the place of each sum its difference from the one before.
+#[tactic(auto, using(crate::proofs::Summing::parting_first, crate::proofs::Summing::parting_next, crate::proofs::Summing::parting_last))]
+pub(crate) fn take_apart(positions: &mut [GlyphPosition])
+    ensures { positions.new ≡ taken_apart positions.old }
+{
+    let mut pen = PEN_DOWN;
+    for i in 0..positions.len() {
+        let place = positions[i];
+        positions[i] = with_pen(pen_way(pen, pen_of(place)), place);
+        pen = pen_of(place);
+    }
+}

@@ -1,0 +1,25 @@
+//! What runs between the stages of a table.
+ghost use Rattle.std.specs.Prelude.{ℕ, ◌≡◌, ◌≢◌, true, false, Ok, Err, IfErr, OnOk};
+ghost use Rattle.glyph_lists.specs.Readings.{Stage, read_of};
+ghost use Rattle.glyph_buffer.specs.Sides.{items_of, run_of};
+ghost use Rattle.layout_rules.specs.Buffers.{are_glyphs};
+ghost use Rattle.layout_rules.specs.Ready.{IsDone, IsReady};
+ghost use Rattle.layout_stages.specs.Substituting.{BringsNoGlyph};
+
+use glyph_buffer::buffer::hb_buffer_t;
+use glyph_types::cause::ShapeCause;
+
+/// What a script's shaper does between the stages of lookups, by the numbers of its pauses.
+pub trait Pause {
+    ghost stage: { Self → ℕ → Stage };
+
+    /// Does what the pause of a number does, and answers true whenever a glyph number came in. It refuses by its own cause,
+    /// or for want of memory.
+    fn run(&self, pause: u8, buffer: &mut hb_buffer_t) -> Result<bool, ShapeCause>
+        requires ready { IsReady buffer.old }
+        requires numbers { are_glyphs (items_of buffer.old) ≡ true }
+        ensures ok { OnOk result (IsDone (stage self.now pause) buffer.old buffer.new) }
+        ensures told { result ≡ Ok false → BringsNoGlyph (items_of buffer.old) (items_of buffer.new) }
+        ensures err { IfErr result (λ e. e ≢ ShapeCause.OutOfMemory
+            → read_of (stage self.now pause) (run_of buffer.old) ≡ Err e) };
+}

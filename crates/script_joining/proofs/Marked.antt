@@ -1,0 +1,127 @@
+-- The flags between letters, one after another.
+use Rattle.std.proofs.Common.{ℕ, zero, suc, ◌≡◌, ◌<◌, ◌≤◌, ◌+◌, Bool, true, false, if◌then◌else◌, List, [], ◌∷◌, ◌++◌, Option, Some, None, length, drop, map, slice_get, get_or, arith, add-one, refl, sym, ap, subst, ◌∙◌, append_assoc}
+use Rattle.std.specs.Prelude.{nat_lt}
+use Rattle.std.proofs.lemmas.List.{append-nil, drop_all, length-map}
+use Rattle.glyph_types.specs.declared.info.hb_glyph_info_t.{hb_glyph_info_t}
+use Rattle.glyph_lists.specs.Items.{Item, clusters, item_of, strip}
+use Rattle.glyph_lists.specs.Glyphs.{glyphs_flagged, glyphs_marked, tells_apart}
+use Rattle.glyph_lists.specs.Parts.{stretch}
+use Rattle.glyph_lists.specs.Events.{Event, Concat, Tatweel}
+use Rattle.glyph_lists.specs.Readings.{View}
+use Rattle.glyph_buffer.specs.Sides.{Sides, all_glyphs, items_of, origins_by, origins_of, view_of}
+use Rattle.glyph_buffer.specs.Merging.{index_in_all}
+use Rattle.glyph_buffer.specs.Marking.{asks_concat, asks_tatweel, concat_marked, end_in_all, flagged_range, marked_range, start_in_all, tatweel_marked}
+use Rattle.layout_rules.specs.Ready.{IsReady}
+use Rattle.text_stages.specs.Stages.{Happens}
+use Rattle.text_stages.specs.Lemmas.Happened.{both_happen, call_happens, nothing_happens}
+use Rattle.script_joining.specs.declared.flags.Letter.{Letter}
+use Rattle.script_joining.specs.Types.{JoiningType}
+use Rattle.script_joining.specs.Joining.{event_at, is_letter, letter_behind, nearest_behind, neighbour_events}
+use Rattle.script_joining.specs.Flagged.{IsBehind, type_of_typed}
+use Rattle.script_joining.specs.Glyphs.{type_kept}
+
+-- ---- one call
+
+-- of a buffer that stands ready an index of the input is one of all glyphs
+whole_index : (i : ℕ) (s : Sides) → IsReady s → index_in_all i s ≡ i
+whole_index i s ready =
+    let none = ap (λ (ys : List hb_glyph_info_t). length ys) ready.front in
+    omega (arith, none, ready.unread)
+
+same_happens : (es : List Event) (s new : Sides) → new ≡ s → origins_of new ≡ origins_by es s → IsReady s → Happens es s new
+same_happens es s new e from ready =
+    let P : Sides → Type 0 = λ n. origins_of n ≡ origins_by es s → Happens es s n in
+    subst P (sym e) (λ o. record { view = refl; origins = o; settings = refl; ready = ready }) from
+
+flags_happen : (from to : ℕ) (es : List Event) (s new : Sides) (b : Bool) → new ≡ (if b then flagged_range 2 (Some from) (Some to) s else s) → items_of new ≡ items_of s → origins_of new ≡ origins_by es s → IsReady s → Happens es s new
+flags_happen from to es s new true e items origins ready =
+    let i = start_in_all (Some from) s in
+    let j = end_in_all (Some to) s in
+    call_happens (glyphs_flagged 2 i j (all_glyphs s)) (nat_lt i j) es s new e items origins ready
+flags_happen from to es s new false e items origins ready = same_happens es s new e origins ready
+
+mark_happens : (bits from to : ℕ) (es : List Event) (s new : Sides) → new ≡ marked_range bits (Some from) (Some to) s → items_of new ≡ items_of s → origins_of new ≡ origins_by es s → IsReady s → Happens es s new
+mark_happens bits from to es s new e items origins ready =
+    let i = start_in_all (Some from) s in
+    let j = end_in_all (Some to) s in
+    call_happens (glyphs_marked bits i j (all_glyphs s)) (tells_apart (stretch i j (clusters (all_glyphs s)))) es s new e items origins ready
+
+marks_happen : (from to : ℕ) (es : List Event) (s new : Sides) (b : Bool) → new ≡ (if b then marked_range 4 (Some from) (Some to) s else marked_range 3 (Some from) (Some to) s) → items_of new ≡ items_of s → origins_of new ≡ origins_by es s → IsReady s → Happens es s new
+marks_happen from to es s new true e items origins ready = mark_happens 4 from to es s new e items origins ready
+marks_happen from to es s new false e items origins ready = mark_happens 3 from to es s new e items origins ready
+
+pub concat_happens : (from to : ℕ) (s new : Sides) → new ≡ concat_marked (Some from) (Some to) s → items_of new ≡ items_of s
+    → origins_of new ≡ origins_by (Concat (start_in_all (Some from) s) (end_in_all (Some to) s) ∷ []) s → IsReady s → Happens (Concat from to ∷ []) s new
+concat_happens from to s new e items origins ready =
+    let o = origins ∙ ap (λ i. origins_by (Concat i (end_in_all (Some to) s) ∷ []) s) (whole_index from s ready) ∙ ap (λ i. origins_by (Concat from i ∷ []) s) (whole_index to s ready) in
+    flags_happen from to (Concat from to ∷ []) s new (asks_concat s) e items o ready
+
+pub tatweel_happens : (from to : ℕ) (s new : Sides) → new ≡ tatweel_marked (Some from) (Some to) s → items_of new ≡ items_of s
+    → origins_of new ≡ origins_by (Tatweel (start_in_all (Some from) s) (end_in_all (Some to) s) ∷ []) s → IsReady s → Happens (Tatweel from to ∷ []) s new
+tatweel_happens from to s new e items origins ready =
+    let o = origins ∙ ap (λ i. origins_by (Tatweel i (end_in_all (Some to) s) ∷ []) s) (whole_index from s ready) ∙ ap (λ i. origins_by (Tatweel from i ∷ []) s) (whole_index to s ready) in
+    marks_happen from to (Tatweel from to ∷ []) s new (asks_tatweel s) e items o ready
+
+-- ---- the walk
+
+pub kept_at : (gs : List hb_glyph_info_t) (at : ℕ) (d : hb_glyph_info_t) → at < length gs → Some (type_kept (get_or gs at d)) ≡ slice_get (map type_of_typed (strip gs)) at
+kept_at [] at d lt = absurd (omega arith)
+kept_at (g ∷ gs) zero d lt = refl
+kept_at (g ∷ gs) (suc at) d lt = kept_at gs at d (omega arith)
+
+-- the letters before an index are flagged; those from it on are still to come
+pub record AreFlagged (from : Sides) (start : JoiningType) (at : ℕ) (before : JoiningType) (last : Option Letter) (s : Sides) : Type 0 where
+  pub events : List Event
+  pub happened : Happens events from s
+  pub behind : IsBehind last at
+  pub rest : events ++ neighbour_events before last at (drop at (map type_of_typed (items_of from))) ≡ neighbour_events start None 0 (map type_of_typed (items_of from))
+
+pub none_flagged : (s : Sides) (start : JoiningType) → IsReady s → AreFlagged s start 0 start None s
+none_flagged s start ready = record { events = []; happened = nothing_happens s ready; behind = record {}; rest = refl }
+
+same_items : (a b : Sides) → view_of b ≡ view_of a → items_of b ≡ items_of a
+same_items a b e = ap (λ (v : View). v.items) e
+
+pub same_count : (from s : Sides) (start : JoiningType) (at : ℕ) (before : JoiningType) (last : Option Letter) → AreFlagged from start at before last s → length (all_glyphs s) ≡ length (all_glyphs from)
+same_count from s start at before last f = sym (length-map (all_glyphs s) item_of) ∙ ap (λ (xs : List Item). length xs) (same_items from s f.happened.view) ∙ length-map (all_glyphs from) item_of
+
+some_same : {X : Type 0} (a b : X) → Some a ≡ Some b → b ≡ a
+some_same a b e = cc
+
+still_behind : (last : Option Letter) (at : ℕ) → IsBehind last at → IsBehind last (at + 1)
+still_behind None at b = b
+still_behind (Some p) at b = omega (arith, b)
+
+there_suc : {X : Type 0} (xs : List X) (i : ℕ) (x : X) → Some x ≡ slice_get xs i → drop i xs ≡ x ∷ drop (suc i) xs
+there_suc [] i x e = cc
+there_suc (y ∷ xs) zero x e = ap (λ z. z ∷ xs) (sym (some_same y x (sym e)))
+there_suc (y ∷ xs) (suc i) x e = there_suc xs i x e
+
+behind_next : (before : JoiningType) (last : Option Letter) (t : JoiningType) (at : ℕ) → IsBehind last at → IsBehind (letter_behind before last t at) (at + 1)
+behind_next before last t at b = elim (is_letter t) as (λ c. IsBehind (if c then Some (record { at = at; joining = t; before = before }) else last) (at + 1)) [ true ↦ omega arith | false ↦ still_behind last at b ]
+
+pub next_flagged : (from s t : Sides) (start : JoiningType) (at : ℕ) (before : JoiningType) (last : Option Letter) (joining : JoiningType) → Some joining ≡ slice_get (map type_of_typed (items_of s)) at
+    → Happens (event_at last joining at) s t → AreFlagged from start at before last s → AreFlagged from start (at + 1) (nearest_behind before joining) (letter_behind before last joining at) t
+next_flagged from s t start at before last joining e h f =
+    let es = event_at last joining at in
+    let more : ℕ → List Event = λ k. neighbour_events (nearest_behind before joining) (letter_behind before last joining at) (at + 1) (drop k (map type_of_typed (items_of from))) in
+    let types : List JoiningType = map type_of_typed (items_of from) in
+    let there = e ∙ ap (λ xs. slice_get (map type_of_typed xs) at) (same_items from s f.happened.view) in
+    let cut : es ++ more (suc at) ≡ neighbour_events before last at (drop at types) = sym (ap (neighbour_events before last at) (there_suc types at joining there)) in
+    record {
+      events = f.events ++ es;
+      happened = both_happen f.events es from s t f.happened h;
+      behind = behind_next before last joining at f.behind;
+      rest =
+          append_assoc f.events es (more (at + 1))
+          ∙ ap (λ k. f.events ++ (es ++ more k)) (add-one at)
+          ∙ ap (λ ls. f.events ++ ls) cut
+          ∙ f.rest;
+    }
+
+pub all_flagged : (from s : Sides) (start : JoiningType) (at : ℕ) (before : JoiningType) (last : Option Letter) → length (all_glyphs from) ≤ at → AreFlagged from start at before last s
+    → Happens (neighbour_events start None 0 (map type_of_typed (items_of from))) from s
+all_flagged from s start at before last le f =
+    let types = map type_of_typed (items_of from) in
+    let none : drop at types ≡ [] = drop_all at types (omega (arith, length-map (items_of from) type_of_typed, length-map (all_glyphs from) item_of, le)) in
+    subst (λ es. Happens es from s) (sym (append-nil f.events) ∙ ap (λ ts. f.events ++ neighbour_events before last at ts) (sym none) ∙ f.rest) f.happened

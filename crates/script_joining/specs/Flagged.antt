@@ -1,0 +1,15 @@
+-- Letters of a text that were passed.
+use Rattle.std.specs.Prelude.{ℕ, ◌<◌, Option, None, Some}
+use Rattle.glyph_lists.specs.Items.{Item}
+use Rattle.script_joining.specs.declared.flags.Letter.{Letter}
+use Rattle.script_joining.specs.Types.{JoiningType}
+use Rattle.script_joining.specs.Glyphs.{type_numbered}
+
+-- the type that an item keeps
+abbrev pub type_of_typed : Item → JoiningType
+type_of_typed x = type_numbered x.auxiliary
+
+-- a letter stands before an index, if there is one
+abbrev pub IsBehind : Option Letter → ℕ → Type 0
+IsBehind None at = Unit {0}
+IsBehind (Some p) at = p.at < at

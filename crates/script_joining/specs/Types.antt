@@ -1,0 +1,43 @@
+-- How a character joins (Unicode core specification, 'Arabic', cursive joining; ArabicShaping.txt).
+use Rattle.std.specs.Prelude.{ℕ, ◌==◌, if◌then◌else◌, List, [], ◌∷◌, Option, None, Some, slice_get, unwrap_or}
+use Rattle.std.specs.List.{list_any}
+use lib.Utf8.{scalar}
+use Rattle.ucd_category.specs.declared.GeneralCategory.{GeneralCategory}
+use Rattle.ucd_category.specs.declared.GeneralCategory.TheVariants.{NonspacingMark, EnclosingMark, Format}
+use Rattle.unicode.specs.GeneralCategory.{general_category}
+use Rattle.unicode_chars.specs.Category.{category_number}
+use Rattle.unicode_tables.specs.Tables.{Tables, joining_of}
+use Rattle.script_constants.specs.declared.joining_types.hb_arabic_joining_type_t.{hb_arabic_joining_type_t}
+use Rattle.script_constants.specs.declared.joining_types.hb_arabic_joining_type_t.TheVariants.{U, T}
+use Rattle.script_constants.specs.Joining.{joining_types}
+use Rattle.normal_forms.specs.Characters.{category_of}
+use Rattle.glyph_lists.specs.Items.{Item}
+
+abbrev pub JoiningType : Type 0
+JoiningType = hb_arabic_joining_type_t
+
+-- the categories Mn, Me and Cf
+abbrev pub transparent_categories : List GeneralCategory
+transparent_categories = NonspacingMark ∷ EnclosingMark ∷ Format ∷ []
+
+-- what is not listed is transparent where it is of such a category, else it does not join
+abbrev pub type_of_category : ℕ → JoiningType
+type_of_category n = if list_any (λ c. n == category_number c) transparent_categories then T else U
+
+abbrev pub type_of_number : Option ℕ → Option JoiningType
+type_of_number None = None
+type_of_number (Some n) = slice_get joining_types n
+
+-- the type that a character is listed with
+abbrev pub listed_type : Tables → ℕ → Option JoiningType
+listed_type t u = if scalar u then type_of_number (joining_of t u) else None
+
+-- the type of a character of a category
+abbrev pub joining_type : Tables → ℕ → ℕ → JoiningType
+joining_type t u category = unwrap_or (listed_type t u) (type_of_category category)
+
+abbrev pub type_of_item : Tables → Item → JoiningType
+type_of_item t x = joining_type t x.number (category_of x)
+
+abbrev pub type_of_character : Tables → ℕ → JoiningType
+type_of_character t u = joining_type t u (category_number (general_category u))

@@ -1,0 +1,118 @@
+//! Where a text may be stretched between two letters, or may not be put together.
+ghost use Rattle.std.specs.Prelude.{◌≡◌, ◌<◌, ◌+◌, ◌^◌, ◌==◌, not, None, Some, [], ◌∷◌, length, map, slice_get};
+ghost use Rattle.glyph_buffer.specs.Sides.{all_glyphs, items_of};
+ghost use Rattle.layout_rules.specs.Ready.{IsReady};
+ghost use Rattle.script_constants.specs.declared.joining_types.hb_arabic_joining_type_t.TheVariants.{U};
+ghost use Rattle.script_joining.specs.Flagged.{IsBehind, type_of_typed};
+ghost use Rattle.script_joining.specs.Forms.{letter_form};
+ghost use Rattle.script_joining.specs.Joining.{event_at, letter_behind, neighbour_events, neighbours_event};
+ghost use Rattle.text_stages.specs.Stages.{Happens};
+
+use crate::forms::letter_form;
+use crate::types::{is_letter, nearest_behind, type_kept};
+use glyph_buffer::buffer::hb_buffer_t;
+use script_constants::hb_arabic_joining_type_t;
+
+/// A letter that stands in the text: its index, its type, and that of the nearest letter before it.
+#[derive(Clone, Copy, PartialEq, Eq, Debug)]
+pub struct Letter {
+    pub at: usize,
+    pub joining: hb_arabic_joining_type_t,
+    pub before: hb_arabic_joining_type_t,
+}
+
+/// Between each two neighbouring letters a tatweel may come where the second gives the first another form than it has by
+/// itself; elsewhere texts may not be put together. `start` is the nearest letter in front of the text.
+#[tactic(auto, using(crate::proofs::Marked::none_flagged, crate::proofs::Marked::next_flagged, crate::proofs::Marked::all_flagged, crate::proofs::Marked::same_count))]
+pub(crate) fn flag_neighbours(start: hb_arabic_joining_type_t, buffer: &mut hb_buffer_t)
+    requires { IsReady buffer.old }
+    ensures { Happens (neighbour_events start None 0 (map type_of_typed (items_of buffer.old))) buffer.old buffer.new }
+{
+    let count = buffer.len();
+    let mut before = start;
+    let mut last = None;
+    for at in 0..count {
+        let joining = type_at(buffer, at);
+        flag_behind(last, joining, at, buffer);
+        last = letter_behind(before, last, joining, at);
+        before = nearest_behind(before, joining);
+    }
+}
+
+#[tactic(auto, using(crate::proofs::Marked::kept_at))]
+fn type_at(buffer: &hb_buffer_t, at: usize) -> hb_arabic_joining_type_t
+    requires ready { IsReady buffer.now }
+    requires within { at < length (all_glyphs buffer.now) }
+    ensures { Some result ≡ slice_get (map type_of_typed (items_of buffer.now)) at }
+{
+    type_kept(&buffer.info_slice()[at])
+}
+
+fn letter_behind(
+    before: hb_arabic_joining_type_t,
+    last: Option<Letter>,
+    joining: hb_arabic_joining_type_t,
+    at: usize,
+) -> Option<Letter>
+    ensures { result ≡ letter_behind before last joining at }
+{
+    if is_letter(joining) {
+        Some(Letter {
+            at,
+            joining,
+            before,
+        })
+    } else {
+        last
+    }
+}
+
+/// Flags a letter and the one before it in the text, if there is one.
+#[tactic(auto, using(text_stages::specs::Lemmas::Happened::nothing_happens))]
+fn flag_behind(
+    last: Option<Letter>,
+    joining: hb_arabic_joining_type_t,
+    at: usize,
+    buffer: &mut hb_buffer_t,
+)
+    requires ready { IsReady buffer.old }
+    requires behind { IsBehind last at }
+    requires within { at < length (all_glyphs buffer.old) }
+    requires small { at + 1 < 2 ^ 64 }
+    ensures { Happens (event_at last joining at) buffer.old buffer.new }
+{
+    if !is_letter(joining) {
+        return;
+    }
+    if let Some(letter) = last {
+        flag_between(letter, joining, at, buffer);
+    }
+}
+
+#[tactic(auto, using(crate::proofs::Marked::concat_happens, crate::proofs::Marked::tatweel_happens, text_stages::specs::Lemmas::Happened::end_of_input))]
+fn flag_between(
+    letter: Letter,
+    joining: hb_arabic_joining_type_t,
+    at: usize,
+    buffer: &mut hb_buffer_t,
+)
+    requires ready { IsReady buffer.old }
+    requires behind { letter.at < at }
+    requires within { at < length (all_glyphs buffer.old) }
+    requires small { at + 1 < 2 ^ 64 }
+    ensures { Happens (neighbours_event letter joining at ∷ []) buffer.old buffer.new }
+{
+    if keeps_form(letter, joining) {
+        buffer.unsafe_to_concat(Some(letter.at), Some(at + 1));
+    } else {
+        buffer.safe_to_insert_tatweel(Some(letter.at), Some(at + 1));
+    }
+}
+
+/// Whether a letter has the form that it has by itself before one that follows.
+fn keeps_form(letter: Letter, joining: hb_arabic_joining_type_t) -> bool
+    ensures { result ≡ (letter_form letter.before letter.joining joining == letter_form letter.before letter.joining U) }
+{
+    letter_form(letter.before, letter.joining, joining)
+        == letter_form(letter.before, letter.joining, hb_arabic_joining_type_t::U)
+}

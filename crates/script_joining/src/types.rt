@@ -1,0 +1,135 @@
+//! How a character joins.
+ghost use Rattle.std.specs.Prelude.{◌≡◌, find};
+ghost use Rattle.std.specs.Option.{option_map};
+ghost use Rattle.glyph_lists.specs.Items.{item_of};
+ghost use Rattle.script_joining.specs.Glyphs.{item_typed, number_of, type_kept, type_numbered};
+ghost use Rattle.script_joining.specs.Joining.{is_letter, nearest, nearest_behind, types_of_characters};
+ghost use Rattle.script_joining.specs.Types.{joining_type, listed_type, type_of_category, type_of_character, type_of_item};
+ghost use Rattle.glyph_lists.specs.Origins.{origin_of};
+
+use glyph_types::info::hb_glyph_info_t;
+use script_constants::{hb_arabic_joining_type_t, joining_type_of_number};
+use unicode::properties::GeneralCategory;
+use unicode_chars::{CharExt, GeneralCategoryExt};
+use unicode_tables::UnicodeTables;
+
+/// How a character of a general category joins: by its row in the tables; what has none is transparent where it is a
+/// nonspacing or an enclosing mark or a format character, else it does not join.
+pub fn joining_type(tables: &UnicodeTables, u: u32, category: u32) -> hb_arabic_joining_type_t
+    ensures { result ≡ joining_type tables.now u category }
+{
+    match listed_type(tables, u) {
+        Some(joining) => joining,
+        None => type_of_category(category),
+    }
+}
+
+fn listed_type(tables: &UnicodeTables, u: u32) -> Option<hb_arabic_joining_type_t>
+    ensures { result ≡ listed_type tables.now u }
+{
+    match char::from_u32(u) {
+        Some(c) => type_in_row(tables, c),
+        None => None,
+    }
+}
+
+fn type_in_row(tables: &UnicodeTables, c: char) -> Option<hb_arabic_joining_type_t>
+    ensures { result ≡ listed_type tables.now c }
+{
+    match tables.joining(c) {
+        Some(number) => joining_type_of_number(number),
+        None => None,
+    }
+}
+
+fn type_of_category(category: u32) -> hb_arabic_joining_type_t
+    ensures { result ≡ type_of_category category }
+{
+    let is_transparent = category == GeneralCategory::NonspacingMark.to_rb()
+        || category == GeneralCategory::EnclosingMark.to_rb()
+        || category == GeneralCategory::Format.to_rb();
+    if is_transparent {
+        hb_arabic_joining_type_t::T
+    } else {
+        hb_arabic_joining_type_t::U
+    }
+}
+
+/// How the nearest letter of a context joins, which begins next to the text.
+#[tactic(auto, using(crate::proofs::Formed::found_seen))]
+pub(crate) fn nearest_in_context(
+    tables: &UnicodeTables,
+    context: &[char],
+) -> hb_arabic_joining_type_t
+    ensures { result ≡ nearest (types_of_characters tables.now context.now) }
+{
+    first_letter(tables, context).unwrap_or(hb_arabic_joining_type_t::U)
+}
+
+fn first_letter(tables: &UnicodeTables, context: &[char]) -> Option<hb_arabic_joining_type_t>
+    ensures { result
+        ≡ option_map (type_of_character tables.now)
+        (find (λ u. is_letter (type_of_character tables.now u)) context.now) }
+{
+    let first = context
+        .iter()
+        .find(|u| is_letter(type_of_character(tables, **u)))?;
+    Some(type_of_character(tables, *first))
+}
+
+fn type_of_character(tables: &UnicodeTables, u: char) -> hb_arabic_joining_type_t
+    ensures { result ≡ type_of_character tables.now u }
+{
+    joining_type(tables, u32::from(u), u.general_category().to_rb())
+}
+
+/// A glyph that keeps how its character joins.
+pub(crate) fn typed(tables: &UnicodeTables, glyph: &hb_glyph_info_t) -> hb_glyph_info_t
+    ensures item { item_of result ≡ item_typed tables.now (item_of glyph.now) }
+    ensures origin { origin_of result ≡ origin_of glyph.now }
+{
+    let category = u32::from(glyph.unicode_props.0 & 0x1F);
+    hb_glyph_info_t {
+        auxiliary: number_of(joining_type(tables, glyph.glyph_id, category)),
+        ..*glyph
+    }
+}
+
+fn number_of(joining: hb_arabic_joining_type_t) -> u8
+    ensures { result ≡ number_of joining }
+{
+    match joining {
+        hb_arabic_joining_type_t::U => 0,
+        hb_arabic_joining_type_t::L => 1,
+        hb_arabic_joining_type_t::R => 2,
+        hb_arabic_joining_type_t::D => 3,
+        hb_arabic_joining_type_t::GroupAlaph => 4,
+        hb_arabic_joining_type_t::GroupDalathRish => 5,
+        hb_arabic_joining_type_t::T => 6,
+        hb_arabic_joining_type_t::X => 7,
+    }
+}
+
+/// How a glyph joins that keeps it.
+pub(crate) fn type_kept(glyph: &hb_glyph_info_t) -> hb_arabic_joining_type_t
+    ensures { result ≡ type_kept glyph.now }
+{
+    joining_type_of_number(glyph.auxiliary).unwrap_or(hb_arabic_joining_type_t::U)
+}
+
+/// Whether a character stands between others as a letter: all but what is transparent.
+pub(crate) fn is_letter(joining: hb_arabic_joining_type_t) -> bool
+    ensures { result ≡ is_letter joining }
+{
+    !matches!(joining, hb_arabic_joining_type_t::T)
+}
+
+/// The type of the nearest letter, once one more character was passed.
+pub(crate) fn nearest_behind(
+    before: hb_arabic_joining_type_t,
+    joining: hb_arabic_joining_type_t,
+) -> hb_arabic_joining_type_t
+    ensures { result ≡ nearest_behind before joining }
+{
+    if is_letter(joining) { joining } else { before }
+}

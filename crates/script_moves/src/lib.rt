@@ -1,0 +1,4 @@
+// Moves of glyphs within a text: the stretch merges, and comes to stand in another order.
+#![tactic(auto)]
+
+pub mod moves;

@@ -1,0 +1,58 @@
+-- The combining classes by which marks are placed where the font does not place them (Unicode Character Database, Canonical_Combining_Class, 200 to 240: each class is a place).
+use Rattle.std.specs.Prelude.{ℕ, ◌==◌, ◌&&◌, ◌||◌, Bool, nat_le, nat_lt, if◌then◌else◌, List, [], ◌∷◌}
+use Rattle.std.specs.List.{list_any}
+use Rattle.shaping_text.specs.declared.constants.TheConstants.{CCC10, CCC11, CCC12, CCC13, CCC14, CCC15, CCC16, CCC17, CCC18, CCC19, CCC20, CCC22, CCC23, CCC24, CCC25, CCC26, CCC27, CCC28, CCC29, CCC30, CCC31, CCC32, CCC33, CCC34, CCC35, CCC36, CCC103, CCC107, CCC118, CCC122, CCC129, CCC130, CCC132}
+use Rattle.glyph_lists.specs.Items.{Item}
+use Rattle.glyph_lists.specs.Readings.{View, Read}
+use Rattle.text_stages.specs.Categories.{is_nonspacing_mark}
+use Rattle.text_stages.specs.Stages.{mapped}
+
+abbrev pub is_within : ℕ → ℕ → ℕ → Bool
+is_within first last u = nat_le first u && nat_le u last
+
+-- vowel signs and marks without a class: those of Thai stand above to the right, those of Lao above
+abbrev pub is_thai_above : ℕ → Bool
+is_thai_above u = u == 0xE31 || is_within 0xE34 0xE37 u || u == 0xE47 || is_within 0xE4C 0xE4E u
+
+abbrev pub is_lao_above : ℕ → Bool
+is_lao_above u = u == 0xEB1 || is_within 0xEB4 0xEB7 u || u == 0xEBB || is_within 0xECC 0xECD u
+
+-- above to the right (232), above (230), below (220: the semivowel sign lo), else no place
+abbrev pub place_of_unclassed : ℕ → ℕ
+place_of_unclassed u = if is_thai_above u then 232 else if is_lao_above u then 230 else if u == 0xEBC then 220 else 0
+
+abbrev pub is_one_of : List ℕ → ℕ → Bool
+is_one_of classes class = list_any (λ c. class == c) classes
+
+-- points of Hebrew, the kasras of Arabic, and signs of Lao and Tibetan that stand below
+abbrev pub classes_below : List ℕ
+classes_below = CCC10 ∷ CCC11 ∷ CCC12 ∷ CCC13 ∷ CCC14 ∷ CCC15 ∷ CCC16 ∷ CCC17 ∷ CCC18 ∷ CCC20 ∷ CCC22 ∷ CCC29 ∷ CCC32 ∷ CCC118 ∷ CCC129 ∷ CCC132 ∷ []
+
+-- varika, the other marks of Arabic and Syriac, and signs of Lao and Tibetan that stand above
+abbrev pub classes_above : List ℕ
+classes_above = CCC26 ∷ CCC27 ∷ CCC28 ∷ CCC30 ∷ CCC31 ∷ CCC33 ∷ CCC34 ∷ CCC35 ∷ CCC36 ∷ CCC122 ∷ CCC130 ∷ []
+
+-- the place of a class of one script's marks: rafe is attached above (214), the points of shin and sin stand to the right and to the left; other classes stay
+abbrev pub place_of_class : ℕ → ℕ
+place_of_class class =
+    if is_one_of classes_below class then 220
+    else if is_one_of classes_above class then 230
+    else if class == CCC23 then 214
+    else if is_one_of (CCC24 ∷ CCC107 ∷ []) class then 232
+    else if is_one_of (CCC19 ∷ CCC25 ∷ []) class then 228
+    else if class == CCC103 then 222
+    else class
+
+-- the virama of Thai stands below to the right (222)
+abbrev pub place_of_mark : ℕ → ℕ → ℕ
+place_of_mark u class = if class == 0 then place_of_unclassed u else if u == 0xE3A then 222 else place_of_class class
+
+-- a class from 200 on is a place
+abbrev pub fallback_class : ℕ → ℕ → ℕ
+fallback_class u class = if nat_lt class 200 then place_of_mark u class else class
+
+abbrev pub recategorized : Item → Item
+recategorized x = if is_nonspacing_mark x then record x { class = fallback_class x.number x.class } else x
+
+abbrev pub with_places : View → Read
+with_places v = mapped recategorized v

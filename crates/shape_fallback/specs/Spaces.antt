@@ -1,0 +1,70 @@
+-- The widths of spaces that a font need not have (The Unicode Standard, section 6.2, space characters).
+use Rattle.std.specs.Prelude.{ℕ, ℤ, pos, neg_ℤ, ◌+◌, ◌*◌, ◌/◌, ◌==◌, ◌&&◌, Bool, if◌then◌else◌, List, [], ◌∷◌, Option, Some, None, bit_and}
+use Rattle.std.specs.Option.{option_or}
+use Rattle.std.specs.List.{list_any}
+use Rattle.std.specs.Int.RustNames.{int_div}
+use Rattle.shaping_text.specs.declared.direction.Direction.{Direction}
+use Rattle.shaping_text.specs.Direction.{is_horizontal}
+use Rattle.unicode_chars.specs.declared.space.TheConstants.{SPACE_EM, SPACE_EM_2, SPACE_EM_3, SPACE_EM_4, SPACE_EM_5, SPACE_EM_6, SPACE_EM_16, SPACE_4_EM_18, SPACE_FIGURE, SPACE_PUNCTUATION, SPACE_NARROW}
+use Rattle.font_face.specs.declared.parts.FaceParts.{FaceParts}
+use Rattle.font_face.specs.Glyphs.{nominal_glyph, width_of, height_of}
+use Rattle.glyph_lists.specs.Items.{Item, Position}
+use Rattle.glyph_lists.specs.Readings.{View, Read}
+use Rattle.normal_forms.specs.Characters.{is_space}
+use Rattle.text_stages.specs.Places.{placed}
+
+-- another advance along the line: a vertical line goes down
+abbrev pub advanced : Direction → ℤ → Position → Position
+advanced d a p = if is_horizontal d then record p { x_advance = a } else record p { y_advance = a }
+
+-- a length as an advance
+abbrev pub of_length : Direction → ℕ → Position → Position
+of_length d n p = advanced d (if is_horizontal d then pos n else neg_ℤ (pos n)) p
+
+-- the advance of a glyph
+abbrev pub of_glyph : Direction → FaceParts → ℕ → Position → Position
+of_glyph d font glyph p = of_length d (if is_horizontal d then width_of glyph font else height_of glyph font) p
+
+-- the glyph of the first of some characters that the font has
+abbrev pub first_glyph : List ℕ → FaceParts → Option ℕ
+first_glyph [] font = None
+first_glyph (c ∷ cs) font = option_or (nominal_glyph c font) (first_glyph cs font)
+
+abbrev pub of_found : Direction → FaceParts → Option ℕ → Position → Position
+of_found d font None p = p
+of_found d font (Some glyph) p = of_glyph d font glyph p
+
+-- digits from zero to nine, and the full stop before the comma
+abbrev pub digits : List ℕ
+digits = 0x30 ∷ 0x31 ∷ 0x32 ∷ 0x33 ∷ 0x34 ∷ 0x35 ∷ 0x36 ∷ 0x37 ∷ 0x38 ∷ 0x39 ∷ []
+
+abbrev pub stops : List ℕ
+stops = 0x2E ∷ 0x2C ∷ []
+
+-- types that are parts of an em are numbered by the part
+abbrev pub is_part_of_em : ℕ → Bool
+is_part_of_em type = list_any (λ t. type == t) (SPACE_EM ∷ SPACE_EM_2 ∷ SPACE_EM_3 ∷ SPACE_EM_4 ∷ SPACE_EM_5 ∷ SPACE_EM_6 ∷ SPACE_EM_16 ∷ [])
+
+-- half of the advance along the line, rounded toward 0
+abbrev pub half : Direction → Position → Position
+half d p = advanced d (int_div (if is_horizontal d then p.x_advance else p.y_advance) (pos 2)) p
+
+-- a space of a type: a part of an em, rounded; four eighteenths; as wide as a digit, or as a full stop; half its own width; others stay
+abbrev pub spaced : Direction → FaceParts → ℕ → Position → Position
+spaced d font type p =
+    if is_part_of_em type then of_length d ((font.upem + type / 2) / type) p
+    else if type == SPACE_4_EM_18 then of_length d (font.upem * 4 / 18) p
+    else if type == SPACE_FIGURE then of_found d font (first_glyph digits font) p
+    else if type == SPACE_PUNCTUATION then of_found d font (first_glyph stops font) p
+    else if type == SPACE_NARROW then half d p
+    else p
+
+-- a space, unless it became part of a ligature; its class keeps its type
+abbrev pub is_own_space : Item → Bool
+is_own_space x = is_space x && bit_and x.glyph_props 32 == 0
+
+abbrev pub space_position : Direction → FaceParts → Item → Position → Position
+space_position d font x p = if is_own_space x then spaced d font x.class p else p
+
+abbrev pub with_spaces : FaceParts → View → Read
+with_spaces font v = placed (space_position v.direction font) v

@@ -1,0 +1,135 @@
+//! The combining classes by which marks are placed.
+ghost use Rattle.std.specs.Prelude.{◌≡◌};
+ghost use Rattle.glyph_lists.specs.Items.{item_of};
+ghost use Rattle.glyph_lists.specs.Origins.{origin_of};
+ghost use Rattle.glyph_lists.specs.Readings.{always};
+ghost use Rattle.layout_rules.specs.Ready.{IsReady};
+ghost use Rattle.text_stages.specs.Stages.{IsFollowed};
+ghost use Rattle.shape_fallback.specs.Classes.{fallback_class, is_lao_above, is_thai_above, place_of_class, place_of_mark, place_of_unclassed, recategorized, with_places};
+
+use glyph_buffer::buffer::hb_buffer_t;
+use glyph_types::info::hb_glyph_info_t;
+use shaping_text::constants::{
+    CCC10, CCC11, CCC12, CCC13, CCC14, CCC15, CCC16, CCC17, CCC18, CCC19, CCC20, CCC22, CCC23,
+    CCC24, CCC25, CCC26, CCC27, CCC28, CCC29, CCC30, CCC31, CCC32, CCC33, CCC34, CCC35, CCC36,
+    CCC103, CCC107, CCC118, CCC122, CCC129, CCC130, CCC132,
+};
+use text_stages::categories::is_nonspacing_mark;
+use text_stages::glyphs::map_glyphs;
+
+const BELOW: u8 = 220;
+
+const BELOW_RIGHT: u8 = 222;
+
+const ATTACHED_ABOVE: u8 = 214;
+
+const ABOVE_LEFT: u8 = 228;
+
+const ABOVE: u8 = 230;
+
+const ABOVE_RIGHT: u8 = 232;
+
+/// Gives each nonspacing mark the combining class of the place where its script puts it, for a font that does not place
+/// marks. It is done while records hold characters, takes linear time and no memory.
+pub fn _hb_ot_shape_fallback_mark_position_recategorize_marks(buffer: &mut hb_buffer_t)
+    requires { IsReady buffer.old }
+    ensures { IsFollowed (always with_places) buffer.old buffer.new }
+{
+    map_glyphs(buffer, |glyph| recategorized(glyph));
+}
+
+fn recategorized(glyph: &hb_glyph_info_t) -> hb_glyph_info_t
+    ensures item { item_of result ≡ recategorized (item_of glyph.now) }
+    ensures origin { origin_of result ≡ origin_of glyph.now }
+{
+    if is_nonspacing_mark(glyph) {
+        hb_glyph_info_t {
+            modified_combining_class: recategorize_combining_class(
+                glyph.glyph_id,
+                glyph.modified_combining_class,
+            ),
+            ..*glyph
+        }
+    } else {
+        *glyph
+    }
+}
+
+/// The class of the place of a mark.
+fn recategorize_combining_class(u: u32, class: u8) -> u8
+    ensures { result ≡ fallback_class u class }
+{
+    if class < 200 {
+        place_of_mark(u, class)
+    } else {
+        class
+    }
+}
+
+fn place_of_mark(u: u32, class: u8) -> u8
+    ensures { result ≡ place_of_mark u class }
+{
+    if class == 0 {
+        place_of_unclassed(u)
+    } else if u == 0x0E3A {
+        BELOW_RIGHT
+    } else {
+        place_of_class(class)
+    }
+}
+
+fn place_of_unclassed(u: u32) -> u8
+    ensures { result ≡ place_of_unclassed u }
+{
+    if is_thai_above(u) {
+        ABOVE_RIGHT
+    } else if is_lao_above(u) {
+        ABOVE
+    } else if u == 0x0EBC {
+        BELOW
+    } else {
+        0
+    }
+}
+
+fn is_thai_above(u: u32) -> bool
+    ensures { result ≡ is_thai_above u }
+{
+    u == 0x0E31 || (0x0E34 <= u && u <= 0x0E37) || u == 0x0E47 || (0x0E4C <= u && u <= 0x0E4E)
+}
+
+fn is_lao_above(u: u32) -> bool
+    ensures { result ≡ is_lao_above u }
+{
+    u == 0x0EB1 || (0x0EB4 <= u && u <= 0x0EB7) || u == 0x0EBB || (0x0ECC <= u && u <= 0x0ECD)
+}
+
+fn place_of_class(class: u8) -> u8
+    ensures { result ≡ place_of_class class }
+{
+    match class {
+        CCC10
+        | CCC11
+        | CCC12
+        | CCC13
+        | CCC14
+        | CCC15
+        | CCC16
+        | CCC17
+        | CCC18
+        | CCC20
+        | CCC22
+        | CCC29
+        | CCC32
+        | CCC118
+        | CCC129
+        | CCC132 => BELOW,
+        CCC26 | CCC27 | CCC28 | CCC30 | CCC31 | CCC33 | CCC34 | CCC35 | CCC36 | CCC122 | CCC130 =>
+            ABOVE,
+        CCC23 => ATTACHED_ABOVE,
+        CCC24 | CCC107 => ABOVE_RIGHT,
+        CCC19 | CCC25 => ABOVE_LEFT,
+        CCC103 => BELOW_RIGHT,
+        _ => class,
+    }
+}

@@ -1,0 +1,6 @@
+// What a shaper does for a font that has no rules for marks and for spaces.
+#![tactic(auto)]
+
+pub mod classes;
+pub mod spaces;
+pub mod zeroing;

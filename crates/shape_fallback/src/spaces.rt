@@ -1,0 +1,182 @@
+//! The widths of spaces that the font need not have.
+ghost use Rattle.std.specs.Prelude.{◌≡◌, ◌<◌, ◌+◌, ◌*◌, ◌/◌, ◌^◌, true};
+ghost use Rattle.glyph_lists.specs.Items.{item_of};
+ghost use Rattle.glyph_lists.specs.Readings.{always};
+ghost use Rattle.layout_rules.specs.Ready.{IsDone, IsReady};
+ghost use Rattle.shape_fallback.specs.Spaces.{advanced, digits, first_glyph, half, is_own_space, is_part_of_em, of_found, of_glyph, of_length, space_position, spaced, stops, with_spaces};
+
+use font_face::Face;
+use glyph_buffer::buffer::hb_buffer_t;
+use glyph_types::flags::GlyphPropsFlags;
+use glyph_types::info::hb_glyph_info_t;
+use glyph_types::position::GlyphPosition;
+use shaping_text::direction::Direction;
+use text_stages::categories::is_space;
+use text_stages::positions::map_positions;
+use unicode_chars::space::{
+    SPACE_4_EM_18, SPACE_EM, SPACE_EM_2, SPACE_EM_3, SPACE_EM_4, SPACE_EM_5, SPACE_EM_6,
+    SPACE_EM_16, SPACE_FIGURE, SPACE_NARROW, SPACE_PUNCTUATION, space_t,
+};
+
+/// Gives each space that stands for one of a fixed width the advance of that width, in font units along the line. It takes
+/// linear time and no memory.
+pub fn _hb_ot_shape_fallback_spaces(face: &Face, buffer: &mut hb_buffer_t)
+    requires { IsReady buffer.old }
+    ensures { IsDone (always (with_spaces face.now)) buffer.old buffer.new }
+{
+    let direction = buffer.direction();
+    map_positions(
+        buffer,
+        |glyph, position| space_position(direction, face, glyph, position),
+    );
+}
+
+fn space_position(
+    direction: Direction,
+    face: &Face,
+    glyph: &hb_glyph_info_t,
+    position: GlyphPosition,
+) -> GlyphPosition
+    ensures { result ≡ space_position direction face.now (item_of glyph.now) position }
+{
+    if is_own_space(glyph) {
+        spaced(direction, face, glyph.modified_combining_class, position)
+    } else {
+        position
+    }
+}
+
+fn is_own_space(glyph: &hb_glyph_info_t) -> bool
+    ensures { result ≡ is_own_space (item_of glyph.now) }
+{
+    is_space(glyph) && glyph.glyph_props.0 & GlyphPropsFlags::LIGATED.0 == 0
+}
+
+fn spaced(
+    direction: Direction,
+    face: &Face,
+    space: space_t,
+    position: GlyphPosition,
+) -> GlyphPosition
+    ensures { result ≡ spaced direction face.now space position }
+{
+    if is_part_of_em(space) {
+        return of_length(direction, part_of_em(face, space), position);
+    }
+    match space {
+        SPACE_4_EM_18 => of_length(direction, four_eighteenths(face), position),
+        SPACE_FIGURE => of_found(direction, face, first_glyph(&DIGITS, face), position),
+        SPACE_PUNCTUATION => of_found(direction, face, first_glyph(&STOPS, face), position),
+        SPACE_NARROW => half(direction, position),
+        _ => position,
+    }
+}
+
+fn is_part_of_em(space: space_t) -> bool
+    ensures { result ≡ is_part_of_em space }
+{
+    matches!(
+        space,
+        SPACE_EM | SPACE_EM_2 | SPACE_EM_3 | SPACE_EM_4 | SPACE_EM_5 | SPACE_EM_6 | SPACE_EM_16
+    )
+}
+
+/// A part of an em, rounded.
+#[tactic(auto, using(crate::proofs::Parts::part_positive, crate::proofs::Parts::part_small))]
+fn part_of_em(face: &Face, part: space_t) -> u32
+    requires { is_part_of_em part ≡ true }
+    ensures value { result ≡ (face.now.upem + part / 2) / part }
+    ensures small { result < 2 ^ 31 }
+{
+    let part = u32::from(part);
+    (face.units_per_em().unsigned_abs() + part / 2) / part
+}
+
+fn four_eighteenths(face: &Face) -> u32
+    ensures value { result ≡ face.now.upem * 4 / 18 }
+    ensures small { result < 2 ^ 31 }
+{
+    let em = u64::from(face.units_per_em().unsigned_abs());
+    (em * 4 / 18) as u32
+}
+
+const DIGITS: [char; 10] = ['0', '1', '2', '3', '4', '5', '6', '7', '8', '9'];
+
+const STOPS: [char; 2] = ['.', ','];
+
+/// The glyph of the first of some characters that the font has.
+fn first_glyph(characters: &[char], face: &Face) -> Option<u16>
+    ensures { result ≡ first_glyph characters.now face.now }
+{
+    for c in characters {
+        if let Some(glyph) = face.get_nominal_glyph(*c) {
+            return Some(glyph);
+        }
+    }
+    None
+}
+
+fn of_found(
+    direction: Direction,
+    face: &Face,
+    glyph: Option<u16>,
+    position: GlyphPosition,
+) -> GlyphPosition
+    ensures { result ≡ of_found direction face.now glyph position }
+{
+    match glyph {
+        Some(glyph) => of_glyph(direction, face, glyph, position),
+        None => position,
+    }
+}
+
+fn of_glyph(direction: Direction, face: &Face, glyph: u16, position: GlyphPosition) -> GlyphPosition
+    ensures { result ≡ of_glyph direction face.now glyph position }
+{
+    let advance = if direction.is_horizontal() {
+        face.glyph_h_advance(glyph)
+    } else {
+        face.glyph_v_advance(glyph)
+    };
+    advanced(direction, advance, position)
+}
+
+fn of_length(direction: Direction, length: u32, position: GlyphPosition) -> GlyphPosition
+    requires { length < 2 ^ 31 }
+    ensures { result ≡ of_length direction length position }
+{
+    let length = length as i32;
+    let advance = if direction.is_horizontal() {
+        length
+    } else {
+        -length
+    };
+    advanced(direction, advance, position)
+}
+
+fn half(direction: Direction, position: GlyphPosition) -> GlyphPosition
+    ensures { result ≡ half direction position }
+{
+    let advance = if direction.is_horizontal() {
+        position.x_advance / 2
+    } else {
+        position.y_advance / 2
+    };
+    advanced(direction, advance, position)
+}
+
+fn advanced(direction: Direction, advance: i32, position: GlyphPosition) -> GlyphPosition
+    ensures { result ≡ advanced direction advance position }
+{
+    if direction.is_horizontal() {
+        GlyphPosition {
+            x_advance: advance,
+            ..position
+        }
+    } else {
+        GlyphPosition {
+            y_advance: advance,
+            ..position
+        }
+    }
+}

@@ -1,0 +1,18 @@
+-- Classes of glyphs before the first lookup (OpenType, GDEF).
+use Rattle.std.specs.Prelude.{ℕ, nat_le, if◌then◌else◌}
+use Rattle.font_face.specs.declared.parts.FaceParts.{FaceParts}
+use Rattle.layout_gsub.specs.Replacements.{glyph_props_of}
+use Rattle.glyph_lists.specs.Items.{Item}
+use Rattle.glyph_lists.specs.Readings.{View, Read}
+use Rattle.text_stages.specs.Stages.{mapped}
+
+-- a number that no glyph can have has no class
+abbrev pub first_props : FaceParts → ℕ → ℕ
+first_props font n = if nat_le n 65535 then glyph_props_of font.gdef n else 0
+
+-- the class that the font gives the glyph, which is of no ligature yet
+abbrev pub begun : FaceParts → Item → Item
+begun font x = record x { glyph_props = first_props font x.number; lig_props = 0 }
+
+abbrev pub with_font_classes : FaceParts → View → Read
+with_font_classes font v = mapped (begun font) v

@@ -1,0 +1,45 @@
+//! What layout keeps of glyphs, as it stands before the first lookup.
+ghost use Rattle.std.specs.Prelude.{◌≡◌};
+ghost use Rattle.glyph_lists.specs.Readings.{always};
+ghost use Rattle.layout_rules.specs.Ready.{IsDone, IsReady};
+ghost use Rattle.shape_glyphs.specs.Classes.{begun, first_props, with_font_classes};
+
+use font_face::Face;
+use glyph_buffer::buffer::hb_buffer_t;
+use glyph_types::flags::GlyphPropsFlags;
+use glyph_types::info::hb_glyph_info_t;
+use layout_gsub::replacement::glyph_props;
+use text_stages::glyphs::map_glyphs;
+
+/// Begins substitution: each glyph has the class that the font's GDEF table gives it, and is of no ligature. It takes no
+/// memory, and time linear in the glyphs, each with a search in the font's classes.
+pub fn hb_ot_layout_substitute_start(face: &Face, buffer: &mut hb_buffer_t)
+    requires { IsReady buffer.old }
+    ensures { IsDone (always (with_font_classes face.now)) buffer.old buffer.new }
+{
+    _hb_ot_layout_set_glyph_props(face, buffer);
+}
+
+/// Gives each glyph its class by the font's GDEF table.
+pub fn _hb_ot_layout_set_glyph_props(face: &Face, buffer: &mut hb_buffer_t)
+    requires { IsReady buffer.old }
+    ensures { IsDone (always (with_font_classes face.now)) buffer.old buffer.new }
+{
+    map_glyphs(
+        buffer,
+        |glyph| hb_glyph_info_t {
+            glyph_props: first_props(face, glyph.glyph_id),
+            lig_props: 0,
+            ..*glyph
+        },
+    );
+}
+
+fn first_props(face: &Face, glyph: u32) -> GlyphPropsFlags
+    ensures { result.0 ≡ first_props face.now glyph }
+{
+    match u16::try_from(glyph) {
+        Ok(glyph) => glyph_props(face, glyph),
+        Err(_) => GlyphPropsFlags(0),
+    }
+}

@@ -1,0 +1,10 @@
+use Rattle.std.proofs.Common.{sym, ap, ◌∙◌}
+use Rattle.glyph_lists.specs.Items.{strip}
+use Rattle.normal_forms.specs.NormalizedList.{has_later_mark}
+use Rattle.shape_normalize.proofs.Whole.{later_mark_seen}
+use Rattle.shape_normalize.proofs.normalize.has_later_mark.Goals as goal
+
+pub returns : goal.returns
+returns c =
+    let whole = c.in-Some.ensures.cases.0 in
+    c.has_mark.ensures ∙ (sym (later_mark_seen c.in-Some.field-0-0.now c.in-Some.rest.now) ∙ ap (λ gs. has_later_mark (strip gs)) (sym whole))

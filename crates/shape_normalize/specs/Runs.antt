@@ -1,0 +1,38 @@
+-- Runs of marks on a buffer, as they are met one after another.
+use Rattle.std.specs.Prelude.{ℕ, Bool, ◌≡◌, ◌+◌, ◌==◌, ◌++◌, true, false, List, [], ◌∷◌, length, map}
+use Rattle.glyph_lists.specs.Items.{Item}
+use Rattle.glyph_lists.specs.Events.{Sort}
+use Rattle.glyph_buffer.specs.Sides.{Sides, items_of, origins_of}
+use Rattle.layout_rules.specs.Ready.{IsReady}
+use Rattle.unicode_tables.specs.ClassOrder.{run_order}
+use Rattle.normal_forms.specs.Arranged.{Arranged}
+use Rattle.normal_forms.specs.Characters.{mark_class}
+use Rattle.normal_forms.specs.Ordering.{arranged_run, joiner_between, sorted_order}
+use Rattle.normal_rounds.specs.Brought.{frame_of}
+use Rattle.normal_rounds.specs.Rearranged.{IsRearranged}
+
+-- items put in the order of their classes
+abbrev pub in_class_order : List Item → Arranged
+in_class_order run = record { items = run_order mark_class run; events = Sort 0 (sorted_order (map mark_class run)) ∷ [] }
+
+-- an item of class 0 ended the run that stands before it, which was arranged; another joins it
+abbrev pub RunsOn : Bool → (List Item → Arranged) → List Item → List Item → List Item → ℕ → ℕ → ℕ → Sides → Sides → Type 0
+RunsOn true reorders front run rest start i n old new = (n ≡ i + 1) × (length (arranged_run reorders run).items ≡ length run) × IsRearranged front (arranged_run reorders run) rest old new
+RunsOn false reorders front run rest start i n old new = (n ≡ start) × (new ≡ old)
+
+-- the item at an index was met, behind a run from `start` on; the next run begins there
+abbrev pub Meets : (List Item → Arranged) → ℕ → ℕ → ℕ → Sides → Sides → Type 0
+Meets reorders start i n old new = (front run : List Item) (y : Item) (ys : List Item) → items_of old ≡ front ++ (run ++ y ∷ ys) → length front ≡ start → start + length run ≡ i
+    → RunsOn (mark_class y == 0) reorders front run (y ∷ ys) start i n old new
+
+-- other items, and all else stays
+pub record HasItems (xs : List Item) (old new : Sides) : Type 0 where
+  pub items : items_of new ≡ xs
+  pub origins : origins_of new ≡ origins_of old
+  pub frame : frame_of new ≡ frame_of old
+  pub ready : IsReady new
+
+-- the item at an index, behind one of a class and before another, is shown where it is a joiner that keeps nothing apart
+abbrev pub ShowsAt : ℕ → ℕ → ℕ → Sides → Sides → Type 0
+ShowsAt k i n old new = (front : List Item) (before x y : Item) (ys : List Item) → items_of old ≡ front ++ (x ∷ y ∷ ys) → length front ≡ i → mark_class before ≡ k
+    → (n ≡ mark_class x) × HasItems (front ++ (joiner_between before x y ∷ y ∷ ys)) old new

@@ -1,0 +1,120 @@
+//! The third round: marks are composed with their base.
+ghost use Rattle.std.specs.Prelude.{◌≡◌, ◌<◌, ◌≤◌, length, drop, slice_get, Some, IfErr, OnOk};
+ghost use Rattle.glyph_lists.specs.Items.{Item, strip};
+ghost use Rattle.glyph_buffer.specs.Sides.{all_glyphs, moved_on, origins_by, origins_of};
+ghost use Rattle.glyph_buffer.specs.Lending.{with_glyph_ahead};
+ghost use Rattle.glyph_buffer.specs.Moving.{moved_to};
+ghost use Rattle.normal_forms.specs.Characters.{standing_for, with_glyph};
+ghost use Rattle.normal_rounds.specs.Brought.{frame_of};
+ghost use Rattle.shape_normalize.specs.Composed.{composition_events, HasRoom, IsComposed, IsWritten};
+
+use glyph_buffer::buffer::hb_buffer_t;
+use glyph_types::cause::ShapeCause;
+use glyph_types::info::hb_glyph_info_t;
+use normal_rounds::characters::becoming;
+use normal_rounds::normalizing::Normalizing;
+
+/// Takes the cursor past a glyph of a list that the output may hold.
+#[tactic(auto, using(crate::proofs::Room::fits_next_glyph))]
+pub(crate) fn pass_glyph(buffer: &mut hb_buffer_t) -> Result<(), ShapeCause>
+    requires room { HasRoom buffer.old }
+    requires there { 0 < length buffer.old.ahead }
+    ensures moved { OnOk result (buffer.new ≡ moved_on 1 buffer.old) }
+    ensures kept { OnOk result (all_glyphs buffer.new ≡ all_glyphs buffer.old) }
+    ensures err { IfErr result (λ e. e ≡ ShapeCause.OutOfMemory) }
+{
+    if !buffer.next_glyph()? {
+        return Err(ShapeCause::TooLong);
+    }
+    Ok(())
+}
+
+/// Takes the cursor to a place of a list that either side may hold.
+#[tactic(auto, using(crate::proofs::Room::fits_going))]
+fn go_to(at: usize, buffer: &mut hb_buffer_t) -> Result<(), ShapeCause>
+    requires room { HasRoom buffer.old }
+    requires within { at ≤ length (all_glyphs buffer.old) }
+    ensures moved { OnOk result (buffer.new ≡ moved_to at buffer.old) }
+    ensures kept { OnOk result (all_glyphs buffer.new ≡ all_glyphs buffer.old) }
+    ensures err { IfErr result (λ e. e ≡ ShapeCause.OutOfMemory) }
+{
+    if !buffer.move_to(at)? {
+        return Err(ShapeCause::TooLong);
+    }
+    Ok(())
+}
+
+/// The output merges from a starter to the mark at the cursor, and the mark goes.
+fn take_mark(starter: usize, buffer: &mut hb_buffer_t) -> Result<(), ShapeCause>
+    requires room { HasRoom buffer.old }
+    requires there { 0 < length buffer.old.ahead }
+    requires behind { starter < length buffer.old.behind }
+    ensures happened { OnOk result (origins_of buffer.new
+        ≡ origins_by (composition_events starter (length buffer.old.behind)) buffer.old) }
+    ensures behind { OnOk result (strip buffer.new.behind ≡ strip buffer.old.behind) }
+    ensures ahead { OnOk result (strip buffer.new.ahead ≡ drop 1 (strip buffer.old.ahead)) }
+    ensures frame { OnOk result (frame_of buffer.new ≡ frame_of buffer.old) }
+    ensures err { IfErr result (λ e. e ≡ ShapeCause.OutOfMemory) }
+{
+    let count = buffer.out_len();
+    pass_glyph(buffer)?;
+    let end = buffer.out_len();
+    buffer.merge_out_clusters(starter, end);
+    go_to(count, buffer)?;
+    buffer.skip_glyph();
+    Ok(())
+}
+
+/// Writes the i-th glyph from the cursor on.
+pub(crate) fn write_ahead(i: usize, info: hb_glyph_info_t, buffer: &mut hb_buffer_t)
+    requires { i < length buffer.old.ahead }
+    ensures { buffer.new ≡ with_glyph_ahead i info buffer.old }
+{
+    *buffer.cur_mut(i) = info;
+}
+
+/// Writes a glyph of the output. The cursor goes there and back, so that what is known of the clusters' order stays known.
+fn write_out(at: usize, info: hb_glyph_info_t, buffer: &mut hb_buffer_t) -> Result<(), ShapeCause>
+    requires room { HasRoom buffer.old }
+    requires there { at < length buffer.old.behind }
+    ensures ok { OnOk result (IsWritten at info buffer.old buffer.new) }
+    ensures err { IfErr result (λ e. e ≡ ShapeCause.OutOfMemory) }
+{
+    let count = buffer.out_len();
+    go_to(at, buffer)?;
+    write_ahead(0, info, buffer);
+    go_to(count, buffer)?;
+    Ok(())
+}
+
+/// A glyph of the output.
+pub(crate) fn out_at(at: usize, buffer: &hb_buffer_t) -> hb_glyph_info_t
+    requires { at < length buffer.now.behind }
+    ensures { slice_get buffer.now.behind at ≡ Some result }
+{
+    buffer.out_info()[at]
+}
+
+/// The mark at the cursor and a glyph of the output become a character, where the glyph stands. It takes the time of a walk
+/// over what stands between the two.
+pub(crate) fn compose_mark<N: Normalizing>(
+    by: &N,
+    starter: usize,
+    u: char,
+    glyph: u32,
+    buffer: &mut hb_buffer_t,
+) -> Result<(), ShapeCause>
+    requires room { HasRoom buffer.old }
+    requires there { 0 < length buffer.old.ahead }
+    requires behind { starter < length buffer.old.behind }
+    ensures ok { OnOk result ((x : Item) → slice_get (strip buffer.old.behind) starter ≡ Some x
+        → IsComposed starter (with_glyph glyph (standing_for (N.normalizer by.now).tables u x))
+        buffer.old buffer.new) }
+    ensures err { IfErr result (λ e. e ≡ ShapeCause.OutOfMemory) }
+{
+    take_mark(starter, buffer)?;
+    let last = out_at(starter, buffer);
+    let info = becoming(by, &last, u, glyph);
+    write_out(starter, info, buffer)?;
+    Ok(())
+}

@@ -1,0 +1,83 @@
+//! Grapheme joiners that keep nothing apart are shown.
+ghost use Rattle.std.specs.Prelude.{◌≡◌, ◌<◌, ◌≤◌, ◌+◌, ◌==◌, ◌||◌, nat_le, length};
+ghost use Rattle.glyph_lists.specs.Items.{item_of};
+ghost use Rattle.glyph_lists.specs.Origins.{origin_of};
+ghost use Rattle.glyph_buffer.specs.Sides.{items_of};
+ghost use Rattle.layout_rules.specs.Ready.{IsReady};
+ghost use Rattle.normal_forms.specs.Characters.{shown};
+ghost use Rattle.normal_forms.specs.Ordering.{joiners_shown};
+ghost use Rattle.shape_normalize.specs.Runs.{HasItems, ShowsAt};
+
+use crate::composing::write_ahead;
+use glyph_buffer::buffer::hb_buffer_t;
+use glyph_types::flags::UnicodeProps;
+use glyph_types::info::hb_glyph_info_t;
+use normal_rounds::characters::mark_class;
+
+/// COMBINING GRAPHEME JOINER.
+const JOINER: u32 = 0x034F;
+
+/// Whether a joiner between items of two classes keeps nothing apart.
+fn keeps_nothing_apart(before: u8, after: u8) -> bool
+    ensures { result ≡ (after == 0 || nat_le before after) }
+{
+    after == 0 || before <= after
+}
+
+/// A character that is no longer hidden.
+fn shown(info: &hb_glyph_info_t) -> hb_glyph_info_t
+    ensures item { item_of result ≡ shown (item_of info.now) }
+    ensures origin { origin_of result ≡ origin_of info.now }
+{
+    let word = info.unicode_props.0;
+    hb_glyph_info_t {
+        unicode_props: UnicodeProps(word - (word & UnicodeProps::HIDDEN.0)),
+        ..*info
+    }
+}
+
+/// Shows the item at an index, behind one of a class, where it is a joiner that keeps nothing apart; answers the item's class.
+fn show_joiner(before: u8, i: usize, buffer: &mut hb_buffer_t) -> u8
+    requires ready { IsReady buffer.old }
+    requires there { i + 1 < length buffer.old.ahead }
+    ensures { ShowsAt before i result buffer.old buffer.new }
+{
+    let _count = buffer.len();
+    let glyph = *buffer.cur(i);
+    let class = mark_class(&glyph);
+    if glyph.glyph_id != JOINER {
+        return class;
+    }
+    let after = mark_class(buffer.cur(i + 1));
+    if !keeps_nothing_apart(before, after) {
+        return class;
+    }
+    write_ahead(i, shown(&glyph), buffer);
+    class
+}
+
+/// Shows each joiner between two of so many items that keeps nothing apart.
+fn show_between(count: usize, buffer: &mut hb_buffer_t)
+    requires ready { IsReady buffer.old }
+    requires counted { count ≡ length buffer.old.ahead }
+    requires some { 2 ≤ count }
+    ensures { HasItems (joiners_shown (items_of buffer.old)) buffer.old buffer.new }
+{
+    let mut before = mark_class(buffer.cur(0));
+    for i in 1..count - 1 {
+        before = show_joiner(before, i, buffer);
+    }
+}
+
+/// Shows each grapheme joiner between two items where the class behind it is 0, or not less than the one before it. It takes
+/// linear time.
+pub(crate) fn show_joiners(buffer: &mut hb_buffer_t)
+    requires ready { IsReady buffer.old }
+    ensures { HasItems (joiners_shown (items_of buffer.old)) buffer.old buffer.new }
+{
+    let count = buffer.lookahead_len();
+    if count < 2 {
+        return;
+    }
+    show_between(count, buffer);
+}

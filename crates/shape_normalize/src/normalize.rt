@@ -1,0 +1,105 @@
+//! The normal form that a text gets for a font.
+ghost use Rattle.std.specs.Prelude.{◌≡◌, ◌≢◌, length, IfErr, OnOk, Err};
+ghost use Rattle.std.specs.List.{list_any};
+ghost use Rattle.glyph_lists.specs.Items.{item_of, strip};
+ghost use Rattle.glyph_lists.specs.Readings.{read_of};
+ghost use Rattle.glyph_buffer.specs.Sides.{all_glyphs, items_of, run_of, zero_positions};
+ghost use Rattle.layout_rules.specs.Ready.{IsReady};
+ghost use Rattle.text_stages.specs.Stages.{IsFollowed};
+ghost use Rattle.normal_forms.specs.Characters.{is_mark};
+ghost use Rattle.normal_forms.specs.Normalizer.{is_composing};
+ghost use Rattle.normal_forms.specs.NormalizedList.{arranged_marks, has_later_mark};
+ghost use Rattle.shape_normalize.specs.Rounds.{IsArranged, normalization};
+
+use crate::joiners::show_joiners;
+use crate::ordering::arrange_runs;
+use crate::rounds::{compose_characters, expand_characters};
+use glyph_buffer::buffer::hb_buffer_t;
+use glyph_types::cause::ShapeCause;
+use glyph_types::info::hb_glyph_info_t;
+use normal_forms::NormalizationMode;
+use normal_rounds::normalizing::Normalizing;
+use std::alloc::Global;
+use text_stages::categories::is_mark;
+
+/// Whether marks are composed with their base.
+fn is_composing(mode: NormalizationMode) -> bool
+    ensures { result ≡ is_composing mode }
+{
+    match mode {
+        NormalizationMode::None | NormalizationMode::Decomposed => false,
+        NormalizationMode::ComposedDiacritics
+        | NormalizationMode::ComposedDiacriticsNoShortCircuit
+        | NormalizationMode::Auto => true,
+    }
+}
+
+fn has_mark(glyphs: &[hb_glyph_info_t]) -> bool
+    ensures { result ≡ list_any (λ g. is_mark (item_of g)) glyphs.now }
+{
+    glyphs.iter().any(|glyph| is_mark(glyph))
+}
+
+/// Whether a mark stands past the first item.
+#[tactic(auto, using(crate::proofs::Whole::later_mark_seen))]
+fn has_later_mark(glyphs: &[hb_glyph_info_t]) -> bool
+    ensures { result ≡ has_later_mark (strip glyphs.now) }
+{
+    let Some((_, rest)) = glyphs.split_first() else {
+        return false;
+    };
+    has_mark(rest)
+}
+
+/// Puts marks in order and composes them where one stands past the text's first item, and shows joiners.
+#[tactic(auto, using(crate::proofs::Whole::marks_alone, crate::proofs::Whole::marks_ordered, crate::proofs::Whole::marks_composed))]
+fn arrange_marks<N: Normalizing>(
+    by: &N,
+    alloc: Global,
+    has_later_mark: bool,
+    buffer: &mut hb_buffer_t,
+) -> Result<(), ShapeCause>
+    requires ready { IsReady buffer.old }
+    requires placed { buffer.old.positions ≡ zero_positions (length (all_glyphs buffer.old)) }
+    ensures ok { OnOk result (IsArranged (arranged_marks has_later_mark (N.normalizer by.now) (items_of buffer.old)) buffer.old buffer.new) }
+    ensures err { IfErr result (λ e. e ≡ ShapeCause.OutOfMemory) }
+{
+    if !has_later_mark {
+        show_joiners(buffer);
+        return Ok(());
+    }
+    arrange_runs(by, alloc, buffer)?;
+    show_joiners(buffer);
+    if !is_composing(by.mode()) {
+        return Ok(());
+    }
+    compose_characters(by, buffer)?;
+    Ok(())
+}
+
+/// Puts a text in the normal form that a font and a shaper want. Characters are split as far as they want it, and each gets
+/// the font's glyph; a selector joins the character before it where the font has the pair. Where a mark stands past the
+/// text's first character, runs of at most 32 marks are put in the order of their classes and marks are composed with their
+/// base as far as the font has what they compose to. Grapheme joiners that keep no two marks apart are shown. Positions are
+/// nothing then.
+///
+/// It takes linear time, but for the walk from each mark that is composed back to its base.
+///
+/// # Errors
+///
+/// `TooLong` where the text would split into more characters than the buffer may hold, or want of memory.
+pub fn _hb_ot_shape_normalize<N: Normalizing>(
+    by: &N,
+    alloc: Global,
+    buffer: &mut hb_buffer_t,
+) -> Result<(), ShapeCause>
+    requires ready { IsReady buffer.old }
+    ensures ok { OnOk result (IsFollowed (normalization (N.normalizer by.now)) buffer.old buffer.new) }
+    ensures err { IfErr result (λ e. e ≢ ShapeCause.OutOfMemory
+        → read_of (normalization (N.normalizer by.now)) (run_of buffer.old) ≡ Err e) }
+{
+    let is_marked = has_later_mark(buffer.info_slice());
+    expand_characters(by, buffer)?;
+    arrange_marks(by, alloc, is_marked, buffer)?;
+    Ok(())
+}

@@ -1,0 +1,146 @@
+//! The second round: each run of marks is put in the order of its classes, and the shaper has its say.
+ghost use Rattle.std.specs.Prelude.{◌≡◌, ◌<◌, ◌≤◌, ◌++◌, ◌∷◌, [], false, length, map, take, drop, slice_get, slice_range, Some, IfErr, IfOk, OnOk};
+ghost use Rattle.glyph_lists.specs.Events.{Sort};
+ghost use Rattle.glyph_lists.specs.Items.{item_of};
+ghost use Rattle.glyph_slices.specs.Events.{order_of};
+ghost use Rattle.glyph_buffer.specs.Sides.{all_glyphs, items_of, origins_by, origins_of};
+ghost use Rattle.glyph_buffer.specs.Sorting.{with_range_sorted};
+ghost use Rattle.layout_rules.specs.Ready.{IsReady};
+ghost use Rattle.stable_order.specs.Keys.{key_order};
+ghost use Rattle.normal_forms.specs.Characters.{mark_class};
+ghost use Rattle.normal_forms.specs.Ordering.{arranged_run, ordered_list};
+ghost use Rattle.normal_rounds.specs.Rearranged.{IsRearranged, Rearranges};
+ghost use Rattle.shape_normalize.specs.Runs.{in_class_order, Meets};
+
+use glyph_buffer::buffer::hb_buffer_t;
+use glyph_types::cause::ShapeCause;
+use glyph_types::info::hb_glyph_info_t;
+use normal_forms::MAX_COMBINING_MARKS;
+use normal_rounds::characters::mark_class;
+use normal_rounds::normalizing::Normalizing;
+use std::alloc::{AllocError, Global};
+
+/// Puts what stands from `start` up to before `end` in the order of its classes, items of one class in the order that they
+/// have; each smallest span that this permutes merges.
+fn sort_marks(
+    alloc: Global,
+    start: usize,
+    end: usize,
+    buffer: &mut hb_buffer_t,
+) -> Result<(), AllocError>
+    requires closed { buffer.old.is_open ≡ false }
+    requires ordered { start ≤ end }
+    requires within { end ≤ length (all_glyphs buffer.old) }
+    ensures sorted { OnOk result
+        (buffer.new ≡ with_range_sorted start end (λ g. mark_class (item_of g)) buffer.old) }
+    ensures items { OnOk result (items_of buffer.new
+        ≡ take start (items_of buffer.old) ++ key_order mark_class (slice_range (items_of buffer.old) start end)
+        ++ drop end (items_of buffer.old)) }
+    ensures origins { OnOk result (origins_of buffer.new
+        ≡ origins_by (Sort start (order_of (map mark_class (slice_range (items_of buffer.old) start end))) ∷ [])
+        buffer.old) }
+    ensures count { length (all_glyphs buffer.new) ≡ length (all_glyphs buffer.old) }
+{
+    buffer.sort(alloc, start, end, |glyph| u32::from(mark_class(glyph)))
+}
+
+/// Puts a run of marks in the order of its classes.
+fn sort_run(
+    alloc: Global,
+    start: usize,
+    end: usize,
+    buffer: &mut hb_buffer_t,
+) -> Result<(), ShapeCause>
+    requires ready { IsReady buffer.old }
+    requires ordered { start ≤ end }
+    requires within { end ≤ length (all_glyphs buffer.old) }
+    ensures ok { OnOk result (Rearranges in_class_order start end buffer.old buffer.new) }
+    ensures ready { OnOk result (IsReady buffer.new) }
+    ensures count { OnOk result (length (all_glyphs buffer.new) ≡ length (all_glyphs buffer.old)) }
+    ensures err { IfErr result (λ e. e ≡ ShapeCause.OutOfMemory) }
+{
+    sort_marks(alloc, start, end, buffer)?;
+    Ok(())
+}
+
+/// Puts a run in order, and has the shaper rewrite it; a run of more than 32 stays.
+fn arrange_run<N: Normalizing>(
+    by: &N,
+    alloc: Global,
+    start: usize,
+    end: usize,
+    buffer: &mut hb_buffer_t,
+) -> Result<(), ShapeCause>
+    requires ready { IsReady buffer.old }
+    requires ordered { start ≤ end }
+    requires within { end ≤ length (all_glyphs buffer.old) }
+    ensures ok { OnOk result (Rearranges (arranged_run (N.normalizer by.now).reorders) start end buffer.old buffer.new) }
+    ensures count { OnOk result (length (all_glyphs buffer.new) ≡ length (all_glyphs buffer.old)) }
+    ensures err { IfErr result (λ e. e ≡ ShapeCause.OutOfMemory) }
+{
+    let count = end - start;
+    if count == 0 {
+        return Ok(());
+    }
+    if MAX_COMBINING_MARKS < count {
+        return Ok(());
+    }
+    sort_run(alloc, start, end, buffer)?;
+    by.reorder_marks(buffer, start, end);
+    Ok(())
+}
+
+fn item_at(i: usize, buffer: &hb_buffer_t) -> hb_glyph_info_t
+    requires ready { IsReady buffer.now }
+    requires there { i < length (all_glyphs buffer.now) }
+    ensures { slice_get (all_glyphs buffer.now) i ≡ Some result }
+{
+    buffer.info_slice()[i]
+}
+
+/// Goes on by one item behind the run from `start` on, and answers where the next run begins.
+fn arrange_next<N: Normalizing>(
+    by: &N,
+    alloc: Global,
+    start: usize,
+    i: usize,
+    buffer: &mut hb_buffer_t,
+) -> Result<usize, ShapeCause>
+    requires ready { IsReady buffer.old }
+    requires ordered { start ≤ i }
+    requires there { i < length (all_glyphs buffer.old) }
+    ensures ok { IfOk result (λ n. Meets (N.normalizer by.now).reorders start i n buffer.old buffer.new) }
+    ensures err { IfErr result (λ e. e ≡ ShapeCause.OutOfMemory) }
+{
+    let _count = buffer.len();
+    let glyph = item_at(i, buffer);
+    if mark_class(&glyph) != 0 {
+        return Ok(start);
+    }
+    arrange_run(by, alloc, start, i, buffer)?;
+    Ok(i + 1)
+}
+
+/// Puts each run of marks in the order of its classes, where it stands, and has the shaper rewrite it; runs of more than 32
+/// stay. It takes linear time.
+///
+/// # Errors
+///
+/// Want of memory.
+pub(crate) fn arrange_runs<N: Normalizing>(
+    by: &N,
+    alloc: Global,
+    buffer: &mut hb_buffer_t,
+) -> Result<(), ShapeCause>
+    requires ready { IsReady buffer.old }
+    ensures ok { OnOk result (IsRearranged [] (ordered_list (N.normalizer by.now).reorders (items_of buffer.old)) [] buffer.old buffer.new) }
+    ensures err { IfErr result (λ e. e ≡ ShapeCause.OutOfMemory) }
+{
+    let count = buffer.len();
+    let mut start = 0;
+    for i in 0..count {
+        start = arrange_next(by, alloc, start, i, buffer)?;
+    }
+    arrange_run(by, alloc, start, count, buffer)?;
+    Ok(())
+}
