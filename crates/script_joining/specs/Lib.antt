@@ -3,3 +3,5 @@ pub mod Forms
 pub mod Joining
 pub mod Glyphs
 pub mod Flagged
+pub mod Marks
+pub mod Classed

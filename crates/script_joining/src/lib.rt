@@ -4,6 +4,7 @@
 mod flags;
 mod forms;
 mod letters;
+pub mod marks;
 mod masks;
 mod types;
 

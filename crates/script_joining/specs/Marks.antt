@@ -1,0 +1,47 @@
+-- The order of Arabic marks (UTR 53, Unicode Arabic mark rendering).
+use Rattle.std.specs.Prelude.{ℕ, ◌+◌, ◌==◌, ◌&&◌, Bool, nat_lt, if◌then◌else◌, List, [], ◌∷◌, drop, slice_range}
+use Rattle.std.specs.List.{list_any, prefix_len}
+use Rattle.normal_forms.specs.Characters.{mark_class}
+use Rattle.glyph_lists.specs.Items.{Item}
+use Rattle.glyph_lists.specs.Origins.{changed_within}
+use Rattle.glyph_lists.specs.Readings.{View, Read, then_read, with_events}
+use Rattle.script_moves.specs.Moves.{with_move}
+
+-- the modifier combining marks
+abbrev pub modifier_marks : List ℕ
+modifier_marks =
+    0x0654 ∷ 0x0655 ∷ 0x0658 ∷ 0x06DC ∷ 0x06E3 ∷ 0x06E7 ∷ 0x06E8 ∷ 0x08CA ∷ 0x08CB ∷ 0x08CD ∷ 0x08CE ∷ 0x08CF ∷ 0x08D3 ∷ 0x08F3 ∷ []
+
+abbrev pub is_modifier_of : ℕ → Item → Bool
+is_modifier_of class x = mark_class x == class && list_any (λ u. u == x.number) modifier_marks
+
+-- how many marks of a run stand before those of a class
+abbrev pub count_below : ℕ → List Item → ℕ
+count_below class run = prefix_len (λ x. nat_lt (mark_class x) class) run
+
+-- how many modifier marks lead those of a class
+abbrev pub count_leading : ℕ → List Item → ℕ
+count_leading class run = prefix_len (is_modifier_of class) (drop (count_below class run) run)
+
+abbrev pub classed : ℕ → Item → Item
+classed class x = record x { class = class }
+
+abbrev pub reclassed : ℕ → ℕ → ℕ → Read → Read
+reclassed class from to r = record r { view = record r.view { items = changed_within (classed class) from to r.view.items } }
+
+-- so many modifier marks, behind so many others, come to stand at the start of a run and take another class; the marks from the start of the run to their end merge
+abbrev pub led : ℕ → ℕ → ℕ → ℕ → View → Read
+led class start below leading v = if leading == 0 then with_events [] v else reclassed class start (start + leading) (with_move start below leading v)
+
+abbrev pub run_of_items : ℕ → ℕ → View → List Item
+run_of_items start end v = slice_range v.items start end
+
+-- the modifier marks that lead those of a class lead the run
+abbrev pub with_leading : ℕ → ℕ → ℕ → ℕ → View → Read
+with_leading class new start end v = led new start (count_below class (run_of_items start end v)) (count_leading class (run_of_items start end v)) v
+
+-- the class 220 of marks below comes first, and takes the class of CCC22; then 230 of those above, with the class of CCC26
+abbrev pub marks_reordered : ℕ → ℕ → View → Read
+marks_reordered start end v =
+    let below : Read = with_leading 220 25 start end v in
+    then_read below (with_leading 230 26 (start + count_leading 220 (run_of_items start end v)) end below.view)
