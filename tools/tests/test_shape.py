@@ -92,6 +92,7 @@ class Given(unittest.TestCase):
 
 
 @unittest.skipUnless(PROGRAM.exists(), "needs the program (tools/build)")
+@unittest.skipUnless(shutil.which("hb-shape"), "needs hb-shape")
 class Shaped(unittest.TestCase):
     def test_lines(self) -> None:
         """DejaVu Sans has ligatures in these words; HarfBuzz is told not to kern."""

@@ -1,3 +1,5 @@
 pub mod Placed
 pub mod Read
+pub mod Nearest
 pub mod Paired
+pub mod Attached

@@ -1,11 +1,14 @@
 // table_bench: asks a table of some 5,000 characters, spread like those of Unicode's tables, for a million characters:
 // of running text, at random, and of text that the table lacks, by halves and by pages; and tells on standard error how
-// long a look-up took.
+// long a look-up took. Then it asks tables of the size of a large font's, by halves.
 #![tactic(auto)]
 
 ghost use Rattle.std.specs.Prelude.{◌≡◌, IfOk};
 ghost use Rattle.sorted_rows.specs.Keys.{numbers_rise};
 
+mod fonts;
+
+use fonts::ask_font;
 use sorted_rows::{Keyed, Numbered, PagedRows, SortedRows, is_rising};
 use std::alloc::{AllocError, Global};
 use std::io;
@@ -152,5 +155,6 @@ fn run(rt: &HostRuntime) -> io::Result<()> {
 
 fn main(rt: HostRuntime) -> io::Result<ExitCode> {
     run(&rt)?;
+    ask_font(&rt)?;
     Ok(ExitCode::SUCCESS)
 }

@@ -1,0 +1,2 @@
+pub mod Hebrew
+pub mod Places

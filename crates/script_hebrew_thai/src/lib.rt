@@ -1,0 +1,4 @@
+// What the shapers of Hebrew, Thai and Lao do to a text.
+#![tactic(auto)]
+
+pub mod hebrew;
