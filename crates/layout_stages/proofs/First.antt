@@ -1,5 +1,5 @@
 -- What a lookup makes of the glyph at the cursor.
-use Rattle.std.proofs.Common.{ℕ, ◌≡◌, true, false, [], refl, sym, ap, subst, ◌∙◌, slice_get, Some}
+use Rattle.std.proofs.Common.{ℕ, ◌≡◌, true, false, List, [], refl, sym, ap, subst, ◌∙◌, slice_get, Some}
 use Rattle.std.specs.Prelude.{Bool, Result}
 use Rattle.glyph_types.specs.declared.cause.ShapeCause.{ShapeCause}
 use Rattle.glyph_types.specs.declared.info.hb_glyph_info_t.{hb_glyph_info_t}
@@ -13,7 +13,7 @@ use Rattle.layout_rules.specs.Performing.{cut_with, Performed, Performs, Perform
 use Rattle.layout_rules.specs.Lemmas.Does.{passed_same}
 use Rattle.layout_rules.specs.Lemmas.Glyphs.{first_item}
 use Rattle.layout_rules.specs.Lemmas.Performed.{passes_nothing}
-use Rattle.layout_stages.specs.Lookups.{meets, at_met, met_first, lookup_action, reverse_action, first_subtable, first_reverse}
+use Rattle.layout_stages.specs.Lookups.{meets, at_met, met_first, lookup_action, reverse_action, first_subtable, first_reverse, nested}
 
 unmet : (a : Applied) (act : Action) (r : ℕ) (s : Sides) (g : hb_glyph_info_t) → slice_get s.ahead 0 ≡ Some g → meets a (item_of g) ≡ false → met_first a act (cut_with r s) ≡ Passes []
 unmet a act r s g at none = ap (λ o. at_first (at_met a act) o (cut_with r s)) (first_item s.ahead g at) ∙ rw none refl
@@ -22,14 +22,14 @@ met : (a : Applied) (act : Action) (r : ℕ) (s : Sides) (g : hb_glyph_info_t) �
 met a act r s g at some = ap (λ o. at_first (at_met a act) o (cut_with r s)) (first_item s.ahead g at) ∙ rw some refl
 
 -- a lookup passes over a glyph that it doesn't meet
-pub lookup_passes : (a : Applied) (lookup : SubstLookup) (r : ℕ) (s : Sides) (g : hb_glyph_info_t) → slice_get s.ahead 0 ≡ Some g → meets a (item_of g) ≡ false → Performed (lookup_action a lookup (cut_with r s)) false r r s s
-lookup_passes a lookup r s g at none = passes_nothing r s (lookup_action a lookup (cut_with r s)) (unmet a (first_subtable a lookup.subtables) r s g at none)
+pub lookup_passes : (table : List SubstLookup) (a : Applied) (lookup : SubstLookup) (r : ℕ) (s : Sides) (g : hb_glyph_info_t) → slice_get s.ahead 0 ≡ Some g → meets a (item_of g) ≡ false → Performed (lookup_action table a lookup (cut_with r s)) false r r s s
+lookup_passes table a lookup r s g at none = passes_nothing r s (lookup_action table a lookup (cut_with r s)) (unmet a (first_subtable (nested table 64 a) a lookup.subtables) r s g at none)
 
-pub lookup_tries : (a : Applied) (lookup : SubstLookup) (r after : ℕ) (result : Result Bool ShapeCause) (s new : Sides) (g : hb_glyph_info_t) → slice_get s.ahead 0 ≡ Some g → meets a (item_of g) ≡ true
-    → Performs (first_subtable a lookup.subtables (cut_with r s)) result r after s new → Performs (lookup_action a lookup (cut_with r s)) result r after s new
-lookup_tries a lookup r after result s new g at some d =
+pub lookup_tries : (table : List SubstLookup) (a : Applied) (lookup : SubstLookup) (r after : ℕ) (result : Result Bool ShapeCause) (s new : Sides) (g : hb_glyph_info_t) → slice_get s.ahead 0 ≡ Some g → meets a (item_of g) ≡ true
+    → Performs (first_subtable (nested table 64 a) a lookup.subtables (cut_with r s)) result r after s new → Performs (lookup_action table a lookup (cut_with r s)) result r after s new
+lookup_tries table a lookup r after result s new g at some d =
     let P : Outcome → Type 0 = λ o. Performs o result r after s new in
-    subst P (sym (met a (first_subtable a lookup.subtables) r s g at some)) d
+    subst P (sym (met a (first_subtable (nested table 64 a) a lookup.subtables) r s g at some)) d
 
 pub reverse_passes : (a : Applied) (lookup : SubstLookup) (s : Sides) (g : hb_glyph_info_t) → slice_get s.ahead 0 ≡ Some g → meets a (item_of g) ≡ false → PerformsInPlace (reverse_action a lookup (cut_of s)) false s s
 reverse_passes a lookup s g at none =

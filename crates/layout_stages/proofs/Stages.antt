@@ -38,10 +38,10 @@ none_done font table all r s ready = record {
 }
 
 -- an index without a lookup
-pub nothing_done : (font : FaceParts) (m : lookup_map_t) (o : Option SubstLookup) (r : ℕ) (s : Sides) → IsReady s → o ≡ None → IsDoneFrom r r (lookup_stage font o m) s s
-nothing_done font m o r s ready none =
-    let P : Option SubstLookup → Type 0 = λ p. IsDoneFrom r r (lookup_stage font p m) s s in
-    let same : IsDoneFrom r r (lookup_stage font None m) s s = record {
+pub nothing_done : (font : FaceParts) (table : List SubstLookup) (m : lookup_map_t) (o : Option SubstLookup) (r : ℕ) (s : Sides) → IsReady s → o ≡ None → IsDoneFrom r r (lookup_stage font table o m) s s
+nothing_done font table m o r s ready none =
+    let P : Option SubstLookup → Type 0 = λ p. IsDoneFrom r r (lookup_stage font table p m) s s in
+    let same : IsDoneFrom r r (lookup_stage font table None m) s s = record {
       follows = follows_same (run_with r s);
       ready = ready;
       settings = refl;
@@ -50,13 +50,13 @@ nothing_done font m o r s ready none =
     subst P (sym none) same
 
 pub one_done : (font : FaceParts) (table : List SubstLookup) (all : List lookup_map_t) (k : ℕ) (e : lookup_map_t) (before r after : ℕ) (old now next : Sides) → k < length all → AreDone font table all (drop k all) before r old now
-    → IsDoneFrom r after (lookup_stage font (slice_get table (get_or all k e).index) (get_or all k e)) now next → AreDone font table all (drop (k + 1) all) before after old next
+    → IsDoneFrom r after (lookup_stage font table (slice_get table (get_or all k e).index) (get_or all k e)) now next → AreDone font table all (drop (k + 1) all) before after old next
 one_done font table all k e before r after old now next lt a d =
     let m = get_or all k e in
     let left : drop k all ≡ m ∷ drop (k + 1) all = drop_more all k e lt in
     let P : List lookup_map_t → Type 0 = λ ms. AreDone font table all ms before r old now in
     let start = subst P left a in
-    let stage = lookup_stage font (slice_get table m.index) m in
+    let stage = lookup_stage font table (slice_get table m.index) m in
     record {
       ready = d.ready;
       settings = d.settings ∙ a.settings;
@@ -67,13 +67,13 @@ one_done font table all k e before r after old now next lt a d =
 
 -- the next lookup is refused
 pub one_refused : (font : FaceParts) (table : List SubstLookup) (all : List lookup_map_t) (k : ℕ) (e : lookup_map_t) (before r : ℕ) (old now : Sides) (cause : ShapeCause) → k < length all → AreDone font table all (drop k all) before r old now
-    → read_of (lookup_stage font (slice_get table (get_or all k e).index) (get_or all k e)) (run_with r now) ≡ Err cause → read_of (lookups_stage font table all) (run_with before old) ≡ Err cause
+    → read_of (lookup_stage font table (slice_get table (get_or all k e).index) (get_or all k e)) (run_with r now) ≡ Err cause → read_of (lookups_stage font table all) (run_with before old) ≡ Err cause
 one_refused font table all k e before r old now cause lt a is =
     let m = get_or all k e in
     let left : drop k all ≡ m ∷ drop (k + 1) all = drop_more all k e lt in
     let P : List lookup_map_t → Type 0 = λ ms. AreDone font table all ms before r old now in
     let start = subst P left a in
-    start.refuses cause (refused_first (read_of (lookup_stage font (slice_get table m.index) m) (run_with r now)) (lookups_stage font table (drop (k + 1) all)) cause is)
+    start.refuses cause (refused_first (read_of (lookup_stage font table (slice_get table m.index) m) (run_with r now)) (lookups_stage font table (drop (k + 1) all)) cause is)
 
 pub all_done : (font : FaceParts) (table : List SubstLookup) (all : List lookup_map_t) (k before r : ℕ) (old now : Sides) → length all ≤ k → AreDone font table all (drop k all) before r old now → IsDoneFrom before r (lookups_stage font table all) old now
 all_done font table all k before r old now le a =

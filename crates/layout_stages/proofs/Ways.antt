@@ -27,7 +27,7 @@ no_lookups font [] r s ready = nothing_done r s ready
 no_lookups font (m ∷ maps) r s ready =
     let others = no_lookups font maps r s ready in
     record {
-      follows = follows_then (read_of (lookup_stage font None m) (run_with r s)) (lookups_stage font [] maps) (run_with r s) (run_with r s) (run_with r s) (follows_same (run_with r s)) others.follows;
+      follows = follows_then (read_of (lookup_stage font [] None m) (run_with r s)) (lookups_stage font [] maps) (run_with r s) (run_with r s) (run_with r s) (follows_same (run_with r s)) others.follows;
       settings = refl;
       ready = ready;
       numbers = λ h. h;

@@ -16,6 +16,7 @@ use Rattle.layout_match.specs.Applied.{Applied}
 use Rattle.layout_match.specs.Searches.{is_left_out}
 use Rattle.layout_rules.specs.Masks.{shares_mask}
 use Rattle.layout_rules.specs.Actions.{Cut, whole, view_at, uncut, uncut_placed, past_item, Outcome, Passes, Acts, Refuses, Action, first_rule, at_first, within_limit}
+use Rattle.layout_chain.specs.Chains.{context_subtable}
 use Rattle.layout_gsub.specs.Alternates.{alternate_subtable}
 use Rattle.layout_gsub.specs.Ligating.{ligature_subst}
 use Rattle.layout_gsub.specs.Multiples.{multiple_subtable}
@@ -32,15 +33,33 @@ applied_by font lookup m = record { table = GSUB; font = font; props = props_of 
 abbrev pub meets : Applied → Item → Bool
 meets a x = shares_mask a.mask x.mask && not (is_left_out a.props a.font.gdef.sets x)
 
--- of a lookup that is tried from the left the first subtable that acts; contexts don't act yet
-abbrev pub first_subtable : Applied → SubstitutionSubtables → Action
-first_subtable a (Single subtables) c = first_rule (λ s. single_subtable a.font.gdef s.rows) subtables c
-first_subtable a (Multiple subtables) c = first_rule (λ s. multiple_subtable a.font.gdef s.rows) subtables c
-first_subtable a (Alternate subtables) c = first_rule (λ s. alternate_subtable a.font.gdef a.random a.mask s.rows) subtables c
-first_subtable a (Ligature subtables) c = first_rule (ligature_subst a) subtables c
-first_subtable a (Context subtables) c = Passes []
-first_subtable a (ChainContext subtables) c = Passes []
-first_subtable a (ReverseChainSingle subtables) c = Passes []
+-- of a lookup that is tried from the left the first subtable that acts; contexts apply the lookups that may be nested in it
+abbrev pub first_subtable : Option (ℕ → Action) → Applied → SubstitutionSubtables → Action
+first_subtable nest a (Single subtables) c = first_rule (λ s. single_subtable a.font.gdef s.rows) subtables c
+first_subtable nest a (Multiple subtables) c = first_rule (λ s. multiple_subtable a.font.gdef s.rows) subtables c
+first_subtable nest a (Alternate subtables) c = first_rule (λ s. alternate_subtable a.font.gdef a.random a.mask s.rows) subtables c
+first_subtable nest a (Ligature subtables) c = first_rule (ligature_subst a) subtables c
+first_subtable nest a (Context subtables) c = first_rule (context_subtable nest a) subtables c
+first_subtable nest a (ChainContext subtables) c = first_rule (context_subtable nest a) subtables c
+first_subtable nest a (ReverseChainSingle subtables) c = Passes []
+
+-- a lookup nested in another keeps to that one's mask, joiners and syllables, and has a flag of its own
+abbrev pub under_flag : SubstLookup → Applied → Applied
+under_flag lookup a = record a { props = props_of lookup.flags lookup.mark_filtering_set }
+
+-- what a nested lookup does at its place, where neither mask nor flag is asked; an index without one does nothing
+abbrev pub nested_lookup : (Applied → Option (ℕ → Action)) → Option SubstLookup → Applied → Action
+nested_lookup below None a c = Passes []
+nested_lookup below (Some lookup) a c = first_subtable (below (under_flag lookup a)) (under_flag lookup a) lookup.subtables c
+
+-- what the lookups of a table do that are nested in one, each by its index, at so many levels; at none there are none
+unfoldable pub nested : List SubstLookup → ℕ → Applied → Option (ℕ → Action)
+nested table zero a = None
+nested table (suc depth) a = Some (λ i. nested_lookup (nested table depth) (slice_get table i) a)
+
+-- what those do in which lookups may be nested at so many levels more
+abbrev pub nested_act : List SubstLookup → ℕ → Applied → ℕ → Action
+nested_act table depth a i c = nested_lookup (nested table depth) (slice_get table i) a c
 
 -- of a lookup that is tried from the right: reverse chaining substitution alone
 abbrev pub first_reverse : Applied → SubstitutionSubtables → Action
@@ -59,9 +78,9 @@ at_met a act x c = if meets a x then act c else Passes []
 abbrev pub met_first : Applied → Action → Action
 met_first a act c = at_first (at_met a act) (first_of c.rest) c
 
--- what a lookup does at an index, from the left and from the right
-abbrev pub lookup_action : Applied → SubstLookup → Action
-lookup_action a lookup c = met_first a (first_subtable a lookup.subtables) c
+-- what a lookup does at an index, from the left and from the right; lookups may be nested in it 64 levels deep
+abbrev pub lookup_action : List SubstLookup → Applied → SubstLookup → Action
+lookup_action table a lookup c = met_first a (first_subtable (nested table 64 a) a lookup.subtables) c
 
 abbrev pub reverse_action : Applied → SubstLookup → Action
 reverse_action a lookup c = met_first a (first_reverse a lookup.subtables) c
@@ -115,20 +134,20 @@ tried_back act v (suc n) c = after_outcome (act (cut_at n c)) (tried_back act v 
 abbrev pub looked_back : Action → Stage
 looked_back act v = tried_back act v (length v.items) (uncut_placed v)
 
-abbrev pub lookup_applied : Applied → SubstLookup → Stage
-lookup_applied a lookup v = if is_reverse lookup.subtables then looked_back (reverse_action a lookup) v else looked_up (lookup_action a lookup) v
+abbrev pub lookup_applied : List SubstLookup → Applied → SubstLookup → Stage
+lookup_applied table a lookup v = if is_reverse lookup.subtables then looked_back (reverse_action a lookup) v else looked_up (lookup_action table a lookup) v
 
 -- ---- lookups of a stage
 
 -- an index without a lookup does nothing
-abbrev pub lookup_stage : FaceParts → Option SubstLookup → lookup_map_t → Stage
-lookup_stage font None m v = as_it_is v
-lookup_stage font (Some lookup) m v = lookup_applied (applied_by font lookup m) lookup v
+abbrev pub lookup_stage : FaceParts → List SubstLookup → Option SubstLookup → lookup_map_t → Stage
+lookup_stage font table None m v = as_it_is v
+lookup_stage font table (Some lookup) m v = lookup_applied table (applied_by font lookup m) lookup v
 
 -- lookups of a table, one after another
 abbrev pub lookups_stage : FaceParts → List SubstLookup → List lookup_map_t → Stage
 lookups_stage font table [] v = as_it_is v
-lookups_stage font table (m ∷ maps) v = and_then (lookup_stage font (slice_get table m.index) m v) (lookups_stage font table maps)
+lookups_stage font table (m ∷ maps) v = and_then (lookup_stage font table (slice_get table m.index) m v) (lookups_stage font table maps)
 
 -- a stage that draws from a state of its own, 1 at first, of which nothing is left
 abbrev pub with_own_random : Stage → Stage

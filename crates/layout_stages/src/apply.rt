@@ -19,6 +19,7 @@ use map_features::per_table::TableIndex;
 
 /// Tries a lookup at each glyph: one of reverse chaining from the right in place, any other from the left.
 fn apply_everywhere(
+    table: &SubstitutionTable,
     lookup: &SubstLookup,
     ctx: &mut hb_ot_apply_context_t,
     buffer: &mut hb_buffer_t,
@@ -26,17 +27,17 @@ fn apply_everywhere(
     requires ready { IsReady buffer.old }
     requires numbers { are_glyphs (items_of buffer.old) ≡ true }
     ensures ok { OnOk result
-        (IsDoneFrom ctx.old.random_state ctx.new.random_state (lookup_applied
+        (IsDoneFrom ctx.old.random_state ctx.new.random_state (lookup_applied table.now.lookups
         (applied_of ctx.old) lookup.now) buffer.old buffer.new) }
     ensures err { IfErr result (λ e. e ≢ ShapeCause.OutOfMemory → read_of
-        (lookup_applied (applied_of ctx.old) lookup.now) (run_with ctx.old.random_state buffer.old) ≡ Err e) }
+        (lookup_applied table.now.lookups (applied_of ctx.old) lookup.now) (run_with ctx.old.random_state buffer.old) ≡ Err e) }
     ensures context { applied_of ctx.new ≡ applied_of ctx.old }
 {
     if lookup.is_reverse() {
         apply_backward(lookup, ctx, buffer);
         return Ok(());
     }
-    apply_forward(lookup, ctx, buffer)
+    apply_forward(table, lookup, ctx, buffer)
 }
 
 /// Applies a lookup from now on: with its own flag, and what the map says of it.
@@ -64,9 +65,9 @@ fn apply_mapped(
     requires ready { IsReady buffer.old }
     requires numbers { are_glyphs (items_of buffer.old) ≡ true }
     ensures ok { OnOk result
-        (IsDoneFrom ctx.old.random_state ctx.new.random_state (lookup_stage ctx.old.face.now
+        (IsDoneFrom ctx.old.random_state ctx.new.random_state (lookup_stage ctx.old.face.now table.now.lookups
         (slice_get table.now.lookups lookup_map.now.index) lookup_map.now) buffer.old buffer.new) }
-    ensures err { IfErr result (λ e. e ≢ ShapeCause.OutOfMemory → read_of (lookup_stage ctx.old.face.now
+    ensures err { IfErr result (λ e. e ≢ ShapeCause.OutOfMemory → read_of (lookup_stage ctx.old.face.now table.now.lookups
         (slice_get table.now.lookups lookup_map.now.index) lookup_map.now)
         (run_with ctx.old.random_state buffer.old) ≡ Err e) }
     ensures table { ctx.new.table_index ≡ GSUB }
@@ -76,7 +77,7 @@ fn apply_mapped(
         return Ok(());
     };
     set_lookup(ctx, lookup, lookup_map);
-    apply_everywhere(lookup, ctx, buffer)
+    apply_everywhere(table, lookup, ctx, buffer)
 }
 
 pub(crate) fn apply_all(

@@ -1,4 +1,4 @@
-ghost use Rattle.std.specs.Prelude.{◌≡◌, ◌≢◌, true, [], Err, IfErr, OnOk};
+ghost use Rattle.std.specs.Prelude.{◌≡◌, ◌≢◌, true, false, Err, IfErr, OnOk};
 ghost use Rattle.glyph_lists.specs.Readings.{read_of};
 ghost use Rattle.glyph_buffer.specs.Sides.{items_of};
 ghost use Rattle.layout_match.specs.Applied.{applied_of};
@@ -10,28 +10,30 @@ ghost use Rattle.layout_stages.specs.Steps.{IsGivenUp, IsStep};
 use crate::lookup::apply_lookup;
 use glyph_buffer::buffer::hb_buffer_t;
 use glyph_types::cause::ShapeCause;
-use layout_lookups::substitution::SubstLookup;
+use layout_lookups::substitution::{SubstLookup, SubstitutionTable};
 use layout_match::hb_ot_apply_context_t;
 
 /// Tries a lookup at the cursor, and goes on over the glyph where it doesn't act; at the end it does nothing.
 #[tactic(auto, using(crate::proofs::Steps::step_ended))]
 fn apply_next(
+    table: &SubstitutionTable,
     lookup: &SubstLookup,
     ctx: &mut hb_ot_apply_context_t,
     buffer: &mut hb_buffer_t,
 ) -> Result<(), ShapeCause>
     requires open { buffer.old.is_open ≡ true }
+    requires unrefused { buffer.old.has_refused ≡ false }
     requires numbers { are_glyphs (items_of buffer.old) ≡ true }
-    ensures ok { OnOk result (IsStep (lookup_action
+    ensures ok { OnOk result (IsStep (lookup_action table.now.lookups
         (applied_of ctx.old) lookup.now) ctx.old.random_state ctx.new.random_state buffer.old buffer.new) }
     ensures err { IfErr result (λ e. e ≢ ShapeCause.OutOfMemory
-        → IsGivenUp (lookup_action (applied_of ctx.old) lookup.now) ctx.old.random_state buffer.old e) }
+        → IsGivenUp (lookup_action table.now.lookups (applied_of ctx.old) lookup.now) ctx.old.random_state buffer.old e) }
     ensures context { applied_of ctx.new ≡ applied_of ctx.old }
 {
     if buffer.idx() == buffer.len() {
         return Ok(());
     }
-    if apply_lookup(lookup, ctx, buffer)? {
+    if apply_lookup(table, lookup, ctx, buffer)? {
         return Ok(());
     }
     if !buffer.next_glyph()? {
@@ -43,6 +45,7 @@ fn apply_next(
 /// Tries a lookup at each glyph once, from the left, and goes on after what it made.
 #[tactic(auto, using(crate::proofs::Passage::begun))]
 pub fn apply_forward(
+    table: &SubstitutionTable,
     lookup: &SubstLookup,
     ctx: &mut hb_ot_apply_context_t,
     buffer: &mut hb_buffer_t,
@@ -51,15 +54,15 @@ pub fn apply_forward(
     requires numbers { are_glyphs (items_of buffer.old) ≡ true }
     ensures ok { OnOk result
         (IsDoneFrom ctx.old.random_state ctx.new.random_state (looked_up
-        (lookup_action (applied_of ctx.old) lookup.now)) buffer.old buffer.new) }
+        (lookup_action table.now.lookups (applied_of ctx.old) lookup.now)) buffer.old buffer.new) }
     ensures err { IfErr result (λ e. e ≢ ShapeCause.OutOfMemory → read_of (looked_up
-        (lookup_action (applied_of ctx.old) lookup.now)) (run_with ctx.old.random_state buffer.old) ≡ Err e) }
+        (lookup_action table.now.lookups (applied_of ctx.old) lookup.now)) (run_with ctx.old.random_state buffer.old) ≡ Err e) }
     ensures context { applied_of ctx.new ≡ applied_of ctx.old }
 {
     let count = buffer.len();
     buffer.clear_output()?;
     for _ in 0..count {
-        apply_next(lookup, ctx, buffer)?;
+        apply_next(table, lookup, ctx, buffer)?;
     }
     if !buffer.sync()? {
         return Err(ShapeCause::TooLong);

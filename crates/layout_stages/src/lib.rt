@@ -5,5 +5,6 @@ pub mod apply;
 pub mod backward;
 pub mod forward;
 pub mod lookup;
+pub mod nested;
 pub mod pause;
 pub mod substitute;

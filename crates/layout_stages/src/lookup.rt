@@ -1,4 +1,4 @@
-ghost use Rattle.std.specs.Prelude.{◌≡◌, ◌<◌, true, [], length};
+ghost use Rattle.std.specs.Prelude.{◌≡◌, ◌<◌, true, false, length};
 ghost use Rattle.glyph_buffer.specs.Sides.{items_of};
 ghost use Rattle.glyph_lists.specs.Items.{item_of};
 ghost use Rattle.layout_match.specs.Applied.{applied_of};
@@ -6,14 +6,14 @@ ghost use Rattle.layout_rules.specs.Actions.{first_rule};
 ghost use Rattle.layout_rules.specs.Buffers.{are_glyphs, cut_of};
 ghost use Rattle.layout_rules.specs.Performing.{Performs, PerformsInPlace, cut_with};
 ghost use Rattle.layout_gsub.specs.Reverses.{reverse_subtable};
-ghost use Rattle.layout_stages.specs.Lookups.{first_reverse, first_subtable, lookup_action, meets, reverse_action};
+ghost use Rattle.layout_stages.specs.Lookups.{first_reverse, lookup_action, meets, reverse_action};
 
+use crate::nested::{MAX_NESTING_LEVEL, apply_subtables};
 use glyph_buffer::buffer::hb_buffer_t;
 use glyph_types::cause::ShapeCause;
 use glyph_types::info::hb_glyph_info_t;
-use layout_gsub::apply::apply_first;
 use layout_gsub::reverse::apply_reverse_chain_single_subst;
-use layout_lookups::substitution::{SubstLookup, SubstitutionSubtables};
+use layout_lookups::substitution::{SubstLookup, SubstitutionSubtables, SubstitutionTable};
 use layout_match::hb_ot_apply_context_t;
 use layout_rules::mask::shares_mask;
 use layout_substitutions::reverse::ReverseChainSubst;
@@ -25,53 +25,21 @@ fn meets(ctx: &hb_ot_apply_context_t, info: &hb_glyph_info_t) -> bool
     shares_mask(ctx.lookup_mask(), info) && ctx.check_glyph_property(info, ctx.lookup_props)
 }
 
-/// Does what the first of the subtables does that acts, at the cursor. Contexts do nothing yet, and reverse chaining is not
-/// applied from the left.
-fn apply_substitution(
-    subtables: &SubstitutionSubtables,
-    ctx: &mut hb_ot_apply_context_t,
-    buffer: &mut hb_buffer_t,
-) -> Result<bool, ShapeCause>
-    requires open { buffer.old.is_open ≡ true }
-    requires there { 0 < length buffer.old.ahead }
-    requires number { are_glyphs (items_of buffer.old) ≡ true }
-    ensures performs { Performs (first_subtable (applied_of ctx.old) subtables.now
-        (cut_with ctx.old.random_state buffer.old)) result ctx.old.random_state ctx.new.random_state buffer.old
-        buffer.new }
-    ensures context { applied_of ctx.new ≡ applied_of ctx.old }
-{
-    match subtables {
-        SubstitutionSubtables::Single(subtables) => {
-            apply_first(subtables.as_slice(), ctx, buffer)
-        }
-        SubstitutionSubtables::Multiple(subtables) => {
-            apply_first(subtables.as_slice(), ctx, buffer)
-        }
-        SubstitutionSubtables::Alternate(subtables) => {
-            apply_first(subtables.as_slice(), ctx, buffer)
-        }
-        SubstitutionSubtables::Ligature(subtables) => {
-            apply_first(subtables.as_slice(), ctx, buffer)
-        }
-        SubstitutionSubtables::Context(_)
-        | SubstitutionSubtables::ChainContext(_)
-        | SubstitutionSubtables::ReverseChainSingle(_) => Ok(false),
-    }
-}
-
 /// Does what a lookup does at the glyph at the cursor, where it meets it: what the first of its subtables does that acts. It
 /// tells whether one acted; where none did it changed glyph flags alone. It refuses for want of memory, or where the output
 /// would have more glyphs than it may.
 #[tactic(auto, using(crate::proofs::First::lookup_passes, crate::proofs::First::lookup_tries))]
 pub fn apply_lookup(
+    table: &SubstitutionTable,
     lookup: &SubstLookup,
     ctx: &mut hb_ot_apply_context_t,
     buffer: &mut hb_buffer_t,
 ) -> Result<bool, ShapeCause>
     requires open { buffer.old.is_open ≡ true }
+    requires unrefused { buffer.old.has_refused ≡ false }
     requires there { 0 < length buffer.old.ahead }
     requires number { are_glyphs (items_of buffer.old) ≡ true }
-    ensures performs { Performs (lookup_action (applied_of ctx.old) lookup.now
+    ensures performs { Performs (lookup_action table.now.lookups (applied_of ctx.old) lookup.now
         (cut_with ctx.old.random_state buffer.old)) result ctx.old.random_state ctx.new.random_state buffer.old
         buffer.new }
     ensures context { applied_of ctx.new ≡ applied_of ctx.old }
@@ -79,7 +47,7 @@ pub fn apply_lookup(
     if !meets(ctx, buffer.cur(0)) {
         return Ok(false);
     }
-    apply_substitution(&lookup.subtables, ctx, buffer)
+    apply_subtables(table, MAX_NESTING_LEVEL, &lookup.subtables, ctx, buffer)
 }
 
 /// Does what the first of some subtables of reverse chaining does that acts, in place.

@@ -37,14 +37,14 @@ either_empty : (b : Bool) (r : Reading) → (if b then r else r) ≡ r
 either_empty true r = refl
 either_empty false r = refl
 
-lookup_empty : (font : FaceParts) (o : Option SubstLookup) (m : lookup_map_t) (d : Direction) → lookup_stage font o m (empty_view d) ≡ Ok (with_events [] (empty_view d))
-lookup_empty font None m d = refl
-lookup_empty font (Some lookup) m d = either_empty (is_reverse lookup.subtables) (Ok (with_events [] (empty_view d)))
+lookup_empty : (font : FaceParts) (table : List SubstLookup) (o : Option SubstLookup) (m : lookup_map_t) (d : Direction) → lookup_stage font table o m (empty_view d) ≡ Ok (with_events [] (empty_view d))
+lookup_empty font table None m d = refl
+lookup_empty font table (Some lookup) m d = either_empty (is_reverse lookup.subtables) (Ok (with_events [] (empty_view d)))
 
 lookups_empty : (font : FaceParts) (table : List SubstLookup) (maps : List lookup_map_t) (d : Direction) → lookups_stage font table maps (empty_view d) ≡ Ok (with_events [] (empty_view d))
 lookups_empty font table [] d = refl
 lookups_empty font table (m ∷ maps) d =
-    ap (λ r. and_then r (lookups_stage font table maps)) (lookup_empty font (slice_get table m.index) m d) ∙ nothing_then (empty_view d) (lookups_stage font table maps (empty_view d)) ∙ lookups_empty font table maps d
+    ap (λ r. and_then r (lookups_stage font table maps)) (lookup_empty font table (slice_get table m.index) m d) ∙ nothing_then (empty_view d) (lookups_stage font table maps (empty_view d)) ∙ lookups_empty font table maps d
 
 substituted_empty : (font : FaceParts) (table : Option SubstitutionTable) (m : OtMapValue) (d : Direction) → substituted font table m (empty_view d) ≡ Ok (with_events [] (empty_view d))
 substituted_empty font None m d = refl

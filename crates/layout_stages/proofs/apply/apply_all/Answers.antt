@@ -13,7 +13,7 @@ loop-lookup_map-preserved c =
     let r = c.loop-lookup_map.ctx.random_state in
     let after = c.apply_mapped.new.ctx.random_state in
     let m = get_or c.args.lookups.now c.loop-lookup_map.lookup_map-index none in
-    let P : FaceParts → Type 0 = λ font. IsDoneFrom r after (lookup_stage font (slice_get c.args.table.now.lookups m.index) m) c.loop-lookup_map.buffer c.apply_mapped.new.buffer in
+    let P : FaceParts → Type 0 = λ font. IsDoneFrom r after (lookup_stage font c.args.table.now.lookups (slice_get c.args.table.now.lookups m.index) m) c.loop-lookup_map.buffer c.apply_mapped.new.buffer in
     record {
       done =
           one_done c.args.ctx.now.face.now c.args.table.now.lookups c.args.lookups.now c.loop-lookup_map.lookup_map-index none c.args.ctx.now.random_state r after c.args.buffer.now c.loop-lookup_map.buffer c.apply_mapped.new.buffer c.loop-lookup_map-test.true i.done

@@ -10,4 +10,4 @@ returns-then-is_reverse-clause-ok c =
     let a = applied_of c.args.ctx.now in
     let lookup = c.args.lookup.now in
     let r = c.args.ctx.now.random_state in
-    either_done (is_reverse lookup.subtables) (looked_back (reverse_action a lookup)) (looked_up (lookup_action a lookup)) r r c.args.buffer.now c.apply_backward.new.buffer (sym c.is_reverse.ensures ∙ c.if-is_reverse.true) (c.apply_backward.ensures r)
+    either_done (is_reverse lookup.subtables) (looked_back (reverse_action a lookup)) (looked_up (lookup_action c.args.table.now.lookups a lookup)) r r c.args.buffer.now c.apply_backward.new.buffer (sym c.is_reverse.ensures ∙ c.if-is_reverse.true) (c.apply_backward.ensures r)

@@ -7,6 +7,6 @@ use Rattle.layout_stages.proofs.forward.apply_forward.Given as goal
 -- as many steps are left as were not made
 abbrev pub invariant-loop : goal.invariant-loop
 invariant-loop l = record {
-  underway : IsUnderway (lookup_action (applied_of l.fn.ctx) l.lookup) l.count (l.count - l.counter) l.fn.ctx.random_state l.ctx.random_state l.initial.buffer l.buffer;
+  underway : IsUnderway (lookup_action l.table.lookups (applied_of l.fn.ctx) l.lookup) l.count (l.count - l.counter) l.fn.ctx.random_state l.ctx.random_state l.initial.buffer l.buffer;
   context : applied_of l.ctx ≡ applied_of l.fn.ctx;
 }
