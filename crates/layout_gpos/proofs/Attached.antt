@@ -1,11 +1,11 @@
 -- Marks attached at the cursor.
-use Rattle.std.proofs.Common.{ℕ, ◌≡◌, ◌<◌, ◌≤◌, ◌+◌, ◌-◌, ◌⊎◌, inl, inr, Bool, true, false, if◌then◌else◌, List, [], ◌∷◌, ◌++◌, Option, Some, None, Result, Ok, Err, length, reverse, arith, refl, sym, ap, subst, ◌∙◌, slice_get}
+use Rattle.std.proofs.Common.{ℕ, ◌≡◌, ◌<◌, ◌≤◌, ◌+◌, ◌-◌, ◌⊎◌, inl, inr, Bool, true, false, if◌then◌else◌, List, [], ◌∷◌, ◌++◌, Option, Some, None, Result, Ok, length, reverse, arith, refl, sym, ap, subst, ◌∙◌, slice_get}
 use Rattle.std.specs.Prelude.{bit_and}
 use Rattle.std.specs.Int.RustNames.{bit_or}
 use Rattle.std.proofs.lemmas.Nat.Bits.{same_from_bits, bit_at_and, bit_at_or}
 use Rattle.std.proofs.lemmas.List.{append-nil}
 use Rattle.glyph_types.specs.declared.info.hb_glyph_info_t.{hb_glyph_info_t}
-use Rattle.glyph_lists.specs.Items.{Item, Position, item_of, strip}
+use Rattle.glyph_lists.specs.Items.{Item, Position, item_of}
 use Rattle.glyph_lists.specs.Events.{Event, Break}
 use Rattle.glyph_buffer.specs.Sides.{Sides, moved_on, told_of}
 use Rattle.sorted_rows.specs.Keys.{row_of}
@@ -23,7 +23,7 @@ use Rattle.layout_rules.specs.Lemmas.Frames.{same_lengths}
 use Rattle.layout_rules.specs.Lemmas.Performed.{passes_nothing, performs_later, same_with}
 use Rattle.layout_gpos.specs.Anchors.{is_near, mark_hung, told_if}
 use Rattle.layout_gpos.specs.Moving.{break_around, placed_past}
-use Rattle.layout_gpos.specs.Marks.{attach, attach_if, attached, base_before, is_there, mark_on_base, mark_to_base, on_base, with_found}
+use Rattle.layout_gpos.specs.Marks.{attach, attach_if, base_before, is_there, mark_on_base, mark_to_base, on_base, with_found}
 use Rattle.layout_gpos.proofs.Placed.{break_passed, front_count, placed_made}
 use Rattle.layout_gpos.proofs.Nearest.{item_back}
 use Rattle.layout_rules.specs.Lemmas.Glyphs.{first_item}
@@ -86,7 +86,7 @@ both_attached r back b m base mark s new e f done =
 
 -- ---- what was found before the cursor
 
-found_is : (r back : ℕ) (act : ℕ → Option Item → Action) (s : Sides) (g : hb_glyph_info_t) → slice_get (reverse s.behind) back ≡ Some g → with_found act (Ok back) (cut_with r s) ≡ act back (Some (item_of g)) (cut_with r s)
+pub found_is : (r back : ℕ) (act : ℕ → Option Item → Action) (s : Sides) (g : hb_glyph_info_t) → slice_get (reverse s.behind) back ≡ Some g → with_found act (Ok back) (cut_with r s) ≡ act back (Some (item_of g)) (cut_with r s)
 found_is r back act s g at = ap (λ (o : Option Item). act back o (cut_with r s)) (item_back s.behind back g at)
 
 -- ---- bases

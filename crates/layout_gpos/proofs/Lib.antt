@@ -3,3 +3,6 @@ pub mod Read
 pub mod Nearest
 pub mod Paired
 pub mod Attached
+pub mod MarkMark
+pub mod Linked
+pub mod Turned

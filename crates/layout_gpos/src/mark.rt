@@ -65,7 +65,7 @@ fn attach(base: Anchor, mark: Anchor, back: usize, buffer: &mut hb_buffer_t)
 
 /// The same, where both have anchors.
 #[tactic(auto, using(crate::proofs::Attached::not_attached, crate::proofs::Attached::both_attached))]
-fn attach_if(
+pub(crate) fn attach_if(
     base: Option<Anchor>,
     mark: Option<Anchor>,
     back: usize,
@@ -100,7 +100,7 @@ fn is_base(subtable: &MarkBasePos, glyph: u16) -> bool
 
 /// Hangs the mark at the cursor on a base before it.
 #[tactic(auto, using(crate::proofs::Nearest::number_back, crate::proofs::Attached::on_a_base, crate::proofs::Attached::on_no_base, crate::proofs::Paired::attempt_performed))]
-fn attach_to_base(
+pub(crate) fn attach_to_base(
     subtable: &MarkBasePos,
     mark: MarkRecord,
     back: usize,

@@ -5,3 +5,4 @@ pub mod classes;
 pub mod flags;
 pub mod glyphs;
 pub mod ignorables;
+pub mod widths;
