@@ -1,3 +1,3 @@
-pub mod Placed
-pub mod Read
 pub mod Paired
+pub mod Attached
+pub mod MarkMark

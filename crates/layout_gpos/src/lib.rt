@@ -1,9 +1,13 @@
 // Subtables of positioning that call no other lookup, applied at the cursor of a buffer without an output.
 #![tactic(auto)]
 
+pub mod anchor;
 pub mod apply;
+pub mod mark;
+pub mod mark_mark;
 pub mod marking;
 pub mod pair;
 pub mod placing;
+pub mod search;
 pub mod single;
 pub mod value;

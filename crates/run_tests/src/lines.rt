@@ -117,9 +117,17 @@ const LIGATED: [Line; 11] = [
     (None, Direction::RightToLeft, &[], "if", "7=0+520\n"),
 ];
 
-const ASKED: [Line; 3] = [
+// The required feature has no request of its own, so it runs in the stage before the others.
+const ASKED: [Line; 4] = [
     (None, Direction::Invalid, &[], "abb", "1=0+0|8=1+0\n"),
-    (None, Direction::Invalid, &["dlig"], "abb", "7=0+0|2=2+0\n"),
+    (None, Direction::Invalid, &["dlig"], "ab", "7=0+0\n"),
+    (
+        None,
+        Direction::Invalid,
+        &["dlig"],
+        "abb",
+        "1=0+0|8=1+0\n",
+    ),
     (
         None,
         Direction::Invalid,

@@ -1,1 +1,2 @@
 pub mod Swapped
+pub mod Shaped

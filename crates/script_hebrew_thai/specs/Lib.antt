@@ -1,2 +1,4 @@
 pub mod Hebrew
 pub mod Places
+pub mod ThaiPrivate
+pub mod ThaiGlyphs

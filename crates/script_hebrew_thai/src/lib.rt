@@ -2,3 +2,4 @@
 #![tactic(auto)]
 
 pub mod hebrew;
+pub mod thai_private;

@@ -2,3 +2,4 @@ pub mod Formed
 pub mod Marked
 pub mod Joined
 pub mod Reordered
+pub mod Plain

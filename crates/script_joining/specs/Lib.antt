@@ -5,3 +5,4 @@ pub mod Glyphs
 pub mod Flagged
 pub mod Marks
 pub mod Classed
+pub mod Laws

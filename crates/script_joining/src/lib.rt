@@ -3,6 +3,7 @@
 
 mod flags;
 mod forms;
+pub mod laws;
 mod letters;
 pub mod marks;
 mod masks;

@@ -1,3 +1,4 @@
 pub mod Classes
 pub mod Spaces
 pub mod Zeroing
+pub mod Boxes

@@ -2,3 +2,5 @@ pub mod Glyphs
 pub mod Ignorables
 pub mod Flags
 pub mod Classes
+pub mod Widths
+pub mod Selectors

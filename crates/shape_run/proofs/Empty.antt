@@ -1,5 +1,5 @@
 -- The line of the empty text.
-use Rattle.std.proofs.Common.{ℕ, ◌≡◌, Bool, true, false, if◌then◌else◌, List, [], ◌∷◌, Ok, refl, ap, ◌∙◌}
+use Rattle.std.proofs.Common.{ℕ, ◌+◌, ◌≡◌, Bool, true, false, if◌then◌else◌, List, [], ◌∷◌, Ok, refl, ap, ◌∙◌}
 use Rattle.std.specs.Prelude.{None, Some, Option, pos, slice_get}
 use Rattle.std.proofs.lemmas.Str.{chars-nil}
 use Rattle.shaping_text.specs.Direction.{is_backward, opposite}
@@ -15,12 +15,13 @@ use Rattle.glyph_lists.specs.Readings.{View, Read, Reading, Stage, with_events, 
 use Rattle.glyph_lists.specs.Steps.{nothing_then}
 use Rattle.layout_lookups.specs.Lookups.{is_reverse}
 use Rattle.layout_lookups.specs.declared.substitution.SubstLookup.{SubstLookup}
-use Rattle.layout_lookups.specs.declared.substitution.SubstitutionTable.{SubstitutionTable}
 use Rattle.map_features.specs.declared.lookup.lookup_map_t.{lookup_map_t}
-use Rattle.map_builder.specs.Compiled.{OtMapValue, lookups_of_stage}
+use Rattle.map_stages.specs.declared.stages.StageMap.{StageMap}
+use Rattle.map_builder.specs.Compiled.{OtMapValue, TableStages, lookups_of_stage}
 use Rattle.layout_stages.specs.Lookups.{lookup_stage, lookups_stage}
+use Rattle.layout_stages.specs.Substituting.{pause_stage, table_stage, table_stages, substitution_lookups}
 use Rattle.glyph_text.specs.Printed.{printed_text}
-use Rattle.shape_run.specs.Path.{substituted, substitution_map, is_turned, reversed_view, masked, mapped, after_substitution}
+use Rattle.shape_run.specs.Path.{substituted, no_pauses, substitution_map, is_turned, reversed_view, masked, mapped, after_substitution}
 use Rattle.shape_run.specs.Answer.{line_of_reading, printed_line, text_run, asked_of}
 use Rattle.shape_run.specs.Laws.{EmptyTextGivesEmptyLine}
 
@@ -46,9 +47,21 @@ lookups_empty font table [] d = refl
 lookups_empty font table (m ∷ maps) d =
     ap (λ r. and_then r (lookups_stage font table maps)) (lookup_empty font table (slice_get table m.index) m d) ∙ nothing_then (empty_view d) (lookups_stage font table maps (empty_view d)) ∙ lookups_empty font table maps d
 
-substituted_empty : (font : FaceParts) (table : Option SubstitutionTable) (m : OtMapValue) (d : Direction) → substituted font table m (empty_view d) ≡ Ok (with_events [] (empty_view d))
-substituted_empty font None m d = refl
-substituted_empty font (Some table) m d = ap (λ r. and_then r (always (λ (w : View). with_events [] (record w { random = 1 })))) (lookups_empty font table.lookups (lookups_of_stage m.tables.gsub 0) d)
+pause_empty : (pause : Option ℕ) (d : Direction) → pause_stage no_pauses pause (empty_view d) ≡ Ok (with_events [] (empty_view d))
+pause_empty None d = refl
+pause_empty (Some n) d = refl
+
+stage_empty : (font : FaceParts) (lookups : List SubstLookup) (t : TableStages) (i : ℕ) (pause : Option ℕ) (d : Direction) → table_stage font lookups t no_pauses i pause (empty_view d) ≡ Ok (with_events [] (empty_view d))
+stage_empty font lookups t i pause d =
+    ap (λ r. and_then r (pause_stage no_pauses pause)) (lookups_empty font lookups (lookups_of_stage t i) d) ∙ nothing_then (empty_view d) (pause_stage no_pauses pause (empty_view d)) ∙ pause_empty pause d
+
+stages_empty : (font : FaceParts) (lookups : List SubstLookup) (t : TableStages) (i : ℕ) (stages : List StageMap) (d : Direction) → table_stages font lookups t no_pauses i stages (empty_view d) ≡ Ok (with_events [] (empty_view d))
+stages_empty font lookups t i [] d = refl
+stages_empty font lookups t i (s ∷ stages) d =
+    ap (λ r. and_then r (table_stages font lookups t no_pauses (i + 1) stages)) (stage_empty font lookups t i s.pause d) ∙ nothing_then (empty_view d) (table_stages font lookups t no_pauses (i + 1) stages (empty_view d)) ∙ stages_empty font lookups t (i + 1) stages d
+
+substituted_empty : (font : FaceParts) (m : OtMapValue) (d : Direction) → substituted font m (empty_view d) ≡ Ok (with_events [] (empty_view d))
+substituted_empty font m d = ap (λ r. and_then r (always (λ (w : View). with_events [] (record w { random = 1 })))) (stages_empty font (substitution_lookups font) m.tables.gsub 0 m.tables.gsub.stages d)
 
 -- the list in native order
 abbrev ordered_read : Bool → Direction → Read
@@ -74,4 +87,4 @@ empty_text_gives_empty_line options font here =
     let script = or options.script None in
     let direction = guessed_direction options.direction script in
     let m = substitution_map font script options.features.items in
-    rw (chars-nil, here) (empty_read font options.flags options.cluster_level (asked_of options.buffer_flags) m.global_mask (substituted font font.gsub m) (is_turned script direction []) direction (substituted_empty font font.gsub m))
+    rw (chars-nil, here) (empty_read font options.flags options.cluster_level (asked_of options.buffer_flags) m.global_mask (substituted font m) (is_turned script direction []) direction (substituted_empty font m))

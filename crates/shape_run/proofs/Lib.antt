@@ -1,5 +1,4 @@
 pub mod Stripped
-pub mod Mapped
 pub mod Steps
 pub mod Turned
 pub mod Whole

@@ -114,21 +114,21 @@ after_follows : (font : FaceParts) (s : Sides) → Follows (read_of (after_subst
 after_follows font s = follows_then (Ok (advanced font (view_of s))) (always drawn_order) (run_of s) (run_of (with_advances font s)) (run_of (placed font s)) (advanced_follows font s) (drawn_follows (with_advances font s))
 
 -- the whole way, where the substitutions were done between
-pub shaped_follows : (font : FaceParts) (m : OtMapValue) (s now : Sides) → bit_and m.global_mask 7 ≡ 0 → IsDone (substituted font font.gsub m) (glyphs_made font m.global_mask s) now
+pub shaped_follows : (font : FaceParts) (m : OtMapValue) (s now : Sides) → bit_and m.global_mask 7 ≡ 0 → IsDone (substituted font m) (glyphs_made font m.global_mask s) now
     → Follows (read_of (shaped_with font m s.script) (run_of s)) (run_of s) (run_of (placed font now))
 shaped_follows font m s now none done =
     let mid = glyphs_made font m.global_mask s in
     let r = read_of (before_substitution font m.global_mask s.script) (run_of s) in
-    let f = follows_then r (substituted font font.gsub m) (run_of s) (run_of mid) (run_of now) (before_follows font m.global_mask s none) done.follows in
-    follows_then (and_then r (substituted font font.gsub m)) (after_substitution font) (run_of s) (run_of now) (run_of (placed font now)) f (after_follows font now)
+    let f = follows_then r (substituted font m) (run_of s) (run_of mid) (run_of now) (before_follows font m.global_mask s none) done.follows in
+    follows_then (and_then r (substituted font m)) (after_substitution font) (run_of s) (run_of now) (run_of (placed font now)) f (after_follows font now)
 
 -- a refusal of the substitutions is one of the whole way
-pub shaped_refused : (font : FaceParts) (m : OtMapValue) (s : Sides) (cause : ShapeCause) → bit_and m.global_mask 7 ≡ 0 → read_of (substituted font font.gsub m) (run_of (glyphs_made font m.global_mask s)) ≡ Err cause
+pub shaped_refused : (font : FaceParts) (m : OtMapValue) (s : Sides) (cause : ShapeCause) → bit_and m.global_mask 7 ≡ 0 → read_of (substituted font m) (run_of (glyphs_made font m.global_mask s)) ≡ Err cause
     → read_of (shaped_with font m s.script) (run_of s) ≡ Err cause
 shaped_refused font m s cause none e =
     let r = read_of (before_substitution font m.global_mask s.script) (run_of s) in
-    let g = refused_then r (substituted font font.gsub m) (run_of s) (run_of (glyphs_made font m.global_mask s)) cause (before_follows font m.global_mask s none) e in
-    refused_first (and_then r (substituted font font.gsub m)) (after_substitution font) cause g
+    let g = refused_then r (substituted font m) (run_of s) (run_of (glyphs_made font m.global_mask s)) cause (before_follows font m.global_mask s none) e in
+    refused_first (and_then r (substituted font m)) (after_substitution font) cause g
 
 -- ---- numbers
 

@@ -11,10 +11,9 @@ use Rattle.shaping_text.specs.Tag.{tag_of}
 use Rattle.shaping_text.specs.ScriptTags.{wanted_tags}
 use Rattle.feature_text.specs.declared.feature.Feature.{Feature}
 use Rattle.feature_text.specs.Feature.{is_global}
-use Rattle.layout_lookups.specs.declared.substitution.SubstitutionTable.{SubstitutionTable}
 use Rattle.map_features.specs.declared.flags.TheConstants.{F_NONE, F_GLOBAL}
-use Rattle.map_builder.specs.Compiled.{MapRequests, no_requests, with_request, OtMapValue, compiled, lookups_of_stage}
-use Rattle.layout_stages.specs.Lookups.{lookups_stage, with_own_random}
+use Rattle.map_builder.specs.Compiled.{MapRequests, no_requests, with_request, with_gsub_pause, OtMapValue, compiled}
+use Rattle.layout_stages.specs.Substituting.{Pauses, substituted_by}
 use Rattle.glyph_buffer.specs.Masks.{item_masked}
 use Rattle.shaping_text.specs.Direction.{direction_of_script, opposite, is_backward}
 use Rattle.shaping_text.specs.declared.direction.Direction.{Direction}
@@ -122,6 +121,10 @@ drawn_order v = if is_backward v.direction then with_events (Reverse ∷ []) (re
 abbrev pub masked : ℕ → View → Read
 masked mask v = with_events (Reset ∷ []) (record v { items = map (item_masked mask) v.items })
 
+-- the tag of the feature for variations that are required, whose lookups run before all others
+abbrev pub rvrn : Tag
+rvrn = tag_of (codes "rvrn")
+
 -- the tag of the feature for ligatures that text has where nothing else is asked
 abbrev pub liga : Tag
 liga = tag_of (codes "liga")
@@ -130,18 +133,25 @@ liga = tag_of (codes "liga")
 abbrev pub with_asked : MapRequests → Feature → MapRequests
 with_asked b f = with_request f.tag (if is_global f then F_GLOBAL else F_NONE) f.value b
 
--- what is asked of a font for a script: ligatures for every glyph, and then what was asked, in order
+-- for every glyph the required variations in a stage of their own (as HarfBuzz asks for them), and ligatures behind it
+abbrev pub with_common : MapRequests → MapRequests
+with_common b = with_request liga F_GLOBAL 1 (with_gsub_pause 0 (with_request rvrn F_GLOBAL 1 b))
+
+-- what is asked of a font for a script: what every text has, and then what was asked, in order
 abbrev pub requests : FaceParts → Option Script → List Feature → MapRequests
-requests font script features = fold with_asked (with_request liga F_GLOBAL 1 (no_requests (wanted_tags script) [] font.gsub font.gpos)) features
+requests font script features = fold with_asked (with_common (no_requests (wanted_tags script) [] font.gsub font.gpos)) features
 
 -- what the font does for that
 unfoldable pub substitution_map : FaceParts → Option Script → List Feature → OtMapValue
 substitution_map font script features = compiled (requests font script features)
 
--- the lookups of the first stage of substitution, in order, with a random state of their own; without pauses there is no other stage
-abbrev pub substituted : FaceParts → Option SubstitutionTable → OtMapValue → Stage
-substituted font None m v = as_it_is v
-substituted font (Some table) m v = with_own_random (lookups_stage font table.lookups (lookups_of_stage m.tables.gsub 0)) v
+-- between the stages nothing is done but to end one
+abbrev pub no_pauses : Pauses
+no_pauses n v = as_it_is v
+
+-- the lookups of substitution, stage after stage
+abbrev pub substituted : FaceParts → OtMapValue → Stage
+substituted font m v = substituted_by font m no_pauses v
 
 -- ---- all of it
 
@@ -155,7 +165,7 @@ after_substitution font v = and_then (always (advanced font) v) (always drawn_or
 
 -- the stages, where the substitutions are known
 abbrev pub shaped_with : FaceParts → OtMapValue → Option Script → Stage
-shaped_with font m script v = and_then (and_then (before_substitution font m.global_mask script v) (substituted font font.gsub m)) (after_substitution font)
+shaped_with font m script v = and_then (and_then (before_substitution font m.global_mask script v) (substituted font m)) (after_substitution font)
 
 abbrev pub shaping : FaceParts → List Feature → Option Script → Stage
 shaping font features script v = shaped_with font (substitution_map font script features) script v

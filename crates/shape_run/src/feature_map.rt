@@ -1,8 +1,8 @@
 //! What is asked of a font's features.
-ghost use Rattle.std.specs.Prelude.{◌≡◌, ◌<◌, if◌then◌else◌, fold, length, IfOk, OnOk};
+ghost use Rattle.std.specs.Prelude.{◌≡◌, if◌then◌else◌, fold, IfOk, OnOk};
 ghost use Rattle.feature_text.specs.Feature.{is_global};
 ghost use Rattle.map_features.specs.declared.flags.TheConstants.{F_GLOBAL, F_NONE};
-ghost use Rattle.shape_run.specs.Path.{requests, substitution_map, with_asked};
+ghost use Rattle.shape_run.specs.Path.{requests, substitution_map, with_asked, with_common};
 
 use feature_text::feature::Feature;
 use font_face::Face;
@@ -41,7 +41,16 @@ fn ask_features(builder: &mut hb_ot_map_builder_t, features: &[Feature]) -> Resu
     Ok(())
 }
 
-/// Asks a font for ligatures, and then for what was asked, in order.
+/// Asks for what every text has: the required variations, in a stage of their own, and ligatures.
+fn ask_common(builder: &mut hb_ot_map_builder_t) -> Result<(), AllocError>
+    ensures { OnOk result (builder.new ≡ with_common builder.old) }
+{
+    builder.add_feature(Tag::from_bytes(b"rvrn"), F_GLOBAL, 1)?;
+    builder.add_gsub_pause(0)?;
+    builder.add_feature(Tag::from_bytes(b"liga"), F_GLOBAL, 1)
+}
+
+/// Asks a font for what every text has, and then for what was asked, in order.
 fn requests<'a>(
     alloc: Global,
     face: &'a Face,
@@ -59,21 +68,20 @@ fn requests<'a>(
         scripts.as_slice(),
         &[],
     );
-    builder.add_feature(Tag::from_bytes(b"liga"), F_GLOBAL, 1)?;
+    ask_common(&mut builder)?;
     ask_features(&mut builder, features)?;
     Ok(builder)
 }
 
 /// What a font does for a script and what was asked: ligatures are on unless switched off.
-#[tactic(auto, unfolding(crate::specs::Path::substitution_map), using(crate::proofs::Mapped::stages_there))]
+#[tactic(auto, unfolding(crate::specs::Path::substitution_map))]
 pub(crate) fn substitution_map(
     alloc: Global,
     face: &Face,
     script: Option<Script>,
     features: &[Feature],
 ) -> Result<hb_ot_map_t, AllocError>
-    ensures map { IfOk result (λ map. map ≡ substitution_map face.now script features.now) }
-    ensures staged { IfOk result (λ map. 0 < length map.tables.gsub.stages) }
+    ensures { IfOk result (λ map. map ≡ substitution_map face.now script features.now) }
 {
     let builder = requests(alloc, face, script, features)?;
     builder.compile(alloc)

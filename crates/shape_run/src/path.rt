@@ -9,7 +9,7 @@ ghost use Rattle.layout_rules.specs.Ready.{IsDone, IsReady};
 ghost use Rattle.std.specs.Option.{option_copied};
 ghost use Rattle.std.specs.List.{list_any, list_all};
 ghost use Rattle.unicode.specs.GeneralCategory.{general_category};
-ghost use Rattle.shape_run.specs.Path.{advance_position, is_decimal_number, is_letter, is_regional_indicator, is_number_text, is_numeral, native_direction, nominal_glyph, runs_against, script_direction, shaped_with, shaping, substituted, with_numbers, written_direction};
+ghost use Rattle.shape_run.specs.Path.{advance_position, is_decimal_number, is_letter, is_regional_indicator, is_number_text, is_numeral, native_direction, no_pauses, nominal_glyph, runs_against, script_direction, shaped_with, shaping, substituted, with_numbers, written_direction};
 ghost use Rattle.shape_run.specs.Waiting.{waits};
 ghost use Rattle.shape_run.specs.Answer.{IsUnshaped};
 ghost use Rattle.shape_run.specs.Run.{IsOfRun};
@@ -23,10 +23,8 @@ use glyph_buffer::buffer::hb_buffer_t;
 use glyph_types::cause::ShapeCause;
 use glyph_types::info::hb_glyph_info_t;
 use glyph_types::position::GlyphPosition;
-use layout_lookups::substitution::SubstitutionTable;
-use layout_stages::apply::apply_lookups;
+use layout_stages::pause::Pause;
 use map_builder::map::hb_ot_map_t;
-use map_features::per_table::TableIndex;
 use run_options::fault::RunFault;
 use shaping_text::direction::Direction;
 use shaping_text::script::Script;
@@ -244,19 +242,26 @@ fn map_text(face: &Face, mask: u32, buffer: &mut hb_buffer_t) -> Result<(), Shap
     Ok(())
 }
 
-/// Does the lookups of the map's first stage of substitution, in order.
+/// Does nothing where a stage of lookups ends.
+struct NoPauses;
+
+impl Pause for NoPauses {
+    ghost stage = { λ _ n v. no_pauses n v };
+
+    fn run(&self, _pause: u8, _buffer: &mut hb_buffer_t) -> Result<bool, ShapeCause> {
+        Ok(false)
+    }
+}
+
+/// Does the lookups of the map's stages of substitution, in order.
 fn substitute(face: &Face, map: &hb_ot_map_t, buffer: &mut hb_buffer_t) -> Result<(), ShapeCause>
-    requires staged { 0 < length map.now.tables.gsub.stages }
     requires ready { IsReady buffer.old }
     requires numbers { are_glyphs (items_of buffer.old) ≡ true }
-    ensures ok { OnOk result (IsDone (substituted face.now face.now.gsub map.now) buffer.old buffer.new) }
+    ensures ok { OnOk result (IsDone (substituted face.now map.now) buffer.old buffer.new) }
     ensures err { IfErr result (λ e. e ≢ ShapeCause.OutOfMemory
-        → read_of (substituted face.now face.now.gsub map.now) (run_of buffer.old) ≡ Err e) }
+        → read_of (substituted face.now map.now) (run_of buffer.old) ≡ Err e) }
 {
-    let Some(table) = face.gsub() else {
-        return Ok(());
-    };
-    apply_lookups(face, table, map.stage_lookups(TableIndex::GSUB, 0), buffer)
+    layout_stages::substitute::substitute(map, face, buffer, &NoPauses)
 }
 
 /// Gives each glyph its advance, and puts the glyphs in the order in which they are drawn.
@@ -272,7 +277,6 @@ fn place_glyphs(face: &Face, buffer: &mut hb_buffer_t)
 /// Shapes a buffer's text by a map: puts it in native order, each character's glyph in its place, does the font's
 /// substitutions, gives each glyph its advance, and puts the glyphs in the order in which they are drawn.
 fn shape_with(face: &Face, map: &hb_ot_map_t, buffer: &mut hb_buffer_t) -> Result<(), ShapeCause>
-    requires staged { 0 < length map.now.tables.gsub.stages }
     requires closed { buffer.old.is_open ≡ false }
     requires unrefused { buffer.old.has_refused ≡ false }
     ensures ok { OnOk result (Follows

@@ -27,7 +27,7 @@ returns-clause-ok c =
     let face = c.args.face.now in
     let m = c.args.map.now in
     let made : c.map_text.new.buffer ≡ glyphs_made face m.global_mask s = c.in_ok-map_text.ensures.ok ∙ ap (λ k. glyphs_made face k s) c.get_global_mask.ensures.value in
-    let Q : Sides → Type 0 = λ t. IsDone (substituted face face.gsub m) t c.substitute.new.buffer in
+    let Q : Sides → Type 0 = λ t. IsDone (substituted face m) t c.substitute.new.buffer in
     let done = subst Q made c.in_ok-substitute.ensures.ok in
     let flagless : bit_and m.global_mask 7 ≡ 0 = ap (λ k. bit_and k 7) (sym c.get_global_mask.ensures.value) ∙ c.get_global_mask.ensures.flagless in
     let R : Sides → Type 0 = λ t. Follows (read_of (shaped_with face m s.script) (run_of s)) (run_of s) (run_of t) in
@@ -46,6 +46,6 @@ returns-in_err-substitute-clause-err c =
     let m = c.args.map.now in
     let cause = c.in_err-substitute.field-0.0 in
     let made : c.map_text.new.buffer ≡ glyphs_made face m.global_mask s = c.in_ok-map_text.ensures.ok ∙ ap (λ k. glyphs_made face k s) c.get_global_mask.ensures.value in
-    let Q : Sides → Type 0 = λ t. read_of (substituted face face.gsub m) (run_of t) ≡ Err cause in
+    let Q : Sides → Type 0 = λ t. read_of (substituted face m) (run_of t) ≡ Err cause in
     let flagless : bit_and m.global_mask 7 ≡ 0 = ap (λ k. bit_and k 7) (sym c.get_global_mask.ensures.value) ∙ c.get_global_mask.ensures.flagless in
     passed_on c.from_residual-in_err-substitute.result cause _ c.from_residual-in_err-substitute.ensures.1 (λ not_memory. shaped_refused face m s cause flagless (subst Q made (c.in_err-substitute.ensures.err not_memory)))

@@ -1,5 +1,5 @@
 -- Positions written, and the cursor moved on: what rules of positioning do to a buffer.
-use Rattle.std.proofs.Common.{ℕ, ◌≡◌, ◌<◌, ◌≤◌, ◌+◌, ◌-◌, true, false, List, [], ◌∷◌, ◌++◌, Some, None, length, take, drop, arith, refl, sym, ap, subst, ◌∙◌, slice_get}
+use Rattle.std.proofs.Common.{if◌then◌else◌, Bool, true, false, ℕ, ◌≡◌, ◌<◌, ◌≤◌, ◌+◌, ◌-◌, set, List, [], ◌∷◌, ◌++◌, Some, None, length, take, drop, arith, refl, sym, ap, subst, ◌∙◌, slice_get}
 use Rattle.std.proofs.lemmas.List.{take_at, length-set, length-map, length-drop, length-append, map-append, take-map, drop-map, take-append-drop, append_assoc}
 use Rattle.shaping_text.specs.declared.direction.Direction.{Direction}
 use Rattle.glyph_types.specs.declared.info.hb_glyph_info_t.{hb_glyph_info_t}
@@ -16,6 +16,9 @@ use Rattle.layout_rules.specs.Buffers.{IsPassed, are_glyphs, cut_of}
 use Rattle.layout_rules.specs.Performing.{IsMade, Performed, cut_with}
 use Rattle.layout_rules.specs.Lemmas.Glyphs.{first_item}
 use Rattle.layout_rules.specs.Lemmas.Performed.{passes_nothing}
+use Rattle.layout_links.specs.Links.{position_at}
+use Rattle.layout_positions.specs.declared.value.Anchor.{Anchor}
+use Rattle.layout_gpos.specs.Anchors.{anchored, is_near, link_to, mark_hung}
 use Rattle.layout_gpos.specs.Values.{adjusted_at}
 use Rattle.layout_gpos.specs.Moving.{break_around, placed_past}
 use Rattle.layout_gpos.specs.Singles.{single_adjusted, single_subtable}
@@ -79,3 +82,13 @@ pub break_passed : (back ahead : ℕ) (s new : Sides) → IsPassed (Break (lengt
 break_passed back ahead s new p =
     let P : ℕ → Type 0 = λ k. IsPassed (Break (k - back) (k + ahead) ∷ []) s new in
     subst P (sym (length-map s.behind item_of)) p
+
+pub hung_back : (ps : List Position) (at base : ℕ) (b m : Anchor) (s new : Sides) → new ≡ with_positions_refilled ps s → ps ≡ mark_hung at base b m s.positions
+    → new ≡ record s { positions = mark_hung at base b m s.positions }
+hung_back ps at base b m s new e is =
+    let qs = mark_hung at base b m s.positions in
+    e ∙ ap (λ rs. with_positions_refilled rs s) is ∙ ap (λ rs. record s { positions = rs }) (take_at qs (drop (length qs) s.positions) (length s.positions) (same_many (is_near at base)))
+  where
+    same_many : (near : Bool) → length (if near then set s.positions at (anchored b m (link_to at base) (position_at at s.positions)) else s.positions) ≡ length s.positions
+    same_many true = length-set s.positions at (anchored b m (link_to at base) (position_at at s.positions))
+    same_many false = refl

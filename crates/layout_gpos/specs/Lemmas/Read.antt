@@ -1,8 +1,8 @@
 -- What searches read, and the numbers of glyphs.
-use Rattle.std.proofs.Common.{ℕ, zero, suc, ◌≡◌, ◌≤◌, ◌+◌, nat_le, true, List, [], ◌∷◌, Some, Ok, Err, length, drop, arith, sym, ap, ◌∙◌, slice_get}
+use Rattle.std.proofs.Common.{ℕ, zero, suc, ◌≡◌, ◌≤◌, ◌+◌, nat_le, true, List, [], ◌∷◌, Some, Ok, Err, length, drop, reverse, arith, sym, ap, ◌∙◌, slice_get}
 use Rattle.std.proofs.lemmas.Grind.{common_steps}
 use Rattle.std.proofs.lemmas.Bool.Decides.{nat_tests}
-use Rattle.std.proofs.lemmas.List.{length-drop, length-map, map-append}
+use Rattle.std.proofs.lemmas.List.{length-drop, length-reverse, length-map, map-append}
 use Rattle.std.proofs.lemmas.Option.{slice_get-map}
 use Rattle.std.specs.Option.{option_map}
 use Rattle.glyph_types.specs.declared.info.hb_glyph_info_t.{hb_glyph_info_t}
@@ -34,7 +34,7 @@ read_inside ask from end gs le e =
 
 -- ---- numbers
 
-number_in : (gs : List hb_glyph_info_t) (k : ℕ) (g : hb_glyph_info_t) → slice_get gs k ≡ Some g → are_glyphs (strip gs) ≡ true → g.glyph_id ≤ 65535
+pub number_in : (gs : List hb_glyph_info_t) (k : ℕ) (g : hb_glyph_info_t) → slice_get gs k ≡ Some g → are_glyphs (strip gs) ≡ true → g.glyph_id ≤ 65535
 number_in [] k g at e = cc
 number_in (h ∷ gs) zero g at e =
     let same : h ≡ g = cc in
@@ -63,3 +63,12 @@ found_from ask at k (x ∷ xs) e = by_first (ask x) e (λ f. found_from ask (at 
 
 pub found_ahead : (ask : Item → match_t) (from k : ℕ) (xs : List Item) → nearest_from ask from xs ≡ Ok k → from ≤ k
 found_ahead ask from k xs e = found_from ask from k (drop from xs) e
+
+-- ---- the same backward
+
+pub read_back : (ask : Item → match_t) (end : ℕ) (gs : List hb_glyph_info_t) → nearest_from ask 0 (reverse (strip gs)) ≡ Err end → end ≤ length gs
+read_back ask end gs e =
+    let far = read_within ask 0 end (reverse (strip gs)) e in
+    let long = length-reverse (strip gs) in
+    let same = length-map gs item_of in
+    omega (arith, far, long, same)

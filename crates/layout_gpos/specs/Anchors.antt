@@ -1,0 +1,26 @@
+-- Glyphs that hang on others by anchors, on a list of positions.
+use Rattle.std.specs.Prelude.{ℕ, ℤ, pos, ◌-ℤ◌, ◌-◌, nat_le, ◌&&◌, if◌then◌else◌, List, Bool, set}
+use Rattle.std.specs.Int.RustNames.{bit_or}
+use Rattle.glyph_lists.specs.Items.{Position}
+use Rattle.layout_positions.specs.declared.value.Anchor.{Anchor}
+use Rattle.layout_links.specs.Links.{position_at}
+
+-- how far a link may lead
+abbrev pub is_near : ℕ → ℕ → Bool
+is_near child parent = nat_le (child - parent) 32767 && nat_le (parent - child) 32767
+
+-- the way from a glyph to another, as a link
+abbrev pub link_to : ℕ → ℕ → ℤ
+link_to child parent = pos parent -ℤ pos child
+
+-- a mark whose anchor lies on that of its base, both seen from where their glyphs are drawn
+abbrev pub anchored : Anchor → Anchor → ℤ → Position → Position
+anchored base mark link p = record p { x_offset = base.x -ℤ mark.x; y_offset = base.y -ℤ mark.y; attach_chain = link; attach_type = 1 }
+
+-- a mark hangs on its base where that is near
+abbrev pub mark_hung : ℕ → ℕ → Anchor → Anchor → List Position → List Position
+mark_hung at base base_anchor mark_anchor ps = if is_near at base then set ps at (anchored base_anchor mark_anchor (link_to at base) (position_at at ps)) else ps
+
+-- where a link is made, it is told that glyphs hang on others
+abbrev pub told_if : Bool → ℕ → ℕ
+told_if near told = if near then bit_or told 8 else told

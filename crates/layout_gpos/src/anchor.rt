@@ -1,0 +1,60 @@
+//! Marks that hang on other glyphs, on a list of positions.
+ghost use Rattle.std.specs.Prelude.{◌≡◌, ◌<◌, ◌-ℤ◌, true, length};
+ghost use Rattle.layout_gpos.specs.Anchors.{anchored, is_near, link_to, mark_hung};
+
+use glyph_types::position::GlyphPosition;
+use layout_positions::value::Anchor;
+
+/// Whether a link may lead from one index to the other: over at most 32,767 glyphs.
+pub fn is_near(child: usize, parent: usize) -> bool
+    ensures { result ≡ is_near child parent }
+{
+    child.saturating_sub(parent) <= 32767 && parent.saturating_sub(child) <= 32767
+}
+
+pub fn link_to(child: usize, parent: usize) -> i16
+    requires near { is_near child parent ≡ true }
+    ensures { result ≡ link_to child parent }
+{
+    if parent < child {
+        let back = child - parent;
+        -(back as i16)
+    } else {
+        let on = parent - child;
+        on as i16
+    }
+}
+
+fn difference(a: i16, b: i16) -> i32
+    ensures { result ≡ a -ℤ b }
+{
+    i32::from(a) - i32::from(b)
+}
+
+fn anchored(base: Anchor, mark: Anchor, link: i16, position: GlyphPosition) -> GlyphPosition
+    ensures { result ≡ anchored base mark link position }
+{
+    GlyphPosition {
+        x_offset: difference(base.x, mark.x),
+        y_offset: difference(base.y, mark.y),
+        attach_chain: link,
+        attach_type: 1,
+        ..position
+    }
+}
+
+/// Hangs a mark on its base, anchor on anchor. Where the base is too far it is left as it is.
+pub fn hang_mark(
+    positions: &mut [GlyphPosition],
+    at: usize,
+    base: usize,
+    base_anchor: Anchor,
+    mark_anchor: Anchor,
+)
+    requires { at < length positions.old }
+    ensures { positions.new ≡ mark_hung at base base_anchor mark_anchor positions.old }
+{
+    if is_near(at, base) {
+        positions[at] = anchored(base_anchor, mark_anchor, link_to(at, base), positions[at]);
+    }
+}

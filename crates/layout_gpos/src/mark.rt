@@ -1,0 +1,178 @@
+//! Attachment of marks.
+ghost use Rattle.std.specs.Prelude.{ℕ, ◌≡◌, ◌<◌, ◌≤◌, IfErr, IfOk, false, true, Ok, length};
+ghost use Rattle.glyph_buffer.specs.Sides.{all_glyphs, items_of};
+ghost use Rattle.sorted_rows.specs.Keys.{row_of};
+ghost use Rattle.layout_match.specs.Applied.{applied_of};
+ghost use Rattle.layout_rules.specs.Buffers.{are_glyphs};
+ghost use Rattle.layout_rules.specs.Performing.{Performed, cut_with};
+ghost use Rattle.layout_gpos.specs.Anchors.{is_near, mark_hung, told_if};
+ghost use Rattle.layout_gpos.specs.Marks.{attach, attach_if, is_there, mark_to_base, on_base, with_found};
+
+use crate::anchor::{hang_mark, is_near};
+use crate::marking::{mark_attempt, mark_match};
+use crate::placing::pass;
+use crate::search::{base_before, glyph_before};
+use glyph_buffer::buffer::hb_buffer_t;
+use layout_match::hb_ot_apply_context_t;
+use layout_positions::mark::{MarkBasePos, MarkRecord};
+use layout_positions::value::Anchor;
+use shaping_text::constants::HB_BUFFER_SCRATCH_FLAG_HAS_GPOS_ATTACHMENT;
+
+#[tactic(auto, using(crate::specs::Lemmas::Placed::hung_back))]
+fn hang_at(
+    buffer: &mut hb_buffer_t,
+    at: usize,
+    base: usize,
+    base_anchor: Anchor,
+    mark_anchor: Anchor,
+)
+    requires closed { buffer.old.is_open ≡ false }
+    requires here { at < length buffer.old.positions }
+    ensures { buffer.new ≡ record buffer.old {
+      positions = mark_hung at base base_anchor mark_anchor buffer.old.positions;
+    } }
+{
+    hang_mark(buffer.pos_slice_mut(), at, base, base_anchor, mark_anchor);
+}
+
+/// Tells that glyphs hang on others, where a link was made.
+pub fn tell_attached(buffer: &mut hb_buffer_t, near: bool)
+    ensures { buffer.new ≡ record buffer.old { scratch_flags = told_if near buffer.old.scratch_flags } }
+{
+    if near {
+        let flags = buffer.scratch_flags();
+        buffer.set_scratch_flags(flags | HB_BUFFER_SCRATCH_FLAG_HAS_GPOS_ATTACHMENT);
+    }
+}
+
+/// Hangs the mark at the cursor on a glyph before it, and goes on.
+fn attach(base: Anchor, mark: Anchor, back: usize, buffer: &mut hb_buffer_t)
+    requires closed { buffer.old.is_open ≡ false }
+    requires there { 0 < length buffer.old.ahead }
+    requires before { back < length buffer.old.behind }
+    requires placed { length buffer.old.positions ≡ length (all_glyphs buffer.old) }
+    ensures { (random : ℕ) → Performed (attach base mark back (cut_with random buffer.old)) true random random buffer.old
+        buffer.new }
+{
+    let _end = buffer.len();
+    let at = buffer.out_len();
+    let parent = at - (back + 1);
+    mark_match(back + 1, 1, buffer);
+    hang_at(buffer, at, parent, base, mark);
+    tell_attached(buffer, is_near(at, parent));
+    pass(buffer, 1);
+}
+
+/// The same, where both have anchors.
+#[tactic(auto, using(crate::proofs::Attached::not_attached, crate::proofs::Attached::both_attached))]
+pub fn attach_if(
+    base: Option<Anchor>,
+    mark: Option<Anchor>,
+    back: usize,
+    buffer: &mut hb_buffer_t,
+) -> bool
+    requires closed { buffer.old.is_open ≡ false }
+    requires there { 0 < length buffer.old.ahead }
+    requires before { back < length buffer.old.behind }
+    requires placed { length buffer.old.positions ≡ length (all_glyphs buffer.old) }
+    ensures { (random : ℕ) → Performed (attach_if base mark back (cut_with random buffer.old)) result random random
+        buffer.old buffer.new }
+{
+    let Some(base) = base else {
+        return false;
+    };
+    let Some(mark) = mark else {
+        return false;
+    };
+    attach(base, mark, back, buffer);
+    true
+}
+
+#[tactic(auto, using(sorted_rows::specs::Searched::row_of_number))]
+fn is_base(subtable: &MarkBasePos, glyph: u16) -> bool
+    ensures { result ≡ is_there (row_of (λ r. r.glyph) glyph subtable.now.bases) }
+{
+    match subtable.bases.get(glyph) {
+        Some(_) => true,
+        None => false,
+    }
+}
+
+/// Hangs the mark at the cursor on a base before it.
+#[tactic(auto, using(crate::specs::Lemmas::Nearest::number_back, crate::proofs::Attached::on_a_base, crate::proofs::Attached::on_no_base, crate::specs::Lemmas::Performed::attempt_performed))]
+pub fn attach_to_base(
+    subtable: &MarkBasePos,
+    mark: MarkRecord,
+    back: usize,
+    buffer: &mut hb_buffer_t,
+) -> bool
+    requires closed { buffer.old.is_open ≡ false }
+    requires there { 0 < length buffer.old.ahead }
+    requires before { back < length buffer.old.behind }
+    requires placed { length buffer.old.positions ≡ length (all_glyphs buffer.old) }
+    requires number { are_glyphs (items_of buffer.old) ≡ true }
+    ensures { (random : ℕ) → Performed (with_found (on_base subtable.now.bases mark) (Ok back) (cut_with random
+        buffer.old)) result random random buffer.old buffer.new }
+{
+    let _end = buffer.out_len();
+    let glyph = glyph_before(buffer, back).as_glyph().0;
+    if !is_base(subtable, glyph) {
+        mark_attempt(back + 1, 1, buffer);
+        return false;
+    }
+    attach_if(
+        subtable.base_anchor(glyph, mark.class),
+        mark.anchor,
+        back,
+        buffer,
+    )
+}
+
+/// Mark to base attachment (OpenType, GPOS lookup type 4): where the subtable covers the mark at the cursor, it hangs on the
+/// nearest glyph before it that is neither a mark nor a later component of a multiple substitution, anchor on anchor. It
+/// tells whether it acted; where it didn't, it changed glyph flags alone.
+#[tactic(auto, using(layout_rules::specs::Lemmas::Glyphs::number_ahead, crate::proofs::Attached::no_base_mark, crate::proofs::Attached::base_mark))]
+pub fn apply_mark_base_pos(
+    subtable: &MarkBasePos,
+    ctx: &hb_ot_apply_context_t,
+    buffer: &mut hb_buffer_t,
+) -> bool
+    requires closed { buffer.old.is_open ≡ false }
+    requires there { 0 < length buffer.old.ahead }
+    requires placed { length buffer.old.positions ≡ length (all_glyphs buffer.old) }
+    requires number { are_glyphs (items_of buffer.old) ≡ true }
+    ensures { (random : ℕ) → Performed (mark_to_base (applied_of ctx.now) subtable.now (cut_with random
+        buffer.old)) result random random buffer.old buffer.new }
+{
+    let Some(mark) = subtable.mark(buffer.cur(0).as_glyph().0) else {
+        return false;
+    };
+    let found = base_before(ctx, buffer);
+    attach_found(subtable, mark, found, buffer)
+}
+
+/// The same with what was found before the cursor.
+#[tactic(auto, using(crate::specs::Lemmas::Performed::attempt_performed))]
+fn attach_found(
+    subtable: &MarkBasePos,
+    mark: MarkRecord,
+    found: Result<usize, usize>,
+    buffer: &mut hb_buffer_t,
+) -> bool
+    requires closed { buffer.old.is_open ≡ false }
+    requires there { 0 < length buffer.old.ahead }
+    requires inside { IfOk found (λ at. at < length buffer.old.behind) }
+    requires read { IfErr found (λ end. end ≤ length buffer.old.behind) }
+    requires placed { length buffer.old.positions ≡ length (all_glyphs buffer.old) }
+    requires number { are_glyphs (items_of buffer.old) ≡ true }
+    ensures { (random : ℕ) → Performed (with_found (on_base subtable.now.bases mark) found (cut_with random
+        buffer.old)) result random random buffer.old buffer.new }
+{
+    match found {
+        Ok(back) => attach_to_base(subtable, mark, back, buffer),
+        Err(end) => {
+            mark_attempt(end, 1, buffer);
+            false
+        }
+    }
+}

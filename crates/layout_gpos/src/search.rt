@@ -1,0 +1,92 @@
+//! The glyphs before the cursor that marks may hang on.
+ghost use Rattle.std.specs.Prelude.{◌≡◌, ◌<◌, ◌≤◌, ◌+◌, IfErr, IfOk, Some, length, reverse, slice_get};
+ghost use Rattle.glyph_lists.specs.Items.{item_of};
+ghost use Rattle.layout_match.specs.Applied.{applied_of};
+ghost use Rattle.layout_rules.specs.Buffers.{cut_of};
+ghost use Rattle.layout_gpos.specs.Marks.{among_marks, base_answer, base_before, is_later_component, item_before, without_marks};
+
+use glyph_buffer::buffer::hb_buffer_t;
+use glyph_types::info::hb_glyph_info_t;
+use layout_common::flags::{IGNORE_FLAGS, IGNORE_MARKS};
+use layout_match::ligature_words::{
+    _hb_glyph_info_get_lig_comp, _hb_glyph_info_get_lig_id, _hb_glyph_info_multiplied,
+};
+use layout_match::{hb_ot_apply_context_t, match_t, skipping_iterator_t};
+
+/// With what a lookup is applied, marks being passed over in place of its flag.
+pub fn without_marks<'a>(ctx: &hb_ot_apply_context_t<'a>) -> hb_ot_apply_context_t<'a>
+    ensures { applied_of result ≡ without_marks (applied_of ctx.now) }
+{
+    let mut other = *ctx;
+    other.lookup_props = u32::from(IGNORE_MARKS);
+    other
+}
+
+/// With what a lookup is applied, no class being passed over.
+pub fn among_marks<'a>(ctx: &hb_ot_apply_context_t<'a>) -> hb_ot_apply_context_t<'a>
+    ensures { applied_of result ≡ among_marks (applied_of ctx.now) }
+{
+    let mut other = *ctx;
+    other.lookup_props -= other.lookup_props & u32::from(IGNORE_FLAGS);
+    other
+}
+
+/// The glyph before the cursor with an index, the nearest being 0.
+pub fn glyph_before(buffer: &hb_buffer_t, back: usize) -> &hb_glyph_info_t
+    requires { back < length buffer.now.behind }
+    ensures { slice_get (reverse buffer.now.behind) back ≡ Some result.now }
+{
+    let index = buffer.out_len() - 1 - back;
+    &buffer.out_info()[index]
+}
+
+/// The nearest glyph before the cursor that the lookup doesn't pass over; else how far the search read.
+#[tactic(auto, using(crate::specs::Lemmas::Read::read_back))]
+pub fn item_before(ctx: &hb_ot_apply_context_t, buffer: &hb_buffer_t) -> Result<usize, usize>
+    requires { 0 < length buffer.now.ahead }
+    ensures found { result ≡ item_before (applied_of ctx.now) (cut_of buffer.now) }
+    ensures inside { IfOk result (λ at. at < length buffer.now.behind) }
+    ensures read { IfErr result (λ end. end ≤ length buffer.now.behind) }
+{
+    let mut iter = skipping_iterator_t::new(ctx, buffer, 0, false);
+    iter.prev(buffer)
+}
+
+fn is_later_component(info: &hb_glyph_info_t) -> bool
+    ensures { result ≡ is_later_component (item_of info.now) }
+{
+    _hb_glyph_info_multiplied(info)
+        && _hb_glyph_info_get_lig_id(info) == 0
+        && _hb_glyph_info_get_lig_comp(info) > 0
+}
+
+fn base_answer(is_later: bool, answer: match_t) -> match_t
+    ensures { result ≡ base_answer is_later answer }
+{
+    match answer {
+        match_t::MATCH if is_later => match_t::SKIP,
+        answer => answer,
+    }
+}
+
+/// The nearest glyph before the cursor that a mark may hang on, marks and later components being passed over; else how far
+/// the search read.
+#[tactic(auto, using(crate::specs::Lemmas::Nearest::taken_before, crate::specs::Lemmas::Nearest::refused_before, crate::specs::Lemmas::Nearest::passed_before, crate::specs::Lemmas::Nearest::ended_before))]
+pub fn base_before(ctx: &hb_ot_apply_context_t, buffer: &hb_buffer_t) -> Result<usize, usize>
+    requires { 0 < length buffer.now.ahead }
+    ensures found { result ≡ base_before (applied_of ctx.now) (cut_of buffer.now) }
+    ensures inside { IfOk result (λ at. at < length buffer.now.behind) }
+    ensures read { IfErr result (λ end. end ≤ length buffer.now.behind) }
+{
+    let search = without_marks(ctx).own_search(buffer);
+    let end = buffer.out_len();
+    for at in 0..end {
+        let info = glyph_before(buffer, at);
+        match base_answer(is_later_component(info), search.match_(None, 0, info)) {
+            match_t::MATCH => return Ok(at),
+            match_t::NOT_MATCH => return Err(at + 1),
+            match_t::SKIP => {}
+        }
+    }
+    Err(end)
+}

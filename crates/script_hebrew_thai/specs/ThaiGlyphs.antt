@@ -1,0 +1,15 @@
+-- Glyphs of Thai, with the characters that came to stand for their own.
+use Rattle.std.specs.Prelude.{ℕ, List, [], ◌∷◌, map}
+use Rattle.unicode_tables.specs.Tables.{Tables}
+use Rattle.font_face.specs.declared.parts.FaceParts.{FaceParts}
+use Rattle.glyph_types.specs.declared.info.hb_glyph_info_t.{hb_glyph_info_t}
+use Rattle.glyph_lists.specs.Replacements.{glyph_numbered}
+use Rattle.script_hebrew_thai.specs.declared.thai_private.State.{State}
+use Rattle.script_hebrew_thai.specs.ThaiPrivate.{character_shaped, state_after}
+
+abbrev pub number_of : hb_glyph_info_t → ℕ
+number_of g = g.glyph_id
+
+abbrev pub glyphs_shaped : Tables → FaceParts → State → List hb_glyph_info_t → List hb_glyph_info_t
+glyphs_shaped t font s [] = []
+glyphs_shaped t font s (g ∷ gs) = glyph_numbered g (character_shaped t font s g.glyph_id (map number_of gs)) ∷ glyphs_shaped t font (state_after s g.glyph_id) gs

@@ -1,0 +1,16 @@
+-- What the shapers of Arabic do to where the glyphs come from.
+use Rattle.std.specs.Prelude.{ℕ, Bool, List}
+use Rattle.glyph_types.specs.declared.level.BufferClusterLevel.{BufferClusterLevel}
+use Rattle.unicode_tables.specs.Tables.{Tables}
+use Rattle.glyph_lists.specs.Events.{IsPlain}
+use Rattle.glyph_lists.specs.Readings.{View}
+use Rattle.script_joining.specs.Joining.{joined}
+use Rattle.script_joining.specs.Marks.{marks_reordered}
+
+-- joining puts no glyph in another order without a merge: so it keeps the order of clusters at the monotone levels
+abbrev pub JoiningIsPlain : Type 0
+JoiningIsPlain = (t : Tables) (mongolian : Bool) (masks pre post : List ℕ) (v : View) (level : BufferClusterLevel) → IsPlain ((joined t mongolian masks pre post v).events level)
+
+-- nor does the order of marks
+abbrev pub MarksArePlain : Type 0
+MarksArePlain = (start end : ℕ) (v : View) (level : BufferClusterLevel) → IsPlain ((marks_reordered start end v).events level)

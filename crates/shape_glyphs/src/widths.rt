@@ -1,0 +1,67 @@
+//! Positions of glyphs that are not to be seen.
+ghost use Rattle.std.specs.Prelude.{◌≡◌};
+ghost use Rattle.glyph_lists.specs.Items.{item_of};
+ghost use Rattle.glyph_lists.specs.Readings.{always};
+ghost use Rattle.layout_rules.specs.Ready.{IsReady};
+ghost use Rattle.text_stages.specs.Places.{placed};
+ghost use Rattle.text_stages.specs.Stages.{IsFollowed};
+ghost use Rattle.shape_glyphs.specs.Widths.{ignorable_position, keeps_widths, widthless, zero_widths};
+
+use crate::glyphs::is_default_ignorable;
+use bitflags::Flags;
+use glyph_buffer::buffer::hb_buffer_t;
+use glyph_types::info::hb_glyph_info_t;
+use glyph_types::position::GlyphPosition;
+use shaping_text::constants::BufferFlags;
+use text_stages::positions::map_positions;
+
+/// Takes their advances and offsets from default ignorables, unless they are to be preserved or taken out. It takes linear
+/// time and no memory.
+pub fn zero_width_default_ignorables(buffer: &mut hb_buffer_t)
+    requires { IsReady buffer.old }
+    ensures { IsFollowed (always (zero_widths buffer.old.flags)) buffer.old buffer.new }
+{
+    if keeps_widths(buffer.flags()) {
+        return;
+    }
+    zero_widths(buffer);
+}
+
+fn keeps_widths(flags: BufferFlags) -> bool
+    ensures { result ≡ keeps_widths flags }
+{
+    flags.contains(BufferFlags::PRESERVE_DEFAULT_IGNORABLES)
+        || flags.contains(BufferFlags::REMOVE_DEFAULT_IGNORABLES)
+}
+
+fn zero_widths(buffer: &mut hb_buffer_t)
+    requires { IsReady buffer.old }
+    ensures { IsFollowed (always (placed ignorable_position)) buffer.old buffer.new }
+{
+    map_positions(
+        buffer,
+        |glyph, position| ignorable_position(glyph, position),
+    );
+}
+
+fn ignorable_position(glyph: &hb_glyph_info_t, position: GlyphPosition) -> GlyphPosition
+    ensures { result ≡ ignorable_position (item_of glyph.now) position }
+{
+    if is_default_ignorable(glyph) {
+        widthless(position)
+    } else {
+        position
+    }
+}
+
+pub(crate) fn widthless(position: GlyphPosition) -> GlyphPosition
+    ensures { result ≡ widthless position }
+{
+    GlyphPosition {
+        x_advance: 0,
+        y_advance: 0,
+        x_offset: 0,
+        y_offset: 0,
+        ..position
+    }
+}
