@@ -1,12 +1,8 @@
 -- Marks attached at the cursor.
-use Rattle.std.proofs.Common.{ℕ, ◌≡◌, ◌<◌, ◌≤◌, ◌+◌, ◌-◌, ◌⊎◌, inl, inr, Bool, true, false, if◌then◌else◌, List, [], ◌∷◌, ◌++◌, Option, Some, None, Result, Ok, length, reverse, arith, refl, sym, ap, subst, ◌∙◌, slice_get}
-use Rattle.std.specs.Prelude.{bit_and}
-use Rattle.std.specs.Int.RustNames.{bit_or}
-use Rattle.std.proofs.lemmas.Nat.Bits.{same_from_bits, bit_at_and, bit_at_or}
-use Rattle.std.proofs.lemmas.List.{append-nil}
+use Rattle.std.proofs.Common.{ℕ, ◌≡◌, ◌<◌, ◌≤◌, ◌+◌, ◌-◌, ◌⊎◌, inl, inr, Bool, true, false, if◌then◌else◌, List, [], ◌∷◌, Option, Some, None, Result, Ok, length, reverse, arith, refl, sym, ap, subst, ◌∙◌, slice_get}
 use Rattle.glyph_types.specs.declared.info.hb_glyph_info_t.{hb_glyph_info_t}
-use Rattle.glyph_lists.specs.Items.{Item, Position, item_of}
-use Rattle.glyph_lists.specs.Events.{Event, Break}
+use Rattle.glyph_lists.specs.Items.{Position, item_of}
+use Rattle.glyph_lists.specs.Events.{Break}
 use Rattle.glyph_buffer.specs.Sides.{Sides, moved_on, told_of}
 use Rattle.sorted_rows.specs.Keys.{row_of}
 use Rattle.layout_positions.specs.Marks.{base_anchor}
@@ -16,44 +12,17 @@ use Rattle.layout_common.specs.Rows.{value_of}
 use Rattle.layout_match.specs.Applied.{Applied}
 use Rattle.layout_positions.specs.declared.mark.MarkBasePos.{MarkBasePos}
 use Rattle.layout_positions.specs.declared.mark.MarkRecord.{MarkRecord}
-use Rattle.layout_rules.specs.Actions.{Cut, Outcome, Acts, Action, Passes, at_first, attempt_around}
+use Rattle.layout_rules.specs.Actions.{Cut, Outcome, Passes, at_first, attempt_around}
 use Rattle.layout_rules.specs.Buffers.{IsPassed, cut_of}
-use Rattle.layout_rules.specs.Performing.{IsMade, Performed, cut_with}
+use Rattle.layout_rules.specs.Performing.{Performed, cut_with}
 use Rattle.layout_rules.specs.Lemmas.Frames.{same_lengths}
-use Rattle.layout_rules.specs.Lemmas.Performed.{passes_nothing, performs_later, same_with}
+use Rattle.layout_rules.specs.Lemmas.Performed.{passes_nothing}
 use Rattle.layout_gpos.specs.Anchors.{is_near, mark_hung, told_if}
-use Rattle.layout_gpos.specs.Moving.{break_around, placed_past}
+use Rattle.layout_gpos.specs.Moving.{break_around}
 use Rattle.layout_gpos.specs.Marks.{attach, attach_if, base_before, is_there, mark_on_base, mark_to_base, on_base, with_found}
-use Rattle.layout_gpos.proofs.Placed.{break_passed, front_count, placed_made}
-use Rattle.layout_gpos.proofs.Nearest.{item_back}
+use Rattle.layout_gpos.specs.Lemmas.Placed.{break_passed, front_count}
 use Rattle.layout_rules.specs.Lemmas.Glyphs.{first_item}
-
-and_or : (n a m : ℕ) → bit_and (bit_or a m) n ≡ bit_or (bit_and a n) (bit_and m n)
-and_or n a m =
-    same_from_bits (bit_and (bit_or a m) n) (bit_or (bit_and a n) (bit_and m n)) (λ i.
-    let one = bit_at_and (bit_or a m) n i in
-    let two = bit_at_or a m i in
-    let three = bit_at_or (bit_and a n) (bit_and m n) i in
-    let four = bit_at_and a n i in
-    let five = bit_at_and m n i in
-    omega (arith, one, two, three, four, five))
-
-told_same : (near : Bool) (flags : ℕ) → told_of (told_if near flags) ≡ told_if near (told_of flags)
-told_same true flags = and_or 0xFFFF_FFDF flags 8
-told_same false flags = refl
-
--- a rule that acts behind a mark and tells of it
-pub marked_told : (es : List Event) (n r f : ℕ) (ps : Cut → List Position) (t : Cut → ℕ) (s mid new : Sides) → IsPassed es s mid → 0 < n → n ≤ length mid.ahead → told_of f ≡ t (cut_with r mid)
-    → new ≡ moved_on n (record mid { positions = ps (cut_with r mid); scratch_flags = f }) → IsMade (record (placed_past n (ps (cut_with r s)) (cut_with r s)) { told = t (cut_with r s) }) es r s new
-marked_told es n r f ps t s mid new p some le told e =
-    let c = cut_with r mid in
-    let cut : ℕ → Cut = λ k. record (placed_past n (ps c) c) { told = k } in
-    let Q : Sides → Type 0 = λ u. IsMade (cut (told_of f)) [] r mid u in
-    let made = subst (λ (k : ℕ). IsMade (cut k) [] r mid new) told (subst Q (sym e) (placed_made n r f (ps c) mid some le)) in
-    let all = (performs_later es (Acts (cut (t c)) []) (Ok true) r r s mid new p (refl, made)).1 in
-    let R : Cut → Type 0 = λ c. IsMade (record (placed_past n (ps c) c) { told = t c }) (es ++ []) r s new in
-    let at_start = subst R (same_with r s mid p.cut_is) all in
-    subst (λ (fs : List Event). IsMade (record (placed_past n (ps (cut_with r s)) (cut_with r s)) { told = t (cut_with r s) }) fs r s new) (append-nil es) at_start
+use Rattle.layout_gpos.specs.Lemmas.Performed.{found_is, marked_told, told_same}
 
 pub attach_acted : (r back at parent : ℕ) (base mark : Anchor) (near : Bool) (s mid new : Sides) → IsPassed (Break (length s.behind - (back + 1)) (length s.behind + 1) ∷ []) s mid → at ≡ length s.behind → 0 < length s.ahead
     → parent ≡ at - (back + 1) → near ≡ is_near at parent → new ≡ moved_on 1 (record mid { positions = mark_hung at parent base mark mid.positions; scratch_flags = told_if near mid.scratch_flags })
@@ -83,11 +52,6 @@ pub both_attached : (r back : ℕ) (b m : Anchor) (base mark : Option Anchor) (s
 both_attached r back b m base mark s new e f done =
     let same : attach_if base mark back (cut_with r s) ≡ attach b m back (cut_with r s) = ap (λ (o : Option Anchor). attach_if o mark back (cut_with r s)) e ∙ ap (λ (o : Option Anchor). attach_if (Some b) o back (cut_with r s)) f in
     subst (λ (o : Outcome). Performed o true r r s new) (sym same) done
-
--- ---- what was found before the cursor
-
-pub found_is : (r back : ℕ) (act : ℕ → Option Item → Action) (s : Sides) (g : hb_glyph_info_t) → slice_get (reverse s.behind) back ≡ Some g → with_found act (Ok back) (cut_with r s) ≡ act back (Some (item_of g)) (cut_with r s)
-found_is r back act s g at = ap (λ (o : Option Item). act back o (cut_with r s)) (item_back s.behind back g at)
 
 -- ---- bases
 

@@ -15,7 +15,7 @@ use Rattle.layout_rules.specs.Performing.{Performed, cut_with}
 use Rattle.layout_rules.specs.Lemmas.Glyphs.{first_item}
 use Rattle.layout_rules.specs.Lemmas.Performed.{passes_nothing}
 use Rattle.layout_gpos.specs.Marks.{among_marks, belong_together, item_before, mark_on_mark, mark_to_mark, on_base, on_mark, with_found}
-use Rattle.layout_gpos.proofs.Attached.{found_is}
+use Rattle.layout_gpos.specs.Lemmas.Performed.{found_is}
 
 abbrev by_mark : ℕ → List BaseRow → MarkRecord → Item → Cut → Bool → Outcome
 by_mark back bases m b c good = if good then on_base bases m back (Some b) c else attempt_around (back + 1) 1 c

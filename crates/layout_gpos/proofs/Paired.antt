@@ -1,46 +1,27 @@
 -- Pairs adjusted at the cursor.
-use Rattle.std.proofs.Common.{ℕ, ◌≡◌, ◌<◌, ◌≤◌, ◌+◌, ◌-◌, ◌&&◌, Bool, true, false, if◌then◌else◌, List, [], ◌∷◌, ◌++◌, Option, Some, None, Result, Ok, Err, length, arith, refl, sym, ap, subst, ◌∙◌, slice_get}
+use Rattle.std.proofs.Common.{ℕ, ◌≡◌, ◌<◌, ◌≤◌, ◌+◌, ◌-◌, ◌&&◌, Bool, true, false, if◌then◌else◌, List, [], ◌∷◌, Option, Some, None, Result, Ok, Err, length, arith, refl, sym, ap, subst, ◌∙◌, slice_get}
 use Rattle.std.specs.Prelude.{option_and_then}
-use Rattle.std.proofs.lemmas.List.{append-nil}
 use Rattle.shaping_text.specs.declared.direction.Direction.{Direction}
 use Rattle.glyph_types.specs.declared.info.hb_glyph_info_t.{hb_glyph_info_t}
 use Rattle.glyph_lists.specs.Items.{Item, Position, item_of, strip}
-use Rattle.glyph_lists.specs.Events.{Event, Break, Concat}
+use Rattle.glyph_lists.specs.Events.{Break}
 use Rattle.glyph_buffer.specs.Sides.{Sides, moved_on}
 use Rattle.layout_match.specs.Applied.{Applied}
 use Rattle.layout_positions.specs.declared.value.ValueRecord.{ValueRecord}
 use Rattle.layout_positions.specs.declared.pair.PairValues.{PairValues}
 use Rattle.layout_positions.specs.declared.pair.PairPos.{PairPos}
-use Rattle.layout_rules.specs.Actions.{Cut, Outcome, Acts, Passes, at_first, attempt_around}
+use Rattle.layout_rules.specs.Actions.{Cut, Outcome, Passes, at_first, attempt_around}
 use Rattle.layout_rules.specs.Buffers.{IsPassed, cut_of, Frame}
-use Rattle.layout_rules.specs.Performing.{IsMade, Performed, cut_with}
+use Rattle.layout_rules.specs.Performing.{Performed, cut_with}
 use Rattle.layout_rules.specs.Lemmas.Glyphs.{first_item}
-use Rattle.layout_rules.specs.Lemmas.Performed.{passes_nothing, same_with, performs_later}
+use Rattle.layout_rules.specs.Lemmas.Performed.{passes_nothing}
 use Rattle.layout_rules.specs.Lemmas.Does.{passed_same}
-use Rattle.layout_gpos.specs.Moving.{break_around, placed_past}
+use Rattle.layout_gpos.specs.Moving.{break_around}
 use Rattle.layout_gpos.specs.Values.{is_zero}
 use Rattle.layout_gpos.specs.Pairs.{begins_pair, has_no_effect, next_item, pair_adjusted, pair_events, pair_from, pair_length, pair_of, pair_second, pair_subtable, pair_values}
-use Rattle.layout_gpos.proofs.Placed.{break_passed, front_count, placed_made}
-use Rattle.layout_gpos.proofs.Read.{item_at}
-
--- ---- an attempt that failed
-
-pub attempt_performed : (back ahead r : ℕ) (s new : Sides) → IsPassed (Concat (length s.behind - back) (length s.behind + ahead) ∷ []) s new → Performed (attempt_around back ahead (cut_with r s)) false r r s new
-attempt_performed back ahead r s new p =
-    let P : ℕ → Type 0 = λ k. IsPassed (Concat (k - back) (k + ahead) ∷ []) s new in
-    (refl, refl, subst P (front_count r s) p)
-
--- ---- rules that act behind a mark: the marks come first
-
-pub marked_made : (es : List Event) (n r : ℕ) (ps : Cut → List Position) (s mid new : Sides) → IsPassed es s mid → 0 < n → n ≤ length mid.ahead
-    → new ≡ moved_on n (record mid { positions = ps (cut_with r mid) }) → IsMade (placed_past n (ps (cut_with r s)) (cut_with r s)) es r s new
-marked_made es n r ps s mid new p some le e =
-    let Q : Sides → Type 0 = λ t. IsMade (placed_past n (ps (cut_with r mid)) (cut_with r mid)) [] r mid t in
-    let made = subst Q (sym e) (placed_made n r mid.scratch_flags (ps (cut_with r mid)) mid some le) in
-    let all = (performs_later es (Acts (placed_past n (ps (cut_with r mid)) (cut_with r mid)) []) (Ok true) r r s mid new p (refl, made)).1 in
-    let R : Cut → Type 0 = λ c. IsMade (placed_past n (ps c) c) (es ++ []) r s new in
-    let at_start = subst R (same_with r s mid p.cut_is) all in
-    subst (λ (fs : List Event). IsMade (placed_past n (ps (cut_with r s)) (cut_with r s)) fs r s new) (append-nil es) at_start
+use Rattle.layout_gpos.specs.Lemmas.Placed.{break_passed, front_count}
+use Rattle.layout_gpos.specs.Lemmas.Read.{item_at}
+use Rattle.layout_gpos.specs.Lemmas.Performed.{marked_made}
 
 -- ---- a pair
 

@@ -6,13 +6,13 @@ use glyph_types::position::GlyphPosition;
 use layout_positions::value::Anchor;
 
 /// Whether a link may lead from one index to the other: over at most 32,767 glyphs.
-pub(crate) fn is_near(child: usize, parent: usize) -> bool
+pub fn is_near(child: usize, parent: usize) -> bool
     ensures { result ≡ is_near child parent }
 {
     child.saturating_sub(parent) <= 32767 && parent.saturating_sub(child) <= 32767
 }
 
-pub(crate) fn link_to(child: usize, parent: usize) -> i16
+pub fn link_to(child: usize, parent: usize) -> i16
     requires near { is_near child parent ≡ true }
     ensures { result ≡ link_to child parent }
 {

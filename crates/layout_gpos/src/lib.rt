@@ -3,7 +3,6 @@
 
 pub mod anchor;
 pub mod apply;
-pub mod cursive;
 pub mod mark;
 pub mod mark_mark;
 pub mod marking;

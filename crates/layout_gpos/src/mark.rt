@@ -18,7 +18,7 @@ use layout_positions::mark::{MarkBasePos, MarkRecord};
 use layout_positions::value::Anchor;
 use shaping_text::constants::HB_BUFFER_SCRATCH_FLAG_HAS_GPOS_ATTACHMENT;
 
-#[tactic(auto, using(crate::proofs::Placed::hung_back))]
+#[tactic(auto, using(crate::specs::Lemmas::Placed::hung_back))]
 fn hang_at(
     buffer: &mut hb_buffer_t,
     at: usize,
@@ -36,7 +36,7 @@ fn hang_at(
 }
 
 /// Tells that glyphs hang on others, where a link was made.
-pub(crate) fn tell_attached(buffer: &mut hb_buffer_t, near: bool)
+pub fn tell_attached(buffer: &mut hb_buffer_t, near: bool)
     ensures { buffer.new ≡ record buffer.old { scratch_flags = told_if near buffer.old.scratch_flags } }
 {
     if near {
@@ -65,7 +65,7 @@ fn attach(base: Anchor, mark: Anchor, back: usize, buffer: &mut hb_buffer_t)
 
 /// The same, where both have anchors.
 #[tactic(auto, using(crate::proofs::Attached::not_attached, crate::proofs::Attached::both_attached))]
-pub(crate) fn attach_if(
+pub fn attach_if(
     base: Option<Anchor>,
     mark: Option<Anchor>,
     back: usize,
@@ -99,8 +99,8 @@ fn is_base(subtable: &MarkBasePos, glyph: u16) -> bool
 }
 
 /// Hangs the mark at the cursor on a base before it.
-#[tactic(auto, using(crate::proofs::Nearest::number_back, crate::proofs::Attached::on_a_base, crate::proofs::Attached::on_no_base, crate::proofs::Paired::attempt_performed))]
-pub(crate) fn attach_to_base(
+#[tactic(auto, using(crate::specs::Lemmas::Nearest::number_back, crate::proofs::Attached::on_a_base, crate::proofs::Attached::on_no_base, crate::specs::Lemmas::Performed::attempt_performed))]
+pub fn attach_to_base(
     subtable: &MarkBasePos,
     mark: MarkRecord,
     back: usize,
@@ -152,7 +152,7 @@ pub fn apply_mark_base_pos(
 }
 
 /// The same with what was found before the cursor.
-#[tactic(auto, using(crate::proofs::Paired::attempt_performed))]
+#[tactic(auto, using(crate::specs::Lemmas::Performed::attempt_performed))]
 fn attach_found(
     subtable: &MarkBasePos,
     mark: MarkRecord,

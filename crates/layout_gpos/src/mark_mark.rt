@@ -44,7 +44,7 @@ pub fn apply_mark_mark_pos(
 }
 
 /// The same with what was found before the cursor.
-#[tactic(auto, using(crate::proofs::Paired::attempt_performed, crate::proofs::MarkMark::on_a_mark, crate::proofs::MarkMark::on_no_mark))]
+#[tactic(auto, using(crate::specs::Lemmas::Performed::attempt_performed, crate::proofs::MarkMark::on_a_mark, crate::proofs::MarkMark::on_no_mark))]
 fn attach_mark_found(
     subtable: &MarkBasePos,
     mark: MarkRecord,

@@ -44,8 +44,8 @@ fn pair_values(subtable: &PairPos, first: u16, second: u16) -> Option<PairValues
 
 /// The nearest glyph behind the one at the cursor that the lookup doesn't pass over, from the cursor on; else how far the
 /// search read.
-#[tactic(auto, using(crate::proofs::Read::read_inside, crate::proofs::Read::found_ahead))]
-pub(crate) fn next_glyph(ctx: &hb_ot_apply_context_t, buffer: &hb_buffer_t) -> Result<usize, usize>
+#[tactic(auto, using(crate::specs::Lemmas::Read::read_inside, crate::specs::Lemmas::Read::found_ahead))]
+pub fn next_glyph(ctx: &hb_ot_apply_context_t, buffer: &hb_buffer_t) -> Result<usize, usize>
     requires { 0 < length buffer.now.ahead }
     ensures found { result ≡ next_item (applied_of ctx.now) (strip buffer.now.ahead) }
     ensures inside { IfOk result (λ at. (0 < at) × (at < length buffer.now.ahead)) }
@@ -107,7 +107,7 @@ fn adjust_pair(buffer: &mut hb_buffer_t, first: usize, apart: usize, values: Pai
 }
 
 /// Does to two glyphs what a pair's values say, where they are a pair.
-#[tactic(auto, using(crate::proofs::Paired::attempt_performed, crate::proofs::Paired::pair_acted))]
+#[tactic(auto, using(crate::specs::Lemmas::Performed::attempt_performed, crate::proofs::Paired::pair_acted))]
 fn apply_values(values: Option<PairValues>, apart: usize, buffer: &mut hb_buffer_t) -> bool
     requires closed { buffer.old.is_open ≡ false }
     requires some { 0 < apart }
@@ -139,7 +139,7 @@ impl Apply for PairPos {
 }
 
 /// Pair adjustment (OpenType, GPOS lookup type 2) of the glyph at the cursor, which begins pairs, and the nearest behind it.
-#[tactic(auto, using(crate::proofs::Read::number_beyond, crate::proofs::Read::found_ahead, crate::proofs::Paired::attempt_performed, crate::proofs::Paired::second_found, crate::proofs::Paired::second_failed))]
+#[tactic(auto, using(crate::specs::Lemmas::Read::number_beyond, crate::specs::Lemmas::Read::found_ahead, crate::specs::Lemmas::Performed::attempt_performed, crate::proofs::Paired::second_found, crate::proofs::Paired::second_failed))]
 fn apply_from(
     subtable: &PairPos,
     first: u16,

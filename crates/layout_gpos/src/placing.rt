@@ -8,8 +8,8 @@ use glyph_buffer::buffer::hb_buffer_t;
 use layout_positions::value::ValueRecord;
 
 /// Adjusts the position of a glyph, by its index.
-#[tactic(auto, using(crate::proofs::Placed::adjusted_back))]
-pub(crate) fn adjust_glyph(buffer: &mut hb_buffer_t, at: usize, value: ValueRecord)
+#[tactic(auto, using(crate::specs::Lemmas::Placed::adjusted_back))]
+pub fn adjust_glyph(buffer: &mut hb_buffer_t, at: usize, value: ValueRecord)
     requires closed { buffer.old.is_open ≡ false }
     requires here { at < length buffer.old.positions }
     ensures { buffer.new ≡ record buffer.old { positions = adjusted_at buffer.old.direction at value buffer.old.positions } }
@@ -19,7 +19,7 @@ pub(crate) fn adjust_glyph(buffer: &mut hb_buffer_t, at: usize, value: ValueReco
 }
 
 /// The cursor goes on over glyphs; without an output that takes no memory and is never refused.
-pub(crate) fn pass(buffer: &mut hb_buffer_t, count: usize)
+pub fn pass(buffer: &mut hb_buffer_t, count: usize)
     requires closed { buffer.old.is_open ≡ false }
     requires there { count ≤ length buffer.old.ahead }
     ensures { buffer.new ≡ moved_on count buffer.old }

@@ -14,7 +14,7 @@ use layout_match::ligature_words::{
 use layout_match::{hb_ot_apply_context_t, match_t, skipping_iterator_t};
 
 /// With what a lookup is applied, marks being passed over in place of its flag.
-pub(crate) fn without_marks<'a>(ctx: &hb_ot_apply_context_t<'a>) -> hb_ot_apply_context_t<'a>
+pub fn without_marks<'a>(ctx: &hb_ot_apply_context_t<'a>) -> hb_ot_apply_context_t<'a>
     ensures { applied_of result ≡ without_marks (applied_of ctx.now) }
 {
     let mut other = *ctx;
@@ -23,7 +23,7 @@ pub(crate) fn without_marks<'a>(ctx: &hb_ot_apply_context_t<'a>) -> hb_ot_apply_
 }
 
 /// With what a lookup is applied, no class being passed over.
-pub(crate) fn among_marks<'a>(ctx: &hb_ot_apply_context_t<'a>) -> hb_ot_apply_context_t<'a>
+pub fn among_marks<'a>(ctx: &hb_ot_apply_context_t<'a>) -> hb_ot_apply_context_t<'a>
     ensures { applied_of result ≡ among_marks (applied_of ctx.now) }
 {
     let mut other = *ctx;
@@ -32,7 +32,7 @@ pub(crate) fn among_marks<'a>(ctx: &hb_ot_apply_context_t<'a>) -> hb_ot_apply_co
 }
 
 /// The glyph before the cursor with an index, the nearest being 0.
-pub(crate) fn glyph_before(buffer: &hb_buffer_t, back: usize) -> &hb_glyph_info_t
+pub fn glyph_before(buffer: &hb_buffer_t, back: usize) -> &hb_glyph_info_t
     requires { back < length buffer.now.behind }
     ensures { slice_get (reverse buffer.now.behind) back ≡ Some result.now }
 {
@@ -41,8 +41,8 @@ pub(crate) fn glyph_before(buffer: &hb_buffer_t, back: usize) -> &hb_glyph_info_
 }
 
 /// The nearest glyph before the cursor that the lookup doesn't pass over; else how far the search read.
-#[tactic(auto, using(crate::proofs::Read::read_back))]
-pub(crate) fn item_before(ctx: &hb_ot_apply_context_t, buffer: &hb_buffer_t) -> Result<usize, usize>
+#[tactic(auto, using(crate::specs::Lemmas::Read::read_back))]
+pub fn item_before(ctx: &hb_ot_apply_context_t, buffer: &hb_buffer_t) -> Result<usize, usize>
     requires { 0 < length buffer.now.ahead }
     ensures found { result ≡ item_before (applied_of ctx.now) (cut_of buffer.now) }
     ensures inside { IfOk result (λ at. at < length buffer.now.behind) }
@@ -71,8 +71,8 @@ fn base_answer(is_later: bool, answer: match_t) -> match_t
 
 /// The nearest glyph before the cursor that a mark may hang on, marks and later components being passed over; else how far
 /// the search read.
-#[tactic(auto, using(crate::proofs::Nearest::taken_before, crate::proofs::Nearest::refused_before, crate::proofs::Nearest::passed_before, crate::proofs::Nearest::ended_before))]
-pub(crate) fn base_before(ctx: &hb_ot_apply_context_t, buffer: &hb_buffer_t) -> Result<usize, usize>
+#[tactic(auto, using(crate::specs::Lemmas::Nearest::taken_before, crate::specs::Lemmas::Nearest::refused_before, crate::specs::Lemmas::Nearest::passed_before, crate::specs::Lemmas::Nearest::ended_before))]
+pub fn base_before(ctx: &hb_ot_apply_context_t, buffer: &hb_buffer_t) -> Result<usize, usize>
     requires { 0 < length buffer.now.ahead }
     ensures found { result ≡ base_before (applied_of ctx.now) (cut_of buffer.now) }
     ensures inside { IfOk result (λ at. at < length buffer.now.behind) }

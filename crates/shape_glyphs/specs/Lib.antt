@@ -3,3 +3,4 @@ pub mod Ignorables
 pub mod Flags
 pub mod Classes
 pub mod Widths
+pub mod Selectors

@@ -5,4 +5,5 @@ pub mod classes;
 pub mod flags;
 pub mod glyphs;
 pub mod ignorables;
+pub mod selectors;
 pub mod widths;

@@ -54,7 +54,7 @@ fn ignorable_position(glyph: &hb_glyph_info_t, position: GlyphPosition) -> Glyph
     }
 }
 
-fn widthless(position: GlyphPosition) -> GlyphPosition
+pub(crate) fn widthless(position: GlyphPosition) -> GlyphPosition
     ensures { result ≡ widthless position }
 {
     GlyphPosition {

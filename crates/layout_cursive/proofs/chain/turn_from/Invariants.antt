@@ -1,6 +1,6 @@
 use Rattle.std.proofs.Common.{◌-◌, ◌<◌, ◌≡◌, length}
-use Rattle.layout_gpos.specs.Cursive.{turned_from}
-use Rattle.layout_gpos.proofs.cursive.turn_from.Given as goal
+use Rattle.layout_cursive.specs.Cursive.{turned_from}
+use Rattle.layout_cursive.proofs.chain.turn_from.Given as goal
 
 -- what is left to turn, from here, gives the whole
 abbrev pub invariant-loop-done : goal.invariant-loop-done

@@ -2,9 +2,9 @@ use Rattle.std.proofs.Common.{ℕ, ◌≡◌, ◌+◌, ◌-◌, Bool, length, se
 use Rattle.std.proofs.lemmas.List.{length-set}
 use Rattle.glyph_lists.specs.Items.{Position}
 use Rattle.layout_links.specs.Links.{position_at}
-use Rattle.layout_gpos.specs.Cursive.{old_parent, turned_across, turned_position, turned_from}
-use Rattle.layout_gpos.proofs.Turned.{turned_none, turned_goes, old_parent_within}
-use Rattle.layout_gpos.proofs.cursive.turn_from.Goals as goal
+use Rattle.layout_cursive.specs.Cursive.{old_parent, turned_across, turned_position, turned_from}
+use Rattle.layout_cursive.proofs.Turned.{turned_none, turned_goes, old_parent_within}
+use Rattle.layout_cursive.proofs.chain.turn_from.Goals as goal
 
 pub loop-done-preserved : goal.loop-done-preserved
 loop-done-preserved c =

@@ -15,7 +15,7 @@ use Rattle.std.proofs.lemmas.List.{map-append}
 use Rattle.glyph_buffer.specs.Sides.{Sides, items_of}
 use Rattle.layout_rules.specs.Buffers.{are_glyphs}
 use Rattle.layout_rules.specs.Lemmas.Glyphs.{all_of_front}
-use Rattle.layout_gpos.proofs.Read.{number_in}
+use Rattle.layout_gpos.specs.Lemmas.Read.{number_in}
 
 some_left : {X : Type 0} (xs : List X) (k : ℕ) (x : X) → slice_get xs k ≡ Some x → drop k xs ≡ x ∷ drop (k + 1) xs
 some_left xs k x at = drop_more xs k x (slice_get_within xs k x at) ∙ ap (λ y. y ∷ drop (k + 1) xs) (get_or_from_slice_get xs k x x at)

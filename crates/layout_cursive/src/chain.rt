@@ -3,10 +3,10 @@ ghost use Rattle.std.specs.Prelude.{◌≡◌, ◌<◌, true, length};
 ghost use Rattle.shaping_text.specs.Direction.{is_forward, is_horizontal};
 ghost use Rattle.layout_links.specs.Links.{parent, without_link};
 ghost use Rattle.layout_gpos.specs.Anchors.{is_near};
-ghost use Rattle.layout_gpos.specs.Cursive.{cursive_hung, first_ends, freed, freed_across, joined_across, joined_advances, joined_at, negated, old_parent, shifted, turned, turned_across, turned_from, turned_link};
+ghost use Rattle.layout_cursive.specs.Cursive.{cursive_hung, first_ends, freed, freed_across, joined_across, joined_advances, joined_at, negated, old_parent, shifted, turned, turned_across, turned_from, turned_link};
 
-use crate::anchor::{is_near, link_to};
 use glyph_types::position::GlyphPosition;
+use layout_gpos::anchor::{is_near, link_to};
 use layout_links::links::linked;
 use layout_links::sums::{minus, plus};
 use layout_positions::value::Anchor;

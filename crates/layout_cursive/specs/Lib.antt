@@ -1,0 +1,2 @@
+pub mod Cursive
+pub mod Joins

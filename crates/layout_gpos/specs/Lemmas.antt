@@ -1,0 +1,4 @@
+pub mod Read
+pub mod Nearest
+pub mod Placed
+pub mod Performed

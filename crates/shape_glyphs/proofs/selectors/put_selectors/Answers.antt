@@ -1,0 +1,6 @@
+use Rattle.std.proofs.Common.{rules}
+use Rattle.shape_glyphs.specs.Selectors.{shown_selector}
+use Rattle.shape_glyphs.proofs.selectors.put_selectors.Goals as goal
+
+pub returns : goal.returns
+returns c = c.map_glyphs.ensures (shown_selector c.args.glyph) (λ g h r. search rules)

@@ -1,0 +1,86 @@
+//! Variation selectors that the font doesn't join with the character before them.
+ghost use Rattle.std.specs.Prelude.{◌≡◌};
+ghost use Rattle.glyph_lists.specs.Items.{item_of};
+ghost use Rattle.glyph_lists.specs.Origins.{origin_of};
+ghost use Rattle.glyph_lists.specs.Readings.{always};
+ghost use Rattle.layout_rules.specs.Ready.{IsReady};
+ghost use Rattle.text_stages.specs.Places.{placed};
+ghost use Rattle.text_stages.specs.Stages.{IsFollowed, mapped};
+ghost use Rattle.shape_glyphs.specs.Selectors.{is_marked_selector, selector_position, shown_selector, with_selectors, with_selectors_shown};
+
+use crate::widths::widthless;
+use glyph_buffer::buffer::hb_buffer_t;
+use glyph_types::flags::UnicodeProps;
+use glyph_types::info::hb_glyph_info_t;
+use glyph_types::position::GlyphPosition;
+use text_stages::glyphs::map_glyphs;
+use text_stages::positions::map_positions;
+use unicode_chars::category::RB_UNICODE_GENERAL_CATEGORY_NON_SPACING_MARK;
+
+/// Shows variation selectors that the font doesn't join as the glyph that is set for them, without a width, and as nonspacing
+/// marks; they stay where none is set. It takes linear time and no memory.
+pub fn deal_with_variation_selectors(buffer: &mut hb_buffer_t)
+    requires { IsReady buffer.old }
+    ensures { IsFollowed (always (with_selectors buffer.old.not_found_variation_selector)) buffer.old buffer.new }
+{
+    match buffer.not_found_variation_selector() {
+        Some(glyph) => show_selectors(glyph, buffer),
+        None => {}
+    }
+}
+
+#[tactic(auto, using(crate::proofs::Selected::both_followed))]
+fn show_selectors(glyph: u32, buffer: &mut hb_buffer_t)
+    requires { IsReady buffer.old }
+    ensures { IsFollowed (always (with_selectors_shown glyph)) buffer.old buffer.new }
+{
+    zero_selectors(buffer);
+    put_selectors(glyph, buffer);
+}
+
+fn zero_selectors(buffer: &mut hb_buffer_t)
+    requires { IsReady buffer.old }
+    ensures { IsFollowed (always (placed selector_position)) buffer.old buffer.new }
+{
+    map_positions(buffer, |glyph, position| selector_position(glyph, position));
+}
+
+fn put_selectors(glyph: u32, buffer: &mut hb_buffer_t)
+    requires { IsReady buffer.old }
+    ensures { IsFollowed (always (mapped (shown_selector glyph))) buffer.old buffer.new }
+{
+    map_glyphs(buffer, |info| shown_selector(glyph, info));
+}
+
+fn is_marked_selector(info: &hb_glyph_info_t) -> bool
+    ensures { result ≡ is_marked_selector (item_of info.now) }
+{
+    info.unicode_props.0 & UnicodeProps::CF_VS.0 != 0
+}
+
+fn selector_position(info: &hb_glyph_info_t, position: GlyphPosition) -> GlyphPosition
+    ensures { result ≡ selector_position (item_of info.now) position }
+{
+    if is_marked_selector(info) {
+        widthless(position)
+    } else {
+        position
+    }
+}
+
+fn shown_selector(glyph: u32, info: &hb_glyph_info_t) -> hb_glyph_info_t
+    ensures item { item_of result ≡ shown_selector glyph (item_of info.now) }
+    ensures origin { origin_of result ≡ origin_of info.now }
+{
+    if !is_marked_selector(info) {
+        return *info;
+    }
+    let word = info.unicode_props.0;
+    let kept = word - (word & UnicodeProps::GENERAL_CATEGORY.0);
+    let mark = kept + RB_UNICODE_GENERAL_CATEGORY_NON_SPACING_MARK as u16;
+    hb_glyph_info_t {
+        glyph_id: glyph,
+        unicode_props: UnicodeProps(mark - (mark & UnicodeProps::CF_VS.0)),
+        ..*info
+    }
+}
