@@ -234,8 +234,8 @@ fn apply_records(
         return Ok(end);
     }
     let mut at = end;
-    for record in records {
-        match apply_record(table, depth - 1, record, at, places, ctx, buffer) {
+    for lookup_record in records {
+        match apply_record(table, depth - 1, lookup_record, at, places, ctx, buffer) {
             Ok(settled) => at = settled,
             Err(cause) => return Err(cause),
         }
@@ -249,7 +249,7 @@ fn apply_records(
 fn apply_record(
     table: &SubstitutionTable,
     depth: u32,
-    record: &SequenceLookupRecord,
+    lookup_record: &SequenceLookupRecord,
     end: usize,
     places: &mut MatchPositions,
     ctx: &mut hb_ot_apply_context_t,
@@ -260,21 +260,21 @@ fn apply_record(
     requires number { are_glyphs (items_of buffer.old) ≡ true }
     requires rising { AreRising 0 (length (whole (cut_of buffer.old)) + 1) places.old.items }
     requires within { end ≤ length (whole (cut_of buffer.old)) }
-    ensures walks { Walking (one_record (nested_act table.now.lookups depth (applied_of ctx.old)) record.now
+    ensures walks { Walking (one_record (nested_act table.now.lookups depth (applied_of ctx.old)) lookup_record.now
         (cut_with ctx.old.random_state buffer.old) places.old.items end) result places.new.items ctx.new.random_state
         buffer.old buffer.new }
     ensures inside { IfOk result (λ at. StaysInside (length (whole (cut_of buffer.old)))
         (length (whole (cut_of buffer.new))) places.old.items places.new.items end at) }
     ensures context { applied_of ctx.new ≡ applied_of ctx.old }
 {
-    let place = match begin_record(record, places, buffer) {
+    let place = match begin_record(lookup_record, places, buffer) {
         Ok(Some(place)) => place,
         Ok(None) => return Ok(end),
         Err(cause) => return Err(cause),
     };
     let before = glyph_count(buffer);
-    match recurse(table, depth, record.lookup_index, ctx, buffer) {
-        Ok(true) => Ok(settle_match(record, place, before, end, places, buffer)),
+    match recurse(table, depth, lookup_record.lookup_index, ctx, buffer) {
+        Ok(true) => Ok(settle_match(lookup_record, place, before, end, places, buffer)),
         Ok(false) => Ok(end),
         Err(cause) => Err(cause),
     }

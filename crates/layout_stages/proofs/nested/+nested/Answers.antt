@@ -94,18 +94,18 @@ apply_rules-returns-clause-performs t c =
 
 pub apply_record-returns-in-Ok-true-clause-walks : goal.apply_record-returns-in-Ok-true-clause-walks
 apply_record-returns-in-Ok-true-clause-walks t c =
-    record_acted (nested_act c.args.table.now.lookups c.args.depth (applied_of c.args.ctx.now)) c.args.record.now c.args.places.now.items c.settle_match.new.places.items c.in-Ok-Some.place c.args.end c.settle_match.result c.glyph_count-before.result c.args.ctx.now.random_state c.recurse.new.ctx.random_state c.in-Ok-true.field-0
-    c.args.buffer.now c.begin_record.new.buffer c.recurse.new.buffer (begun_some c.args.record.now c.args.places.now.items c.in-Ok-Some.place c.in-Ok-Some.field-0 c.args.buffer.now c.begin_record.new.buffer (let f = c.in-Ok-Some.field-0-is in let g = c.in-Ok-Some.place-is in cc) c.in-Ok-Some.ensures) c.in-Ok-true.field-0-test c.in-Ok-true.ensures.performs c.glyph_count-before.ensures.count c.settle_match.ensures.places c.settle_match.ensures.end
+    record_acted (nested_act c.args.table.now.lookups c.args.depth (applied_of c.args.ctx.now)) c.args.lookup_record.now c.args.places.now.items c.settle_match.new.places.items c.in-Ok-Some.place c.args.end c.settle_match.result c.glyph_count-before.result c.args.ctx.now.random_state c.recurse.new.ctx.random_state c.in-Ok-true.field-0
+    c.args.buffer.now c.begin_record.new.buffer c.recurse.new.buffer (begun_some c.args.lookup_record.now c.args.places.now.items c.in-Ok-Some.place c.in-Ok-Some.field-0 c.args.buffer.now c.begin_record.new.buffer (let f = c.in-Ok-Some.field-0-is in let g = c.in-Ok-Some.place-is in cc) c.in-Ok-Some.ensures) c.in-Ok-true.field-0-test c.in-Ok-true.ensures.performs c.glyph_count-before.ensures.count c.settle_match.ensures.places c.settle_match.ensures.end
 
 pub apply_record-returns-in-Ok-true-clause-inside : goal.apply_record-returns-in-Ok-true-clause-inside
 apply_record-returns-in-Ok-true-clause-inside t c =
-    record_inside _ c.args.record.now c.args.places.now.items c.settle_match.new.places.items c.in-Ok-Some.place c.args.end c.settle_match.result c.glyph_count-before.result c.args.ctx.now.random_state c.recurse.new.ctx.random_state c.in-Ok-true.field-0
-    c.args.buffer.now c.begin_record.new.buffer c.recurse.new.buffer (begun_some c.args.record.now c.args.places.now.items c.in-Ok-Some.place c.in-Ok-Some.field-0 c.args.buffer.now c.begin_record.new.buffer (let f = c.in-Ok-Some.field-0-is in let g = c.in-Ok-Some.place-is in cc) c.in-Ok-Some.ensures) c.in-Ok-true.field-0-test c.in-Ok-true.ensures.performs c.glyph_count-before.ensures.count c.settle_match.ensures.places c.settle_match.ensures.end
+    record_inside _ c.args.lookup_record.now c.args.places.now.items c.settle_match.new.places.items c.in-Ok-Some.place c.args.end c.settle_match.result c.glyph_count-before.result c.args.ctx.now.random_state c.recurse.new.ctx.random_state c.in-Ok-true.field-0
+    c.args.buffer.now c.begin_record.new.buffer c.recurse.new.buffer (begun_some c.args.lookup_record.now c.args.places.now.items c.in-Ok-Some.place c.in-Ok-Some.field-0 c.args.buffer.now c.begin_record.new.buffer (let f = c.in-Ok-Some.field-0-is in let g = c.in-Ok-Some.place-is in cc) c.in-Ok-Some.ensures) c.in-Ok-true.field-0-test c.in-Ok-true.ensures.performs c.glyph_count-before.ensures.count c.settle_match.ensures.places c.settle_match.ensures.end
 
 pub apply_record-returns-in-Ok-false-clause-walks : goal.apply_record-returns-in-Ok-false-clause-walks
 apply_record-returns-in-Ok-false-clause-walks t c =
-    record_passed (nested_act c.args.table.now.lookups c.args.depth (applied_of c.args.ctx.now)) c.args.record.now c.args.places.now.items c.in-Ok-Some.place c.args.end c.args.ctx.now.random_state c.recurse.new.ctx.random_state c.in-Ok-false.field-0
-    c.args.buffer.now c.begin_record.new.buffer c.recurse.new.buffer (begun_some c.args.record.now c.args.places.now.items c.in-Ok-Some.place c.in-Ok-Some.field-0 c.args.buffer.now c.begin_record.new.buffer (let f = c.in-Ok-Some.field-0-is in let g = c.in-Ok-Some.place-is in cc) c.in-Ok-Some.ensures) c.in-Ok-false.field-0-test c.in-Ok-false.ensures.performs
+    record_passed (nested_act c.args.table.now.lookups c.args.depth (applied_of c.args.ctx.now)) c.args.lookup_record.now c.args.places.now.items c.in-Ok-Some.place c.args.end c.args.ctx.now.random_state c.recurse.new.ctx.random_state c.in-Ok-false.field-0
+    c.args.buffer.now c.begin_record.new.buffer c.recurse.new.buffer (begun_some c.args.lookup_record.now c.args.places.now.items c.in-Ok-Some.place c.in-Ok-Some.field-0 c.args.buffer.now c.begin_record.new.buffer (let f = c.in-Ok-Some.field-0-is in let g = c.in-Ok-Some.place-is in cc) c.in-Ok-Some.ensures) c.in-Ok-false.field-0-test c.in-Ok-false.ensures.performs
 
 pub apply_records-returns-then-depth-eq0-clause-walks : goal.apply_records-returns-then-depth-eq0-clause-walks
 apply_records-returns-then-depth-eq0-clause-walks t c =
@@ -113,32 +113,32 @@ apply_records-returns-then-depth-eq0-clause-walks t c =
 
 pub apply_records-returns-in-Err-clause-walks : goal.apply_records-returns-in-Err-clause-walks
 apply_records-returns-in-Err-clause-walks t c =
-    let i = c.loop-record.invariant in
+    let i = c.loop-lookup_record.invariant in
     let none : SequenceLookupRecord = record { sequence_index = 0; lookup_index = 0 } in
-    let r = get_or c.args.records.now c.loop-record.record-index none in
-    let is : r ≡ get_or c.args.records.now c.loop-record.record-index r = get_or_any c.args.records.now c.loop-record.record-index none r c.loop-record-test.true in
-    next_failed c.args.table.now.lookups c.args.depth (applied_of c.loop-record.ctx) (applied_of c.args.ctx.now) c.args.records.now c.loop-record.record-index r c.args.ctx.now.random_state c.loop-record.ctx.random_state c.apply_record.new.ctx.random_state c.args.buffer.now c.loop-record.buffer c.apply_record.new.buffer
-    c.args.places.now.items c.loop-record.places.items c.apply_record.new.places.items c.args.end c.loop-record.at c.in-Err.cause (λ e. absurd (omega (arith, e, c.if-depth-eq0.false))) i.context c.loop-record-test.true is i.walked c.in-Err.ensures.walks
+    let r = get_or c.args.records.now c.loop-lookup_record.lookup_record-index none in
+    let is : r ≡ get_or c.args.records.now c.loop-lookup_record.lookup_record-index r = get_or_any c.args.records.now c.loop-lookup_record.lookup_record-index none r c.loop-lookup_record-test.true in
+    next_failed c.args.table.now.lookups c.args.depth (applied_of c.loop-lookup_record.ctx) (applied_of c.args.ctx.now) c.args.records.now c.loop-lookup_record.lookup_record-index r c.args.ctx.now.random_state c.loop-lookup_record.ctx.random_state c.apply_record.new.ctx.random_state c.args.buffer.now c.loop-lookup_record.buffer c.apply_record.new.buffer
+    c.args.places.now.items c.loop-lookup_record.places.items c.apply_record.new.places.items c.args.end c.loop-lookup_record.at c.in-Err.cause (λ e. absurd (omega (arith, e, c.if-depth-eq0.false))) i.context c.loop-lookup_record-test.true is i.walked c.in-Err.ensures.walks
 
-pub apply_records-loop-record-preserved : goal.apply_records-loop-record-preserved
-apply_records-loop-record-preserved t c =
-    let i = c.loop-record.invariant in
+pub apply_records-loop-lookup_record-preserved : goal.apply_records-loop-lookup_record-preserved
+apply_records-loop-lookup_record-preserved t c =
+    let i = c.loop-lookup_record.invariant in
     let none : SequenceLookupRecord = record { sequence_index = 0; lookup_index = 0 } in
-    let r = get_or c.args.records.now c.loop-record.record-index none in
-    let is : r ≡ get_or c.args.records.now c.loop-record.record-index r = get_or_any c.args.records.now c.loop-record.record-index none r c.loop-record-test.true in
+    let r = get_or c.args.records.now c.loop-lookup_record.lookup_record-index none in
+    let is : r ≡ get_or c.args.records.now c.loop-lookup_record.lookup_record-index r = get_or_any c.args.records.now c.loop-lookup_record.lookup_record-index none r c.loop-lookup_record-test.true in
     record {
       walked =
-          next_walked c.args.table.now.lookups (c.args.depth - 1) (applied_of c.loop-record.ctx) (applied_of c.args.ctx.now) c.args.records.now c.loop-record.record-index r c.args.ctx.now.random_state c.loop-record.ctx.random_state c.apply_record.new.ctx.random_state c.args.buffer.now c.loop-record.buffer c.apply_record.new.buffer
-          c.args.places.now.items c.loop-record.places.items c.apply_record.new.places.items c.args.end c.loop-record.at c.in-Ok.settled i.context c.loop-record-test.true is i.walked c.in-Ok.ensures.walks;
+          next_walked c.args.table.now.lookups (c.args.depth - 1) (applied_of c.loop-lookup_record.ctx) (applied_of c.args.ctx.now) c.args.records.now c.loop-lookup_record.lookup_record-index r c.args.ctx.now.random_state c.loop-lookup_record.ctx.random_state c.apply_record.new.ctx.random_state c.args.buffer.now c.loop-lookup_record.buffer c.apply_record.new.buffer
+          c.args.places.now.items c.loop-lookup_record.places.items c.apply_record.new.places.items c.args.end c.loop-lookup_record.at c.in-Ok.settled i.context c.loop-lookup_record-test.true is i.walked c.in-Ok.ensures.walks;
       inside = then_stays _ _ _ _ _ _ _ _ _ i.inside c.in-Ok.ensures.inside;
       context = c.apply_record.ensures.context ∙ i.context;
     }
 
 pub apply_records-returns-clause-walks : goal.apply_records-returns-clause-walks
 apply_records-returns-clause-walks t c =
-    let i = c.loop-record.invariant in
-    last_walked c.args.table.now.lookups c.args.depth (applied_of c.args.ctx.now) c.args.records.now c.loop-record.record-index c.args.ctx.now.random_state c.loop-record.ctx.random_state c.args.buffer.now c.loop-record.buffer c.args.places.now.items c.loop-record.places.items c.args.end c.loop-record.at
-    (λ e. absurd (omega (arith, e, c.if-depth-eq0.false))) c.loop-record-test.false i.walked
+    let i = c.loop-lookup_record.invariant in
+    last_walked c.args.table.now.lookups c.args.depth (applied_of c.args.ctx.now) c.args.records.now c.loop-lookup_record.lookup_record-index c.args.ctx.now.random_state c.loop-lookup_record.ctx.random_state c.args.buffer.now c.loop-lookup_record.buffer c.args.places.now.items c.loop-lookup_record.places.items c.args.end c.loop-lookup_record.at
+    (λ e. absurd (omega (arith, e, c.if-depth-eq0.false))) c.loop-lookup_record-test.false i.walked
 
 pub apply_rule-returns-in-Ok-clause-performs : goal.apply_rule-returns-in-Ok-clause-performs
 apply_rule-returns-in-Ok-clause-performs t c =
