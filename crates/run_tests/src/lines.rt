@@ -121,13 +121,7 @@ const LIGATED: [Line; 11] = [
 const ASKED: [Line; 4] = [
     (None, Direction::Invalid, &[], "abb", "1=0+0|8=1+0\n"),
     (None, Direction::Invalid, &["dlig"], "ab", "7=0+0\n"),
-    (
-        None,
-        Direction::Invalid,
-        &["dlig"],
-        "abb",
-        "1=0+0|8=1+0\n",
-    ),
+    (None, Direction::Invalid, &["dlig"], "abb", "1=0+0|8=1+0\n"),
     (
         None,
         Direction::Invalid,
