@@ -1,0 +1,5 @@
+// The bytes of syllables, and circles for broken ones.
+#![tactic(auto)]
+
+pub mod circles;
+pub mod laws;
