@@ -112,32 +112,41 @@ room_of r es s mid opened_before p =
     let front : length (strip s.behind) ≡ length mid.behind = length-map s.behind item_of ∙ sym long.0 in
     ap (λ k. nat_le (k + 1) s.max_len) front ∙ ap (nat_le (length mid.behind + 1)) (sym limit) ∙ rw opened refl
 
--- a glyph at which the rule doesn't act is passed
+-- the rule passed, and the cursor went over the glyph
+over_step : (act : Action) (before : ℕ) (s mid : Sides) (es : List Event) → 0 < length s.ahead → nat_le (length (cut_with before s).front + 1) (cut_with before s).max_len ≡ true → act (cut_with before s) ≡ Passes es → IsPassed es s mid → IsStep act before before s (moved_on 1 mid)
+over_step act before s mid es lt room passes q =
+    let c = cut_with before s in
+    let long = same_lengths s mid q.cut_is in
+    let left = length-drop 1 mid.ahead in
+    let cut : cut_with before (moved_on 1 mid) ≡ past_item c = moved_cut before mid ∙ ap past_item (same_with before s mid q.cut_is) in
+    let kept : IsStill s (moved_on 1 mid) = q.still in
+    let over : gone_over (act c) c ≡ Acts (past_item c) es = ap (λ o. gone_over o c) passes ∙ rw room refl in
+    let followed : (v : View) (n : ℕ) → tried act v (suc n) c ≡ then_reading (with_events es (view_at v (past_item c))) (tried act v n (past_item c)) = λ v n. going_on act v n before s lt ∙ ap (λ o. after_outcome o (tried act v n) v c) over in
+    record {
+      still = kept;
+      less = omega (arith, left, long.1);
+      numbers = λ h. ap (λ gs. are_glyphs (strip gs)) (moved_all mid) ∙ ap are_glyphs (same_numbers s mid q.cut_is) ∙ h;
+      follows = λ v n final f. then_tried act v n before before es (view_at v (past_item c)) (past_item c) s (moved_on 1 mid) final (followed v n) cut kept (ap origins (moved_all mid) ∙ q.happened) f;
+      refuses = λ v n cause g. then_refused act v n before before es (view_at v (past_item c)) (past_item c) s (moved_on 1 mid) cause (followed v n) cut g;
+    }
+
+-- a glyph at which the rule doesn't act is passed, where what is done may have one more
+pub step_over : (act : Action) (before after : ℕ) (acted : Bool) (s mid new : Sides) → acted ≡ false → 0 < length s.ahead → nat_le (length (cut_with before s).front + 1) (cut_with before s).max_len ≡ true → Performed (act (cut_with before s)) acted before after s mid → new ≡ moved_on 1 mid
+    → IsStep act before after s new
+step_over act before after acted s mid new fails lt room d is =
+    let D : Bool → Type 0 = λ b. Performed (act (cut_with before s)) b before after s mid in
+    let p = passes_of act before after s mid (act (cut_with before s)) refl (subst D fails d) in
+    let P : Sides → Type 0 = λ t. IsStep act before after s t in
+    let Q : ℕ → Type 0 = λ k. IsStep act before k s (moved_on 1 mid) in
+    subst P (sym is) (subst Q (sym p.2) (over_step act before s mid p.0 lt room p.1 p.3))
+
+-- the same with an output open
 pub step_passed : (act : Action) (before after : ℕ) (acted : Bool) (s mid new : Sides) → acted ≡ false → 0 < length s.ahead → s.is_open ≡ true → Performed (act (cut_with before s)) acted before after s mid → fits_next 1 mid ≡ true → new ≡ moved_on 1 mid
     → IsStep act before after s new
 step_passed act before after acted s mid new fails lt opened_before d room is =
     let D : Bool → Type 0 = λ b. Performed (act (cut_with before s)) b before after s mid in
     let p = passes_of act before after s mid (act (cut_with before s)) refl (subst D fails d) in
-    let P : Sides → Type 0 = λ t. IsStep act before after s t in
-    let Q : ℕ → Type 0 = λ k. IsStep act before k s (moved_on 1 mid) in
-    subst P (sym is) (subst Q (sym p.2) (passed_step p.0 p.1 p.3))
-  where
-    passed_step : (es : List Event) → act (cut_with before s) ≡ Passes es → IsPassed es s mid → IsStep act before before s (moved_on 1 mid)
-    passed_step es passes q =
-        let c = cut_with before s in
-        let long = same_lengths s mid q.cut_is in
-        let left = length-drop 1 mid.ahead in
-        let cut : cut_with before (moved_on 1 mid) ≡ past_item c = moved_cut before mid ∙ ap past_item (same_with before s mid q.cut_is) in
-        let kept : IsStill s (moved_on 1 mid) = q.still in
-        let over : gone_over (act c) c ≡ Acts (past_item c) es = ap (λ o. gone_over o c) passes ∙ rw (room_of before es s mid opened_before q ∙ room) refl in
-        let followed : (v : View) (n : ℕ) → tried act v (suc n) c ≡ then_reading (with_events es (view_at v (past_item c))) (tried act v n (past_item c)) = λ v n. going_on act v n before s lt ∙ ap (λ o. after_outcome o (tried act v n) v c) over in
-        record {
-          still = kept;
-          less = omega (arith, left, long.1);
-          numbers = λ h. ap (λ gs. are_glyphs (strip gs)) (moved_all mid) ∙ ap are_glyphs (same_numbers s mid q.cut_is) ∙ h;
-          follows = λ v n final f. then_tried act v n before before es (view_at v (past_item c)) (past_item c) s (moved_on 1 mid) final (followed v n) cut kept (ap origins (moved_all mid) ∙ q.happened) f;
-          refuses = λ v n cause g. then_refused act v n before before es (view_at v (past_item c)) (past_item c) s (moved_on 1 mid) cause (followed v n) cut g;
-        }
+    step_over act before after acted s mid new fails lt (room_of before p.0 s mid opened_before p.3 ∙ room) d is
 
 -- ---- a step that is refused
 

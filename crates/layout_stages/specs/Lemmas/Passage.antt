@@ -49,7 +49,7 @@ gone_on act count at before r after start now next lt u st =
 
 -- ---- at the end nothing is left to read
 
-ended_view : (r : ℕ) (v : View) (start now : Sides) → v.direction ≡ start.direction → IsStill start now → (run_with r now).view ≡ view_at v (cut_with r now)
+pub ended_view : (r : ℕ) (v : View) (start now : Sides) → v.direction ≡ start.direction → IsStill start now → (run_with r now).view ≡ view_at v (cut_with r now)
 ended_view r v start now direction still =
     ap (λ xs. record (run_with r now).view { items = xs }) (map-append item_of now.behind now.ahead) ∙ ap (λ d. record (view_at v (cut_with r now)) { direction = d }) (still_direction start now still ∙ sym direction)
 
