@@ -1,0 +1,5 @@
+pub mod Jamo
+pub mod Actions
+pub mod Steps
+pub mod Stepped
+pub mod Hangul
