@@ -3,3 +3,4 @@ pub mod Actions
 pub mod Steps
 pub mod Stepped
 pub mod Hangul
+pub mod Masks

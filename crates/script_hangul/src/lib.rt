@@ -4,5 +4,6 @@
 pub mod actions;
 pub mod hangul;
 pub mod jamo;
+pub mod masks;
 mod performing;
 mod tones;
