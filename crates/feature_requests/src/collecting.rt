@@ -3,8 +3,8 @@ ghost use Rattle.std.specs.Prelude.{◌≡◌, fold, OnOk};
 ghost use Rattle.map_builder.specs.Features.{in_any, system_features};
 ghost use Rattle.shaping_text.specs.Tag.{tag_of};
 ghost use Rattle.std.specs.Prelude.{codes};
-ghost use Rattle.script_features.specs.Asks.{with_ask};
-ghost use Rattle.script_features.specs.Lists.{features_of, overrides_of};
+ghost use Rattle.feature_requests.specs.Asks.{with_ask};
+ghost use Rattle.feature_requests.specs.Lists.{features_of, overrides_of};
 
 use crate::arabic::ask_arabic;
 use crate::ask::{Ask, ask_all};

@@ -2,8 +2,8 @@
 use Rattle.std.specs.Prelude.{◌≡◌, ℕ, List, [], ◌∷◌, Option, Some, None, find}
 use Rattle.std.specs.Option.{option_map_or}
 use Rattle.std.specs.Prelude.{◌==◌}
-use Rattle.script_features.specs.declared.pause.hb_script_pause_t.{hb_script_pause_t}
-use Rattle.script_features.specs.declared.pause.hb_script_pause_t.TheVariants.{RecordStch, SetupSyllables, ReorderKhmer, ReorderMyanmar, ClearSyllables, ClearSubstitutionFlags, RecordRphf, RecordPref, ReorderUse, InitialReordering, FinalReordering}
+use Rattle.feature_requests.specs.declared.pause.hb_script_pause_t.{hb_script_pause_t}
+use Rattle.feature_requests.specs.declared.pause.hb_script_pause_t.TheVariants.{RecordStch, SetupSyllables, ReorderKhmer, ReorderMyanmar, ClearSyllables, ClearSubstitutionFlags, RecordRphf, RecordPref, ReorderUse, InitialReordering, FinalReordering}
 
 abbrev pub pause_number : hb_script_pause_t → ℕ
 pause_number RecordStch = 1

@@ -1,6 +1,6 @@
 //! What a shaper does between two stages of substitution.
 ghost use Rattle.std.specs.Prelude.{◌≡◌};
-ghost use Rattle.script_features.specs.Pauses.{number_of_pause, pause_number, pause_of_number, NumbersLeadBack};
+ghost use Rattle.feature_requests.specs.Pauses.{number_of_pause, pause_number, pause_of_number, NumbersLeadBack};
 
 /// A pause with a body of its own.
 #[derive(Clone, Copy, PartialEq, Eq, Debug)]

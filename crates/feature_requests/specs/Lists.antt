@@ -6,9 +6,9 @@ use Rattle.shaping_text.specs.declared.script.TheConstants as script
 use Rattle.map_features.specs.declared.flags.TheConstants.{F_NONE, F_HAS_FALLBACK, F_MANUAL_ZWJ, F_MANUAL_JOINERS, F_PER_SYLLABLE}
 use Rattle.script_constants.specs.declared.shaper.hb_ot_script_shaper_t.{hb_ot_script_shaper_t}
 use Rattle.script_constants.specs.declared.shaper.hb_ot_script_shaper_t.TheVariants.{ARABIC_SHAPER, HANGUL_SHAPER, INDIC_SHAPER, KHMER_SHAPER, MYANMAR_SHAPER, UNIVERSAL_SHAPER}
-use Rattle.script_features.specs.declared.ask.Ask.{Ask}
-use Rattle.script_features.specs.declared.pause.hb_script_pause_t.TheVariants.{RecordStch, SetupSyllables, ReorderKhmer, ReorderMyanmar, ClearSyllables, ClearSubstitutionFlags, RecordRphf, RecordPref, ReorderUse, InitialReordering, FinalReordering}
-use Rattle.script_features.specs.Asks.{on, added, off, then_pause, stage_end}
+use Rattle.feature_requests.specs.declared.ask.Ask.{Ask}
+use Rattle.feature_requests.specs.declared.pause.hb_script_pause_t.TheVariants.{RecordStch, SetupSyllables, ReorderKhmer, ReorderMyanmar, ClearSyllables, ClearSubstitutionFlags, RecordRphf, RecordPref, ReorderUse, InitialReordering, FinalReordering}
+use Rattle.feature_requests.specs.Asks.{on, added, off, then_pause, stage_end}
 
 -- ---- Arabic and Syriac
 

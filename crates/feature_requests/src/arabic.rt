@@ -1,7 +1,7 @@
 //! What Arabic and Syriac ask.
 ghost use Rattle.std.specs.Prelude.{◌≡◌, fold, OnOk};
-ghost use Rattle.script_features.specs.Asks.{with_ask};
-ghost use Rattle.script_features.specs.Lists.{arabic_features, arabic_forms, arabic_ligatures, required_contexts, stage_end_if};
+ghost use Rattle.feature_requests.specs.Asks.{with_ask};
+ghost use Rattle.feature_requests.specs.Lists.{arabic_features, arabic_forms, arabic_ligatures, required_contexts, stage_end_if};
 
 use crate::ask::{Ask, added, ask_all, make, on, tag};
 use crate::pause::hb_script_pause_t;

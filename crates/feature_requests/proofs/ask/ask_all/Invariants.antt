@@ -1,6 +1,6 @@
 use Rattle.std.proofs.Common.{◌≡◌, drop, fold}
-use Rattle.script_features.specs.Asks.{with_ask}
-use Rattle.script_features.proofs.ask.ask_all.Given as goal
+use Rattle.feature_requests.specs.Asks.{with_ask}
+use Rattle.feature_requests.proofs.ask.ask_all.Given as goal
 
 -- what is left to ask, after what was asked, is all
 abbrev pub invariant-loop-it : goal.invariant-loop-it

@@ -1,6 +1,6 @@
 //! One thing that is asked of a font's features.
 ghost use Rattle.std.specs.Prelude.{◌≡◌, fold, OnOk};
-ghost use Rattle.script_features.specs.Asks.{with_ask};
+ghost use Rattle.feature_requests.specs.Asks.{with_ask};
 
 use crate::pause::{hb_script_pause_t, number_of_pause};
 use map_builder::builder::hb_ot_map_builder_t;

@@ -4,10 +4,10 @@ use Rattle.std.specs.Int.RustNames.{bit_or}
 use Rattle.shaping_text.specs.Tag.{tag_of}
 use Rattle.map_features.specs.declared.flags.TheConstants.{F_GLOBAL}
 use Rattle.map_builder.specs.Compiled.{MapRequests, with_request, with_gsub_pause}
-use Rattle.script_features.specs.declared.ask.Ask.{Ask}
-use Rattle.script_features.specs.declared.ask.Ask.TheVariants.{Feature, Pause}
-use Rattle.script_features.specs.declared.pause.hb_script_pause_t.{hb_script_pause_t}
-use Rattle.script_features.specs.Pauses.{number_of_pause}
+use Rattle.feature_requests.specs.declared.ask.Ask.{Ask}
+use Rattle.feature_requests.specs.declared.ask.Ask.TheVariants.{Feature, Pause}
+use Rattle.feature_requests.specs.declared.pause.hb_script_pause_t.{hb_script_pause_t}
+use Rattle.feature_requests.specs.Pauses.{number_of_pause}
 
 -- a builder that was asked for one thing more
 abbrev pub with_ask : MapRequests → Ask → MapRequests
