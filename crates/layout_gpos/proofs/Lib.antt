@@ -1,3 +1,4 @@
 pub mod Paired
 pub mod Attached
 pub mod MarkMark
+pub mod MarkLig

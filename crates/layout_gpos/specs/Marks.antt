@@ -101,14 +101,19 @@ mark_to_base a s c = at_first (λ x. mark_on_base a s.bases (value_of x.number s
 abbrev pub component_of : ℕ → Item → Item → ℕ
 component_of count ligature mark = if lig_id ligature == lig_id mark && not (lig_id ligature == 0) && nat_lt 0 (lig_comp mark) then min (lig_comp mark) count - 1 else count - 1
 
-abbrev pub on_component : List LigatureRow → MarkRecord → Item → ℕ → Item → Option ℕ → Action
-on_component ligatures m mark back l None c = attempt_around (back + 1) 1 c
-on_component ligatures m mark back l (Some count) c =
-    if count == 0 then attempt_around (back + 1) 1 c else attach_if (component_anchor l.number (component_of count l mark) m.class ligatures) m.anchor back c
+-- none of an item that is no ligature, or of one without components
+abbrev pub component_in : Option ℕ → Item → Item → Option ℕ
+component_in None ligature mark = None
+component_in (Some count) ligature mark = if count == 0 then None else Some (component_of count ligature mark)
+
+-- an item without such a component tells that the rule failed
+abbrev pub on_component : List LigatureRow → MarkRecord → ℕ → ℕ → Option ℕ → Action
+on_component ligatures m back glyph None c = attempt_around (back + 1) 1 c
+on_component ligatures m back glyph (Some k) c = attach_if (component_anchor glyph k m.class ligatures) m.anchor back c
 
 abbrev pub on_ligature : List LigatureRow → MarkRecord → Item → ℕ → Option Item → Action
 on_ligature ligatures m mark back None c = Passes []
-on_ligature ligatures m mark back (Some l) c = on_component ligatures m mark back l (component_count l.number ligatures) c
+on_ligature ligatures m mark back (Some l) c = on_component ligatures m back l.number (component_in (component_count l.number ligatures) l mark) c
 
 abbrev pub mark_on_ligature : Applied → List LigatureRow → Item → Option MarkRecord → Action
 mark_on_ligature a ligatures x None c = Passes []

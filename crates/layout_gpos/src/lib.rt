@@ -4,6 +4,7 @@
 pub mod anchor;
 pub mod apply;
 pub mod mark;
+pub mod mark_lig;
 pub mod mark_mark;
 pub mod marking;
 pub mod pair;

@@ -9,6 +9,7 @@ ghost use Rattle.layout_gpos.specs.Anchors.{is_near, mark_hung, told_if};
 ghost use Rattle.layout_gpos.specs.Marks.{attach, attach_if, is_there, mark_to_base, on_base, with_found};
 
 use crate::anchor::{hang_mark, is_near};
+use crate::apply::Apply;
 use crate::marking::{mark_attempt, mark_match};
 use crate::placing::pass;
 use crate::search::{base_before, glyph_before};
@@ -174,5 +175,14 @@ fn attach_found(
             mark_attempt(end, 1, buffer);
             false
         }
+    }
+}
+
+/// As a subtable of a lookup it is of mark to base attachment.
+impl Apply for MarkBasePos {
+    ghost action = { λ s d a. mark_to_base a s };
+
+    fn apply(&self, ctx: &hb_ot_apply_context_t, buffer: &mut hb_buffer_t) -> bool {
+        apply_mark_base_pos(self, ctx, buffer)
     }
 }

@@ -13,7 +13,7 @@ use Rattle.map_features.specs.Fields.{global_bit, global_field, own_field, first
 sixteenfold : (n : ℕ) → bit_and (n * 16) 7 ≡ 0
 sixteenfold n = and_mask (n * 16) 3 ∙ omega arith
 
-shifted : (n next : ℕ) → 4 ≤ next → bit_and (n * 2 ^ next) 7 ≡ 0
+pub shifted : (n next : ℕ) → 4 ≤ next → bit_and (n * 2 ^ next) 7 ≡ 0
 shifted n next le =
     let split : next ≡ (next - 4) + 4 = omega (arith, le) in
     let power : 2 ^ next ≡ 2 ^ (next - 4) * 16 = ap (λ k. 2 ^ k) split ∙ pow-add 2 (next - 4) 4 in
@@ -41,7 +41,7 @@ behind_cases false true fits next count le = le
 behind_cases false false true next count le = omega (arith, le)
 behind_cases false false false next count le = le
 
-behind_flags : (next : ℕ) (ms : List MergedRequest) → 4 ≤ next → 4 ≤ fold bit_behind next ms
+pub behind_flags : (next : ℕ) (ms : List MergedRequest) → 4 ≤ next → 4 ≤ fold bit_behind next ms
 behind_flags next [] le = le
 behind_flags next (m ∷ ms) le =
     behind_flags (bit_behind next m) ms (behind_cases (m.max_value == 0) (uses_global_bit m) (nat_lt (next + bits_needed m.max_value) 31) next (bits_needed m.max_value) le)

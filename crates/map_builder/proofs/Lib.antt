@@ -2,3 +2,4 @@ pub mod StageEnds
 pub mod Sorted
 pub mod Compiling
 pub mod Flagless
+pub mod Apart

@@ -1,15 +1,11 @@
 -- Where stages end.
-use Rattle.std.proofs.Common.{ℕ, zero, suc, ◌≡◌, ◌<◌, ◌≤◌, ◌+◌, ◌-◌, ◌==◌, ◌&&◌, nat_le, Bool, true, false, List, [], ◌∷◌, ◌++◌, length, drop, get_or, Some, refl, sym, ap, ◌∙◌, arith, add-one, append_assoc}
+use Rattle.std.proofs.Common.{ℕ, zero, suc, ◌≡◌, ◌<◌, ◌≤◌, ◌+◌, ◌-◌, ◌==◌, ◌&&◌, nat_le, Bool, true, false, List, [], ◌∷◌, length, refl, sym, arith}
 use Rattle.std.specs.List.{flat_map}
-use Rattle.std.proofs.Math.Seq.{drop-cons}
 use Rattle.std.proofs.lemmas.Bool.Decides.{nat_tests}
 use Rattle.std.proofs.lemmas.List.{length-append}
-use Rattle.map_features.specs.declared.per_table.TableIndex.{TableIndex}
 use Rattle.map_features.specs.declared.lookup.lookup_map_t.{lookup_map_t}
-use Rattle.map_stages.specs.declared.feature.feature_map_t.{feature_map_t}
 use Rattle.map_stages.specs.declared.stages.StageMap.{StageMap}
-use Rattle.map_stages.specs.Chosen.{ChosenTable}
-use Rattle.map_stages.specs.Lookups.{Stage, feature_lookups, stages_from, stage_ends}
+use Rattle.map_stages.specs.Lookups.{Stage, stage_ends}
 use Rattle.map_builder.specs.Compiled.{are_ends, stage_start, stage_end}
 
 both : (a b : Bool) → (a && b) ≡ true → (a ≡ true) × (b ≡ true)

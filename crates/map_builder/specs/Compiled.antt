@@ -1,5 +1,6 @@
 -- The map that a builder compiles.
-use Rattle.std.specs.Prelude.{ℕ, ◌==◌, ◌&&◌, nat_le, Bool, if◌then◌else◌, List, [], ◌∷◌, ◌++◌, find, slice_range, ◌-◌, length, slice_get, Option}
+use Rattle.std.specs.Prelude.{ℕ, ◌≡◌, ◌<◌, ◌==◌, ◌&&◌, nat_le, Bool, if◌then◌else◌, List, [], ◌∷◌, ◌++◌, find, slice_range, ◌-◌, length, slice_get, Option}
+use Rattle.std.specs.Int.RustNames.{bit_and}
 use Rattle.std.specs.List.{flat_map}
 use Rattle.std.specs.Option.{option_map_or}
 use Rattle.shaping_text.specs.declared.tag.Tag.{Tag}
@@ -95,6 +96,10 @@ map_with tables pauses requests = record {
 -- the map of what was asked
 abbrev pub compiled : MapRequests → OtMapValue
 compiled b = map_with b.tables b.pauses (merged_requests b.requests)
+
+-- a feature's bits hold no glyph flag, and the lowest of them is one of a mask's
+abbrev pub IsApart : feature_map_t → Type 0
+IsApart f = (bit_and f.mask 7 ≡ 0) × (bit_and f.one_mask 7 ≡ 0) × (f.shift < 32)
 
 -- ---- queries
 

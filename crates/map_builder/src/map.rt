@@ -1,10 +1,10 @@
-ghost use Rattle.std.specs.Prelude.{◌≡◌, ◌<◌, ◌≤◌, None, true, length, slice_get};
+ghost use Rattle.std.specs.Prelude.{◌≡◌, ◌<◌, ◌≤◌, None, true, length, slice_get, IfSome};
 ghost use Rattle.std.specs.Int.RustNames.{bit_and};
 ghost use Rattle.std.specs.Ordering.{nat_cmp};
 ghost use Rattle.sorted_rows.specs.Keys.{is_rising};
 ghost use Rattle.std.specs.Option.{option_and_then, option_copied, option_map, option_map_or};
 ghost use Rattle.map_features.specs.Tables.{for_table};
-ghost use Rattle.map_builder.specs.Compiled.{feature_at, lookups_of_stage, stage_end, stage_start};
+ghost use Rattle.map_builder.specs.Compiled.{IsApart, feature_at, lookups_of_stage, stage_end, stage_start};
 
 use crate::features::feature_map_t;
 use map_features::lookup::lookup_map_t;
@@ -75,7 +75,8 @@ impl Model for hb_ot_map_t {
     ghost use Rattle.std.specs.Int.RustNames.{bit_and};
     ghost use Rattle.std.specs.Ordering.{nat_cmp};
     ghost use Rattle.sorted_rows.specs.Keys.{is_rising};
-    ghost use Rattle.map_builder.specs.Compiled.{OtMapValue};
+    ghost use Rattle.std.specs.List.{All};
+    ghost use Rattle.map_builder.specs.Compiled.{IsApart, OtMapValue};
 
     ghost Value = { OtMapValue };
 
@@ -86,7 +87,7 @@ impl Model for hb_ot_map_t {
     } };
 
     ghost invariant = { λ m. (is_rising nat_cmp (λ f. f.tag.0) None m.features.items ≡ true)
-        × (bit_and m.global_mask 7 ≡ 0) };
+        × (bit_and m.global_mask 7 ≡ 0) × All IsApart m.features.items };
 }
 
 impl hb_ot_map_t {
@@ -129,16 +130,19 @@ impl hb_ot_map_t {
         &self.features
     }
 
-    #[tactic(auto, using(sorted_rows::specs::Searched::row_of_number))]
+    #[tactic(auto, using(sorted_rows::specs::Searched::row_of_number, crate::proofs::Apart::found_apart))]
     fn feature(&self, tag: Tag) -> Option<&feature_map_t>
-        ensures { option_copied result ≡ feature_at tag self.now }
+        ensures found { option_copied result ≡ feature_at tag self.now }
+        ensures apart { IfSome (option_copied result) IsApart }
     {
         find_row(&self.features, tag.0)
     }
 
-    /// The mask of a feature and its lowest bit; 0 and 0 where the map lacks it.
+    /// The mask of a feature, which has no glyph flag, and its lowest bit; 0 and 0 where the map lacks it.
     pub fn get_mask(&self, tag: Tag) -> (u32, u32)
-        ensures { result ≡ option_map_or (λ f. (f.mask, f.shift)) (feature_at tag self.now) (0, 0) }
+        ensures value { result ≡ option_map_or (λ f. (f.mask, f.shift)) (feature_at tag self.now) (0, 0) }
+        ensures flagless { bit_and result.0 7 ≡ 0 }
+        ensures shift { result.1 < 32 }
     {
         match self.feature(tag) {
             Some(feature) => (feature.mask, feature.shift),
@@ -146,9 +150,10 @@ impl hb_ot_map_t {
         }
     }
 
-    /// The mask of a glyph that has a feature with value 1; 0 where the map lacks it.
+    /// The mask of a glyph that has a feature with value 1, without a glyph flag; 0 where the map lacks it.
     pub fn get_1_mask(&self, tag: Tag) -> u32
-        ensures { result ≡ option_map_or (λ f. f.one_mask) (feature_at tag self.now) 0 }
+        ensures value { result ≡ option_map_or (λ f. f.one_mask) (feature_at tag self.now) 0 }
+        ensures flagless { bit_and result 7 ≡ 0 }
     {
         match self.feature(tag) {
             Some(feature) => feature.one_mask,

@@ -19,7 +19,7 @@ ArePermuted (xs ∷ xss) ys = IsPermutation xs (take (length xs) ys) × ArePermu
 abbrev pub Permutes : (List ℕ → List ℕ) → Type 0
 Permutes rule = (xs : List ℕ) → IsPermutation xs (rule xs)
 
-in_front : {X : Type 0} (xs ys zs : List X) (xss : List (List X)) → IsPermutation xs ys → ArePermuted xss zs → ArePermuted (xs ∷ xss) (ys ++ zs)
+pub in_front : {X : Type 0} (xs ys zs : List X) (xss : List (List X)) → IsPermutation xs ys → ArePermuted xss zs → ArePermuted (xs ∷ xss) (ys ++ zs)
 in_front xs ys zs xss p h =
     let n = length_permutation xs ys p in
     let first : take (length xs) (ys ++ zs) ≡ ys = ap (λ m. take m (ys ++ zs)) (sym n) ∙ take-append_seam ys zs in

@@ -4,6 +4,7 @@ use Rattle.map_features.specs.Fields.{global_bit, kept_fields}
 use Rattle.map_features.specs.Requests.{merged_requests}
 use Rattle.map_features.specs.Rising.{wanted_rise}
 use Rattle.map_builder.specs.Features.{feature_with, is_wanted, wanted_requests}
+use Rattle.map_builder.proofs.Apart.{features_apart}
 use Rattle.map_builder.proofs.Compiling.{compiled_is}
 use Rattle.map_builder.proofs.Flagless.{flagless}
 use Rattle.map_builder.proofs.Sorted.{features_rise}
@@ -20,6 +21,7 @@ invariant_of-result c =
       features_rise tables c.in_ok-wanted.wanted.items c.in_ok-kept.kept.items c.in_ok-features.features.items
           (wanted_rise (is_wanted tables) c.self.inside.requests.items c.in_ok-requests.requests.items c.in_ok-wanted.wanted.items r w) k f,
       flagless c.in_ok-wanted.wanted.items c.in_ok-kept.kept.items c.global_mask.result k m,
+      features_apart tables c.in_ok-wanted.wanted.items c.in_ok-kept.kept.items c.in_ok-features.features.items k f,
     )
 
 pub returns : goal.returns

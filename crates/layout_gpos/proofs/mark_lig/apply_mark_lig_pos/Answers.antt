@@ -1,0 +1,11 @@
+use Rattle.std.proofs.Common.{ap, sym, ◌∙◌}
+use Rattle.layout_match.specs.Applied.{Applied, applied_of}
+use Rattle.layout_rules.specs.Buffers.{cut_of}
+use Rattle.layout_gpos.specs.Marks.{item_before}
+use Rattle.layout_gpos.proofs.MarkLig.{ligature_mark}
+use Rattle.layout_gpos.proofs.mark_lig.apply_mark_lig_pos.Goals as goal
+
+pub returns : goal.returns
+returns c = λ r.
+    ligature_mark r c.as_glyph.result.0 (applied_of c.args.ctx.now) c.args.subtable.now c.in-Some.mark c.item_before-found.result c.attach_ligature_found.result c.args.buffer.now c.attach_ligature_found.new.buffer c.cur.result.now c.cur.ensures c.as_glyph.ensures
+    (sym c.mark.ensures ∙ c.in-Some.is) (c.item_before-found.ensures.found ∙ ap (λ (a : Applied). item_before a (cut_of c.args.buffer.now)) c.without_marks.ensures) (c.attach_ligature_found.ensures r)

@@ -1,0 +1,134 @@
+//! Attachment of marks to ligatures.
+ghost use Rattle.std.specs.Prelude.{ℕ, ◌≡◌, ◌<◌, ◌≤◌, IfErr, IfOk, Ok, false, true, length};
+ghost use Rattle.glyph_buffer.specs.Sides.{all_glyphs, items_of};
+ghost use Rattle.glyph_lists.specs.Items.{item_of};
+ghost use Rattle.layout_positions.specs.Marks.{component_count};
+ghost use Rattle.layout_match.specs.Applied.{applied_of};
+ghost use Rattle.layout_rules.specs.Buffers.{are_glyphs};
+ghost use Rattle.layout_rules.specs.Performing.{Performed, cut_with};
+ghost use Rattle.layout_gpos.specs.Marks.{component_in, component_of, mark_to_ligature, on_ligature, with_found};
+
+use crate::apply::Apply;
+use crate::mark::attach_if;
+use crate::marking::mark_attempt;
+use crate::search::{glyph_before, item_before, without_marks};
+use glyph_buffer::buffer::hb_buffer_t;
+use glyph_types::info::hb_glyph_info_t;
+use layout_match::hb_ot_apply_context_t;
+use layout_match::ligature_words::{_hb_glyph_info_get_lig_comp, _hb_glyph_info_get_lig_id};
+use layout_positions::mark::{MarkLigPos, MarkRecord};
+
+/// Of so many components of a ligature, the first being 0, the mark's own where it belongs to the ligature; else the last.
+fn component_of(count: usize, ligature: &hb_glyph_info_t, mark: &hb_glyph_info_t) -> usize
+    requires { 0 < count }
+    ensures { result ≡ component_of count (item_of ligature.now) (item_of mark.now) }
+{
+    let lig_id = _hb_glyph_info_get_lig_id(ligature);
+    let component = _hb_glyph_info_get_lig_comp(mark);
+    if lig_id == _hb_glyph_info_get_lig_id(mark) && lig_id != 0 && component > 0 {
+        return (component as usize).min(count) - 1;
+    }
+    count - 1
+}
+
+/// The component of a ligature that a mark hangs on, none where the subtable has no such ligature or no component of it.
+fn component_in(
+    subtable: &MarkLigPos,
+    glyph: u16,
+    ligature: &hb_glyph_info_t,
+    mark: &hb_glyph_info_t,
+) -> Option<usize>
+    ensures { result ≡ component_in (component_count glyph subtable.now.ligatures) (item_of ligature.now) (item_of mark.now) }
+{
+    match subtable.component_count(glyph) {
+        Some(0) | None => None,
+        Some(count) => Some(component_of(count, ligature, mark)),
+    }
+}
+
+/// Hangs the mark at the cursor on a ligature before it.
+#[tactic(auto, using(crate::specs::Lemmas::Nearest::number_back, crate::proofs::MarkLig::on_its_component, crate::proofs::MarkLig::on_no_component, crate::specs::Lemmas::Performed::attempt_performed))]
+fn attach_to_ligature(
+    subtable: &MarkLigPos,
+    mark: MarkRecord,
+    info: &hb_glyph_info_t,
+    back: usize,
+    buffer: &mut hb_buffer_t,
+) -> bool
+    requires closed { buffer.old.is_open ≡ false }
+    requires there { 0 < length buffer.old.ahead }
+    requires before { back < length buffer.old.behind }
+    requires placed { length buffer.old.positions ≡ length (all_glyphs buffer.old) }
+    requires number { are_glyphs (items_of buffer.old) ≡ true }
+    ensures { (random : ℕ) → Performed (with_found (on_ligature subtable.now.ligatures mark (item_of info.now)) (Ok
+        back) (cut_with random buffer.old)) result random random buffer.old buffer.new }
+{
+    let _end = buffer.out_len();
+    let ligature = glyph_before(buffer, back);
+    let glyph = ligature.as_glyph().0;
+    let Some(component) = component_in(subtable, glyph, ligature, info) else {
+        mark_attempt(back + 1, 1, buffer);
+        return false;
+    };
+    let anchor = subtable.component_anchor(glyph, component, mark.class);
+    attach_if(anchor, mark.anchor, back, buffer)
+}
+
+/// The same with what was found before the cursor.
+#[tactic(auto, using(crate::specs::Lemmas::Performed::attempt_performed))]
+fn attach_ligature_found(
+    subtable: &MarkLigPos,
+    mark: MarkRecord,
+    info: &hb_glyph_info_t,
+    found: Result<usize, usize>,
+    buffer: &mut hb_buffer_t,
+) -> bool
+    requires closed { buffer.old.is_open ≡ false }
+    requires there { 0 < length buffer.old.ahead }
+    requires inside { IfOk found (λ at. at < length buffer.old.behind) }
+    requires read { IfErr found (λ end. end ≤ length buffer.old.behind) }
+    requires placed { length buffer.old.positions ≡ length (all_glyphs buffer.old) }
+    requires number { are_glyphs (items_of buffer.old) ≡ true }
+    ensures { (random : ℕ) → Performed (with_found (on_ligature subtable.now.ligatures mark (item_of info.now)) found
+        (cut_with random buffer.old)) result random random buffer.old buffer.new }
+{
+    match found {
+        Ok(back) => attach_to_ligature(subtable, mark, info, back, buffer),
+        Err(end) => {
+            mark_attempt(end, 1, buffer);
+            false
+        }
+    }
+}
+
+/// Mark to ligature attachment (OpenType, GPOS lookup type 5): where the subtable covers the mark at the cursor, it hangs on
+/// the nearest glyph before it that is no mark: on the component of that ligature that it belongs to, or on the last, anchor
+/// on anchor. It tells whether it acted; where it didn't, it changed glyph flags alone.
+#[tactic(auto, using(layout_rules::specs::Lemmas::Glyphs::number_ahead, crate::proofs::MarkLig::no_ligature_mark))]
+pub fn apply_mark_lig_pos(
+    subtable: &MarkLigPos,
+    ctx: &hb_ot_apply_context_t,
+    buffer: &mut hb_buffer_t,
+) -> bool
+    requires closed { buffer.old.is_open ≡ false }
+    requires there { 0 < length buffer.old.ahead }
+    requires placed { length buffer.old.positions ≡ length (all_glyphs buffer.old) }
+    requires number { are_glyphs (items_of buffer.old) ≡ true }
+    ensures { (random : ℕ) → Performed (mark_to_ligature (applied_of ctx.now) subtable.now (cut_with random
+        buffer.old)) result random random buffer.old buffer.new }
+{
+    let info = *buffer.cur(0);
+    let Some(mark) = subtable.mark(info.as_glyph().0) else {
+        return false;
+    };
+    let found = item_before(&without_marks(ctx), buffer);
+    attach_ligature_found(subtable, mark, &info, found, buffer)
+}
+
+impl Apply for MarkLigPos {
+    ghost action = { λ s d a. mark_to_ligature a s };
+
+    fn apply(&self, ctx: &hb_ot_apply_context_t, buffer: &mut hb_buffer_t) -> bool {
+        apply_mark_lig_pos(self, ctx, buffer)
+    }
+}

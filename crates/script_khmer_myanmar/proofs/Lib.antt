@@ -1,0 +1,4 @@
+pub mod There
+pub mod KhmerMoves
+pub mod KhmerWalk
+pub mod KhmerPermuted

@@ -1,0 +1,23 @@
+-- Items of a syllable.
+use Rattle.std.proofs.Common.{ℕ, ◌≡◌, ◌≤◌, ◌<◌, ◌+◌, ◌-◌, List, length, drop, get_or, Some, None, slice_get, ap, ◌∙◌, arith}
+use Rattle.std.specs.Prelude.{slice_range}
+use Rattle.std.proofs.lemmas.Option.{slice_get-get_or, slice_get_past}
+use Rattle.std.proofs.lemmas.List.{length-map, get_or-take, get_or-drop}
+use Rattle.glyph_lists.specs.Lists.{seen_at}
+use Rattle.glyph_types.specs.declared.info.hb_glyph_info_t.{hb_glyph_info_t}
+use Rattle.glyph_lists.specs.Items.{item_of, strip}
+use Rattle.script_walks.specs.Lemmas.Parts.{range_size}
+
+ranged : {X : Type 0} (start end place : ℕ) (d : X) (xs : List X) → place < end - start → get_or (slice_range xs start end) place d ≡ get_or xs (start + place) d
+ranged start end place d xs lt = get_or-take (end - start) (drop start xs) place d lt ∙ get_or-drop start xs place d
+
+pub there : (gs : List hb_glyph_info_t) (start end place : ℕ) (d : hb_glyph_info_t) → start ≤ end → end ≤ length gs → place < end - start → slice_get (slice_range (strip gs) start end) place ≡ Some (item_of (get_or gs (start + place) d))
+there gs start end place d le fits lt =
+    let len = length-map gs item_of in
+    let inside : place < length (slice_range (strip gs) start end) = omega (arith, range_size start end (strip gs) le (omega (arith, len, fits)), lt) in
+    slice_get-get_or (slice_range (strip gs) start end) place (item_of d) inside ∙ ap Some (ranged start end place (item_of d) (strip gs) lt ∙ seen_at item_of gs (start + place) d)
+
+pub none_there : (gs : List hb_glyph_info_t) (start end place : ℕ) → start ≤ end → end ≤ length gs → end - start ≤ place → slice_get (slice_range (strip gs) start end) place ≡ None
+none_there gs start end place le fits past =
+    let len = length-map gs item_of in
+    slice_get_past (slice_range (strip gs) start end) place (omega (arith, range_size start end (strip gs) le (omega (arith, len, fits)), past))

@@ -1,0 +1,87 @@
+-- Khmer: how vowels split, and which items of a syllable go to its start (Unicode core specification, Khmer; OpenType specification, Creating fonts for Khmer).
+use Rattle.std.specs.Prelude.{ℕ, zero, suc, ◌+◌, ◌-◌, ◌==◌, ◌&&◌, Bool, nat_le, bit_and, if◌then◌else◌, List, [], ◌∷◌, length, map, slice_get, Option, None, Some}
+use Rattle.std.specs.List.{list_any}
+use Rattle.script_constants.specs.declared.ot_category_t.TheConstants as category
+use Rattle.script_constants.specs.declared.shaper.hb_ot_script_shaper_t.TheVariants.{KHMER_SHAPER}
+use Rattle.script_constants.specs.Shapers.{is_reordered}
+use Rattle.unicode_tables.specs.Tables.{Tables, split_of}
+use Rattle.glyph_lists.specs.Items.{Item}
+use Rattle.syllable_lists.specs.Pieces.{ArePermuted}
+use Rattle.script_walks.specs.Rewriting.{Rewritten, kept, then_rule, within, in_syllables, by_syllable}
+use Rattle.script_walks.specs.Parts.{masked_all, first_to_back}
+use Rattle.script_khmer_myanmar.specs.declared.khmer.KhmerMasks.{KhmerMasks}
+
+-- ---- vowels that split
+
+-- U+17C1, the part of split vowels that stands on the left
+abbrev pub LEFT_PART : ℕ
+LEFT_PART = 0x17C1
+
+-- the vowels with a part on the left
+abbrev pub split_vowels : List ℕ
+split_vowels = 0x17BE ∷ 0x17BF ∷ 0x17C0 ∷ 0x17C4 ∷ 0x17C5 ∷ []
+
+-- such a vowel splits into U+17C1 and itself, U+17C1 does not split, and all else splits as in Unicode
+abbrev pub khmer_split : Tables → ℕ → Option (ℕ × ℕ)
+khmer_split t u = if u == LEFT_PART then None else if list_any (λ v. u == v) split_vowels then Some (LEFT_PART, u) else split_of t u
+
+-- ---- a syllable
+
+-- what is left of a syllable after an index, and how many coengs were met
+pub record Step : Type 0 where
+  pub rewritten : Rewritten
+  pub count : ℕ
+
+-- nothing happens
+abbrev pub passed : ℕ → List Item → Step
+passed count xs = record { rewritten = kept xs; count = count }
+
+-- a coeng and the Ra behind it get a feature and go to the start, and what stands behind them gets another
+abbrev pub coeng_moved : KhmerMasks → ℕ → List Item → Rewritten
+coeng_moved m place xs = then_rule (then_rule (within place (place + 2) (masked_all m.pref) xs) (within 0 (place + 2) (first_to_back place))) (within (place + 2) (length xs) (masked_all m.cfar))
+
+abbrev pub vowel_moved : ℕ → List Item → Rewritten
+vowel_moved place xs = within 0 (place + 1) (first_to_back place) xs
+
+-- a coeng before an item: with Ra it is a form
+abbrev pub coeng_met : KhmerMasks → ℕ → ℕ → List Item → Item → Step
+coeng_met m place count xs y = if y.category == category.OT_Ra then record { rewritten = coeng_moved m place xs; count = 2 } else passed (count + 1) xs
+
+-- a left vowel goes to the start
+abbrev pub vowel_met : ℕ → ℕ → List Item → Item → Step
+vowel_met place count xs x = if x.category == category.OT_VPre then record { rewritten = vowel_moved place xs; count = count } else passed count xs
+
+-- a coeng counts while no more than two were met
+abbrev pub is_coeng : ℕ → Item → Bool
+is_coeng count x = x.category == category.OT_H && nat_le count 2
+
+-- what stands at an index, and what behind it
+abbrev pub met : KhmerMasks → ℕ → ℕ → List Item → Option Item → Option Item → Step
+met m place count xs None next = passed count xs
+met m place count xs (Some x) None = vowel_met place count xs x
+met m place count xs (Some x) (Some y) = if is_coeng count x then coeng_met m place count xs y else vowel_met place count xs x
+
+abbrev pub khmer_at : KhmerMasks → ℕ → ℕ → List Item → Step
+khmer_at m place count xs = met m place count xs (slice_get xs place) (slice_get xs (place + 1))
+
+-- so many indices one after another, while items move
+abbrev pub khmer_walk : KhmerMasks → ℕ → ℕ → ℕ → List Item → Rewritten
+khmer_walk m zero place count xs = kept xs
+khmer_walk m (suc n) place count xs = then_rule (khmer_at m place count xs).rewritten (khmer_walk m n (place + 1) (khmer_at m place count xs).count)
+
+-- all behind the first item get the features of such, and indices from the second on are walked
+abbrev pub khmer_reordered : KhmerMasks → List Item → Rewritten
+khmer_reordered m xs = then_rule (within 1 (length xs) (masked_all m.behind) xs) (khmer_walk m (length xs - 1) 1 0)
+
+-- the kind in a syllable's byte tells whether it is reordered
+abbrev pub khmer_first : KhmerMasks → List Item → Option Item → Rewritten
+khmer_first m xs None = kept xs
+khmer_first m xs (Some x) = if is_reordered KHMER_SHAPER (bit_and x.syllable 15) then khmer_reordered m xs else kept xs
+
+abbrev pub khmer_syllable : KhmerMasks → List Item → Rewritten
+khmer_syllable m xs = khmer_first m xs (slice_get xs 0)
+
+-- the reordering permutes each syllable by itself, by glyph numbers
+abbrev pub KhmerPermutes : Type 0
+KhmerPermutes = (m : KhmerMasks) (xs : List Item)
+    → ArePermuted (map (map (λ (x : Item). x.number)) (in_syllables xs)) (map (λ (x : Item). x.number) (by_syllable (khmer_syllable m) xs).items)

@@ -1,0 +1,2 @@
+pub mod Khmer
+pub mod Lemmas

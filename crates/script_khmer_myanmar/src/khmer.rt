@@ -1,0 +1,198 @@
+//! Khmer: vowels that split, and coeng forms and left vowels, which go to the start of their syllable.
+ghost use Rattle.std.specs.Prelude.{◌≡◌, ◌≤◌, ◌<◌, ◌+◌, ◌-◌, length, slice_range, OnOk};
+ghost use Rattle.glyph_lists.specs.Items.{item_of};
+ghost use Rattle.glyph_lists.specs.Readings.{always};
+ghost use Rattle.glyph_buffer.specs.Sides.{all_glyphs, items_of};
+ghost use Rattle.layout_rules.specs.Ready.{IsReady};
+ghost use Rattle.text_stages.specs.Stages.{IsFollowed};
+ghost use Rattle.script_walks.specs.Rewriting.{by_syllable};
+ghost use Rattle.script_walks.specs.Buffers.{IsRewritten, with_rule};
+ghost use Rattle.script_khmer_myanmar.specs.Khmer.{coeng_met, coeng_moved, khmer_at, khmer_reordered, khmer_split, khmer_syllable, khmer_walk, vowel_met};
+
+use crate::glyphs::glyph_in;
+use glyph_buffer::buffer::hb_buffer_t;
+use glyph_types::info::{hb_glyph_info_t, hb_mask_t};
+use script_constants::hb_ot_script_shaper_t::KHMER_SHAPER;
+use script_constants::ot_category_t::{OT_H, OT_Ra, OT_VPre};
+use script_walks::parts::{add_mask, first_to_back};
+use script_walks::walk::{SyllableRule, each_syllable};
+use std::alloc::AllocError;
+use unicode_tables::UnicodeTables;
+
+/// The masks of the features that parts of a syllable get.
+#[derive(Clone, Copy, PartialEq, Eq, Debug)]
+pub struct KhmerMasks {
+    /// Of a coeng and its Ra.
+    pub pref: hb_mask_t,
+    /// Of all behind the first glyph: blwf, abvf and pstf together.
+    pub behind: hb_mask_t,
+    /// Of what stands behind a coeng form.
+    pub cfar: hb_mask_t,
+}
+
+/// What a character splits into: a vowel with a part on the left into U+17C1 and itself, as fonts for Khmer have it, all
+/// else as in Unicode. U+17C1 does not split.
+pub fn decompose(tables: &UnicodeTables, ab: char) -> Option<(char, char)>
+    ensures { result ≡ khmer_split tables.now ab }
+{
+    match ab {
+        '\u{17C1}' => None,
+        '\u{17BE}' | '\u{17BF}' | '\u{17C0}' | '\u{17C4}' | '\u{17C5}' => Some(('\u{17C1}', ab)),
+        _ => unicode_tables::decompose(tables, ab),
+    }
+}
+
+/// Reorders each Khmer syllable that is one: all behind its first glyph get the features of what follows a base. From the
+/// second glyph on, a coeng with Ra behind it and each left vowel go to the syllable's start, and all before them merge with
+/// them. A coeng is one with a glyph behind it while no more than two were counted; a coeng with Ra sets the count to two.
+pub fn reorder_khmer(masks: &KhmerMasks, buffer: &mut hb_buffer_t) -> Result<(), AllocError>
+    requires ready { IsReady buffer.old }
+    ensures { OnOk result
+        (IsFollowed (always (with_rule (by_syllable (khmer_syllable masks.now)))) buffer.old buffer.new) }
+{
+    each_syllable(masks, buffer)
+}
+
+impl SyllableRule for KhmerMasks {
+    ghost use Rattle.script_khmer_myanmar.specs.Lemmas.KhmerSize.{khmer_keeps};
+
+    ghost rewritten = { khmer_syllable };
+
+    #[tactic(auto, using(crate::proofs::There::there))]
+    fn rewrite(
+        &self,
+        buffer: &mut hb_buffer_t,
+        start: usize,
+        end: usize,
+    ) -> Result<(), AllocError> {
+        let Some(first) = glyph_in(buffer, start, end, 0) else {
+            return Ok(());
+        };
+        if KHMER_SHAPER.is_reordered(first.syllable & 15) {
+            reorder_syllable(self, buffer, start, end);
+        }
+        Ok(())
+    }
+
+    ghost keeps_length = { khmer_keeps };
+}
+
+fn reorder_syllable(masks: &KhmerMasks, buffer: &mut hb_buffer_t, start: usize, end: usize)
+    requires ready { IsReady buffer.old }
+    requires some { start < end }
+    requires within { end ≤ length (all_glyphs buffer.old) }
+    ensures { IsRewritten (khmer_reordered masks.now (slice_range (items_of buffer.old) start end)) start end buffer.old
+        buffer.new }
+{
+    add_mask(buffer, start + 1, end, masks.behind);
+    reorder_from_second(masks, buffer, start, end);
+}
+
+#[tactic(auto, using(crate::proofs::KhmerWalk::entered))]
+fn reorder_from_second(masks: &KhmerMasks, buffer: &mut hb_buffer_t, start: usize, end: usize)
+    requires ready { IsReady buffer.old }
+    requires ordered { start ≤ end }
+    requires within { end ≤ length (all_glyphs buffer.old) }
+    ensures { IsRewritten (khmer_walk masks.now (end - start - 1) 1 0 (slice_range (items_of buffer.old) start end)) start
+        end buffer.old buffer.new }
+{
+    let mut count = 0;
+    let mut place = 1;
+    while place < end - start {
+        count = reorder_at(masks, buffer, start, end, place, count);
+        place += 1;
+    }
+}
+
+/// What happens at an index of a syllable; tells how many coengs were met.
+fn reorder_at(
+    masks: &KhmerMasks,
+    buffer: &mut hb_buffer_t,
+    start: usize,
+    end: usize,
+    place: usize,
+    count: u32,
+) -> u32
+    requires ready { IsReady buffer.old }
+    requires ordered { start ≤ end }
+    requires within { end ≤ length (all_glyphs buffer.old) }
+    ensures rewritten { IsRewritten
+        (khmer_at masks.now place count (slice_range (items_of buffer.old) start end)).rewritten start end
+        buffer.old buffer.new }
+    ensures count { result ≡ (khmer_at masks.now place count (slice_range (items_of buffer.old) start end)).count }
+{
+    let Some(glyph) = glyph_in(buffer, start, end, place) else {
+        return count;
+    };
+    let Some(next) = glyph_in(buffer, start, end, place + 1) else {
+        return reorder_vowel(buffer, start, end, place, count, glyph);
+    };
+    if glyph.category == OT_H && count <= 2 {
+        return reorder_coeng(masks, buffer, start, end, place, count, next);
+    }
+    reorder_vowel(buffer, start, end, place, count, glyph)
+}
+
+#[tactic(auto, using(crate::proofs::KhmerMoves::passed_does))]
+fn reorder_coeng(
+    masks: &KhmerMasks,
+    buffer: &mut hb_buffer_t,
+    start: usize,
+    end: usize,
+    place: usize,
+    count: u32,
+    next: hb_glyph_info_t,
+) -> u32
+    requires ready { IsReady buffer.old }
+    requires there { start + (place + 2) ≤ end }
+    requires within { end ≤ length (all_glyphs buffer.old) }
+    requires few { count ≤ 2 }
+    ensures rewritten { IsRewritten
+        (coeng_met masks.now place count (slice_range (items_of buffer.old) start end) (item_of next)).rewritten start
+        end buffer.old buffer.new }
+    ensures count { result
+        ≡ (coeng_met masks.now place count (slice_range (items_of buffer.old) start end) (item_of next)).count }
+{
+    if next.category != OT_Ra {
+        return count + 1;
+    }
+    move_coeng(masks, buffer, start, end, place);
+    2
+}
+
+fn move_coeng(masks: &KhmerMasks, buffer: &mut hb_buffer_t, start: usize, end: usize, place: usize)
+    requires ready { IsReady buffer.old }
+    requires there { start + (place + 2) ≤ end }
+    requires within { end ≤ length (all_glyphs buffer.old) }
+    ensures { IsRewritten (coeng_moved masks.now place (slice_range (items_of buffer.old) start end)) start end
+        buffer.old buffer.new }
+{
+    add_mask(buffer, start + place, start + (place + 2), masks.pref);
+    first_to_back(buffer, start, start + (place + 2), place);
+    add_mask(buffer, start + (place + 2), end, masks.cfar);
+}
+
+#[tactic(auto, using(crate::proofs::KhmerMoves::passed_does))]
+fn reorder_vowel(
+    buffer: &mut hb_buffer_t,
+    start: usize,
+    end: usize,
+    place: usize,
+    count: u32,
+    glyph: hb_glyph_info_t,
+) -> u32
+    requires ready { IsReady buffer.old }
+    requires there { start + (place + 1) ≤ end }
+    requires within { end ≤ length (all_glyphs buffer.old) }
+    ensures rewritten { IsRewritten
+        (vowel_met place count (slice_range (items_of buffer.old) start end) (item_of glyph)).rewritten start end
+        buffer.old buffer.new }
+    ensures count { result
+        ≡ (vowel_met place count (slice_range (items_of buffer.old) start end) (item_of glyph)).count }
+{
+    if glyph.category != OT_VPre {
+        return count;
+    }
+    first_to_back(buffer, start, start + (place + 1), place);
+    count
+}

@@ -1,0 +1,5 @@
+-- Lemmas on rewritten lists and buffers.
+pub mod Shifts
+pub mod Rewritings
+pub mod Parts
+pub mod Permuted

@@ -1,0 +1,5 @@
+pub mod Rewriting
+pub mod Buffers
+pub mod Parts
+pub mod Laws
+pub mod Lemmas

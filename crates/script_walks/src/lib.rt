@@ -1,0 +1,6 @@
+// Rules for a syllable, and the walk by syllables.
+#![tactic(auto)]
+
+pub mod laws;
+pub mod parts;
+pub mod walk;

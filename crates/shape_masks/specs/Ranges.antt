@@ -1,0 +1,33 @@
+-- The masks of features that are asked for on a part of a text: the one reading that is given cluster numbers.
+use Rattle.std.specs.Prelude.{ℕ, ◌*◌, ◌^◌, ◌%◌, if◌then◌else◌, List, [], ◌∷◌}
+use Rattle.std.specs.Option.{option_map_or}
+use Rattle.feature_text.specs.declared.feature.Feature.{Feature}
+use Rattle.feature_text.specs.Feature.{is_global}
+use Rattle.map_stages.specs.declared.feature.feature_map_t.{feature_map_t}
+use Rattle.map_builder.specs.Compiled.{OtMapValue, feature_at}
+use Rattle.glyph_lists.specs.Items.{Item}
+use Rattle.glyph_lists.specs.Readings.{View, Read, with_events}
+use Rattle.glyph_buffer.specs.Masks.{items_set}
+
+-- the bits of a mask that stand for a feature, and the lowest of them; a map that lacks the feature has none
+abbrev pub bits_of : Feature → OtMapValue → ℕ
+bits_of f map = option_map_or (λ (m : feature_map_t). m.mask) (feature_at f.tag map) 0
+
+abbrev pub shift_of : Feature → OtMapValue → ℕ
+shift_of f map = option_map_or (λ (m : feature_map_t). m.shift) (feature_at f.tag map) 0
+
+-- the value of a feature, where its bits stand in a mask of 32 bits
+abbrev pub placed_value : Feature → OtMapValue → ℕ
+placed_value f map = f.value * 2 ^ shift_of f map % 2 ^ 32
+
+-- items whose clusters, beside them, are in the range of a feature get its value in its bits; one for all glyphs is in their first mask already
+abbrev pub with_range : OtMapValue → Feature → List ℕ → List Item → List Item
+with_range map f clusters xs = if is_global f then xs else items_set (placed_value f map) (bits_of f map) f.start f.end clusters xs
+
+-- feature after feature, as they were asked for
+abbrev pub with_all_ranges : OtMapValue → List Feature → List ℕ → List Item → List Item
+with_all_ranges map [] clusters xs = xs
+with_all_ranges map (f ∷ fs) clusters xs = with_all_ranges map fs clusters (with_range map f clusters xs)
+
+abbrev pub with_ranges : OtMapValue → List Feature → List ℕ → View → Read
+with_ranges map features clusters v = with_events [] (record v { items = with_all_ranges map features clusters v.items })

@@ -1,0 +1,38 @@
+//! Features that are asked for on a part of a text.
+ghost use Rattle.std.specs.Prelude.{◌≡◌};
+ghost use Rattle.glyph_lists.specs.Items.{clusters};
+ghost use Rattle.glyph_lists.specs.Readings.{always};
+ghost use Rattle.glyph_buffer.specs.Sides.{all_glyphs, items_of};
+ghost use Rattle.layout_rules.specs.Ready.{IsReady};
+ghost use Rattle.text_stages.specs.Stages.{Becomes, IsFollowed};
+ghost use Rattle.shape_masks.specs.Ranges.{with_range, with_ranges};
+
+use feature_text::feature::Feature;
+use glyph_buffer::buffer::hb_buffer_t;
+use map_builder::map::hb_ot_map_t;
+
+/// Gives each glyph whose cluster is in the range of a feature the value of that feature, one feature after another; those
+/// for all glyphs are left out. It takes time linear in the glyphs for each feature, and no memory.
+#[tactic(auto, using(crate::proofs::Ranged::begins, crate::proofs::Ranged::goes_on_at, crate::proofs::Ranged::ends))]
+pub fn set_ranged_masks(map: &hb_ot_map_t, features: &[Feature], buffer: &mut hb_buffer_t)
+    requires ready { IsReady buffer.old }
+    ensures { IsFollowed (always (with_ranges map.now features.now (clusters (all_glyphs buffer.old))))
+        buffer.old buffer.new }
+{
+    for feature in features {
+        set_range(map, feature, buffer);
+    }
+}
+
+#[tactic(auto, using(crate::proofs::Ranged::set_becomes))]
+fn set_range(map: &hb_ot_map_t, feature: &Feature, buffer: &mut hb_buffer_t)
+    requires ready { IsReady buffer.old }
+    ensures { Becomes (with_range map.now feature.now (clusters (all_glyphs buffer.old)) (items_of buffer.old))
+        buffer.old.positions buffer.old buffer.new }
+{
+    if feature.is_global() {
+        return;
+    }
+    let (mask, shift) = map.get_mask(feature.tag);
+    buffer.set_masks(feature.value << shift, mask, feature.start, feature.end);
+}
