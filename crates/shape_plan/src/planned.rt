@@ -14,7 +14,7 @@ use shaping_text::tag::Tag;
 use std::alloc::AllocError;
 
 /// What a shaper decides once for all texts, and what it asks of a font's features.
-pub trait PlannedShaper {
+pub trait PlannedShaper: Drop {
     ghost use Rattle.std.specs.Prelude.{◌≡◌, OnOk, Option};
     ghost use Rattle.map_builder.specs.Compiled.{MapRequests};
     ghost use Rattle.shaping_text.specs.declared.script.Script.{Script};

@@ -142,12 +142,12 @@ impl<'a, S: PlannedShaper> hb_ot_shape_planner_t<'a, S> {
         alloc: Global,
         features: &[Feature],
     ) -> Result<hb_ot_shape_plan_t<S>, AllocError>
-        ensures direction { IfOk result (λ plan. plan.direction ≡ self.direction) }
-        ensures script { IfOk result (λ plan. plan.script ≡ self.script) }
-        ensures shaper { IfOk result (λ plan. plan.shaper ≡ self.shaper) }
-        ensures map { IfOk result (λ plan. plan.ot_map ≡ compiled self.ot_map) }
+        ensures direction { IfOk result (λ plan. plan.direction ≡ self.entry.direction) }
+        ensures script { IfOk result (λ plan. plan.script ≡ self.entry.script) }
+        ensures shaper { IfOk result (λ plan. plan.shaper ≡ self.entry.shaper) }
+        ensures map { IfOk result (λ plan. plan.ot_map ≡ compiled self.entry.ot_map) }
         ensures choices { IfOk result (λ plan. plan.choices
-            ≡ choices (S.traits self.shaper) self.face.now (compiled self.ot_map)) }
+            ≡ choices (S.traits self.entry.shaper) self.entry.face.now (compiled self.entry.ot_map)) }
         ensures features { IfOk result (λ plan. plan.user_features.items ≡ features.now) }
     {
         let ot_map = self.ot_map.compile(alloc)?;
