@@ -83,7 +83,7 @@ myanmar_features =
     on (codes "rphf") zwj_in_syllable ∷ stage_end ∷
     on (codes "pref") zwj_in_syllable ∷ stage_end ∷
     on (codes "blwf") zwj_in_syllable ∷ stage_end ∷
-    on (codes "pstf") zwj_in_syllable ∷ then_pause ClearSyllables ∷
+    on (codes "pstf") zwj_in_syllable ∷ stage_end ∷ then_pause ClearSyllables ∷
     on (codes "pres") F_MANUAL_ZWJ ∷
     on (codes "abvs") F_MANUAL_ZWJ ∷
     on (codes "blws") F_MANUAL_ZWJ ∷

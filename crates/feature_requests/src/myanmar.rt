@@ -6,7 +6,7 @@ use map_features::flags::{F_MANUAL_ZWJ, F_PER_SYLLABLE};
 
 const ZWJ_IN_SYLLABLE: u32 = F_MANUAL_ZWJ | F_PER_SYLLABLE;
 
-pub(crate) const FEATURES: [Ask; 16] = [
+pub(crate) const FEATURES: [Ask; 17] = [
     Ask::Pause(Some(hb_script_pause_t::SetupSyllables)),
     on!(b"locl", F_PER_SYLLABLE),
     on!(b"ccmp", F_PER_SYLLABLE),
@@ -18,6 +18,7 @@ pub(crate) const FEATURES: [Ask; 16] = [
     on!(b"blwf", ZWJ_IN_SYLLABLE),
     Ask::Pause(None),
     on!(b"pstf", ZWJ_IN_SYLLABLE),
+    Ask::Pause(None),
     Ask::Pause(Some(hb_script_pause_t::ClearSyllables)),
     on!(b"pres", F_MANUAL_ZWJ),
     on!(b"abvs", F_MANUAL_ZWJ),

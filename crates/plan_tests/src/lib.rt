@@ -1,0 +1,5 @@
+// Plans of small fonts.
+#![tactic(auto)]
+
+#[cfg(test)]
+mod plans;
