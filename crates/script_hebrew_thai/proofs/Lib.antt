@@ -1,2 +1,5 @@
 pub mod Swapped
 pub mod Shaped
+pub mod Counted
+pub mod Vowel
+pub mod Vowels

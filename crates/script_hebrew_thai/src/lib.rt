@@ -3,3 +3,4 @@
 
 pub mod hebrew;
 pub mod thai_private;
+pub mod thai_vowel;

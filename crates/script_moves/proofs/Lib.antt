@@ -1,1 +1,4 @@
 pub mod Moved
+pub mod Alone
+pub mod Put
+pub mod Front

@@ -22,7 +22,8 @@ pub fn move_back(buffer: &mut hb_buffer_t, start: usize, middle: usize, end: usi
     rotate(buffer.info_slice_mut(), start, middle, end);
 }
 
-fn rotate(glyphs: &mut [hb_glyph_info_t], start: usize, middle: usize, end: usize)
+/// The glyphs from `start` up to before `middle` come to stand behind those up to before `end`.
+pub(crate) fn rotate(glyphs: &mut [hb_glyph_info_t], start: usize, middle: usize, end: usize)
     requires begins { start ≤ middle }
     requires ordered { middle ≤ end }
     requires within { end ≤ length glyphs.old }

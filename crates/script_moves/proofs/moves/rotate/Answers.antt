@@ -1,5 +1,5 @@
 use Rattle.std.proofs.Common.{◌-◌, arith}
-use Rattle.script_moves.proofs.Moved.{part_moved}
+use Rattle.script_moves.specs.Lemmas.Moved.{part_moved}
 use Rattle.script_moves.proofs.moves.rotate.Goals as goal
 
 pub returns : goal.returns

@@ -1,0 +1,20 @@
+-- Rules that passed on a buffer without an output.
+use Rattle.std.proofs.Common.{ℕ, ◌≡◌, Bool, false, List, subst, ◌∙◌}
+use Rattle.glyph_buffer.specs.Sides.{Sides}
+use Rattle.layout_rules.specs.Actions.{Outcome, Passes, Acts, Refuses, Action}
+use Rattle.layout_rules.specs.Performing.{cut_with, Performed}
+use Rattle.layout_rules.specs.Lemmas.Frames.{still_open}
+use Rattle.layout_rules.specs.Lemmas.Performed.{ArePassed}
+
+pub passed_closed : {R : Type 0} (act : R → Action) (all left : List R) (r : ℕ) (start now : Sides) → ArePassed act all left r start now → start.is_open ≡ false → now.is_open ≡ false
+passed_closed act all left r start now t e = still_open start now t.still ∙ e
+
+closed_by : (before after : ℕ) (s mid : Sides) (o : Outcome) → Performed o false before after s mid → s.is_open ≡ false → mid.is_open ≡ false
+closed_by before after s mid (Passes es) d e = still_open s mid d.2.still ∙ e
+closed_by before after s mid (Acts cut es) d e = cc
+closed_by before after s mid (Refuses cause) d e = absurd d
+
+pub closed_there : (act : Action) (before after : ℕ) (acted : Bool) (s mid : Sides) → acted ≡ false → s.is_open ≡ false → Performed (act (cut_with before s)) acted before after s mid → mid.is_open ≡ false
+closed_there act before after acted s mid fails e d =
+    let P : Bool → Type 0 = λ b. Performed (act (cut_with before s)) b before after s mid in
+    closed_by before after s mid (act (cut_with before s)) (subst P fails d) e

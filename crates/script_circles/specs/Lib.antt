@@ -1,0 +1,3 @@
+pub mod Circles
+pub mod Bytes
+pub mod Rules

@@ -1,0 +1,145 @@
+-- A text whose vowels are split one after another.
+use Rattle.std.proofs.Common.{ℕ, ◌≡◌, ◌≢◌, ◌<◌, ◌≤◌, ◌+◌, ◌-◌, ◌&&◌, not, Bool, true, false, nat_le, if◌then◌else◌, List, [], ◌∷◌, ◌++◌, Err, length, refl, sym, ap, subst, ◌∙◌, append_assoc, arith}
+use Rattle.std.proofs.lemmas.Bool.Decides.{nat_tests}
+use Rattle.std.proofs.lemmas.List.{append-nil, length-append, length-map}
+use Rattle.glyph_types.specs.declared.cause.ShapeCause.{ShapeCause}
+use Rattle.glyph_types.specs.declared.cause.ShapeCause.TheVariants.{OutOfMemory, TooLong}
+use Rattle.glyph_types.specs.declared.info.hb_glyph_info_t.{hb_glyph_info_t}
+use Rattle.glyph_types.specs.declared.level.BufferClusterLevel.{BufferClusterLevel}
+use Rattle.glyph_lists.specs.Items.{Item, item_of, strip}
+use Rattle.glyph_lists.specs.Events.{Event}
+use Rattle.glyph_lists.specs.Readings.{View, read_of}
+use Rattle.glyph_buffer.specs.Sides.{Sides, Settings, all_glyphs, items_of, run_of, with_output, synced, fits_joined}
+use Rattle.layout_rules.specs.Ready.{IsReady}
+use Rattle.text_stages.specs.Stages.{IsFollowed}
+use Rattle.script_moves.specs.Walks.{Exceeds, Walked}
+use Rattle.script_moves.specs.Lemmas.Walked.{both_walked, nothing_walked, walked_followed}
+use Rattle.script_hebrew_thai.proofs.Vowel.{vowel_long}
+use Rattle.script_hebrew_thai.specs.ThaiVowel.{is_sara_am, with_vowel, with_character, split_behind, events_of_character, events_behind, vowels_split}
+
+-- what is behind and ahead comes to what all does
+pub record IsUnderway (left : ℕ) (s t : Sides) : Type 0 where
+  pub events : List Event
+  pub walked : Walked (strip t.behind) (strip t.ahead) events s t
+  pub items : split_behind (strip t.behind) (strip t.ahead) ≡ split_behind [] (items_of s)
+  pub whole : events ++ events_behind s.level (strip t.behind) (strip t.ahead) ≡ events_behind s.level [] (items_of s)
+  pub count : length t.ahead ≡ left
+
+pub begun : (n : ℕ) (s : Sides) → length (all_glyphs s) ≡ n → IsUnderway n (with_output s) (with_output s)
+begun n s e = record { events = []; walked = nothing_walked (with_output s) refl; items = refl; whole = refl; count = e }
+
+level_same : (o r : List Item) (es : List Event) (s t : Sides) → Walked o r es s t → t.level ≡ s.level
+level_same o r es s t w = ap (λ (st : Settings). st.level) w.settings
+
+limit_same : (o r : List Item) (es : List Event) (s t : Sides) → Walked o r es s t → t.max_len ≡ s.max_len
+limit_same o r es s t w = ap (λ (v : View). v.max_len) w.view
+
+-- one character more
+pub more : (n : ℕ) (s t u : Sides) → 0 < n → IsUnderway n s t
+    → ((x : Item) (xs : List Item) → strip t.ahead ≡ x ∷ xs → Walked (with_character (strip t.behind) x) xs (events_of_character t.level (strip t.behind) x) t u)
+    → IsUnderway (n - 1) s u
+more n s t u lt h step = by_ahead t.ahead refl
+  where
+    by_ahead : (gs : List hb_glyph_info_t) → t.ahead ≡ gs → IsUnderway (n - 1) s u
+    by_ahead [] e = absurd (let none = ap (λ (ys : List hb_glyph_info_t). length ys) e in let c = h.count in omega (arith, none, c, lt))
+    by_ahead (g ∷ gs) e =
+        let x = item_of g in
+        let xs = strip gs in
+        let w = step x xs (ap strip e) in
+        let es = events_of_character s.level (strip t.behind) x in
+        let level = level_same (strip t.behind) (strip t.ahead) h.events s t h.walked in
+        let w' : Walked (with_character (strip t.behind) x) xs es t u = subst (λ (l : BufferClusterLevel). Walked (with_character (strip t.behind) x) xs (events_of_character l (strip t.behind) x) t u) level w in
+        let both = both_walked (strip t.behind) (strip t.ahead) (with_character (strip t.behind) x) xs h.events es s t u h.walked w' in
+        let many = ap (λ (ys : List hb_glyph_info_t). length ys) e in
+        let rest : length u.ahead ≡ length gs = sym (length-map u.ahead item_of) ∙ ap (λ (ys : List Item). length ys) w'.ahead ∙ length-map gs item_of in
+        let c = h.count in
+        record {
+          events = h.events ++ es;
+          walked = record { behind = refl; ahead = refl; happened = both.happened; view = both.view; settings = both.settings; opened = both.opened; unrefused = both.unrefused };
+          items = ap (λ o. split_behind o (strip u.ahead)) w'.behind ∙ ap (split_behind (with_character (strip t.behind) x)) w'.ahead ∙ ap (split_behind (strip t.behind)) (sym (ap strip e)) ∙ h.items;
+          whole =
+              append_assoc h.events es (events_behind s.level (strip u.behind) (strip u.ahead))
+              ∙ ap (λ o. h.events ++ (es ++ events_behind s.level o (strip u.ahead))) w'.behind
+              ∙ ap (λ r. h.events ++ (es ++ events_behind s.level (with_character (strip t.behind) x) r)) w'.ahead
+              ∙ ap (λ r. h.events ++ events_behind s.level (strip t.behind) r) (sym (ap strip e)) ∙ h.whole;
+          count = omega (arith, many, rest, c, lt);
+        }
+
+-- all characters
+all_walked : (s t : Sides) → IsUnderway 0 s t → Walked (split_behind [] (items_of s)) [] (events_behind s.level [] (items_of s)) s t
+all_walked s t h = by_ahead t.ahead refl
+  where
+    by_ahead : (gs : List hb_glyph_info_t) → t.ahead ≡ gs → Walked (split_behind [] (items_of s)) [] (events_behind s.level [] (items_of s)) s t
+    by_ahead (g ∷ gs) e = absurd (let some = ap (λ (ys : List hb_glyph_info_t). length ys) e in let c = h.count in omega (arith, some, c))
+    by_ahead [] e =
+        let none : strip t.ahead ≡ [] = ap strip e in
+        let w = h.walked in
+        let out : strip t.behind ≡ split_behind [] (items_of s) = ap (split_behind (strip t.behind)) (sym none) ∙ h.items in
+        let es : h.events ≡ events_behind s.level [] (items_of s) = sym (append-nil h.events) ∙ ap (λ r. h.events ++ events_behind s.level (strip t.behind) r) (sym none) ∙ h.whole in
+        subst (λ fs. Walked (split_behind [] (items_of s)) [] fs s t) es
+        (record { behind = out; ahead = none; happened = w.happened; view = w.view; settings = w.settings; opened = w.opened; unrefused = w.unrefused })
+
+count_within : (s t : Sides) → IsUnderway 0 s t → length (all_glyphs t) ≡ length (split_behind [] (items_of s))
+count_within s t h =
+    let w = all_walked s t h in
+    let a = length-append t.behind t.ahead in
+    let b : length t.behind ≡ length (split_behind [] (items_of s)) = sym (length-map t.behind item_of) ∙ ap (λ (xs : List Item). length xs) w.behind in
+    let c : length t.ahead ≡ 0 = sym (length-map t.ahead item_of) ∙ ap (λ (xs : List Item). length xs) w.ahead in
+    omega (arith, a, b, c)
+
+fits_both : (a b : Bool) → (not a && b) ≡ true → b ≡ true
+fits_both true b e = cc
+fits_both false b e = e
+
+fits_neither : (a b : Bool) → a ≡ false → (not a && b) ≡ false → b ≡ false
+fits_neither true b n e = cc
+fits_neither false b n e = e
+
+pub text_followed : (s t new : Sides) → IsReady s → IsUnderway 0 (with_output s) t → fits_joined t ≡ true → new ≡ synced t → IsFollowed vowels_split s new
+text_followed s t new ready h fits is =
+    let w = all_walked (with_output s) t h in
+    let xs = split_behind [] (items_of s) in
+    let limit = limit_same xs [] (events_behind s.level [] (items_of s)) (with_output s) t w in
+    let many = count_within (with_output s) t h in
+    let room = fits_both t.has_refused (nat_le (length (all_glyphs t) + 0) t.max_len) fits in
+    let within : nat_le (length xs) s.max_len ≡ true = grind (arith, nat_tests, room, many, limit) in
+    walked_followed vowels_split xs (events_behind s.level [] (items_of s)) (λ level. events_behind level [] (items_of s)) s t new ready w is (rw within refl) refl
+
+pub text_too_long : (e : ShapeCause) (s t : Sides) → IsReady s → IsUnderway 0 (with_output s) t → (e ≢ OutOfMemory → (e ≡ TooLong) × (fits_joined t ≡ false)) → e ≢ OutOfMemory → read_of vowels_split (run_of s) ≡ Err e
+text_too_long e s t ready h over other =
+    let w = all_walked (with_output s) t h in
+    let xs = split_behind [] (items_of s) in
+    let limit = limit_same xs [] (events_behind s.level [] (items_of s)) (with_output s) t w in
+    let many = count_within (with_output s) t h in
+    let o = over other in
+    let room = fits_neither t.has_refused (nat_le (length (all_glyphs t) + 0) t.max_len) (w.unrefused ∙ ready.unrefused) o.1 in
+    let within : nat_le (length xs) s.max_len ≡ false = grind (arith, nat_tests, room, many, limit) in
+    rw within (ap Err (sym o.0))
+
+vowel_grows : (out : List Item) (x : Item) → length out ≤ length (with_vowel out x)
+vowel_grows out x = let n = vowel_long out x in omega (arith, n)
+
+character_grows : (out : List Item) (x : Item) (t : Bool) → length out ≤ length (if t then with_vowel out x else out ++ x ∷ [])
+character_grows out x true = vowel_grows out x
+character_grows out x false = let a = length-append out (x ∷ []) in omega (arith, a)
+
+grows : (out xs : List Item) → length out ≤ length (split_behind out xs)
+grows out [] = omega arith
+grows out (x ∷ xs) = let a = character_grows out x (is_sara_am x) in let b = grows (with_character out x) xs in omega (arith, a, b)
+
+-- a character that was too many
+pub too_long : (n : ℕ) (e : ShapeCause) (s t : Sides) → 0 < n → IsUnderway n (with_output s) t → ((x : Item) (xs : List Item) → strip t.ahead ≡ x ∷ xs → Exceeds (length (with_character (strip t.behind) x)) e t) → e ≢ OutOfMemory → read_of vowels_split (run_of s) ≡ Err e
+too_long n e s t lt h over other = by_ahead t.ahead refl
+  where
+    by_ahead : (gs : List hb_glyph_info_t) → t.ahead ≡ gs → read_of vowels_split (run_of s) ≡ Err e
+    by_ahead [] is = absurd (let none = ap (λ (ys : List hb_glyph_info_t). length ys) is in let c = h.count in omega (arith, none, c, lt))
+    by_ahead (g ∷ gs) is =
+        let o = over (item_of g) (strip gs) (ap strip is) other in
+        let limit = limit_same (strip t.behind) (strip t.ahead) h.events (with_output s) t h.walked in
+        let out = with_character (strip t.behind) (item_of g) in
+        let total : split_behind out (strip gs) ≡ split_behind [] (items_of s) = ap (split_behind (strip t.behind)) (sym (ap strip is)) ∙ h.items in
+        let more = grows out (strip gs) in
+        let many : length (split_behind out (strip gs)) ≡ length (split_behind [] (items_of s)) = ap (λ (ys : List Item). length ys) total in
+        let past = o.1 in
+        let within : nat_le (length (split_behind [] (items_of s))) s.max_len ≡ false = grind (arith, nat_tests, limit, more, many, past) in
+        rw within (ap Err (sym o.0))

@@ -1,0 +1,8 @@
+use Rattle.std.proofs.Common.{◌-◌}
+use Rattle.glyph_buffer.specs.Sides.{with_output}
+use Rattle.script_hebrew_thai.proofs.Vowels.{IsUnderway}
+use Rattle.script_hebrew_thai.proofs.thai_vowel.preprocess_text.Given as goal
+
+-- so many characters are behind
+abbrev pub invariant-loop : goal.invariant-loop
+invariant-loop l = IsUnderway (l.count - l.counter) (with_output l.initial.buffer) l.buffer

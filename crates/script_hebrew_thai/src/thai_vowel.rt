@@ -1,0 +1,178 @@
+//! The vowels SARA AM of Thai and AM of Lao.
+ghost use Rattle.std.specs.Prelude.{◌≡◌, ◌≢◌, ◌<◌, ◌≤◌, ◌+◌, ◌-◌, ◌∷◌, List, Some, true, length, slice_get, OnOk, IfErr, Err};
+ghost use Rattle.glyph_lists.specs.Items.{Item, item_of, strip};
+ghost use Rattle.glyph_lists.specs.Origins.{origin_of};
+ghost use Rattle.glyph_lists.specs.Readings.{read_of};
+ghost use Rattle.glyph_buffer.specs.Sides.{run_of};
+ghost use Rattle.layout_rules.specs.Ready.{IsReady};
+ghost use Rattle.script_hebrew_thai.specs.ThaiVowel.{count_above, events_of_character, events_of_vowel, is_mark_above, is_sara_am, nikhahit, nonspacing, placing, sara_aa, thai_or_lao, vowels_split, with_character, with_vowel};
+ghost use Rattle.script_moves.specs.Moves.{moved};
+ghost use Rattle.script_moves.specs.Walks.{Exceeds, Walked};
+ghost use Rattle.text_stages.specs.Stages.{IsFollowed};
+
+use glyph_buffer::buffer::hb_buffer_t;
+use glyph_types::cause::ShapeCause;
+use glyph_types::flags::UnicodeProps;
+use glyph_types::info::hb_glyph_info_t;
+use glyph_types::level::BufferClusterLevel;
+use script_moves::walks::{advance, finish, merge_behind, move_behind, replace_current};
+use unicode::properties::GeneralCategory;
+use unicode_chars::category::GeneralCategoryExt;
+
+const SARA_AM: u32 = 0x0E33;
+
+/// What a character of Lao has more than that of Thai which stands at its place of the block.
+const LAO: u32 = 0x80;
+
+/// Splits each SARA AM, and each AM of Lao, into a mark above, which goes before the marks above that precede it, and a
+/// vowel behind. It takes linear time.
+///
+/// # Errors
+///
+/// `TooLong` where the text would have more characters than the buffer may hold, or want of memory.
+pub fn preprocess_text(buffer: &mut hb_buffer_t) -> Result<(), ShapeCause>
+    requires ready { IsReady buffer.old }
+    ensures ok { OnOk result (IsFollowed vowels_split buffer.old buffer.new) }
+    ensures err { IfErr result (λ e. e ≢ ShapeCause.OutOfMemory → read_of vowels_split (run_of buffer.old) ≡ Err e) }
+{
+    let count = buffer.len();
+    buffer.clear_output()?;
+    for _ in 0..count {
+        pass(buffer)?;
+    }
+    finish(buffer)?;
+    Ok(())
+}
+
+/// The character at the cursor goes behind it, in two parts where it is such a vowel.
+fn pass(buffer: &mut hb_buffer_t) -> Result<(), ShapeCause>
+    requires open { buffer.old.is_open ≡ true }
+    requires there { 0 < length buffer.old.ahead }
+    ensures ok { OnOk result ((x : Item) (xs : List Item) → strip buffer.old.ahead ≡ x ∷ xs
+        → Walked (with_character (strip buffer.old.behind) x) xs (events_of_character buffer.old.level (strip buffer.old.behind) x) buffer.old buffer.new) }
+    ensures err { IfErr result (λ e. (x : Item) (xs : List Item) → strip buffer.old.ahead ≡ x ∷ xs → Exceeds (length (with_character (strip buffer.old.behind) x)) e buffer.old) }
+{
+    let glyph = *buffer.cur(0);
+    if is_sara_am(&glyph) {
+        split(&glyph, buffer)?;
+        return Ok(());
+    }
+    advance(buffer)?;
+    Ok(())
+}
+
+/// The vowel at the cursor goes behind it in two parts.
+fn split(glyph: &hb_glyph_info_t, buffer: &mut hb_buffer_t) -> Result<(), ShapeCause>
+    requires open { buffer.old.is_open ≡ true }
+    requires there { slice_get buffer.old.ahead 0 ≡ Some glyph.now }
+    requires vowel { is_sara_am (item_of glyph.now) ≡ true }
+    ensures ok { OnOk result ((x : Item) (xs : List Item) → strip buffer.old.ahead ≡ x ∷ xs
+        → Walked (with_vowel (strip buffer.old.behind) x) xs (events_of_vowel buffer.old.level (length buffer.old.behind) (count_above (strip buffer.old.behind))) buffer.old buffer.new) }
+    ensures err { IfErr result (λ e. Exceeds (length buffer.old.behind + 2) e buffer.old) }
+{
+    let at = buffer.out_len();
+    let marks = count_above(buffer.out_info());
+    replace_current(&[nikhahit(glyph), sara_aa(glyph)], buffer)?;
+    place(at, marks, buffer);
+    Ok(())
+}
+
+/// The first part of a vowel whose two parts stand behind the cursor from `at` on goes before the marks above, and merges
+/// with them; without marks both parts merge with what stands before them, where graphemes are to be clusters.
+fn place(at: usize, marks: usize, buffer: &mut hb_buffer_t)
+    requires open { buffer.old.is_open ≡ true }
+    requires parts { at + 2 ≡ length buffer.old.behind }
+    requires before { marks ≤ at }
+    ensures { Walked (moved (at - marks) marks 1 (strip buffer.old.behind)) (strip buffer.old.ahead) (placing buffer.old.level at marks) buffer.old buffer.new }
+{
+    if marks == 0 {
+        return join(at, buffer);
+    }
+    let end = buffer.out_len();
+    move_behind(at - marks, at, end - 1, buffer);
+}
+
+/// Both parts of a vowel merge with what stands before them, where graphemes are to be clusters.
+fn join(at: usize, buffer: &mut hb_buffer_t)
+    requires open { buffer.old.is_open ≡ true }
+    requires parts { at + 2 ≡ length buffer.old.behind }
+    ensures { Walked (strip buffer.old.behind) (strip buffer.old.ahead) (placing buffer.old.level at 0) buffer.old buffer.new }
+{
+    if at == 0 {
+        return;
+    }
+    let end = buffer.out_len();
+    match buffer.cluster_level() {
+        BufferClusterLevel::MonotoneGraphemes => merge_behind(at - 1, end, buffer),
+        BufferClusterLevel::MonotoneCharacters | BufferClusterLevel::Characters => {}
+    }
+}
+
+/// The first part: a nonspacing mark that goes on with the character before it.
+fn nikhahit(glyph: &hb_glyph_info_t) -> hb_glyph_info_t
+    requires vowel { is_sara_am (item_of glyph.now) ≡ true }
+    ensures item { item_of result ≡ nikhahit (item_of glyph.now) }
+    ensures origin { origin_of result ≡ origin_of glyph.now }
+{
+    hb_glyph_info_t {
+        glyph_id: glyph.glyph_id + 0x1A,
+        unicode_props: nonspacing(glyph.unicode_props),
+        ..*glyph
+    }
+}
+
+/// The second part.
+fn sara_aa(glyph: &hb_glyph_info_t) -> hb_glyph_info_t
+    requires vowel { is_sara_am (item_of glyph.now) ≡ true }
+    ensures item { item_of result ≡ sara_aa (item_of glyph.now) }
+    ensures origin { origin_of result ≡ origin_of glyph.now }
+{
+    hb_glyph_info_t {
+        glyph_id: glyph.glyph_id - 1,
+        ..*glyph
+    }
+}
+
+/// The properties of a nonspacing mark that goes on with the character before it.
+fn nonspacing(props: UnicodeProps) -> UnicodeProps
+    ensures { result.0 ≡ nonspacing props.0 }
+{
+    let category = GeneralCategory::NonspacingMark.to_rb() as u16;
+    UnicodeProps((props.0 - (props.0 & 0x1F) + category) | UnicodeProps::CONTINUATION.0)
+}
+
+/// How many marks above end a text.
+fn count_above(glyphs: &[hb_glyph_info_t]) -> usize
+    ensures count { result ≡ count_above (strip glyphs.now) }
+    ensures within { result ≤ length glyphs.now }
+{
+    let count = glyphs.len();
+    for i in 0..count {
+        if !is_mark_above(&glyphs[count - 1 - i]) {
+            return i;
+        }
+    }
+    count
+}
+
+fn is_sara_am(glyph: &hb_glyph_info_t) -> bool
+    ensures { result ≡ is_sara_am (item_of glyph.now) }
+{
+    thai_or_lao(glyph.glyph_id) == SARA_AM
+}
+
+fn is_mark_above(glyph: &hb_glyph_info_t) -> bool
+    ensures { result ≡ is_mark_above (item_of glyph.now) }
+{
+    matches!(
+        thai_or_lao(glyph.glyph_id),
+        0x0E31 | 0x0E34..=0x0E37 | 0x0E3B | 0x0E47..=0x0E4E
+    )
+}
+
+/// A character of Thai, or the one that stands at its place in the block of Lao.
+fn thai_or_lao(u: u32) -> u32
+    ensures { result ≡ thai_or_lao u }
+{
+    u - (u & LAO)
+}
