@@ -1,5 +1,5 @@
 -- What every text asks of a font's features, and what the user asks.
-use Rattle.std.specs.Prelude.{ℕ, List, [], ◌∷◌, ◌++◌, codes, if◌then◌else◌}
+use Rattle.std.specs.Prelude.{List, [], ◌∷◌, ◌++◌, codes, if◌then◌else◌}
 use Rattle.std.specs.Int.RustNames.{bit_or}
 use Rattle.shaping_text.specs.Tag.{tag_of}
 use Rattle.shaping_text.specs.declared.direction.Direction.{Direction}

@@ -1,5 +1,5 @@
 -- Pauses between stages, and the numbers that stand for them in a map.
-use Rattle.std.specs.Prelude.{◌≡◌, ℕ, List, [], ◌∷◌, Option, Some, None, find}
+use Rattle.std.specs.Prelude.{◌≡◌, ℕ, List, [], ◌∷◌, Option, Some, find}
 use Rattle.std.specs.Option.{option_map_or}
 use Rattle.std.specs.Prelude.{◌==◌}
 use Rattle.feature_requests.specs.declared.pause.hb_script_pause_t.{hb_script_pause_t}

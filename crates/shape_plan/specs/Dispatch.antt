@@ -1,7 +1,7 @@
 -- Which shaper a script has.
 use Rattle.std.specs.Prelude.{◌==◌, Bool, false, ◌&&◌, ◌||◌, not, List, [], ◌∷◌, Option, Some, None, ℕ, ◌%◌, codes, if◌then◌else◌}
 use Rattle.shaping_text.specs.declared.tag.Tag.{Tag}
-use Rattle.shaping_text.specs.Tag.{tag_of, bytes_of}
+use Rattle.shaping_text.specs.Tag.{tag_of}
 use Rattle.shaping_text.specs.declared.script.Script.{Script}
 use Rattle.shaping_text.specs.declared.script.TheConstants as script
 use Rattle.shaping_text.specs.declared.direction.Direction.{Direction}

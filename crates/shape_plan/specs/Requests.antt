@@ -1,6 +1,5 @@
 -- What is asked of a font for a text: by every text, by its shaper and by the user.
 use Rattle.std.specs.Prelude.{Bool, List, map, fold, Option, codes}
-use Rattle.shaping_text.specs.declared.tag.Tag.{Tag}
 use Rattle.shaping_text.specs.declared.script.Script.{Script}
 use Rattle.shaping_text.specs.declared.direction.Direction.{Direction}
 use Rattle.shaping_text.specs.Tag.{tag_of}

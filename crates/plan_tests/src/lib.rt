@@ -1,5 +1,0 @@
-// Plans of small fonts.
-#![tactic(auto)]
-
-#[cfg(test)]
-mod plans;
