@@ -3,7 +3,7 @@ use Rattle.glyph_lists.specs.Items.{strip}
 use Rattle.layout_match.specs.Matches.{nearest_from}
 use Rattle.layout_match.specs.Searches.{search_of}
 use Rattle.layout_gpos.specs.Marks.{base_item}
-use Rattle.layout_gpos.proofs.search.base_before.Given as goal
+use Rattle.layout_gpos.proofs.search.search_base.Given as goal
 
 -- those so far are passed over
 abbrev pub invariant-loop-at : goal.invariant-loop-at
