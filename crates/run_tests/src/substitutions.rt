@@ -210,7 +210,7 @@ fn repeated(
             line.push_str(if line.is_empty() { "" } else { "|" })?;
             line.push_str(&format!(in alloc; "{glyph}={cluster}+{width}")?)?;
         }
-        start = start.saturating_add(unit.len() as u32);
+        start = start.saturating_add(u32::try_from(unit.len()).unwrap_or(0));
     }
     line.push_str("\n")?;
     Ok((text, line))
