@@ -1,5 +1,5 @@
 -- What a lookup makes of the glyph at the cursor.
-use Rattle.std.proofs.Common.{ℕ, ◌≡◌, true, false, List, [], refl, sym, ap, subst, ◌∙◌, slice_get, Some}
+use Rattle.std.proofs.Common.{ℕ, ◌≡◌, true, false, List, refl, sym, subst, slice_get, Some}
 use Rattle.std.specs.Prelude.{Bool, Result}
 use Rattle.glyph_types.specs.declared.cause.ShapeCause.{ShapeCause}
 use Rattle.glyph_types.specs.declared.info.hb_glyph_info_t.{hb_glyph_info_t}
@@ -7,19 +7,13 @@ use Rattle.glyph_lists.specs.Items.{item_of}
 use Rattle.glyph_buffer.specs.Sides.{Sides}
 use Rattle.layout_lookups.specs.declared.substitution.SubstLookup.{SubstLookup}
 use Rattle.layout_match.specs.Applied.{Applied}
-use Rattle.layout_rules.specs.Actions.{Outcome, Passes, Action, at_first}
+use Rattle.layout_rules.specs.Actions.{Outcome}
 use Rattle.layout_rules.specs.Buffers.{cut_of}
 use Rattle.layout_rules.specs.Performing.{cut_with, Performed, Performs, PerformsInPlace}
 use Rattle.layout_rules.specs.Lemmas.Does.{passed_same}
-use Rattle.layout_rules.specs.Lemmas.Glyphs.{first_item}
 use Rattle.layout_rules.specs.Lemmas.Performed.{passes_nothing}
-use Rattle.layout_stages.specs.Lookups.{meets, at_met, met_first, lookup_action, reverse_action, first_subtable, first_reverse, nested}
-
-unmet : (a : Applied) (act : Action) (r : ℕ) (s : Sides) (g : hb_glyph_info_t) → slice_get s.ahead 0 ≡ Some g → meets a (item_of g) ≡ false → met_first a act (cut_with r s) ≡ Passes []
-unmet a act r s g at none = ap (λ o. at_first (at_met a act) o (cut_with r s)) (first_item s.ahead g at) ∙ rw none refl
-
-met : (a : Applied) (act : Action) (r : ℕ) (s : Sides) (g : hb_glyph_info_t) → slice_get s.ahead 0 ≡ Some g → meets a (item_of g) ≡ true → met_first a act (cut_with r s) ≡ act (cut_with r s)
-met a act r s g at some = ap (λ o. at_first (at_met a act) o (cut_with r s)) (first_item s.ahead g at) ∙ rw some refl
+use Rattle.layout_stages.specs.Lookups.{meets, lookup_action, reverse_action, first_subtable, first_reverse, nested}
+use Rattle.layout_stages.specs.Lemmas.Met.{met, unmet}
 
 -- a lookup passes over a glyph that it doesn't meet
 pub lookup_passes : (table : List SubstLookup) (a : Applied) (lookup : SubstLookup) (r : ℕ) (s : Sides) (g : hb_glyph_info_t) → slice_get s.ahead 0 ≡ Some g → meets a (item_of g) ≡ false → Performed (lookup_action table a lookup (cut_with r s)) false r r s s

@@ -1,25 +1,21 @@
--- Stages one after another, each done from one random state to another.
-use Rattle.std.proofs.Common.{ℕ, ◌≡◌, ◌≤◌, ◌<◌, ◌+◌, List, [], ◌∷◌, length, drop, get_or, true, Ok, Err, Option, Some, None, refl, sym, subst, ◌∙◌}
+-- The stages of substitution one after another.
+use Rattle.std.proofs.Common.{ℕ, ◌≡◌, ◌≤◌, ◌<◌, ◌+◌, List, [], ◌∷◌, length, drop, get_or, Err, Option, None, refl, sym, subst}
 use Rattle.std.proofs.lemmas.List.{drop_more, drop_all}
 use Rattle.std.specs.Option.{option_map_or}
 use Rattle.layout_lookups.specs.declared.substitution.SubstitutionTable.{SubstitutionTable}
 use Rattle.glyph_types.specs.declared.cause.ShapeCause.{ShapeCause}
-use Rattle.glyph_lists.specs.Readings.{View, Run, Reading, Stage, Follows, read_of, always, with_events, and_then, as_it_is}
-use Rattle.glyph_lists.specs.Steps.{follows_then, follows_same, refused_first, refused_then}
-use Rattle.glyph_buffer.specs.Sides.{Sides, settings_of, items_of, run_of}
+use Rattle.glyph_lists.specs.Readings.{read_of}
+use Rattle.glyph_lists.specs.Steps.{follows_then, follows_same, refused_first}
+use Rattle.glyph_buffer.specs.Sides.{Sides}
 use Rattle.map_stages.specs.declared.stages.StageMap.{StageMap}
 use Rattle.font_face.specs.declared.parts.FaceParts.{FaceParts}
 use Rattle.layout_lookups.specs.declared.substitution.SubstLookup.{SubstLookup}
 use Rattle.map_features.specs.declared.lookup.lookup_map_t.{lookup_map_t}
 use Rattle.map_builder.specs.Compiled.{TableStages, lookups_of_stage}
-use Rattle.layout_rules.specs.Buffers.{are_glyphs}
-use Rattle.layout_rules.specs.Ready.{IsReady, IsDone, IsDoneFrom, run_with}
+use Rattle.layout_rules.specs.Ready.{IsReady, IsDoneFrom, run_with}
 use Rattle.layout_stages.specs.Lookups.{lookup_stage, lookups_stage}
 use Rattle.layout_stages.specs.Substituting.{Pauses, pause_stage, substitution_lookups, table_stage, table_stages}
-
--- nothing is done by a stage that leaves all as it is
-pub nothing_done : (r : ℕ) (s : Sides) → IsReady s → IsDoneFrom r r as_it_is s s
-nothing_done r s ready = record { follows = follows_same (run_with r s); settings = refl; ready = ready; numbers = λ h. h }
+use Rattle.layout_stages.specs.Lemmas.Ways.{AreStagesDone, both_done, first_refused, next_done, nothing_done, second_refused}
 
 -- lookups of a font without a table
 pub no_lookups : (font : FaceParts) (maps : List lookup_map_t) (r : ℕ) (s : Sides) → IsReady s → IsDoneFrom r r (lookups_stage font [] maps) s s
@@ -38,60 +34,7 @@ no_table font maps r s ready none =
     let P : Option SubstitutionTable → Type 0 = λ o. IsDoneFrom r r (lookups_stage font (option_map_or (λ t. t.lookups) o []) maps) s s in
     subst P (sym none) (no_lookups font maps r s ready)
 
--- two stages
-pub both_done : (first second : Stage) (before r after : ℕ) (old now next : Sides) → IsDoneFrom before r first old now → IsDoneFrom r after second now next → IsDoneFrom before after (λ v. and_then (first v) second) old next
-both_done first second before r after old now next d e = record {
-  follows = follows_then (read_of first (run_with before old)) second (run_with before old) (run_with r now) (run_with after next) d.follows e.follows;
-  settings = e.settings ∙ d.settings;
-  ready = e.ready;
-  numbers = λ h. e.numbers (d.numbers h);
-}
-
-pub second_refused : (first second : Stage) (before r : ℕ) (old now : Sides) (cause : ShapeCause) → IsDoneFrom before r first old now → read_of second (run_with r now) ≡ Err cause → read_of (λ v. and_then (first v) second) (run_with before old) ≡ Err cause
-second_refused first second before r old now cause d e = refused_then (read_of first (run_with before old)) second (run_with before old) (run_with r now) cause d.follows e
-
-pub first_refused : (first second : Stage) (before : ℕ) (old : Sides) (cause : ShapeCause) → read_of first (run_with before old) ≡ Err cause → read_of (λ v. and_then (first v) second) (run_with before old) ≡ Err cause
-first_refused first second before old cause e = refused_first (read_of first (run_with before old)) second cause e
-
--- ---- pauses
-
--- a run's random state is read by the reading alone
-from_state : (q : Reading) (r : ℕ) (old : Sides) (new : Run) → Follows q (run_of old) new → Follows q (run_with r old) new
-from_state (Ok read) r old new f = f
-from_state (Err cause) r old new f = f
-
-pub paused : (pauses : Pauses) (n : ℕ) (r : ℕ) (old new : Sides) → IsDone (pauses n) old new → IsDoneFrom r r (pause_stage pauses (Some n)) old new
-paused pauses n r old new d = record {
-  follows = follows_then (read_of (pauses n) (run_of old)) (always (λ (w : View). with_events [] (record w { random = r }))) (run_with r old) (run_of new) (run_with r new) (from_state (read_of (pauses n) (run_of old)) r old (run_of new) d.follows) refl;
-  settings = d.settings;
-  ready = d.ready;
-  numbers = d.numbers;
-}
-
-pub pause_refused : (pauses : Pauses) (n : ℕ) (r : ℕ) (old : Sides) (cause : ShapeCause) → read_of (pauses n) (run_of old) ≡ Err cause → read_of (pause_stage pauses (Some n)) (run_with r old) ≡ Err cause
-pause_refused pauses n r old cause e = refused_first (read_of (pauses n) (run_of old)) (always (λ (w : View). with_events [] (record w { random = r }))) cause e
-
 -- ---- the stages of a table
-
--- some stages were done; whatever follows, or is refused, by those that are left is so by all
-pub record AreStagesDone (all left : Stage) (before r : ℕ) (old now : Sides) : Type 0 where
-  pub ready : IsReady now
-  pub settings : settings_of now ≡ settings_of old
-  pub numbers : are_glyphs (items_of old) ≡ true → are_glyphs (items_of now) ≡ true
-  pub follows : (final : Run) → Follows (read_of left (run_with r now)) (run_with r now) final → Follows (read_of all (run_with before old)) (run_with before old) final
-  pub refuses : (cause : ShapeCause) → read_of left (run_with r now) ≡ Err cause → read_of all (run_with before old) ≡ Err cause
-
-pub no_stage_done : (all : Stage) (r : ℕ) (s : Sides) → IsReady s → AreStagesDone all all r r s s
-no_stage_done all r s ready = record { ready = ready; settings = refl; numbers = λ h. h; follows = λ final f. f; refuses = λ cause e. e }
-
-next_done : (all first left : Stage) (before r after : ℕ) (old now next : Sides) → AreStagesDone all (λ v. and_then (first v) left) before r old now → IsDoneFrom r after first now next → AreStagesDone all left before after old next
-next_done all first left before r after old now next a d = record {
-  ready = d.ready;
-  settings = d.settings ∙ a.settings;
-  numbers = λ h. d.numbers (a.numbers h);
-  follows = λ final f. a.follows final (follows_then (read_of first (run_with r now)) left (run_with r now) (run_with after next) final d.follows f);
-  refuses = λ cause g. a.refuses cause (refused_then (read_of first (run_with r now)) left (run_with r now) (run_with after next) cause d.follows g);
-}
 
 -- of the stages of a table those from an index on are left
 abbrev pub AreTableStagesDone : FaceParts → List SubstLookup → TableStages → Pauses → ℕ → ℕ → ℕ → Sides → Sides → Type 0

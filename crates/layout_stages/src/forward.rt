@@ -14,7 +14,7 @@ use layout_lookups::substitution::{SubstLookup, SubstitutionTable};
 use layout_match::hb_ot_apply_context_t;
 
 /// Tries a lookup at the cursor, and goes on over the glyph where it doesn't act; at the end it does nothing.
-#[tactic(auto, using(crate::proofs::Steps::step_ended))]
+#[tactic(auto, using(crate::specs::Lemmas::Steps::step_ended))]
 fn apply_next(
     table: &SubstitutionTable,
     lookup: &SubstLookup,
@@ -43,7 +43,7 @@ fn apply_next(
 }
 
 /// Tries a lookup at each glyph once, from the left, and goes on after what it made.
-#[tactic(auto, using(crate::proofs::Passage::begun))]
+#[tactic(auto, using(crate::specs::Lemmas::Passage::begun))]
 pub fn apply_forward(
     table: &SubstitutionTable,
     lookup: &SubstLookup,

@@ -19,7 +19,7 @@ use layout_rules::mask::shares_mask;
 use layout_substitutions::reverse::ReverseChainSubst;
 
 /// Whether a lookup meets a glyph: it has a bit of the lookup's mask, and the lookup's flag doesn't leave it out.
-fn meets(ctx: &hb_ot_apply_context_t, info: &hb_glyph_info_t) -> bool
+pub fn meets(ctx: &hb_ot_apply_context_t, info: &hb_glyph_info_t) -> bool
     ensures { result ≡ meets (applied_of ctx.now) (item_of info.now) }
 {
     shares_mask(ctx.lookup_mask(), info) && ctx.check_glyph_property(info, ctx.lookup_props)

@@ -245,7 +245,7 @@ fn apply_records(
 
 /// Applies a record of a rule: its lookup, at its place; answers where the match ends then.
 #[cycle(nested)]
-#[tactic(auto, using(crate::proofs::Levels::begun_open, crate::proofs::Levels::begun_unrefused, crate::proofs::Levels::begun_numbers, crate::proofs::Levels::begun_there))]
+#[tactic(auto, using(crate::specs::Lemmas::Nested::begun_open, crate::specs::Lemmas::Nested::begun_unrefused, crate::specs::Lemmas::Nested::begun_numbers, crate::specs::Lemmas::Nested::begun_there))]
 fn apply_record(
     table: &SubstitutionTable,
     depth: u32,

@@ -3,8 +3,8 @@ ghost use Rattle.std.specs.Prelude.{ℕ, ◌≡◌, ◌≢◌, true, false, Ok, 
 ghost use Rattle.glyph_lists.specs.Readings.{Stage, read_of};
 ghost use Rattle.glyph_buffer.specs.Sides.{items_of, run_of};
 ghost use Rattle.layout_rules.specs.Buffers.{are_glyphs};
-ghost use Rattle.layout_rules.specs.Ready.{IsDone, IsReady};
-ghost use Rattle.layout_stages.specs.Substituting.{BringsNoGlyph};
+ghost use Rattle.layout_rules.specs.Ready.{IsDone, IsDoneFrom, IsReady, run_with};
+ghost use Rattle.layout_stages.specs.Substituting.{BringsNoGlyph, pause_stage};
 
 use glyph_buffer::buffer::hb_buffer_t;
 use glyph_types::cause::ShapeCause;
@@ -22,4 +22,28 @@ pub trait Pause {
         ensures told { result ≡ Ok false → BringsNoGlyph (items_of buffer.old) (items_of buffer.new) }
         ensures err { IfErr result (λ e. e ≢ ShapeCause.OutOfMemory
             → read_of (stage self.now pause) (run_of buffer.old) ≡ Err e) };
+}
+
+/// Runs the pause of a stage, if it has one: a stage of its own, which leaves the random state as it was. It refuses by the
+/// pause's cause, or for want of memory.
+#[tactic(auto, using(crate::specs::Lemmas::Ways::paused, crate::specs::Lemmas::Ways::pause_refused, crate::specs::Lemmas::Ways::nothing_done))]
+pub fn run_pause<P: Pause>(
+    pause: &P,
+    number: Option<u8>,
+    buffer: &mut hb_buffer_t,
+) -> Result<(), ShapeCause>
+    requires ready { IsReady buffer.old }
+    requires numbers { are_glyphs (items_of buffer.old) ≡ true }
+    ensures ok { OnOk result
+        ((r : ℕ) → IsDoneFrom r r (pause_stage (P.stage pause.now) number) buffer.old buffer.new) }
+    ensures err { IfErr result (λ e. e ≢ ShapeCause.OutOfMemory
+        → (r : ℕ) → read_of (pause_stage (P.stage pause.now) number) (run_with r buffer.old) ≡ Err e) }
+{
+    match number {
+        Some(number) => match pause.run(number, buffer) {
+            Ok(_) => Ok(()),
+            Err(cause) => Err(cause),
+        },
+        None => Ok(()),
+    }
 }

@@ -7,10 +7,10 @@ ghost use Rattle.map_features.specs.declared.per_table.TableIndex.TheVariants.{G
 ghost use Rattle.layout_rules.specs.Buffers.{are_glyphs};
 ghost use Rattle.layout_rules.specs.Ready.{IsDone, IsDoneFrom, IsReady, run_with};
 ghost use Rattle.layout_stages.specs.Lookups.{lookups_stage};
-ghost use Rattle.layout_stages.specs.Substituting.{pause_stage, substituted_by, substitution_lookups, table_stage, table_stages};
+ghost use Rattle.layout_stages.specs.Substituting.{substituted_by, substitution_lookups, table_stage, table_stages};
 
 use crate::apply::apply_all;
-use crate::pause::Pause;
+use crate::pause::{Pause, run_pause};
 use font_face::Face;
 use glyph_buffer::buffer::hb_buffer_t;
 use glyph_types::cause::ShapeCause;
@@ -38,28 +38,6 @@ fn apply_stage(
 {
     match ctx.face.gsub() {
         Some(table) => apply_all(table, lookups, ctx, buffer),
-        None => Ok(()),
-    }
-}
-
-/// Runs the pause of a stage, if it has one.
-fn run_pause<P: Pause>(
-    pause: &P,
-    number: Option<u8>,
-    buffer: &mut hb_buffer_t,
-) -> Result<(), ShapeCause>
-    requires ready { IsReady buffer.old }
-    requires numbers { are_glyphs (items_of buffer.old) ≡ true }
-    ensures ok { OnOk result
-        ((r : ℕ) → IsDoneFrom r r (pause_stage (P.stage pause.now) number) buffer.old buffer.new) }
-    ensures err { IfErr result (λ e. e ≢ ShapeCause.OutOfMemory
-        → (r : ℕ) → read_of (pause_stage (P.stage pause.now) number) (run_with r buffer.old) ≡ Err e) }
-{
-    match number {
-        Some(number) => match pause.run(number, buffer) {
-            Ok(_) => Ok(()),
-            Err(cause) => Err(cause),
-        },
         None => Ok(()),
     }
 }

@@ -1,3 +1,4 @@
 pub mod Erased
 pub mod Put
 pub mod Underway
+pub mod Marking

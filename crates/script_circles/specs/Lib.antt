@@ -1,2 +1,3 @@
 pub mod Circles
+pub mod Bytes
 pub mod Rules

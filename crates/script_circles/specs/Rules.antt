@@ -4,6 +4,7 @@ use Rattle.shaping_text.specs.declared.constants.BufferFlags.{BufferFlags}
 use Rattle.font_face.specs.declared.parts.FaceParts.{FaceParts}
 use Rattle.glyph_types.specs.declared.cause.ShapeCause.{ShapeCause}
 use Rattle.glyph_types.specs.declared.cause.ShapeCause.TheVariants.{OutOfMemory, TooLong}
+use Rattle.glyph_types.specs.declared.info.hb_glyph_info_t.{hb_glyph_info_t}
 use Rattle.glyph_lists.specs.Items.{Item, strip}
 use Rattle.glyph_buffer.specs.Sides.{Sides, origins_of, origins_by}
 use Rattle.script_circles.specs.declared.circles.CircleRule.{CircleRule}
@@ -24,3 +25,7 @@ pub record IsCircled (circle : Item) (rephas : ℕ) (old new : Sides) : Type 0 w
 -- a refusal for another cause than memory: a list of so many glyphs is too long
 abbrev pub IsTooLong : ℕ → Sides → ShapeCause → Type 0
 IsTooLong n s e = e ≢ OutOfMemory → (e ≡ TooLong) × (s.max_len < n)
+
+-- a glyph of the syllable with a byte
+abbrev pub glyph_with_byte : ℕ → hb_glyph_info_t → hb_glyph_info_t
+glyph_with_byte byte g = record g { syllable = byte }

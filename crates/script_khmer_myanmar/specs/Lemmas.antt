@@ -1,2 +1,4 @@
 -- Lemmas on the rules of a syllable.
 pub mod KhmerSize
+pub mod Sizes
+pub mod MyanmarSize

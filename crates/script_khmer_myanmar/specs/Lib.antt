@@ -1,2 +1,4 @@
 pub mod Khmer
+pub mod Myanmar
+pub mod Turned
 pub mod Lemmas

@@ -4,3 +4,5 @@
 pub mod glyphs;
 pub mod khmer;
 pub mod laws;
+pub mod myanmar;
+mod places;

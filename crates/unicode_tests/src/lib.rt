@@ -1,4 +1,4 @@
-// Tests of what shaping knows of characters, of syllables and of languages, of how it is read, and of normalising.
+// Tests of what shaping knows of characters, of syllables and of languages, and of how it is read.
 #![tactic(auto)]
 
 #[cfg(test)]
@@ -9,8 +9,6 @@ mod faults;
 mod laws;
 #[cfg(test)]
 mod machines;
-#[cfg(test)]
-mod normalizing;
 #[cfg(test)]
 mod properties;
 #[cfg(test)]

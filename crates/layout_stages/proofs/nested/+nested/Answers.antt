@@ -13,7 +13,8 @@ use Rattle.layout_chain.specs.Lemmas.Acting.{match_inside, rule_acted, rule_fail
 use Rattle.layout_chain.specs.Lemmas.Inside.{then_stays}
 use Rattle.layout_stages.specs.Lookups.{nested, nested_act}
 use Rattle.layout_contexts.specs.declared.context.SequenceLookupRecord.{SequenceLookupRecord}
-use Rattle.layout_stages.proofs.Levels.{begun_some, get_or_any, last_walked, matched_numbers, matched_open, matched_unrefused, next_failed, next_walked, none_nested, not_tried, record_acted, record_inside, record_passed, tried_there}
+use Rattle.layout_stages.specs.Lemmas.Nested.{begun_some, get_or_any, last_walked, matched_numbers, matched_open, matched_unrefused, next_failed, next_walked, none_nested, not_tried, record_acted, record_inside, record_passed, tried_there}
+use Rattle.layout_stages.proofs.Levels.{no_depth, some_depth}
 use Rattle.layout_stages.proofs.nested.+nested.Goals as goal
 
 pub apply_context-returns-then-not-is_tried_at-clause-performs : goal.apply_context-returns-then-not-is_tried_at-clause-performs
@@ -109,7 +110,7 @@ apply_record-returns-in-Ok-false-clause-walks t c =
 
 pub apply_records-returns-then-depth-eq0-clause-walks : goal.apply_records-returns-then-depth-eq0-clause-walks
 apply_records-returns-then-depth-eq0-clause-walks t c =
-    none_nested c.args.table.now.lookups c.args.depth (applied_of c.args.ctx.now) c.args.records.now c.args.ctx.now.random_state c.args.end c.args.places.now.items c.args.buffer.now (omega (arith, c.if-depth-eq0.true))
+    none_nested (nested c.args.table.now.lookups c.args.depth (applied_of c.args.ctx.now)) c.args.records.now c.args.ctx.now.random_state c.args.end c.args.places.now.items c.args.buffer.now (no_depth c.args.table.now.lookups c.args.depth (applied_of c.args.ctx.now) (omega (arith, c.if-depth-eq0.true)))
 
 pub apply_records-returns-in-Err-clause-walks : goal.apply_records-returns-in-Err-clause-walks
 apply_records-returns-in-Err-clause-walks t c =
@@ -117,8 +118,8 @@ apply_records-returns-in-Err-clause-walks t c =
     let none : SequenceLookupRecord = record { sequence_index = 0; lookup_index = 0 } in
     let r = get_or c.args.records.now c.loop-lookup_record.lookup_record-index none in
     let is : r ≡ get_or c.args.records.now c.loop-lookup_record.lookup_record-index r = get_or_any c.args.records.now c.loop-lookup_record.lookup_record-index none r c.loop-lookup_record-test.true in
-    next_failed c.args.table.now.lookups c.args.depth (applied_of c.loop-lookup_record.ctx) (applied_of c.args.ctx.now) c.args.records.now c.loop-lookup_record.lookup_record-index r c.args.ctx.now.random_state c.loop-lookup_record.ctx.random_state c.apply_record.new.ctx.random_state c.args.buffer.now c.loop-lookup_record.buffer c.apply_record.new.buffer
-    c.args.places.now.items c.loop-lookup_record.places.items c.apply_record.new.places.items c.args.end c.loop-lookup_record.at c.in-Err.cause (λ e. absurd (omega (arith, e, c.if-depth-eq0.false))) i.context c.loop-lookup_record-test.true is i.walked c.in-Err.ensures.walks
+    next_failed (nested_act c.args.table.now.lookups (c.args.depth - 1)) (nested c.args.table.now.lookups c.args.depth (applied_of c.args.ctx.now)) (applied_of c.loop-lookup_record.ctx) (applied_of c.args.ctx.now) c.args.records.now c.loop-lookup_record.lookup_record-index r c.args.ctx.now.random_state c.loop-lookup_record.ctx.random_state c.apply_record.new.ctx.random_state c.args.buffer.now c.loop-lookup_record.buffer c.apply_record.new.buffer
+    c.args.places.now.items c.loop-lookup_record.places.items c.apply_record.new.places.items c.args.end c.loop-lookup_record.at c.in-Err.cause (some_depth c.args.table.now.lookups c.args.depth (applied_of c.args.ctx.now) (λ e. absurd (omega (arith, e, c.if-depth-eq0.false)))) i.context c.loop-lookup_record-test.true is i.walked c.in-Err.ensures.walks
 
 pub apply_records-loop-lookup_record-preserved : goal.apply_records-loop-lookup_record-preserved
 apply_records-loop-lookup_record-preserved t c =
@@ -128,7 +129,7 @@ apply_records-loop-lookup_record-preserved t c =
     let is : r ≡ get_or c.args.records.now c.loop-lookup_record.lookup_record-index r = get_or_any c.args.records.now c.loop-lookup_record.lookup_record-index none r c.loop-lookup_record-test.true in
     record {
       walked =
-          next_walked c.args.table.now.lookups (c.args.depth - 1) (applied_of c.loop-lookup_record.ctx) (applied_of c.args.ctx.now) c.args.records.now c.loop-lookup_record.lookup_record-index r c.args.ctx.now.random_state c.loop-lookup_record.ctx.random_state c.apply_record.new.ctx.random_state c.args.buffer.now c.loop-lookup_record.buffer c.apply_record.new.buffer
+          next_walked (nested_act c.args.table.now.lookups (c.args.depth - 1)) (applied_of c.loop-lookup_record.ctx) (applied_of c.args.ctx.now) c.args.records.now c.loop-lookup_record.lookup_record-index r c.args.ctx.now.random_state c.loop-lookup_record.ctx.random_state c.apply_record.new.ctx.random_state c.args.buffer.now c.loop-lookup_record.buffer c.apply_record.new.buffer
           c.args.places.now.items c.loop-lookup_record.places.items c.apply_record.new.places.items c.args.end c.loop-lookup_record.at c.in-Ok.settled i.context c.loop-lookup_record-test.true is i.walked c.in-Ok.ensures.walks;
       inside = then_stays _ _ _ _ _ _ _ _ _ i.inside c.in-Ok.ensures.inside;
       context = c.apply_record.ensures.context ∙ i.context;
@@ -137,8 +138,8 @@ apply_records-loop-lookup_record-preserved t c =
 pub apply_records-returns-clause-walks : goal.apply_records-returns-clause-walks
 apply_records-returns-clause-walks t c =
     let i = c.loop-lookup_record.invariant in
-    last_walked c.args.table.now.lookups c.args.depth (applied_of c.args.ctx.now) c.args.records.now c.loop-lookup_record.lookup_record-index c.args.ctx.now.random_state c.loop-lookup_record.ctx.random_state c.args.buffer.now c.loop-lookup_record.buffer c.args.places.now.items c.loop-lookup_record.places.items c.args.end c.loop-lookup_record.at
-    (λ e. absurd (omega (arith, e, c.if-depth-eq0.false))) c.loop-lookup_record-test.false i.walked
+    last_walked (nested_act c.args.table.now.lookups (c.args.depth - 1) (applied_of c.args.ctx.now)) (nested c.args.table.now.lookups c.args.depth (applied_of c.args.ctx.now)) c.args.records.now c.loop-lookup_record.lookup_record-index c.args.ctx.now.random_state c.loop-lookup_record.ctx.random_state c.args.buffer.now c.loop-lookup_record.buffer c.args.places.now.items c.loop-lookup_record.places.items c.args.end c.loop-lookup_record.at
+    (some_depth c.args.table.now.lookups c.args.depth (applied_of c.args.ctx.now) (λ e. absurd (omega (arith, e, c.if-depth-eq0.false)))) c.loop-lookup_record-test.false i.walked
 
 pub apply_rule-returns-in-Ok-clause-performs : goal.apply_rule-returns-in-Ok-clause-performs
 apply_rule-returns-in-Ok-clause-performs t c =

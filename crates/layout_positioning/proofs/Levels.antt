@@ -1,0 +1,75 @@
+-- Lookups nested in others, level by level.
+use Rattle.std.proofs.Common.{ℕ, zero, suc, ◌≡◌, ◌≢◌, ◌-◌, Ok, Err, true, false, Bool, List, Option, Some, None, slice_get, refl, sym, ap, subst, arith}
+use Rattle.std.specs.Prelude.{Result}
+use Rattle.shaping_text.specs.declared.direction.Direction.{Direction}
+use Rattle.glyph_types.specs.declared.cause.ShapeCause.{ShapeCause}
+use Rattle.glyph_types.specs.declared.cause.ShapeCause.TheVariants.{OutOfMemory}
+use Rattle.glyph_types.specs.declared.info.hb_glyph_info_t.{hb_glyph_info_t}
+use Rattle.glyph_lists.specs.Items.{item_of}
+use Rattle.glyph_buffer.specs.Sides.{Sides}
+use Rattle.layout_lookups.specs.declared.positioning.PositioningLookup.{PositioningLookup}
+use Rattle.layout_lookups.specs.declared.positioning.PositioningSubtables.{PositioningSubtables}
+use Rattle.layout_lookups.specs.declared.positioning.PositioningSubtables.TheVariants.{MarkToBase}
+use Rattle.layout_positions.specs.declared.mark.MarkBasePos.{MarkBasePos}
+use Rattle.layout_gpos.specs.Marks.{mark_to_base}
+use Rattle.layout_match.specs.Applied.{Applied}
+use Rattle.layout_contexts.specs.declared.context.SequenceLookupRecord.{SequenceLookupRecord}
+use Rattle.layout_chain.specs.Nested.{one_record}
+use Rattle.layout_chain.specs.Nesting.{Walking}
+use Rattle.layout_chain.specs.Records.{IsBegun}
+use Rattle.layout_chain.specs.Lemmas.Steps.{performs_nests}
+use Rattle.layout_chain.specs.Lemmas.Walks.{lookup_refused}
+use Rattle.layout_rules.specs.Lemmas.Frames.{still_direction}
+use Rattle.layout_rules.specs.Actions.{Action, Outcome, Refuses, first_rule}
+use Rattle.layout_rules.specs.Performing.{cut_with, Performed, Performs}
+use Rattle.layout_rules.specs.Lemmas.Performed.{passes_nothing}
+use Rattle.layout_stages.specs.Lookups.{meets}
+use Rattle.layout_stages.specs.Lemmas.Met.{met, unmet}
+use Rattle.layout_positioning.specs.Lookups.{first_subtable, lookup_action, nested, nested_act, nested_lookup, under_flag}
+
+pub no_depth : (table : List PositioningLookup) (depth : ℕ) (d : Direction) (a : Applied) → depth ≡ 0 → nested table depth d a ≡ None
+unfolding nested
+no_depth table zero d a e = refl
+no_depth table (suc depth) d a e = absurd (omega (arith, e))
+
+pub some_depth : (table : List PositioningLookup) (depth : ℕ) (d : Direction) (a : Applied) → depth ≢ 0 → nested table depth d a ≡ Some (nested_act table (depth - 1) d a)
+unfolding nested
+some_depth table zero d a n = absurd (n refl)
+some_depth table (suc depth) d a n = let e : suc depth - 1 ≡ depth = omega arith in rw e refl
+
+pub no_lookup : (below : Applied → Option (ℕ → Action)) (o : Option PositioningLookup) (d : Direction) (a : Applied) (r : ℕ) (s : Sides) → None ≡ o → Performs (nested_lookup below o d a (cut_with r s)) (Ok false) r r s s
+no_lookup below o d a r s e = passes_nothing r s (nested_lookup below o d a (cut_with r s)) (ap (λ q. nested_lookup below q d a (cut_with r s)) (sym e))
+
+-- a lookup is applied with its own flag
+pub lookup_there : (below : Applied → Option (ℕ → Action)) (o : Option PositioningLookup) (lookup : PositioningLookup) (d : Direction) (a b : Applied) (r q : ℕ) (y : Result Bool ShapeCause) (s new : Sides) → Some lookup ≡ o → b ≡ under_flag lookup a → q ≡ r
+    → Performs (first_subtable (below b) d b lookup.subtables (cut_with q s)) y q q s new → Performs (nested_lookup below o d a (cut_with r s)) y r r s new
+lookup_there below o lookup d a b r q y s new e flag same w =
+    let P : Applied → Type 0 = λ k. Performs (first_subtable (below k) d k lookup.subtables (cut_with q s)) y q q s new in
+    let Q : ℕ → Type 0 = λ n. Performs (first_subtable (below (under_flag lookup a)) d (under_flag lookup a) lookup.subtables (cut_with n s)) y n n s new in
+    let R : Option PositioningLookup → Type 0 = λ p. Performs (nested_lookup below p d a (cut_with r s)) y r r s new in
+    subst R e (subst Q same (subst P flag w))
+
+-- a record's lookup refuses
+pub record_lookup_refused : (table : List PositioningLookup) (depth : ℕ) (a : Applied) (k : SequenceLookupRecord) (ps rs : List ℕ) (p end r : ℕ) (x : ShapeCause) (s t u : Sides) → IsBegun k ps p s t
+    → (x ≢ OutOfMemory → nested_lookup (nested table depth t.direction) (slice_get table k.lookup_index) t.direction a (cut_with r t) ≡ Refuses x) → Walking (one_record (nested_act table depth s.direction a) k (cut_with r s) ps end) (Err x) rs r s u
+record_lookup_refused table depth a k ps rs p end r x s t u b h =
+    let P : Direction → Type 0 = λ d. Performs (nested_act table depth d a k.lookup_index (cut_with r t)) (Err x) r r t u in
+    let there = subst P (still_direction s t (b.left r).still) h in
+    lookup_refused (nested_act table depth s.direction a) k ps rs p end r r x s t u b (performs_nests (nested_act table depth s.direction a k.lookup_index (cut_with r t)) (Err x) r r t u there)
+
+-- a lookup passes over a glyph that it doesn't meet
+pub lookup_passes : (table : List PositioningLookup) (d : Direction) (a : Applied) (lookup : PositioningLookup) (r : ℕ) (s : Sides) (g : hb_glyph_info_t) → slice_get s.ahead 0 ≡ Some g → meets a (item_of g) ≡ false → Performed (lookup_action table d a lookup (cut_with r s)) false r r s s
+lookup_passes table d a lookup r s g at none = passes_nothing r s (lookup_action table d a lookup (cut_with r s)) (unmet a (first_subtable (nested table 64 d a) d a lookup.subtables) r s g at none)
+
+pub lookup_tries : (table : List PositioningLookup) (d : Direction) (a : Applied) (lookup : PositioningLookup) (r after : ℕ) (result : Result Bool ShapeCause) (s new : Sides) (g : hb_glyph_info_t) → slice_get s.ahead 0 ≡ Some g → meets a (item_of g) ≡ true
+    → Performs (first_subtable (nested table 64 d a) d a lookup.subtables (cut_with r s)) result r after s new → Performs (lookup_action table d a lookup (cut_with r s)) result r after s new
+lookup_tries table d a lookup r after result s new g at some w =
+    let P : Outcome → Type 0 = λ o. Performs o result r after s new in
+    subst P (sym (met a (first_subtable (nested table 64 d a) d a lookup.subtables) r s g at some)) w
+
+-- of a lookup of mark to base attachment
+pub base_tries : (table : List PositioningLookup) (d : Direction) (a : Applied) (lookup : PositioningLookup) (subtables : List MarkBasePos) (r after : ℕ) (acted : Bool) (s new : Sides) (g : hb_glyph_info_t) → slice_get s.ahead 0 ≡ Some g → meets a (item_of g) ≡ true → lookup.subtables ≡ MarkToBase subtables
+    → Performed (first_rule (mark_to_base a) subtables (cut_with r s)) acted r after s new → Performed (lookup_action table d a lookup (cut_with r s)) acted r after s new
+base_tries table d a lookup subtables r after acted s new g at some is w =
+    let P : PositioningSubtables → Type 0 = λ t. Performed (first_subtable (nested table 64 d a) d a t (cut_with r s)) acted r after s new in
+    lookup_tries table d a lookup r after (Ok acted) s new g at some (subst P (sym is) w)

@@ -1,0 +1,4 @@
+pub mod Passed
+pub mod Levels
+pub mod Over
+pub mod Ways

@@ -1,0 +1,49 @@
+use Rattle.std.proofs.Common.{◌+◌, ◌*◌, ◌-◌, drop, length}
+use Rattle.layout_match.specs.Applied.{applied_of}
+use Rattle.layout_rules.specs.Actions.{whole}
+use Rattle.layout_rules.specs.Buffers.{cut_of}
+use Rattle.layout_rules.specs.Lemmas.Performed.{ArePassed}
+use Rattle.layout_chain.specs.Chains.{chain_rule, context_subtable}
+use Rattle.layout_chain.specs.Inside.{StaysInside}
+use Rattle.layout_chain.specs.Rules.{chains_of}
+use Rattle.layout_chain.specs.Lemmas.Walks.{AreWalked}
+use Rattle.layout_positioning.specs.Lookups.{nested, nested_act}
+use Rattle.layout_positioning.proofs.nested.+nested.Given as goal
+
+abbrev pub decreases-apply_record : goal.decreases-apply_record
+decreases-apply_record l = 8 * l.depth + 7
+
+abbrev pub decreases-recurse : goal.decreases-recurse
+decreases-recurse l = 8 * l.depth + 6
+
+abbrev pub decreases-apply_subtables : goal.decreases-apply_subtables
+decreases-apply_subtables l = 8 * l.depth + 5
+
+abbrev pub decreases-apply_contexts : goal.decreases-apply_contexts
+decreases-apply_contexts l = 8 * l.depth + 4
+
+abbrev pub decreases-apply_context : goal.decreases-apply_context
+decreases-apply_context l = 8 * l.depth + 3
+
+abbrev pub decreases-apply_rules : goal.decreases-apply_rules
+decreases-apply_rules l = 8 * l.depth + 2
+
+abbrev pub decreases-apply_rule : goal.decreases-apply_rule
+decreases-apply_rule l = 8 * l.depth + 1
+
+abbrev pub decreases-apply_records : goal.decreases-apply_records
+decreases-apply_records l = 8 * l.depth
+
+-- none so far acted
+abbrev pub invariant-apply_contexts-loop-subtable : goal.invariant-apply_contexts-loop-subtable
+invariant-apply_contexts-loop-subtable l = ArePassed (context_subtable (nested l.table.lookups l.depth l.fn.buffer.direction (applied_of l.ctx)) (applied_of l.ctx)) l.subtables (drop l.subtable-index l.subtables) l.ctx.random_state l.fn.buffer l.buffer
+
+abbrev pub invariant-apply_rules-loop-i : goal.invariant-apply_rules-loop-i
+invariant-apply_rules-loop-i l = ArePassed (chain_rule (nested l.table.lookups l.depth l.fn.buffer.direction (applied_of l.ctx)) (applied_of l.ctx)) (chains_of l.subtable) (drop l.i (chains_of l.subtable)) l.ctx.random_state l.fn.buffer l.buffer
+
+-- the records so far were done
+abbrev pub invariant-apply_records-loop-lookup_record : goal.invariant-apply_records-loop-lookup_record
+invariant-apply_records-loop-lookup_record l = record {
+  walked : AreWalked (nested_act l.table.lookups (l.depth - 1) l.fn.buffer.direction (applied_of l.ctx)) l.records (drop l.lookup_record-index l.records) l.ctx.random_state l.ctx.random_state l.fn.buffer l.buffer l.fn.places.items l.end l.places.items l.at;
+  inside : StaysInside (length (whole (cut_of l.fn.buffer))) (length (whole (cut_of l.buffer))) l.fn.places.items l.places.items l.end l.at;
+}

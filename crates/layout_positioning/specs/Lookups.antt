@@ -1,0 +1,69 @@
+-- A lookup of positioning by the type of its subtables, tried at each index of a list (OpenType, chapter 2).
+use Rattle.std.specs.Prelude.{ℕ, suc, zero, List, [], length, Option, Some, None, slice_get}
+use Rattle.shaping_text.specs.declared.direction.Direction.{Direction}
+use Rattle.glyph_lists.specs.Readings.{Stage, as_it_is}
+use Rattle.font_face.specs.declared.parts.FaceParts.{FaceParts}
+use Rattle.layout_lookups.specs.Lookups.{props_of}
+use Rattle.layout_lookups.specs.declared.positioning.PositioningLookup.{PositioningLookup}
+use Rattle.layout_lookups.specs.declared.positioning.PositioningSubtables.{PositioningSubtables}
+use Rattle.layout_lookups.specs.declared.positioning.PositioningSubtables.TheVariants.{Single, Pair, Cursive, MarkToBase, MarkToLigature, MarkToMark, Context, ChainContext}
+use Rattle.map_features.specs.declared.lookup.lookup_map_t.{lookup_map_t}
+use Rattle.map_features.specs.declared.per_table.TableIndex.TheVariants.{GPOS}
+use Rattle.layout_match.specs.Applied.{Applied}
+use Rattle.layout_rules.specs.Actions.{uncut_placed, Passes, Action, first_rule}
+use Rattle.layout_chain.specs.Chains.{context_subtable}
+use Rattle.layout_cursive.specs.Joins.{cursive_subtable}
+use Rattle.layout_gpos.specs.Marks.{mark_to_base, mark_to_ligature, mark_to_mark}
+use Rattle.layout_gpos.specs.Pairs.{pair_subtable}
+use Rattle.layout_gpos.specs.Singles.{single_subtable}
+use Rattle.layout_stages.specs.Lookups.{met_first, tried}
+
+-- with what a lookup of a map is applied: its flag is its own, its mask and how it passes over joiners, keeps to syllables and draws are the map's
+abbrev pub applied_by : FaceParts → PositioningLookup → lookup_map_t → Applied
+applied_by font lookup m = record { table = GPOS; font = font; props = props_of lookup.flags lookup.mark_filtering_set; mask = m.mask; auto_zwnj = m.auto_zwnj; auto_zwj = m.auto_zwj; per_syllable = m.per_syllable; random = m.random }
+
+-- ---- at a cut
+
+-- of a lookup the first subtable that acts, in text of a direction; contexts apply the lookups that may be nested in it
+abbrev pub first_subtable : Option (ℕ → Action) → Direction → Applied → PositioningSubtables → Action
+first_subtable nest d a (Single subtables) c = first_rule (λ s. single_subtable d s.rows) subtables c
+first_subtable nest d a (Pair subtables) c = first_rule (pair_subtable d a) subtables c
+first_subtable nest d a (Cursive subtables) c = first_rule (λ s. cursive_subtable d a s.rows) subtables c
+first_subtable nest d a (MarkToBase subtables) c = first_rule (mark_to_base a) subtables c
+first_subtable nest d a (MarkToLigature subtables) c = first_rule (mark_to_ligature a) subtables c
+first_subtable nest d a (MarkToMark subtables) c = first_rule (mark_to_mark a) subtables c
+first_subtable nest d a (Context subtables) c = first_rule (context_subtable nest a) subtables c
+first_subtable nest d a (ChainContext subtables) c = first_rule (context_subtable nest a) subtables c
+
+-- a lookup nested in another keeps to that one's mask, joiners and syllables, and has a flag of its own
+abbrev pub under_flag : PositioningLookup → Applied → Applied
+under_flag lookup a = record a { props = props_of lookup.flags lookup.mark_filtering_set }
+
+-- what a nested lookup does at its place, where neither mask nor flag is asked; an index without one does nothing
+abbrev pub nested_lookup : (Applied → Option (ℕ → Action)) → Option PositioningLookup → Direction → Applied → Action
+nested_lookup below None d a c = Passes []
+nested_lookup below (Some lookup) d a c = first_subtable (below (under_flag lookup a)) d (under_flag lookup a) lookup.subtables c
+
+-- what the lookups of a table do that are nested in one, each by its index, at so many levels; at none there are none
+unfoldable pub nested : List PositioningLookup → ℕ → Direction → Applied → Option (ℕ → Action)
+nested table zero d a = None
+nested table (suc depth) d a = Some (λ i. nested_lookup (nested table depth d) (slice_get table i) d a)
+
+-- what those do in which lookups may be nested at so many levels more
+abbrev pub nested_act : List PositioningLookup → ℕ → Direction → Applied → ℕ → Action
+nested_act table depth d a i c = nested_lookup (nested table depth d) (slice_get table i) d a c
+
+-- what a lookup does at an index; lookups may be nested in it 64 levels deep
+abbrev pub lookup_action : List PositioningLookup → Direction → Applied → PositioningLookup → Action
+lookup_action table d a lookup c = met_first a (first_subtable (nested table 64 d a) d a lookup.subtables) c
+
+-- ---- at all indices
+
+-- a rule tried at each index of a list once, from the left; it leaves the items, and what it went behind is not tried again
+abbrev pub looked_over : Action → Stage
+looked_over act v = tried act v (length v.items) (uncut_placed v)
+
+-- an index without a lookup does nothing
+abbrev pub lookup_stage : FaceParts → List PositioningLookup → Option PositioningLookup → lookup_map_t → Stage
+lookup_stage font table None m v = as_it_is v
+lookup_stage font table (Some lookup) m v = looked_over (lookup_action table v.direction (applied_by font lookup m) lookup) v

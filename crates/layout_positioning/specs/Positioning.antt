@@ -1,0 +1,33 @@
+-- The lookups of positioning, stage after stage, each stage ended by its pause.
+use Rattle.std.specs.Prelude.{ℕ, ◌+◌, List, [], ◌∷◌, Option, slice_get}
+use Rattle.std.specs.Option.{option_map_or}
+use Rattle.glyph_lists.specs.Readings.{Stage, and_then, as_it_is}
+use Rattle.font_face.specs.declared.parts.FaceParts.{FaceParts}
+use Rattle.layout_lookups.specs.declared.positioning.PositioningLookup.{PositioningLookup}
+use Rattle.map_features.specs.declared.lookup.lookup_map_t.{lookup_map_t}
+use Rattle.map_stages.specs.declared.stages.StageMap.{StageMap}
+use Rattle.map_builder.specs.Compiled.{OtMapValue, TableStages, lookups_of_stage}
+use Rattle.layout_stages.specs.Substituting.{Pauses, pause_stage}
+use Rattle.layout_positioning.specs.Lookups.{lookup_stage}
+
+-- lookups of a table, one after another
+abbrev pub lookups_stage : FaceParts → List PositioningLookup → List lookup_map_t → Stage
+lookups_stage font table [] v = as_it_is v
+lookups_stage font table (m ∷ maps) v = and_then (lookup_stage font table (slice_get table m.index) m v) (lookups_stage font table maps)
+
+-- the lookups of a stage, then its pause
+abbrev pub table_stage : FaceParts → List PositioningLookup → TableStages → Pauses → ℕ → Option ℕ → Stage
+table_stage font lookups t pauses i pause v = and_then (lookups_stage font lookups (lookups_of_stage t i) v) (pause_stage pauses pause)
+
+-- stages from one on, each by its index
+abbrev pub table_stages : FaceParts → List PositioningLookup → TableStages → Pauses → ℕ → List StageMap → Stage
+table_stages font lookups t pauses i [] v = as_it_is v
+table_stages font lookups t pauses i (s ∷ stages) v = and_then (table_stage font lookups t pauses i s.pause v) (table_stages font lookups t pauses (i + 1) stages)
+
+-- the font's lookups of positioning, none where it has no such table
+abbrev pub positioning_lookups : FaceParts → List PositioningLookup
+positioning_lookups font = option_map_or (λ t. t.lookups) font.gpos []
+
+-- the stages of a map for positioning; nothing is drawn at random
+abbrev pub positioned_by : FaceParts → OtMapValue → Pauses → Stage
+positioned_by font m pauses v = table_stages font (positioning_lookups font) m.tables.gpos pauses 0 m.tables.gpos.stages v

@@ -1,0 +1,80 @@
+ghost use Rattle.std.specs.Prelude.{◌≡◌, ◌≢◌, true, Err, slice_get, IfErr, OnOk};
+ghost use Rattle.glyph_lists.specs.Readings.{read_of};
+ghost use Rattle.glyph_buffer.specs.Sides.{items_of};
+ghost use Rattle.layout_match.specs.Applied.{applied_of};
+ghost use Rattle.layout_rules.specs.Buffers.{are_glyphs};
+ghost use Rattle.layout_rules.specs.Ready.{IsDoneFrom, IsReady, run_with};
+ghost use Rattle.layout_positioning.specs.Lookups.{applied_by, lookup_stage};
+ghost use Rattle.layout_positioning.specs.Positioning.{lookups_stage};
+
+use crate::forward::apply_forward;
+use font_face::Face;
+use glyph_buffer::buffer::hb_buffer_t;
+use glyph_types::cause::ShapeCause;
+use layout_lookups::positioning::{PositioningLookup, PositioningTable};
+use layout_match::hb_ot_apply_context_t;
+use map_features::lookup::lookup_map_t;
+use map_features::per_table::TableIndex;
+
+/// With what a lookup is applied: its own flag, and what the map says of it.
+fn context_of<'a>(
+    face: &'a Face,
+    lookup: &PositioningLookup,
+    lookup_map: &lookup_map_t,
+) -> hb_ot_apply_context_t<'a>
+    ensures applied { applied_of result ≡ applied_by face.now lookup.now lookup_map.now }
+    ensures state { result.random_state ≡ 1 }
+{
+    let mut ctx = hb_ot_apply_context_t::new(TableIndex::GPOS, face);
+    ctx.set_lookup_mask(lookup_map.mask);
+    ctx.auto_zwnj = lookup_map.auto_zwnj;
+    ctx.auto_zwj = lookup_map.auto_zwj;
+    ctx.random = lookup_map.random;
+    ctx.per_syllable = lookup_map.per_syllable;
+    ctx.lookup_props = lookup.props();
+    ctx
+}
+
+/// Does what the lookup at an index of the table does; an index without one does nothing.
+#[tactic(auto, using(crate::proofs::Ways::no_lookup_done))]
+fn apply_mapped(
+    face: &Face,
+    table: &PositioningTable,
+    lookup_map: &lookup_map_t,
+    buffer: &mut hb_buffer_t,
+) -> Result<(), ShapeCause>
+    requires ready { IsReady buffer.old }
+    requires numbers { are_glyphs (items_of buffer.old) ≡ true }
+    ensures ok { OnOk result (IsDoneFrom 1 1 (lookup_stage face.now table.now.lookups
+        (slice_get table.now.lookups lookup_map.now.index) lookup_map.now) buffer.old buffer.new) }
+    ensures err { IfErr result (λ e. e ≢ ShapeCause.OutOfMemory → read_of (lookup_stage face.now table.now.lookups
+        (slice_get table.now.lookups lookup_map.now.index) lookup_map.now) (run_with 1 buffer.old) ≡ Err e) }
+{
+    let Some(lookup) = table.get_lookup(lookup_map.index) else {
+        return Ok(());
+    };
+    let ctx = context_of(face, lookup, lookup_map);
+    apply_forward(table, lookup, &ctx, buffer)
+}
+
+/// Does lookups of the font's table of positioning one after another, each at all glyphs from the left. It takes no memory,
+/// and refuses only where a list has more glyphs than it may.
+#[tactic(auto, using(crate::proofs::Ways::none_done, crate::proofs::Ways::one_refused, crate::proofs::Ways::all_done))]
+pub fn apply_lookups(
+    face: &Face,
+    table: &PositioningTable,
+    lookups: &[lookup_map_t],
+    buffer: &mut hb_buffer_t,
+) -> Result<(), ShapeCause>
+    requires ready { IsReady buffer.old }
+    requires numbers { are_glyphs (items_of buffer.old) ≡ true }
+    ensures ok { OnOk result
+        (IsDoneFrom 1 1 (lookups_stage face.now table.now.lookups lookups.now) buffer.old buffer.new) }
+    ensures err { IfErr result (λ e. e ≢ ShapeCause.OutOfMemory → read_of
+        (lookups_stage face.now table.now.lookups lookups.now) (run_with 1 buffer.old) ≡ Err e) }
+{
+    for lookup_map in lookups {
+        apply_mapped(face, table, lookup_map, buffer)?;
+    }
+    Ok(())
+}

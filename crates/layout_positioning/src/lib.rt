@@ -1,0 +1,10 @@
+// The lookups of positioning, each tried at all glyphs of a buffer without an output.
+#![tactic(auto)]
+
+pub mod apply;
+pub mod forward;
+pub mod kerning;
+pub mod lookup;
+pub mod nested;
+pub mod position;
+pub mod subtables;

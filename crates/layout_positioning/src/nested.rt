@@ -1,0 +1,282 @@
+//! Lookups that are nested in others: a rule of a context applies them at the places of its match.
+ghost use Rattle.std.specs.Prelude.{◌≡◌, ◌≢◌, ◌≤◌, ◌<◌, ◌+◌, true, false, length, slice_get, IfOk, Some, None};
+ghost use Rattle.glyph_buffer.specs.Sides.{items_of};
+ghost use Rattle.layout_chain.specs.Chains.{chain_rule, context_subtable};
+ghost use Rattle.layout_chain.specs.Fitting.{chain_of};
+ghost use Rattle.layout_chain.specs.Inside.{StaysInside};
+ghost use Rattle.layout_chain.specs.Nested.{each_nested, one_record};
+ghost use Rattle.layout_chain.specs.Nesting.{Walking};
+ghost use Rattle.layout_chain.specs.Places.{AreRising};
+ghost use Rattle.layout_chain.specs.Rules.{chains_of};
+ghost use Rattle.layout_match.specs.Applied.{applied_of};
+ghost use Rattle.layout_rules.specs.Actions.{first_rule, whole};
+ghost use Rattle.layout_rules.specs.Buffers.{are_glyphs, cut_of};
+ghost use Rattle.layout_rules.specs.Performing.{Performs, cut_with};
+ghost use Rattle.layout_positioning.specs.Lookups.{first_subtable, nested, nested_act, nested_lookup, under_flag};
+
+use crate::subtables::{apply_first, apply_first_cursive, apply_first_mark};
+use glyph_buffer::buffer::hb_buffer_t;
+use glyph_types::cause::ShapeCause;
+use layout_chain::{
+    ChainRule, begin_record, glyph_count, go_behind, is_tried_at, match_chain, rule_at, rule_count,
+    settle_match,
+};
+use layout_contexts::context::{ContextSubtable, SequenceLookupRecord};
+use layout_lookups::positioning::{PositioningLookup, PositioningSubtables, PositioningTable};
+use layout_match::{MatchPositions, hb_ot_apply_context_t};
+
+/// With what a lookup is applied that is nested in another: its own flag, and all else as that one.
+fn under_flag<'a>(
+    lookup: &PositioningLookup,
+    ctx: &hb_ot_apply_context_t<'a>,
+) -> hb_ot_apply_context_t<'a>
+    ensures applied { applied_of result ≡ under_flag lookup.now (applied_of ctx.now) }
+    ensures state { result.random_state ≡ ctx.now.random_state }
+{
+    let mut nested = *ctx;
+    nested.lookup_props = lookup.props();
+    nested
+}
+
+/// Applies the lookup at an index of the table at the cursor, nested in another: with its own flag, and without asking
+/// whether it meets the glyph there. An index without one does nothing. Lookups may be nested in it so many levels deep.
+#[cycle(nested)]
+#[tactic(auto, using(crate::proofs::Levels::no_lookup, crate::proofs::Levels::lookup_there))]
+fn recurse(
+    table: &PositioningTable,
+    depth: u32,
+    index: u16,
+    ctx: &hb_ot_apply_context_t,
+    buffer: &mut hb_buffer_t,
+) -> Result<bool, ShapeCause>
+    requires closed { buffer.old.is_open ≡ false }
+    requires unrefused { buffer.old.has_refused ≡ false }
+    requires there { 0 < length buffer.old.ahead }
+    requires number { are_glyphs (items_of buffer.old) ≡ true }
+    ensures { Performs (nested_lookup (nested table.now.lookups depth buffer.old.direction)
+        (slice_get table.now.lookups index) buffer.old.direction (applied_of ctx.now)
+        (cut_with ctx.now.random_state buffer.old)) result ctx.now.random_state ctx.now.random_state buffer.old
+        buffer.new }
+{
+    let Some(lookup) = table.get_lookup(index) else {
+        return Ok(false);
+    };
+    let nested = under_flag(lookup, ctx);
+    apply_subtables(table, depth, &lookup.subtables, &nested, buffer)
+}
+
+/// Does what the first of the subtables does that acts, at the cursor.
+#[cycle(nested)]
+pub(crate) fn apply_subtables(
+    table: &PositioningTable,
+    depth: u32,
+    subtables: &PositioningSubtables,
+    ctx: &hb_ot_apply_context_t,
+    buffer: &mut hb_buffer_t,
+) -> Result<bool, ShapeCause>
+    requires closed { buffer.old.is_open ≡ false }
+    requires unrefused { buffer.old.has_refused ≡ false }
+    requires there { 0 < length buffer.old.ahead }
+    requires number { are_glyphs (items_of buffer.old) ≡ true }
+    ensures { Performs (first_subtable (nested table.now.lookups depth buffer.old.direction
+        (applied_of ctx.now)) buffer.old.direction (applied_of ctx.now) subtables.now
+        (cut_with ctx.now.random_state buffer.old)) result ctx.now.random_state ctx.now.random_state buffer.old
+        buffer.new }
+{
+    match subtables {
+        PositioningSubtables::Single(subtables) => {
+            Ok(apply_first(subtables.as_slice(), ctx, buffer))
+        }
+        PositioningSubtables::Pair(subtables) => {
+            Ok(apply_first(subtables.as_slice(), ctx, buffer))
+        }
+        PositioningSubtables::Cursive(subtables) => {
+            Ok(apply_first_cursive(subtables.as_slice(), ctx, buffer))
+        }
+        PositioningSubtables::MarkToBase(subtables) => {
+            Ok(apply_first(subtables.as_slice(), ctx, buffer))
+        }
+        PositioningSubtables::MarkToLigature(subtables) => {
+            Ok(apply_first(subtables.as_slice(), ctx, buffer))
+        }
+        PositioningSubtables::MarkToMark(subtables) => {
+            Ok(apply_first_mark(subtables.as_slice(), ctx, buffer))
+        }
+        PositioningSubtables::Context(subtables) | PositioningSubtables::ChainContext(subtables) =>
+            { apply_contexts(table, depth, subtables.as_slice(), ctx, buffer) }
+    }
+}
+
+/// Does what the first of some contexts does that acts.
+#[cycle(nested)]
+#[tactic(auto, using(layout_rules::specs::Lemmas::Performed::passed_first, crate::proofs::Passed::passed_closed, layout_rules::specs::Lemmas::Performed::passed_unrefused, layout_rules::specs::Lemmas::Performed::passed_numbers))]
+fn apply_contexts(
+    table: &PositioningTable,
+    depth: u32,
+    subtables: &[ContextSubtable],
+    ctx: &hb_ot_apply_context_t,
+    buffer: &mut hb_buffer_t,
+) -> Result<bool, ShapeCause>
+    requires closed { buffer.old.is_open ≡ false }
+    requires unrefused { buffer.old.has_refused ≡ false }
+    requires there { 0 < length buffer.old.ahead }
+    requires number { are_glyphs (items_of buffer.old) ≡ true }
+    ensures { Performs (first_rule (context_subtable (nested table.now.lookups depth buffer.old.direction (applied_of ctx.now)) (applied_of ctx.now)) subtables.now (cut_with ctx.now.random_state buffer.old))
+        result ctx.now.random_state ctx.now.random_state buffer.old buffer.new }
+{
+    for subtable in subtables {
+        match apply_context(table, depth, subtable, ctx, buffer) {
+            Ok(false) => {}
+            Ok(true) => return Ok(true),
+            Err(cause) => return Err(cause),
+        }
+    }
+    Ok(false)
+}
+
+/// Does what a context does at the cursor: where its rules are tried there, what the first does that matches.
+#[cycle(nested)]
+fn apply_context(
+    table: &PositioningTable,
+    depth: u32,
+    subtable: &ContextSubtable,
+    ctx: &hb_ot_apply_context_t,
+    buffer: &mut hb_buffer_t,
+) -> Result<bool, ShapeCause>
+    requires closed { buffer.old.is_open ≡ false }
+    requires unrefused { buffer.old.has_refused ≡ false }
+    requires there { 0 < length buffer.old.ahead }
+    requires number { are_glyphs (items_of buffer.old) ≡ true }
+    ensures { Performs (context_subtable (nested table.now.lookups depth buffer.old.direction (applied_of ctx.now)) (applied_of ctx.now) subtable.now (cut_with ctx.now.random_state buffer.old)) result
+        ctx.now.random_state ctx.now.random_state buffer.old buffer.new }
+{
+    if !is_tried_at(subtable, buffer.cur(0)) {
+        return Ok(false);
+    }
+    apply_rules(table, depth, subtable, ctx, buffer)
+}
+
+/// Does what the first of a context's rules does that matches at the cursor.
+#[cycle(nested)]
+#[tactic(auto, using(layout_rules::specs::Lemmas::Performed::passed_first, crate::proofs::Passed::passed_closed, layout_rules::specs::Lemmas::Performed::passed_unrefused, layout_rules::specs::Lemmas::Performed::passed_numbers))]
+fn apply_rules(
+    table: &PositioningTable,
+    depth: u32,
+    subtable: &ContextSubtable,
+    ctx: &hb_ot_apply_context_t,
+    buffer: &mut hb_buffer_t,
+) -> Result<bool, ShapeCause>
+    requires closed { buffer.old.is_open ≡ false }
+    requires unrefused { buffer.old.has_refused ≡ false }
+    requires there { 0 < length buffer.old.ahead }
+    requires number { are_glyphs (items_of buffer.old) ≡ true }
+    ensures { Performs (first_rule (chain_rule (nested table.now.lookups depth buffer.old.direction (applied_of ctx.now)) (applied_of ctx.now)) (chains_of subtable.now) (cut_with ctx.now.random_state buffer.old)) result
+        ctx.now.random_state ctx.now.random_state buffer.old buffer.new }
+{
+    for i in 0..rule_count(subtable) {
+        let rule = rule_at(subtable, i);
+        match apply_rule(table, depth, &rule, ctx, buffer) {
+            Ok(false) => {}
+            Ok(true) => return Ok(true),
+            Err(cause) => return Err(cause),
+        }
+    }
+    Ok(false)
+}
+
+/// Does what a rule does at the cursor: where it matches, its records, and then the cursor goes behind the match.
+#[cycle(nested)]
+fn apply_rule(
+    table: &PositioningTable,
+    depth: u32,
+    rule: &ChainRule,
+    ctx: &hb_ot_apply_context_t,
+    buffer: &mut hb_buffer_t,
+) -> Result<bool, ShapeCause>
+    requires closed { buffer.old.is_open ≡ false }
+    requires unrefused { buffer.old.has_refused ≡ false }
+    requires there { 0 < length buffer.old.ahead }
+    requires number { are_glyphs (items_of buffer.old) ≡ true }
+    ensures { Performs (chain_rule (nested table.now.lookups depth buffer.old.direction (applied_of ctx.now)) (applied_of ctx.now) (chain_of rule.now) (cut_with ctx.now.random_state buffer.old)) result
+        ctx.now.random_state ctx.now.random_state buffer.old buffer.new }
+{
+    let mut places = MatchPositions::new();
+    let Some(end) = match_chain(ctx, rule, buffer, &mut places) else {
+        return Ok(false);
+    };
+    match apply_records(table, depth, rule.records, end, &mut places, ctx, buffer) {
+        Ok(at) => go_behind(at, buffer),
+        Err(cause) => Err(cause),
+    }
+}
+
+/// Applies the records of a rule in their order, where lookups may be nested; answers where the match ends then.
+#[cycle(nested)]
+fn apply_records(
+    table: &PositioningTable,
+    depth: u32,
+    records: &[SequenceLookupRecord],
+    end: usize,
+    places: &mut MatchPositions,
+    ctx: &hb_ot_apply_context_t,
+    buffer: &mut hb_buffer_t,
+) -> Result<usize, ShapeCause>
+    requires closed { buffer.old.is_open ≡ false }
+    requires unrefused { buffer.old.has_refused ≡ false }
+    requires number { are_glyphs (items_of buffer.old) ≡ true }
+    requires rising { AreRising 0 (length (whole (cut_of buffer.old)) + 1) places.old.items }
+    requires within { end ≤ length (whole (cut_of buffer.old)) }
+    ensures walks { Walking (each_nested (nested table.now.lookups depth buffer.old.direction (applied_of ctx.now)) records.now
+        (cut_with ctx.now.random_state buffer.old) places.old.items end) result places.new.items ctx.now.random_state
+        buffer.old buffer.new }
+    ensures inside { IfOk result (λ at. StaysInside (length (whole (cut_of buffer.old)))
+        (length (whole (cut_of buffer.new))) places.old.items places.new.items end at) }
+{
+    if depth == 0 {
+        return Ok(end);
+    }
+    let mut at = end;
+    for lookup_record in records {
+        match apply_record(table, depth - 1, lookup_record, at, places, ctx, buffer) {
+            Ok(settled) => at = settled,
+            Err(cause) => return Err(cause),
+        }
+    }
+    Ok(at)
+}
+
+/// Applies a record of a rule: its lookup, at its place; answers where the match ends then.
+#[cycle(nested)]
+#[tactic(auto, using(layout_stages::specs::Lemmas::Nested::begun_closed, layout_stages::specs::Lemmas::Nested::begun_unrefused, layout_stages::specs::Lemmas::Nested::begun_numbers, layout_stages::specs::Lemmas::Nested::begun_there))]
+fn apply_record(
+    table: &PositioningTable,
+    depth: u32,
+    lookup_record: &SequenceLookupRecord,
+    end: usize,
+    places: &mut MatchPositions,
+    ctx: &hb_ot_apply_context_t,
+    buffer: &mut hb_buffer_t,
+) -> Result<usize, ShapeCause>
+    requires closed { buffer.old.is_open ≡ false }
+    requires unrefused { buffer.old.has_refused ≡ false }
+    requires number { are_glyphs (items_of buffer.old) ≡ true }
+    requires rising { AreRising 0 (length (whole (cut_of buffer.old)) + 1) places.old.items }
+    requires within { end ≤ length (whole (cut_of buffer.old)) }
+    ensures walks { Walking (one_record (nested_act table.now.lookups depth buffer.old.direction (applied_of ctx.now)) lookup_record.now
+        (cut_with ctx.now.random_state buffer.old) places.old.items end) result places.new.items ctx.now.random_state
+        buffer.old buffer.new }
+    ensures inside { IfOk result (λ at. StaysInside (length (whole (cut_of buffer.old)))
+        (length (whole (cut_of buffer.new))) places.old.items places.new.items end at) }
+{
+    let place = match begin_record(lookup_record, places, buffer) {
+        Ok(Some(place)) => place,
+        Ok(None) => return Ok(end),
+        Err(cause) => return Err(cause),
+    };
+    let before = glyph_count(buffer);
+    match recurse(table, depth, lookup_record.lookup_index, ctx, buffer) {
+        Ok(true) => Ok(settle_match(lookup_record, place, before, end, places, buffer)),
+        Ok(false) => Ok(end),
+        Err(cause) => Err(cause),
+    }
+}

@@ -1,0 +1,79 @@
+//! Positioning, stage after stage.
+ghost use Rattle.std.specs.Prelude.{◌≡◌, ◌≢◌, true, Err, IfErr, OnOk};
+ghost use Rattle.glyph_lists.specs.Readings.{read_of};
+ghost use Rattle.glyph_buffer.specs.Sides.{items_of, run_of};
+ghost use Rattle.layout_rules.specs.Buffers.{are_glyphs};
+ghost use Rattle.layout_rules.specs.Ready.{IsDone, IsDoneFrom, IsReady, run_with};
+ghost use Rattle.layout_positioning.specs.Positioning.{lookups_stage, positioned_by, positioning_lookups, table_stages};
+
+use crate::apply::apply_lookups;
+use font_face::Face;
+use glyph_buffer::buffer::hb_buffer_t;
+use glyph_types::cause::ShapeCause;
+use layout_stages::pause::{Pause, run_pause};
+use map_builder::map::hb_ot_map_t;
+use map_features::lookup::lookup_map_t;
+use map_features::per_table::TableIndex;
+
+/// Does the lookups of a stage one after another; a font without a table of positioning has none.
+fn apply_stage(
+    face: &Face,
+    lookups: &[lookup_map_t],
+    buffer: &mut hb_buffer_t,
+) -> Result<(), ShapeCause>
+    requires ready { IsReady buffer.old }
+    requires numbers { are_glyphs (items_of buffer.old) ≡ true }
+    ensures ok { OnOk result (IsDoneFrom 1 1 (lookups_stage face.now (positioning_lookups face.now) lookups.now)
+        buffer.old buffer.new) }
+    ensures err { IfErr result (λ e. e ≢ ShapeCause.OutOfMemory → read_of (lookups_stage face.now
+        (positioning_lookups face.now) lookups.now) (run_with 1 buffer.old) ≡ Err e) }
+{
+    match face.gpos() {
+        Some(table) => apply_lookups(face, table, lookups, buffer),
+        None => Ok(()),
+    }
+}
+
+/// Does the lookups of a map's stages for positioning, each stage ended by its pause.
+#[tactic(auto, using(crate::proofs::Ways::stage_lookups_refused, crate::proofs::Ways::all_stages_done))]
+fn apply_layout_table<P: Pause>(
+    map: &hb_ot_map_t,
+    face: &Face,
+    buffer: &mut hb_buffer_t,
+    pause: &P,
+) -> Result<(), ShapeCause>
+    requires ready { IsReady buffer.old }
+    requires numbers { are_glyphs (items_of buffer.old) ≡ true }
+    ensures ok { OnOk result (IsDoneFrom 1 1 (table_stages face.now (positioning_lookups face.now) map.now.tables.gpos
+        (P.stage pause.now) 0 map.now.tables.gpos.stages) buffer.old buffer.new) }
+    ensures err { IfErr result (λ e. e ≢ ShapeCause.OutOfMemory → read_of (table_stages face.now
+        (positioning_lookups face.now) map.now.tables.gpos (P.stage pause.now) 0 map.now.tables.gpos.stages)
+        (run_with 1 buffer.old) ≡ Err e) }
+{
+    let stages = map.stages(TableIndex::GPOS);
+    for i in 0..stages.len() {
+        apply_stage(face, map.stage_lookups(TableIndex::GPOS, i), buffer)?;
+        run_pause(pause, stages[i].pause, buffer)?;
+    }
+    Ok(())
+}
+
+/// Positions glyphs by the font's rules for the features of a map: stage after stage the stage's lookups by their indices,
+/// each at all glyphs, and then the stage's pause. Glyphs that are attached keep links until `position_finish_offsets`;
+/// before it `position_start` clears those of an earlier run. It takes no memory but what a pause takes, and refuses by a
+/// pause's cause, or where a list has more glyphs than it may.
+#[tactic(auto, using(crate::proofs::Ways::done_from_one))]
+pub fn position<P: Pause>(
+    map: &hb_ot_map_t,
+    face: &Face,
+    buffer: &mut hb_buffer_t,
+    pause: &P,
+) -> Result<(), ShapeCause>
+    requires ready { IsReady buffer.old }
+    requires numbers { are_glyphs (items_of buffer.old) ≡ true }
+    ensures ok { OnOk result (IsDone (positioned_by face.now map.now (P.stage pause.now)) buffer.old buffer.new) }
+    ensures err { IfErr result (λ e. e ≢ ShapeCause.OutOfMemory
+        → read_of (positioned_by face.now map.now (P.stage pause.now)) (run_of buffer.old) ≡ Err e) }
+{
+    apply_layout_table(map, face, buffer, pause)
+}

@@ -1,0 +1,81 @@
+//! Texts on a buffer that is ready to be normalised.
+ghost use Rattle.std.specs.Prelude.{◌≡◌, ◌<◌, false, length, IfOk, OnOk};
+ghost use Rattle.layout_rules.specs.Ready.{IsReady};
+
+use glyph_buffer::buffer::hb_buffer_t;
+use glyph_properties::character::{character_class, properties_of};
+use glyph_types::cause::ShapeCause;
+use glyph_types::flags::UnicodeProps;
+use glyph_types::info::hb_glyph_info_t;
+use glyph_types::level::BufferClusterLevel;
+use normal_rounds::normalizing::Normalizing;
+use shape_normalize::normalize::_hb_ot_shape_normalize;
+use std::alloc::Global;
+use unicode_tables::UnicodeTables;
+
+#[tactic(auto, using(crate::proofs::Ready::written_ready))]
+fn write_first(info: hb_glyph_info_t, i: usize, buffer: &mut hb_buffer_t)
+    requires ready { IsReady buffer.old }
+    requires there { i < length buffer.old.ahead }
+    ensures { IsReady buffer.new }
+{
+    *buffer.cur_mut(i) = info;
+}
+
+/// Adds a character with its cluster, its properties and its class.
+#[tactic(auto, using(crate::proofs::Ready::added_ready))]
+fn add_character(
+    tables: &UnicodeTables,
+    u: char,
+    cluster: u32,
+    buffer: &mut hb_buffer_t,
+) -> Result<(), ShapeCause>
+    requires ready { IsReady buffer.old }
+    ensures { OnOk result (IsReady buffer.new) }
+{
+    let at = buffer.lookahead_len();
+    if !buffer.add(u, cluster)? {
+        return Err(ShapeCause::TooLong);
+    }
+    if at >= buffer.lookahead_len() {
+        return Err(ShapeCause::TooLong);
+    }
+    let info = hb_glyph_info_t {
+        unicode_props: UnicodeProps(properties_of(u)),
+        modified_combining_class: character_class(tables, u),
+        ..*buffer.cur(at)
+    };
+    write_first(info, at, buffer);
+    Ok(())
+}
+
+/// A buffer with characters and their clusters.
+pub fn buffer_of(
+    alloc: Global,
+    tables: &UnicodeTables,
+    level: BufferClusterLevel,
+    text: &[(char, u32)],
+) -> Result<hb_buffer_t, ShapeCause>
+    ensures { IfOk result (λ b. IsReady b) }
+{
+    let mut buffer = hb_buffer_t::new(alloc);
+    buffer.set_cluster_level(level);
+    for (u, cluster) in text {
+        add_character(tables, *u, *cluster, &mut buffer)?;
+    }
+    Ok(buffer)
+}
+
+/// A text with clusters, normalised.
+pub fn normalized<N: Normalizing>(
+    alloc: Global,
+    by: &N,
+    level: BufferClusterLevel,
+    text: &[(char, u32)],
+) -> Result<hb_buffer_t, ShapeCause>
+    ensures { IfOk result (λ b. b.is_open ≡ false) }
+{
+    let mut buffer = buffer_of(alloc, by.tables(), level, text)?;
+    _hb_ot_shape_normalize(by, alloc, &mut buffer)?;
+    Ok(buffer)
+}

@@ -1,4 +1,0 @@
-pub mod Supported
-pub mod Groups
-pub mod Runs
-pub mod Between

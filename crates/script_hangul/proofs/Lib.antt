@@ -1,0 +1,4 @@
+pub mod Put
+pub mod Fits
+pub mod Walk
+pub mod Masked

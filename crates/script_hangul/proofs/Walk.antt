@@ -1,0 +1,237 @@
+-- A text of Hangul that is done step by step.
+use Rattle.std.proofs.Common.{ℕ, zero, suc, ◌≡◌, ◌≢◌, ◌<◌, ◌≤◌, ◌+◌, ◌-◌, ◌&&◌, inl, inr, not, Bool, true, false, nat_le, nat_lt, if◌then◌else◌, List, [], ◌∷◌, ◌++◌, Option, Some, None, Err, length, take, drop, refl, sym, ap, subst, ◌∙◌, append_assoc, arith}
+use Rattle.std.proofs.lemmas.Bool.Decides.{nat_tests}
+use Rattle.std.proofs.lemmas.List.{append-nil, length-append, length-map, length-drop}
+use Rattle.glyph_types.specs.declared.cause.ShapeCause.{ShapeCause}
+use Rattle.glyph_types.specs.declared.cause.ShapeCause.TheVariants.{OutOfMemory, TooLong}
+use Rattle.glyph_types.specs.declared.info.hb_glyph_info_t.{hb_glyph_info_t}
+use Rattle.shaping_text.specs.declared.constants.BufferFlags.{BufferFlags}
+use Rattle.font_face.specs.declared.parts.FaceParts.{FaceParts}
+use Rattle.glyph_lists.specs.Items.{Item, item_of, strip}
+use Rattle.glyph_lists.specs.Events.{Event}
+use Rattle.glyph_lists.specs.Readings.{View, read_of}
+use Rattle.glyph_buffer.specs.Sides.{Sides, Settings, all_glyphs, items_of, run_of, with_output, synced, fits_joined}
+use Rattle.layout_rules.specs.Ready.{IsReady}
+use Rattle.text_stages.specs.Stages.{IsFollowed}
+use Rattle.script_moves.specs.Walks.{Exceeds, Walked, renumbered_first}
+use Rattle.script_moves.specs.Lemmas.Walked.{both_walked, nothing_walked, walked_followed}
+use Rattle.script_hangul.specs.declared.actions.Action.{Action}
+use Rattle.script_hangul.specs.declared.actions.Action.TheVariants.{Keep, Apart, Compose, Split}
+use Rattle.script_hangul.specs.Jamo.{is_tone}
+use Rattle.script_hangul.specs.Actions.{action_on, has_character}
+use Rattle.script_hangul.specs.Steps.{Step, DOTTED_CIRCLE, before_syllable, circled, has_no_width, kept, letters_from, parted, performed, put_before, toned, with_circle}
+use Rattle.script_hangul.specs.Hangul.{character_at, events_behind, step, step_by, syllables_formed, text_behind, wants_circles}
+use Rattle.script_hangul.specs.Stepped.{Passes, Stepped}
+
+-- what is behind and ahead comes to what all does
+pub record IsUnderway (font : FaceParts) (circles : Bool) (left start : ℕ) (s t : Sides) : Type 0 where
+  pub events : List Event
+  pub walked : Walked (strip t.behind) (strip t.ahead) events s t
+  pub items : text_behind font circles left start (strip t.behind) (strip t.ahead) ≡ text_behind font circles (length (items_of s)) 0 [] (items_of s)
+  pub whole : events ++ events_behind font circles s.level left start (strip t.behind) (strip t.ahead) ≡ events_behind font circles s.level (length (items_of s)) 0 [] (items_of s)
+  pub few : length t.ahead ≤ left
+
+pub begun : (font : FaceParts) (circles : Bool) (n : ℕ) (s : Sides) → length (all_glyphs s) ≡ n → IsUnderway font circles n 0 (with_output s) (with_output s)
+begun font circles n s e =
+    let same : length (items_of s) ≡ n = length-map (all_glyphs s) item_of ∙ e in
+    record {
+      events = [];
+      walked = nothing_walked (with_output s) refl;
+      items = ap (λ k. text_behind font circles k 0 [] (items_of s)) (sym same);
+      whole = ap (λ k. events_behind font circles s.level k 0 [] (items_of s)) (sym same);
+      few = omega (arith, e);
+    }
+
+limit_same : (o r : List Item) (es : List Event) (s t : Sides) → Walked o r es s t → t.max_len ≡ s.max_len
+limit_same o r es s t w = ap (λ (v : View). v.max_len) w.view
+
+-- a step more
+stepped_more : (font : FaceParts) (circles : Bool) (k start n : ℕ) (s t u : Sides) → IsUnderway font circles (suc k) start s t → 0 < length t.ahead → Stepped (step font circles start (strip t.behind) (strip t.ahead)) n t u → IsUnderway font circles k n s u
+stepped_more font circles k start n s t u h some d = by_ahead t.ahead refl
+  where
+    by_ahead : (gs : List hb_glyph_info_t) → t.ahead ≡ gs → IsUnderway font circles k n s u
+    by_ahead [] e = absurd (let none = ap (λ (ys : List hb_glyph_info_t). length ys) e in omega (arith, none, some))
+    by_ahead (g ∷ gs) e =
+        let bs = strip t.behind in
+        let xs = item_of g ∷ strip gs in
+        let seen : strip t.ahead ≡ xs = ap strip e in
+        let p : Step = step font circles start bs xs in
+        let d' : Stepped p n t u = subst (λ ys. Stepped (step font circles start bs ys) n t u) seen d in
+        let w : Walked p.out (drop (p.more + 1) (strip t.ahead)) (p.events t.level) t u = d'.walked in
+        let level : t.level ≡ s.level = ap (λ (st : Settings). st.level) h.walked.settings in
+        let both = both_walked bs (strip t.ahead) p.out (drop (p.more + 1) (strip t.ahead)) h.events (p.events t.level) s t u h.walked w in
+        let rest : strip u.ahead ≡ drop (p.more + 1) xs = w.ahead ∙ ap (drop (p.more + 1)) seen in
+        let es : h.events ++ p.events t.level ≡ h.events ++ p.events s.level = ap (λ l. h.events ++ p.events l) level in
+        let fewer = length-drop (p.more + 1) (strip t.ahead) in
+        let a = length-map t.ahead item_of in
+        let b = length-map u.ahead item_of in
+        let c = ap (λ (ys : List Item). length ys) w.ahead in
+        let few = h.few in
+        record {
+          events = h.events ++ p.events s.level;
+          walked = subst (λ fs. Walked (strip u.behind) (strip u.ahead) fs s u) es (record { behind = refl; ahead = refl; happened = both.happened; view = both.view; settings = both.settings; opened = both.opened; unrefused = both.unrefused });
+          items =
+              ap (λ m. text_behind font circles k m (strip u.behind) (strip u.ahead)) d'.start ∙ ap (λ o. text_behind font circles k p.start o (strip u.ahead)) w.behind ∙ ap (text_behind font circles k p.start p.out) rest
+              ∙ ap (text_behind font circles (suc k) start bs) (sym seen) ∙ h.items;
+          whole =
+              append_assoc h.events (p.events s.level) (events_behind font circles s.level k n (strip u.behind) (strip u.ahead))
+              ∙ ap (λ m. h.events ++ (p.events s.level ++ events_behind font circles s.level k m (strip u.behind) (strip u.ahead))) d'.start
+              ∙ ap (λ o. h.events ++ (p.events s.level ++ events_behind font circles s.level k p.start o (strip u.ahead))) w.behind
+              ∙ ap (λ r. h.events ++ (p.events s.level ++ events_behind font circles s.level k p.start p.out r)) rest
+              ∙ ap (λ r. h.events ++ events_behind font circles s.level (suc k) start bs r) (sym seen) ∙ h.whole;
+          few = omega (arith, fewer, a, b, c, few, some);
+        }
+
+-- nothing is ahead
+still_more : (font : FaceParts) (circles : Bool) (k start : ℕ) (s t : Sides) → IsUnderway font circles (suc k) start s t → length t.ahead ≡ 0 → IsUnderway font circles k start s t
+still_more font circles k start s t h none = by_ahead t.ahead refl
+  where
+    by_ahead : (gs : List hb_glyph_info_t) → t.ahead ≡ gs → IsUnderway font circles k start s t
+    by_ahead (g ∷ gs) e = absurd (let some = ap (λ (ys : List hb_glyph_info_t). length ys) e in omega (arith, none, some))
+    by_ahead [] e =
+        let seen : strip t.ahead ≡ [] = ap strip e in
+        record {
+          events = h.events;
+          walked = h.walked;
+          items = ap (text_behind font circles k start (strip t.behind)) seen ∙ ap (text_behind font circles (suc k) start (strip t.behind)) (sym seen) ∙ h.items;
+          whole = ap (λ r. h.events ++ events_behind font circles s.level k start (strip t.behind) r) seen ∙ ap (λ r. h.events ++ events_behind font circles s.level (suc k) start (strip t.behind) r) (sym seen) ∙ h.whole;
+          few = omega (arith, none);
+        }
+
+pub more : (font : FaceParts) (circles : Bool) (left start n : ℕ) (s t u : Sides) → 0 < left → IsUnderway font circles left start s t → Passes font circles start n t u → IsUnderway font circles (left - 1) n s u
+more font circles zero start n s t u lt h p = absurd (omega (arith, lt))
+more font circles (suc k) start n s t u lt h (inl p) =
+    let e : k ≡ suc k - 1 = omega arith in
+    subst (λ m. IsUnderway font circles m n s u) e (subst (λ (v : Sides). IsUnderway font circles k n s v) (sym p.1.1) (subst (λ m. IsUnderway font circles k m s t) (sym p.1.0) (still_more font circles k start s t h p.0)))
+more font circles (suc k) start n s t u lt h (inr p) =
+    let e : k ≡ suc k - 1 = omega arith in
+    subst (λ m. IsUnderway font circles m n s u) e (stepped_more font circles k start n s t u h p.0 p.1)
+
+-- all steps
+all_walked : (font : FaceParts) (circles : Bool) (start : ℕ) (s t : Sides) → IsUnderway font circles 0 start s t
+    → Walked (text_behind font circles (length (items_of s)) 0 [] (items_of s)) [] (events_behind font circles s.level (length (items_of s)) 0 [] (items_of s)) s t
+all_walked font circles start s t h = by_ahead t.ahead refl
+  where
+    by_ahead : (gs : List hb_glyph_info_t) → t.ahead ≡ gs → Walked (text_behind font circles (length (items_of s)) 0 [] (items_of s)) [] (events_behind font circles s.level (length (items_of s)) 0 [] (items_of s)) s t
+    by_ahead (g ∷ gs) e = absurd (let some = ap (λ (ys : List hb_glyph_info_t). length ys) e in let c = h.few in omega (arith, some, c))
+    by_ahead [] e =
+        let none : strip t.ahead ≡ [] = ap strip e in
+        let w = h.walked in
+        let out = ap (text_behind font circles 0 start (strip t.behind)) (sym none) ∙ h.items in
+        let es = sym (append-nil h.events) ∙ ap (λ r. h.events ++ events_behind font circles s.level 0 start (strip t.behind) r) (sym none) ∙ h.whole in
+        subst (λ fs. Walked (text_behind font circles (length (items_of s)) 0 [] (items_of s)) [] fs s t) es
+        (record { behind = out; ahead = none; happened = w.happened; view = w.view; settings = w.settings; opened = w.opened; unrefused = w.unrefused })
+
+-- the text that comes of a buffer
+abbrev formed : FaceParts → BufferFlags → Sides → List Item
+formed font flags s = text_behind font (wants_circles flags) (length (items_of s)) 0 [] (items_of s)
+
+count_within : (font : FaceParts) (circles : Bool) (start : ℕ) (s t : Sides) → IsUnderway font circles 0 start s t → length (all_glyphs t) ≡ length (text_behind font circles (length (items_of s)) 0 [] (items_of s))
+count_within font circles start s t h =
+    let w = all_walked font circles start s t h in
+    let a = length-append t.behind t.ahead in
+    let b = length-map t.behind item_of in
+    let c = ap (λ (xs : List Item). length xs) w.behind in
+    let d = length-map t.ahead item_of in
+    let e = ap (λ (xs : List Item). length xs) w.ahead in
+    omega (arith, a, b, c, d, e)
+
+fits_both : (a b : Bool) → (not a && b) ≡ true → b ≡ true
+fits_both true b e = cc
+fits_both false b e = e
+
+fits_neither : (a b : Bool) → a ≡ false → (not a && b) ≡ false → b ≡ false
+fits_neither true b n e = cc
+fits_neither false b n e = e
+
+pub text_followed : (font : FaceParts) (flags : BufferFlags) (start : ℕ) (s t new : Sides) → IsReady s → IsUnderway font (wants_circles flags) 0 start (with_output s) t → fits_joined t ≡ true → new ≡ synced t → IsFollowed (syllables_formed font flags) s new
+text_followed font flags start s t new ready h fits is =
+    let w = all_walked font (wants_circles flags) start (with_output s) t h in
+    let xs = formed font flags s in
+    let limit = limit_same xs [] (events_behind font (wants_circles flags) s.level (length (items_of s)) 0 [] (items_of s)) (with_output s) t w in
+    let many = count_within font (wants_circles flags) start (with_output s) t h in
+    let room = fits_both t.has_refused (nat_le (length (all_glyphs t) + 0) t.max_len) fits in
+    let within : nat_le (length xs) s.max_len ≡ true = grind (arith, nat_tests, room, many, limit) in
+    walked_followed (syllables_formed font flags) xs (events_behind font (wants_circles flags) s.level (length (items_of s)) 0 [] (items_of s)) (λ level. events_behind font (wants_circles flags) level (length (items_of s)) 0 [] (items_of s)) s t new ready w is (rw within refl) refl
+
+pub text_too_long : (font : FaceParts) (flags : BufferFlags) (start : ℕ) (e : ShapeCause) (s t : Sides) → IsReady s → IsUnderway font (wants_circles flags) 0 start (with_output s) t → (e ≢ OutOfMemory → (e ≡ TooLong) × (fits_joined t ≡ false)) → e ≢ OutOfMemory
+    → read_of (syllables_formed font flags) (run_of s) ≡ Err e
+text_too_long font flags start e s t ready h over other =
+    let w = all_walked font (wants_circles flags) start (with_output s) t h in
+    let xs = formed font flags s in
+    let limit = limit_same xs [] (events_behind font (wants_circles flags) s.level (length (items_of s)) 0 [] (items_of s)) (with_output s) t w in
+    let many = count_within font (wants_circles flags) start (with_output s) t h in
+    let o = over other in
+    let room = fits_neither t.has_refused (nat_le (length (all_glyphs t) + 0) t.max_len) (w.unrefused ∙ ready.unrefused) o.1 in
+    let within : nat_le (length xs) s.max_len ≡ false = grind (arith, nat_tests, room, many, limit) in
+    rw within (ap Err (sym o.0))
+
+-- ---- no step makes a text shorter
+
+abbrev Grows : List Item → Step → Type 0
+Grows out p = length out ≤ length p.out
+
+grows_if : (out : List Item) (t : Bool) (p q : Step) → Grows out p → Grows out q → Grows out (if t then p else q)
+grows_if out true p q h k = h
+grows_if out false p q h k = k
+
+longer : (out xs : List Item) → length out ≤ length (out ++ xs)
+longer out xs = let a = length-append out xs in omega (arith, a)
+
+performed_grows : (a : Action) (out xs : List Item) → Grows out (performed a out xs)
+performed_grows (Keep whole) out xs = longer out (take 1 xs)
+performed_grows (Apart n) out xs = longer out (letters_from 1 (take n xs))
+performed_grows (Compose n u) out xs = longer out (renumbered_first u xs)
+performed_grows (Split letters joins) out xs = longer out (letters_from 1 (parted letters xs ++ take (if joins then 1 else 0) (drop 1 xs)))
+
+before_grows : (start : ℕ) (out xs : List Item) → length out ≤ length (put_before start out xs)
+before_grows start out xs =
+    let a = length-append (take start out) (take 1 xs ++ drop start out) in
+    let b = length-append (take 1 xs) (drop start out) in
+    let c = length-append (take start out) (drop start out) in
+    let d = ap (λ (ys : List Item). length ys) (cut start out) in
+    omega (arith, a, b, c, d)
+  where
+    cut : (i : ℕ) (ys : List Item) → take i ys ++ drop i ys ≡ ys
+    cut zero ys = refl
+    cut (suc i) [] = refl
+    cut (suc i) (y ∷ ys) = ap (λ zs. y ∷ zs) (cut i ys)
+
+toned_grows : (font : FaceParts) (circles : Bool) (start u : ℕ) (out xs : List Item) → Grows out (toned font circles start u out xs)
+toned_grows font circles start u out xs =
+    let stays : Grows out (kept false out xs) = longer out (take 1 xs) in
+    grows_if out (nat_lt start (length out)) (if has_no_width font u then kept false out xs else before_syllable start out xs) (if circles && has_character font DOTTED_CIRCLE then with_circle (has_no_width font u) out xs else kept false out xs)
+    (grows_if out (has_no_width font u) (kept false out xs) (before_syllable start out xs) stays (before_grows start out xs))
+    (grows_if out (circles && has_character font DOTTED_CIRCLE) (with_circle (has_no_width font u) out xs) (kept false out xs) (longer out (circled (has_no_width font u) xs)) stays)
+
+step_by_grows : (font : FaceParts) (circles : Bool) (start : ℕ) (o : Option ℕ) (out xs : List Item) → Grows out (step_by font circles start o out xs)
+step_by_grows font circles start None out xs = longer out (take 1 xs)
+step_by_grows font circles start (Some u) out xs =
+    grows_if out (is_tone u) (toned font circles start u out xs) (performed (action_on font u (character_at 1 xs) (character_at 2 xs)) out xs) (toned_grows font circles start u out xs) (performed_grows (action_on font u (character_at 1 xs) (character_at 2 xs)) out xs)
+
+text_grows : (font : FaceParts) (circles : Bool) (k start : ℕ) (out xs : List Item) → length out ≤ length (text_behind font circles k start out xs)
+text_grows font circles k start out [] = omega arith
+text_grows font circles zero start out (x ∷ xs) = omega arith
+text_grows font circles (suc k) start out (x ∷ xs) =
+    let p : Step = step font circles start out (x ∷ xs) in
+    let a = step_by_grows font circles start (character_at 0 (x ∷ xs)) out (x ∷ xs) in
+    let b = text_grows font circles k p.start p.out (drop (p.more + 1) (x ∷ xs)) in
+    omega (arith, a, b)
+
+-- what comes of a step is part of what comes of all
+step_within : (font : FaceParts) (circles : Bool) (k start : ℕ) (out xs : List Item) → length (step font circles start out xs).out ≤ length (text_behind font circles (suc k) start out xs)
+step_within font circles k start out [] = let a = length-append out (take 1 []) in omega (arith, a)
+step_within font circles k start out (x ∷ xs) = let p : Step = step font circles start out (x ∷ xs) in text_grows font circles k p.start p.out (drop (p.more + 1) (x ∷ xs))
+
+-- a step that was too long
+pub too_long : (font : FaceParts) (flags : BufferFlags) (left start : ℕ) (e : ShapeCause) (s t : Sides) → 0 < left → IsUnderway font (wants_circles flags) left start (with_output s) t
+    → Exceeds (length (step font (wants_circles flags) start (strip t.behind) (strip t.ahead)).out) e t → e ≢ OutOfMemory → read_of (syllables_formed font flags) (run_of s) ≡ Err e
+too_long font flags zero start e s t lt h over other = absurd (omega (arith, lt))
+too_long font flags (suc k) start e s t lt h over other =
+    let o = over other in
+    let past = o.1 in
+    let limit = limit_same (strip t.behind) (strip t.ahead) h.events (with_output s) t h.walked in
+    let a = step_within font (wants_circles flags) k start (strip t.behind) (strip t.ahead) in
+    let many = ap (λ (ys : List Item). length ys) h.items in
+    let within : nat_le (length (formed font flags s)) s.max_len ≡ false = grind (arith, nat_tests, limit, a, many, past) in
+    rw within (ap Err (sym o.0))

@@ -1,0 +1,33 @@
+use Rattle.std.proofs.Common.{Bool, ◌≡◌, ◌+◌, ◌-◌, arith, ap, subst, ◌∙◌}
+use Rattle.glyph_buffer.specs.Sides.{Sides, with_output}
+use Rattle.script_moves.specs.Lemmas.Walked.{passed_on}
+use Rattle.script_hangul.specs.Hangul.{step, wants_circles}
+use Rattle.script_moves.specs.Walks.{Exceeds}
+use Rattle.std.proofs.Common.{length}
+use Rattle.glyph_lists.specs.Items.{strip}
+use Rattle.script_hangul.proofs.Walk.{IsUnderway, more, too_long}
+use Rattle.script_hangul.proofs.hangul.preprocess_text.Goals as goal
+
+pub returns-in_err-start-clause-err : goal.returns-in_err-start-clause-err
+returns-in_err-start-clause-err c =
+    let e = c.in_err-start.field-0.0 in
+    let lt = c.loop-test.true in
+    let n = c.len-count.result - c.loop.counter in
+    let s = c.args.buffer.now in
+    let t = c.loop.buffer in
+    let font = c.args.face.now in
+    let flags = s.flags in
+    let circles : c.wants_circles-circles.result ≡ wants_circles flags = c.wants_circles-circles.ensures ∙ ap wants_circles c.flags.ensures in
+    let h : IsUnderway font c.wants_circles-circles.result n c.loop.start (with_output s) t = subst (λ (b : Sides). IsUnderway font c.wants_circles-circles.result n c.loop.start (with_output b) t) c.clear_output.ensures.after c.loop.invariant in
+    let h' : IsUnderway font (wants_circles flags) n c.loop.start (with_output s) t = subst (λ (b : Bool). IsUnderway font b n c.loop.start (with_output s) t) circles h in
+    let over : Exceeds (length (step font (wants_circles flags) c.loop.start (strip t.behind) (strip t.ahead)).out) e t = subst (λ (b : Bool). Exceeds (length (step font b c.loop.start (strip t.behind) (strip t.ahead)).out) e t) circles c.in_err-start.ensures.err in
+    passed_on c.from_residual-in_err-start.result e _ c.from_residual-in_err-start.ensures.1
+    (too_long font flags n c.loop.start e s t (omega (arith, lt)) h' over)
+
+pub loop-preserved : goal.loop-preserved
+loop-preserved c =
+    let lt = c.loop-test.true in
+    let n = c.len-count.result - c.loop.counter in
+    let one : n - 1 ≡ c.len-count.result - (c.loop.counter + 1) = omega arith in
+    subst (λ m. IsUnderway c.args.face.now c.wants_circles-circles.result m c.in_ok-start.start (with_output c.clear_output.new.self) c.pass.new.buffer) one
+    (more c.args.face.now c.wants_circles-circles.result n c.loop.start c.in_ok-start.start (with_output c.clear_output.new.self) c.loop.buffer c.pass.new.buffer (omega (arith, lt)) c.loop.invariant c.in_ok-start.ensures.ok)

@@ -1,0 +1,61 @@
+-- Hangul: a text whose syllables are composed or split as the font wants it, and whose tone marks come to stand before them.
+use Rattle.std.specs.Prelude.{ℕ, zero, suc, ◌+◌, ◌==◌, not, ◌&&◌, ◌||◌, Bool, false, nat_le, nat_lt, if◌then◌else◌, List, [], ◌∷◌, ◌++◌, length, drop, slice_get, Option, Some, None, Ok, Err}
+use Rattle.std.specs.Int.RustNames.{bit_and}
+use Rattle.glyph_types.specs.declared.cause.ShapeCause.TheVariants.{TooLong}
+use Rattle.glyph_types.specs.declared.level.BufferClusterLevel.{BufferClusterLevel}
+use Rattle.shaping_text.specs.declared.constants.BufferFlags.{BufferFlags}
+use Rattle.font_face.specs.declared.parts.FaceParts.{FaceParts}
+use Rattle.glyph_lists.specs.Items.{Item}
+use Rattle.glyph_lists.specs.Events.{Event}
+use Rattle.glyph_lists.specs.Readings.{Stage}
+use Rattle.glyph_buffer.specs.Sides.{zero_positions}
+use Rattle.script_hangul.specs.Jamo.{is_tone}
+use Rattle.script_hangul.specs.Actions.{action_on}
+use Rattle.script_hangul.specs.Steps.{Step, kept, performed, toned}
+
+-- circles are not switched off
+abbrev pub wants_circles : BufferFlags → Bool
+wants_circles flags = not (bit_and flags.0 16 == 16)
+
+-- a Unicode scalar value
+abbrev pub is_character : ℕ → Bool
+is_character u = nat_lt u 0xD800 || (nat_le 0xE000 u && nat_le u 0x10FFFF)
+
+abbrev pub character_by : Option Item → Option ℕ
+character_by None = None
+character_by (Some x) = if is_character x.number then Some x.number else None
+
+-- the character at a place, if one stands there
+abbrev pub character_at : ℕ → List Item → Option ℕ
+character_at i xs = character_by (slice_get xs i)
+
+-- what becomes of the front of the rest, by its first character, behind a text that ends with a syllable from a place on, or with none
+abbrev pub step_by : FaceParts → Bool → ℕ → Option ℕ → List Item → List Item → Step
+step_by font circles n None out xs = kept false out xs
+step_by font circles n (Some u) out xs = if is_tone u then toned font circles n u out xs else performed (action_on font u (character_at 1 xs) (character_at 2 xs)) out xs
+
+abbrev pub step : FaceParts → Bool → ℕ → List Item → List Item → Step
+step font circles n out xs = step_by font circles n (character_at 0 xs) out xs
+
+-- a text behind what came of the text before it, in at most so many steps
+abbrev pub text_behind : FaceParts → Bool → ℕ → ℕ → List Item → List Item → List Item
+text_behind font circles steps n out [] = out
+text_behind font circles zero n out (x ∷ xs) = out
+text_behind font circles (suc steps) n out (x ∷ xs) =
+    let s : Step = step font circles n out (x ∷ xs) in
+    text_behind font circles steps s.start s.out (drop (s.more + 1) (x ∷ xs))
+
+abbrev pub events_behind : FaceParts → Bool → BufferClusterLevel → ℕ → ℕ → List Item → List Item → List Event
+events_behind font circles level steps n out [] = []
+events_behind font circles level zero n out (x ∷ xs) = []
+events_behind font circles level (suc steps) n out (x ∷ xs) =
+    let s : Step = step font circles n out (x ∷ xs) in
+    s.events level ++ events_behind font circles level steps s.start s.out (drop (s.more + 1) (x ∷ xs))
+
+-- a text of Hangul, where it does not grow past the limit; each step takes an item at least, so as many steps as there are items are enough
+abbrev pub syllables_formed : FaceParts → BufferFlags → Stage
+syllables_formed font flags v =
+    let xs : List Item = text_behind font (wants_circles flags) (length v.items) 0 [] v.items in
+    if nat_le (length xs) v.max_len
+    then Ok (record { view = record v { items = xs; positions = zero_positions (length xs) }; events = λ level. events_behind font (wants_circles flags) level (length v.items) 0 [] v.items })
+    else Err TooLong

@@ -1,0 +1,6 @@
+pub mod Jamo
+pub mod Actions
+pub mod Steps
+pub mod Stepped
+pub mod Hangul
+pub mod Masks

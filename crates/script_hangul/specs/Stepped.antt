@@ -1,0 +1,37 @@
+-- A step through a text of Hangul in an open output.
+use Rattle.std.specs.Prelude.{ℕ, ◌≡◌, ◌<◌, ◌⊎◌, ◌+◌, ◌&&◌, Bool, true, false, nat_le, nat_lt, if◌then◌else◌, drop, length}
+use Rattle.glyph_types.specs.declared.cause.ShapeCause.{ShapeCause}
+use Rattle.glyph_lists.specs.Items.{strip}
+use Rattle.glyph_buffer.specs.Sides.{Sides}
+use Rattle.script_moves.specs.Walks.{Exceeds, Walked}
+use Rattle.script_hangul.specs.declared.jamo.Letters.{Letters}
+use Rattle.script_hangul.specs.declared.jamo.Letters.TheVariants.{Two, Three}
+use Rattle.script_hangul.specs.declared.actions.Action.{Action}
+use Rattle.script_hangul.specs.declared.actions.Action.TheVariants.{Keep, Apart, Compose, Split}
+use Rattle.font_face.specs.declared.parts.FaceParts.{FaceParts}
+use Rattle.script_hangul.specs.Steps.{Step}
+use Rattle.script_hangul.specs.Hangul.{step}
+
+-- a step was done, and a call tells where the syllable begins that ends the text
+pub record Stepped (s : Step) (n : ℕ) (old new : Sides) : Type 0 where
+  pub walked : Walked s.out (drop (s.more + 1) (strip old.ahead)) (s.events old.level) old new
+  pub start : n ≡ s.start
+
+-- it refuses for want of memory, or as what came of it is too long
+abbrev pub Refuses : Step → ShapeCause → Sides → Type 0
+Refuses s e old = Exceeds (length s.out) e old
+
+abbrev pub is_two : Letters → Bool
+is_two (Two l v) = true
+is_two (Three l v t) = false
+
+-- an action has the items that it takes: two or three letters stay apart, and two are joined by a third
+abbrev pub fits_ahead : Action → ℕ → Bool
+fits_ahead (Keep whole) n = nat_lt 0 n
+fits_ahead (Apart k) n = nat_le 2 k && nat_le k 3 && nat_le k n
+fits_ahead (Compose k u) n = nat_lt 0 k && nat_le k n
+fits_ahead (Split letters joins) n = if joins then nat_lt 1 n && is_two letters else nat_lt 0 n
+
+-- a step was done where there is something ahead, and nothing where there is not
+abbrev pub Passes : FaceParts → Bool → ℕ → ℕ → Sides → Sides → Type 0
+Passes font circles start n old new = ((length old.ahead ≡ 0) × ((n ≡ start) × (new ≡ old))) ⊎ ((0 < length old.ahead) × Stepped (step font circles start (strip old.behind) (strip old.ahead)) n old new)

@@ -1,0 +1,118 @@
+//! A text of Hangul.
+ghost use Rattle.std.specs.Prelude.{◌≡◌, ◌≢◌, ◌<◌, ◌≤◌, true, false, length, IfOk, OnOk, IfErr, Err};
+ghost use Rattle.glyph_lists.specs.Items.{strip};
+ghost use Rattle.glyph_lists.specs.Readings.{read_of};
+ghost use Rattle.glyph_buffer.specs.Sides.{run_of};
+ghost use Rattle.layout_rules.specs.Ready.{IsReady};
+ghost use Rattle.script_hangul.specs.Actions.{action_on};
+ghost use Rattle.script_hangul.specs.Steps.{performed};
+ghost use Rattle.script_hangul.specs.Hangul.{character_at, step, syllables_formed, wants_circles};
+ghost use Rattle.script_hangul.specs.Stepped.{Passes, Refuses, Stepped};
+ghost use Rattle.script_moves.specs.Walks.{Exceeds};
+ghost use Rattle.text_stages.specs.Stages.{IsFollowed};
+
+use crate::actions::action_on;
+use crate::jamo::is_tone;
+use crate::performing::{keep, perform};
+use crate::tones::put_tone;
+use bitflags::Flags;
+use font_face::Face;
+use glyph_buffer::buffer::hb_buffer_t;
+use glyph_types::cause::ShapeCause;
+use script_moves::walks::finish;
+use shaping_text::constants::BufferFlags;
+
+/// Composes letters to syllables that the font has, and splits syllables that it lacks into letters; marks letters that
+/// stay apart with their place in the syllable; puts tone marks that have a width before the syllable that they follow,
+/// and others beside a circle. It takes linear time.
+///
+/// # Errors
+///
+/// `TooLong` where the text would have more characters than the buffer may hold, or want of memory.
+pub fn preprocess_text(face: &Face, buffer: &mut hb_buffer_t) -> Result<(), ShapeCause>
+    requires ready { IsReady buffer.old }
+    ensures ok { OnOk result (IsFollowed (syllables_formed face.now buffer.old.flags) buffer.old buffer.new) }
+    ensures err { IfErr result (λ e. e ≢ ShapeCause.OutOfMemory → read_of (syllables_formed face.now buffer.old.flags) (run_of buffer.old) ≡ Err e) }
+{
+    let circles = wants_circles(buffer.flags());
+    let count = buffer.len();
+    buffer.clear_output()?;
+    let mut start = 0;
+    for _ in 0..count {
+        start = pass(face, circles, start, buffer)?;
+    }
+    finish(buffer)?;
+    Ok(())
+}
+
+fn wants_circles(flags: BufferFlags) -> bool
+    ensures { result ≡ wants_circles flags }
+{
+    !flags.contains(BufferFlags::DO_NOT_INSERT_DOTTED_CIRCLE)
+}
+
+/// What stands at the cursor goes behind it, if something does. Tells where the syllable begins that ends the output, or
+/// where the output ends.
+fn pass(
+    face: &Face,
+    circles: bool,
+    start: usize,
+    buffer: &mut hb_buffer_t,
+) -> Result<usize, ShapeCause>
+    requires open { buffer.old.is_open ≡ true }
+    ensures ok { IfOk result (λ n. Passes face.now circles start n buffer.old buffer.new) }
+    ensures err { IfErr result (λ e. Exceeds (length (step face.now circles start (strip buffer.old.behind) (strip buffer.old.ahead)).out) e buffer.old) }
+{
+    if buffer.lookahead_len() == 0 {
+        return Ok(start);
+    }
+    let next = pass_next(face, circles, start, buffer)?;
+    Ok(next)
+}
+
+/// What stands at the cursor goes behind it.
+fn pass_next(
+    face: &Face,
+    circles: bool,
+    start: usize,
+    buffer: &mut hb_buffer_t,
+) -> Result<usize, ShapeCause>
+    requires open { buffer.old.is_open ≡ true }
+    requires there { 0 < length buffer.old.ahead }
+    ensures ok { IfOk result (λ n. Stepped (step face.now circles start (strip buffer.old.behind) (strip buffer.old.ahead)) n buffer.old buffer.new) }
+    ensures err { IfErr result (λ e. Refuses (step face.now circles start (strip buffer.old.behind) (strip buffer.old.ahead)) e buffer.old) }
+{
+    match character_at(0, buffer) {
+        Some(u) => {
+            if is_tone(u) {
+                return put_tone(face, circles, start, u, buffer);
+            }
+            pass_other(face, u, buffer)
+        }
+        None => keep(false, buffer),
+    }
+}
+
+/// A character at the cursor that is no tone mark goes behind it, with those that are of its syllable.
+fn pass_other(face: &Face, u: char, buffer: &mut hb_buffer_t) -> Result<usize, ShapeCause>
+    requires open { buffer.old.is_open ≡ true }
+    requires there { 0 < length buffer.old.ahead }
+    ensures ok { IfOk result (λ n. Stepped (performed (action_on face.now u (character_at 1 (strip buffer.old.ahead)) (character_at 2 (strip buffer.old.ahead))) (strip buffer.old.behind) (strip buffer.old.ahead)) n buffer.old buffer.new) }
+    ensures err { IfErr result (λ e. Refuses (performed (action_on face.now u (character_at 1 (strip buffer.old.ahead)) (character_at 2 (strip buffer.old.ahead))) (strip buffer.old.behind) (strip buffer.old.ahead)) e buffer.old) }
+{
+    let second = character_at(1, buffer);
+    let third = character_at(2, buffer);
+    let action = action_on(face, u, second, third);
+    perform(action, buffer)
+}
+
+/// The character at a place from the cursor on, if one stands there.
+fn character_at(i: usize, buffer: &hb_buffer_t) -> Option<char>
+    ensures { result ≡ character_at i (strip buffer.now.ahead) }
+{
+    if i < buffer.lookahead_len() {
+        char::from_u32(buffer.cur(i).glyph_id)
+    } else {
+        None
+    }
+}

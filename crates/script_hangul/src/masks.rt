@@ -1,0 +1,57 @@
+//! The masks of the letters of Hangul.
+ghost use Rattle.std.specs.Prelude.{◌≡◌};
+ghost use Rattle.std.specs.Int.RustNames.{bit_and};
+ghost use Rattle.glyph_lists.specs.Items.{item_of};
+ghost use Rattle.glyph_lists.specs.Origins.{origin_of};
+ghost use Rattle.glyph_lists.specs.Readings.{always};
+ghost use Rattle.layout_rules.specs.Ready.{IsReady};
+ghost use Rattle.script_hangul.specs.Masks.{AreFlagless, mask_of, with_place_mask};
+ghost use Rattle.text_stages.specs.Stages.{IsFollowed, mapped};
+
+use crate::performing::{LJMO, TJMO, VJMO};
+use glyph_buffer::buffer::hb_buffer_t;
+use glyph_types::info::{hb_glyph_info_t, hb_mask_t};
+use text_stages::glyphs::map_glyphs;
+
+/// The masks of the features for the letters of a syllable, by their places in it.
+#[derive(Clone, Copy, PartialEq, Eq, Debug)]
+pub struct JamoMasks {
+    pub ljmo: hb_mask_t,
+    pub vjmo: hb_mask_t,
+    pub tjmo: hb_mask_t,
+}
+
+/// Joins to the mask of each letter that stands for itself that of the feature of its place. It takes linear time and no
+/// memory.
+pub fn setup_masks(masks: &JamoMasks, buffer: &mut hb_buffer_t)
+    requires ready { IsReady buffer.old }
+    requires flagless { AreFlagless masks.now }
+    ensures { IsFollowed (always (mapped (with_place_mask masks.now))) buffer.old buffer.new }
+{
+    map_glyphs(buffer, |glyph| with_place_mask(masks, glyph));
+}
+
+/// A glyph with the mask of its place.
+#[tactic(auto, using(crate::proofs::Masked::masked_item, crate::proofs::Masked::masked_origin))]
+fn with_place_mask(masks: &JamoMasks, glyph: &hb_glyph_info_t) -> hb_glyph_info_t
+    requires flagless { AreFlagless masks.now }
+    ensures item { item_of result ≡ with_place_mask masks.now (item_of glyph.now) }
+    ensures origin { origin_of result ≡ origin_of glyph.now }
+{
+    hb_glyph_info_t {
+        mask: glyph.mask | mask_of(masks, glyph.auxiliary),
+        ..*glyph
+    }
+}
+
+/// The mask of a place in a syllable.
+fn mask_of(masks: &JamoMasks, place: u8) -> hb_mask_t
+    ensures { result ≡ mask_of masks.now place }
+{
+    match place {
+        LJMO => masks.ljmo,
+        VJMO => masks.vjmo,
+        TJMO => masks.tjmo,
+        _ => 0,
+    }
+}

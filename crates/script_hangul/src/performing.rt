@@ -1,0 +1,206 @@
+//! What becomes of characters, done on a buffer.
+ghost use Rattle.std.specs.Prelude.{◌≡◌, if◌then◌else◌, ◌<◌, ◌≤◌, ◌+◌, ◌++◌, ◌∷◌, [], true, drop, length, take, slice_get, Some, IfOk, IfErr, OnOk};
+ghost use Rattle.glyph_lists.specs.Items.{item_of, strip};
+ghost use Rattle.glyph_lists.specs.Origins.{origin_of};
+ghost use Rattle.glyph_lists.specs.Replacements.{item_numbered};
+ghost use Rattle.glyph_lists.specs.Events.{Replace};
+ghost use Rattle.script_hangul.specs.Steps.{apart, composed, grapheme_merged, kept, letters_from, numbers_of, parted, performed, placed, split};
+ghost use Rattle.script_hangul.specs.Stepped.{Refuses, Stepped, fits_ahead};
+ghost use Rattle.script_moves.specs.Walks.{Exceeds, Walked};
+
+use crate::actions::Action;
+use crate::jamo::Letters;
+use glyph_buffer::buffer::hb_buffer_t;
+use glyph_types::cause::ShapeCause;
+use glyph_types::info::hb_glyph_info_t;
+use glyph_types::level::BufferClusterLevel;
+use script_moves::walks::{advance, advance_as, merge_behind, replace_current, replace_front};
+
+/// What the letters of a syllable are marked with: their places in it.
+pub const LJMO: u8 = 1;
+
+pub const VJMO: u8 = 2;
+
+pub const TJMO: u8 = 3;
+
+/// Does what an action says to the characters at the cursor. Tells where the syllable begins that ends the output and a
+/// tone mark may follow, or where the output ends.
+pub(crate) fn perform(action: Action, buffer: &mut hb_buffer_t) -> Result<usize, ShapeCause>
+    requires open { buffer.old.is_open ≡ true }
+    requires there { fits_ahead action (length buffer.old.ahead) ≡ true }
+    ensures ok { IfOk result (λ n. Stepped (performed action (strip buffer.old.behind) (strip buffer.old.ahead)) n buffer.old buffer.new) }
+    ensures err { IfErr result (λ e. Refuses (performed action (strip buffer.old.behind) (strip buffer.old.ahead)) e buffer.old) }
+{
+    match action {
+        Action::Keep(is_whole) => keep(is_whole, buffer),
+        Action::Apart(count) => put_apart(count, buffer),
+        Action::Compose(count, u) => compose(count, u, buffer),
+        Action::Split(letters, joins) => split(letters, joins, buffer),
+    }
+}
+
+/// The character at the cursor stays as it is.
+pub(crate) fn keep(is_whole: bool, buffer: &mut hb_buffer_t) -> Result<usize, ShapeCause>
+    requires open { buffer.old.is_open ≡ true }
+    requires there { 0 < length buffer.old.ahead }
+    ensures ok { IfOk result (λ n. Stepped (kept is_whole (strip buffer.old.behind) (strip buffer.old.ahead)) n buffer.old buffer.new) }
+    ensures err { IfErr result (λ e. Refuses (kept is_whole (strip buffer.old.behind) (strip buffer.old.ahead)) e buffer.old) }
+{
+    let at = buffer.out_len();
+    advance(buffer)?;
+    if is_whole {
+        return Ok(at);
+    }
+    let end = buffer.out_len();
+    Ok(end)
+}
+
+/// So many characters at the cursor become a syllable.
+fn compose(count: usize, u: char, buffer: &mut hb_buffer_t) -> Result<usize, ShapeCause>
+    requires open { buffer.old.is_open ≡ true }
+    requires some { 0 < count }
+    requires there { count ≤ length buffer.old.ahead }
+    ensures ok { IfOk result (λ n. Stepped (composed count u (strip buffer.old.behind) (strip buffer.old.ahead)) n buffer.old buffer.new) }
+    ensures err { IfErr result (λ e. Refuses (composed count u (strip buffer.old.behind) (strip buffer.old.ahead)) e buffer.old) }
+{
+    let at = buffer.out_len();
+    replace_front(count, u32::from(u), buffer)?;
+    Ok(at)
+}
+
+/// Two or three letters at the cursor stay apart, as one syllable.
+fn put_apart(count: usize, buffer: &mut hb_buffer_t) -> Result<usize, ShapeCause>
+    requires open { buffer.old.is_open ≡ true }
+    requires there { fits_ahead (Action.Apart count) (length buffer.old.ahead) ≡ true }
+    ensures ok { IfOk result (λ n. Stepped (apart count (strip buffer.old.behind) (strip buffer.old.ahead)) n buffer.old buffer.new) }
+    ensures err { IfErr result (λ e. Refuses (apart count (strip buffer.old.behind) (strip buffer.old.ahead)) e buffer.old) }
+{
+    let at = buffer.out_len();
+    put_letter(LJMO, buffer)?;
+    put_letter(VJMO, buffer)?;
+    if count == 3 {
+        put_third(at, buffer)?;
+        return Ok(at);
+    }
+    merge_grapheme(at, 2, buffer);
+    Ok(at)
+}
+
+/// The letter at the cursor goes behind it, marked with its place in a syllable.
+fn put_letter(place: u8, buffer: &mut hb_buffer_t) -> Result<(), ShapeCause>
+    requires open { buffer.old.is_open ≡ true }
+    requires there { 0 < length buffer.old.ahead }
+    ensures ok { OnOk result (Walked (strip buffer.old.behind ++ letters_from place (take 1 (strip buffer.old.ahead))) (drop 1 (strip buffer.old.ahead)) [] buffer.old buffer.new) }
+    ensures err { IfErr result (λ e. Exceeds (length buffer.old.behind + 1) e buffer.old) }
+{
+    let letter = placed(buffer.cur(0), place);
+    advance_as(letter, buffer)?;
+    Ok(())
+}
+
+/// A letter marked with its place in a syllable.
+fn placed(glyph: &hb_glyph_info_t, place: u8) -> hb_glyph_info_t
+    ensures item { item_of result ≡ placed place (item_of glyph.now) }
+    ensures origin { origin_of result ≡ origin_of glyph.now }
+{
+    hb_glyph_info_t {
+        auxiliary: place,
+        ..*glyph
+    }
+}
+
+/// A letter of the syllable that a glyph is, marked with its place in it.
+fn letter_of(glyph: &hb_glyph_info_t, u: char, place: u8) -> hb_glyph_info_t
+    ensures item { item_of result ≡ placed place (item_numbered (item_of glyph.now) u) }
+    ensures origin { origin_of result ≡ origin_of glyph.now }
+{
+    hb_glyph_info_t {
+        glyph_id: u32::from(u),
+        auxiliary: place,
+        ..*glyph
+    }
+}
+
+/// The glyphs of the output from a place on become one grapheme, where graphemes are to be clusters.
+fn merge_grapheme(at: usize, count: usize, buffer: &mut hb_buffer_t)
+    requires open { buffer.old.is_open ≡ true }
+    requires within { at + count ≡ length buffer.old.behind }
+    ensures { Walked (strip buffer.old.behind) (strip buffer.old.ahead) (grapheme_merged buffer.old.level at count) buffer.old buffer.new }
+{
+    let end = buffer.out_len();
+    match buffer.cluster_level() {
+        BufferClusterLevel::MonotoneGraphemes => merge_behind(at, end, buffer),
+        BufferClusterLevel::MonotoneCharacters | BufferClusterLevel::Characters => {}
+    }
+}
+
+/// The third letter at the cursor goes behind the others, and all three become one grapheme.
+fn put_third(at: usize, buffer: &mut hb_buffer_t) -> Result<(), ShapeCause>
+    requires open { buffer.old.is_open ≡ true }
+    requires there { 0 < length buffer.old.ahead }
+    requires two { at + 2 ≡ length buffer.old.behind }
+    ensures ok { OnOk result (Walked (strip buffer.old.behind ++ letters_from 3 (take 1 (strip buffer.old.ahead))) (drop 1 (strip buffer.old.ahead)) (grapheme_merged buffer.old.level at 3) buffer.old buffer.new) }
+    ensures err { IfErr result (λ e. Exceeds (length buffer.old.behind + 1) e buffer.old) }
+{
+    put_letter(TJMO, buffer)?;
+    merge_grapheme(at, 3, buffer);
+    Ok(())
+}
+
+/// The syllable at the cursor becomes its letters; a trailing consonant behind it joins two of them.
+fn split(letters: Letters, joins: bool, buffer: &mut hb_buffer_t) -> Result<usize, ShapeCause>
+    requires open { buffer.old.is_open ≡ true }
+    requires there { fits_ahead (Action.Split letters joins) (length buffer.old.ahead) ≡ true }
+    ensures ok { IfOk result (λ n. Stepped (split letters (if joins then 1 else 0) (strip buffer.old.behind) (strip buffer.old.ahead)) n buffer.old buffer.new) }
+    ensures err { IfErr result (λ e. Refuses (split letters (if joins then 1 else 0) (strip buffer.old.behind) (strip buffer.old.ahead)) e buffer.old) }
+{
+    let at = buffer.out_len();
+    put_parts(letters, buffer)?;
+    if joins {
+        put_third(at, buffer)?;
+        return Ok(at);
+    }
+    let count = buffer.out_len() - at;
+    merge_grapheme(at, count, buffer);
+    Ok(at)
+}
+
+/// The letters of the syllable at the cursor take its place behind it.
+fn put_parts(letters: Letters, buffer: &mut hb_buffer_t) -> Result<(), ShapeCause>
+    requires open { buffer.old.is_open ≡ true }
+    requires there { 0 < length buffer.old.ahead }
+    ensures ok { OnOk result (Walked (strip buffer.old.behind ++ letters_from 1 (parted letters (strip buffer.old.ahead))) (drop 1 (strip buffer.old.ahead)) (Replace (length buffer.old.behind) 1 (length (numbers_of letters)) ∷ []) buffer.old buffer.new) }
+    ensures err { IfErr result (λ e. Exceeds (length buffer.old.behind + length (numbers_of letters)) e buffer.old) }
+{
+    match letters {
+        Letters::Two(l, v) => put_two(l, v, buffer),
+        Letters::Three(l, v, t) => put_three(l, v, t, buffer),
+    }
+}
+
+fn put_two(l: char, v: char, buffer: &mut hb_buffer_t) -> Result<(), ShapeCause>
+    requires open { buffer.old.is_open ≡ true }
+    requires there { 0 < length buffer.old.ahead }
+    ensures ok { OnOk result (Walked (strip buffer.old.behind ++ letters_from 1 (parted (Letters.Two l v) (strip buffer.old.ahead))) (drop 1 (strip buffer.old.ahead)) (Replace (length buffer.old.behind) 1 2 ∷ []) buffer.old buffer.new) }
+    ensures err { IfErr result (λ e. Exceeds (length buffer.old.behind + 2) e buffer.old) }
+{
+    let glyph = *buffer.cur(0);
+    let leading = letter_of(&glyph, l, LJMO);
+    let vowel = letter_of(&glyph, v, VJMO);
+    replace_current(&[leading, vowel], buffer)?;
+    Ok(())
+}
+
+fn put_three(l: char, v: char, t: char, buffer: &mut hb_buffer_t) -> Result<(), ShapeCause>
+    requires open { buffer.old.is_open ≡ true }
+    requires there { 0 < length buffer.old.ahead }
+    ensures ok { OnOk result (Walked (strip buffer.old.behind ++ letters_from 1 (parted (Letters.Three l v t) (strip buffer.old.ahead))) (drop 1 (strip buffer.old.ahead)) (Replace (length buffer.old.behind) 1 3 ∷ []) buffer.old buffer.new) }
+    ensures err { IfErr result (λ e. Exceeds (length buffer.old.behind + 3) e buffer.old) }
+{
+    let glyph = *buffer.cur(0);
+    let leading = letter_of(&glyph, l, LJMO);
+    let vowel = letter_of(&glyph, v, VJMO);
+    let trailing = letter_of(&glyph, t, TJMO);
+    replace_current(&[leading, vowel, trailing], buffer)?;
+    Ok(())
+}

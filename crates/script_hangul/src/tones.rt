@@ -1,0 +1,102 @@
+//! Tone marks.
+ghost use Rattle.std.specs.Prelude.{◌≡◌, ◌<◌, ◌≤◌, true, false, length, IfOk, IfErr};
+ghost use Rattle.glyph_lists.specs.Items.{item_of, strip};
+ghost use Rattle.glyph_lists.specs.Origins.{origin_of};
+ghost use Rattle.script_hangul.specs.Steps.{before_syllable, circle_for, has_no_width, toned, with_circle};
+ghost use Rattle.script_hangul.specs.Stepped.{Refuses, Stepped};
+
+use crate::performing::keep;
+use font_face::Face;
+use glyph_buffer::buffer::hb_buffer_t;
+use glyph_properties::character::properties_of;
+use glyph_types::cause::ShapeCause;
+use glyph_types::flags::UnicodeProps;
+use glyph_types::info::hb_glyph_info_t;
+use script_moves::walks::{advance, move_behind, replace_current};
+
+const DOTTED_CIRCLE: char = '\u{25CC}';
+
+/// The tone mark at the cursor goes behind it: before the syllable that begins at `start` of the output, where it has a
+/// width; and where no syllable ends the output, beside a circle, where those are wanted and the font has one. Tells where
+/// the output ends.
+pub(crate) fn put_tone(
+    face: &Face,
+    circles: bool,
+    start: usize,
+    u: char,
+    buffer: &mut hb_buffer_t,
+) -> Result<usize, ShapeCause>
+    requires open { buffer.old.is_open ≡ true }
+    requires there { 0 < length buffer.old.ahead }
+    ensures ok { IfOk result (λ n. Stepped (toned face.now circles start u (strip buffer.old.behind) (strip buffer.old.ahead)) n buffer.old buffer.new) }
+    ensures err { IfErr result (λ e. Refuses (toned face.now circles start u (strip buffer.old.behind) (strip buffer.old.ahead)) e buffer.old) }
+{
+    let is_thin = has_no_width(face, u);
+    if start < buffer.out_len() {
+        if is_thin {
+            return keep(false, buffer);
+        }
+        return put_before(start, buffer);
+    }
+    if circles && face.has_glyph(DOTTED_CIRCLE) {
+        return put_circle(is_thin, buffer);
+    }
+    keep(false, buffer)
+}
+
+/// The mark at the cursor comes to stand before what the output has from `start` on, and merges with it.
+fn put_before(start: usize, buffer: &mut hb_buffer_t) -> Result<usize, ShapeCause>
+    requires open { buffer.old.is_open ≡ true }
+    requires there { 0 < length buffer.old.ahead }
+    requires before { start < length buffer.old.behind }
+    ensures ok { IfOk result (λ n. Stepped (before_syllable start (strip buffer.old.behind) (strip buffer.old.ahead)) n buffer.old buffer.new) }
+    ensures err { IfErr result (λ e. Refuses (before_syllable start (strip buffer.old.behind) (strip buffer.old.ahead)) e buffer.old) }
+{
+    let middle = buffer.out_len();
+    advance(buffer)?;
+    let end = buffer.out_len();
+    move_behind(start, middle, end, buffer);
+    Ok(end)
+}
+
+/// The mark at the cursor goes behind it beside a circle.
+fn put_circle(is_thin: bool, buffer: &mut hb_buffer_t) -> Result<usize, ShapeCause>
+    requires open { buffer.old.is_open ≡ true }
+    requires there { 0 < length buffer.old.ahead }
+    ensures ok { IfOk result (λ n. Stepped (with_circle is_thin (strip buffer.old.behind) (strip buffer.old.ahead)) n buffer.old buffer.new) }
+    ensures err { IfErr result (λ e. Refuses (with_circle is_thin (strip buffer.old.behind) (strip buffer.old.ahead)) e buffer.old) }
+{
+    let mark = *buffer.cur(0);
+    let circle = circle_for(&mark);
+    if is_thin {
+        replace_current(&[circle, mark], buffer)?;
+        let end = buffer.out_len();
+        return Ok(end);
+    }
+    replace_current(&[mark, circle], buffer)?;
+    let end = buffer.out_len();
+    Ok(end)
+}
+
+/// A circle for a mark to stand on.
+fn circle_for(mark: &hb_glyph_info_t) -> hb_glyph_info_t
+    ensures item { item_of result ≡ circle_for (item_of mark.now) }
+    ensures origin { origin_of result ≡ origin_of mark.now }
+{
+    hb_glyph_info_t {
+        glyph_id: u32::from(DOTTED_CIRCLE),
+        unicode_props: UnicodeProps(properties_of(DOTTED_CIRCLE)),
+        modified_combining_class: 0,
+        ..*mark
+    }
+}
+
+/// Whether the font has a glyph of no width for a character.
+fn has_no_width(face: &Face, u: char) -> bool
+    ensures { result ≡ has_no_width face.now u }
+{
+    match face.get_nominal_glyph(u) {
+        Some(glyph) => face.glyph_h_advance(glyph) == 0,
+        None => false,
+    }
+}

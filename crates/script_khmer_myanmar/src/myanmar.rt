@@ -1,0 +1,243 @@
+//! Myanmar: the glyphs of a syllable go to their places around its base.
+ghost use Rattle.std.specs.Prelude.{◌≡◌, ◌≤◌, ◌<◌, ◌++◌, ◌∷◌, false, [], ◌+◌, length, map, take, drop, slice_range, if◌then◌else◌, OnOk};
+ghost use Rattle.std.specs.List.{slice_rotate_right};
+ghost use Rattle.glyph_lists.specs.Items.{item_of, strip};
+ghost use Rattle.glyph_lists.specs.Readings.{always};
+ghost use Rattle.glyph_buffer.specs.Sides.{all_glyphs, items_of, origins_by, origins_of};
+ghost use Rattle.glyph_buffer.specs.Sorting.{with_range_sorted};
+ghost use Rattle.glyph_lists.specs.Events.{Sort};
+ghost use Rattle.glyph_slices.specs.Events.{order_of};
+ghost use Rattle.stable_order.specs.Keys.{key_order};
+ghost use Rattle.layout_rules.specs.Ready.{IsReady};
+ghost use Rattle.text_stages.specs.Stages.{IsFollowed};
+ghost use Rattle.script_walks.specs.Rewriting.{by_syllable};
+ghost use Rattle.script_walks.specs.Buffers.{IsRewritten, with_rule};
+ghost use Rattle.script_khmer_myanmar.specs.Myanmar.{all_placed, groups_reversed, has_two_matras, is_left_matra, matras_of, matras_reversed, myanmar_places, myanmar_reordered, myanmar_syllable, sorted_by_place};
+ghost use Rattle.script_khmer_myanmar.specs.Turned.{glyphs_at, leading_turned};
+
+use crate::glyphs::glyph_in;
+use crate::places::set_places;
+use glyph_buffer::buffer::hb_buffer_t;
+use glyph_types::info::hb_glyph_info_t;
+use script_constants::hb_ot_script_shaper_t::MYANMAR_SHAPER;
+use script_constants::ot_category_t::OT_VPre;
+use script_constants::ot_position_t::POS_PRE_M;
+use script_walks::walk::{SyllableRule, each_syllable};
+use std::alloc::{AllocError, Global};
+
+/// Reorders each Myanmar syllable that is one: its glyphs get their places around its base, as their `auxiliary`, and go in
+/// stable order by them, with each smallest span that the order permutes merged. Two or more left matras, each with its
+/// selectors, are then reversed and merge.
+///
+/// # Errors
+///
+/// Want of memory for the order of a syllable.
+pub fn reorder_myanmar(alloc: Global, buffer: &mut hb_buffer_t) -> Result<(), AllocError>
+    requires ready { IsReady buffer.old }
+    ensures { OnOk result (IsFollowed (always (with_rule (by_syllable myanmar_syllable))) buffer.old buffer.new) }
+{
+    let order = MyanmarOrder { alloc };
+    each_syllable(&order, buffer)
+}
+
+#[derive(Clone, Copy)]
+struct MyanmarOrder {
+    alloc: Global,
+}
+
+impl SyllableRule for MyanmarOrder {
+    ghost use Rattle.script_khmer_myanmar.specs.Myanmar.{myanmar_syllable};
+    ghost use Rattle.script_khmer_myanmar.specs.Lemmas.MyanmarSize.{myanmar_keeps};
+
+    ghost rewritten = { λ _. myanmar_syllable };
+
+    fn rewrite(
+        &self,
+        buffer: &mut hb_buffer_t,
+        start: usize,
+        end: usize,
+    ) -> Result<(), AllocError> {
+        let Some(first) = glyph_in(buffer, start, end, 0) else {
+            return Ok(());
+        };
+        if !MYANMAR_SHAPER.is_reordered(first.syllable & 15) {
+            return Ok(());
+        }
+        reorder_syllable(self.alloc, buffer, start, end)
+    }
+
+    ghost keeps_length = { λ _. myanmar_keeps };
+}
+
+#[tactic(auto, using(crate::proofs::MyanmarSteps::placed_count, crate::proofs::MyanmarSteps::sorted_count))]
+fn reorder_syllable(
+    alloc: Global,
+    buffer: &mut hb_buffer_t,
+    start: usize,
+    end: usize,
+) -> Result<(), AllocError>
+    requires ready { IsReady buffer.old }
+    requires ordered { start ≤ end }
+    requires within { end ≤ length (all_glyphs buffer.old) }
+    ensures { OnOk result (IsRewritten (myanmar_reordered (slice_range (items_of buffer.old) start end)) start end
+        buffer.old buffer.new) }
+{
+    place_syllable(buffer, start, end);
+    sort_by_place(alloc, buffer, start, end)?;
+    reverse_matras(buffer, start, end);
+    Ok(())
+}
+
+fn place_syllable(buffer: &mut hb_buffer_t, start: usize, end: usize)
+    requires ready { IsReady buffer.old }
+    requires ordered { start ≤ end }
+    requires within { end ≤ length (all_glyphs buffer.old) }
+    ensures { IsRewritten (all_placed (slice_range (items_of buffer.old) start end)) start end buffer.old buffer.new }
+{
+    place_within(buffer.info_slice_mut(), start, end);
+}
+
+fn place_within(glyphs: &mut [hb_glyph_info_t], start: usize, end: usize)
+    requires ordered { start ≤ end }
+    requires within { end ≤ length glyphs.old }
+    ensures { glyphs.new ≡ take start glyphs.old ++ glyphs_at (myanmar_places (map (λ g. g.category)
+        (slice_range glyphs.old start end))) (slice_range glyphs.old start end) ++ drop end glyphs.old }
+{
+    set_places(&mut glyphs[start..end]);
+}
+
+fn sort_by_place(
+    alloc: Global,
+    buffer: &mut hb_buffer_t,
+    start: usize,
+    end: usize,
+) -> Result<(), AllocError>
+    requires ready { IsReady buffer.old }
+    requires ordered { start ≤ end }
+    requires within { end ≤ length (all_glyphs buffer.old) }
+    ensures { OnOk result (IsRewritten (sorted_by_place (slice_range (items_of buffer.old) start end)) start end
+        buffer.old buffer.new) }
+{
+    sort_glyphs(alloc, buffer, start, end)?;
+    Ok(())
+}
+
+fn sort_glyphs(
+    alloc: Global,
+    buffer: &mut hb_buffer_t,
+    start: usize,
+    end: usize,
+) -> Result<(), AllocError>
+    requires closed { buffer.old.is_open ≡ false }
+    requires ordered { start ≤ end }
+    requires within { end ≤ length (all_glyphs buffer.old) }
+    ensures sorted { OnOk result (buffer.new ≡ with_range_sorted start end (λ g. g.auxiliary) buffer.old) }
+    ensures items { OnOk result (items_of buffer.new
+        ≡ take start (items_of buffer.old) ++ key_order (λ x. x.auxiliary) (slice_range (items_of buffer.old) start end)
+        ++ drop end (items_of buffer.old)) }
+    ensures origins { OnOk result (origins_of buffer.new
+        ≡ origins_by (Sort start (order_of (map (λ x. x.auxiliary) (slice_range (items_of buffer.old) start end))) ∷ [])
+        buffer.old) }
+    ensures count { length (all_glyphs buffer.new) ≡ length (all_glyphs buffer.old) }
+{
+    buffer.sort(alloc, start, end, |glyph| u32::from(glyph.auxiliary))
+}
+
+fn reverse_matras(buffer: &mut hb_buffer_t, start: usize, end: usize)
+    requires ready { IsReady buffer.old }
+    requires ordered { start ≤ end }
+    requires within { end ≤ length (all_glyphs buffer.old) }
+    ensures { IsRewritten (matras_reversed (slice_range (items_of buffer.old) start end)) start end buffer.old
+        buffer.new }
+{
+    let matras = matras_of(&buffer.info_slice()[start..end]);
+    if !has_two_matras(&buffer.info_slice()[start..start + matras]) {
+        return;
+    }
+    reverse_groups(buffer, start, start + matras);
+}
+
+/// How many glyphs in front are left matras with their selectors.
+#[tactic(auto, using(crate::proofs::MyanmarSteps::matra_next, crate::proofs::MyanmarSteps::matra_last, crate::proofs::MyanmarSteps::all_matras))]
+fn matras_of(glyphs: &[hb_glyph_info_t]) -> usize
+    ensures count { result ≡ matras_of (strip glyphs.now) }
+    ensures within { result ≤ length glyphs.now }
+{
+    for (i, glyph) in glyphs.iter().enumerate() {
+        if glyph.auxiliary != POS_PRE_M {
+            return i;
+        }
+    }
+    glyphs.len()
+}
+
+#[tactic(auto, using(crate::proofs::MyanmarSteps::first_left, crate::proofs::MyanmarSteps::second_left, crate::proofs::MyanmarSteps::none_left, crate::proofs::MyanmarSteps::no_second))]
+fn has_two_matras(glyphs: &[hb_glyph_info_t]) -> bool
+    ensures { result ≡ has_two_matras (strip glyphs.now) }
+{
+    let mut is_second = false;
+    for glyph in glyphs {
+        if is_left_matra(glyph) {
+            if is_second {
+                return true;
+            }
+            is_second = true;
+        }
+    }
+    false
+}
+
+fn is_left_matra(glyph: &hb_glyph_info_t) -> bool
+    ensures { result ≡ is_left_matra (item_of glyph.now) }
+{
+    glyph.category == OT_VPre
+}
+
+fn reverse_groups(buffer: &mut hb_buffer_t, start: usize, end: usize)
+    requires ready { IsReady buffer.old }
+    requires ordered { start ≤ end }
+    requires within { end ≤ length (all_glyphs buffer.old) }
+    ensures { IsRewritten (groups_reversed (slice_range (items_of buffer.old) start end)) start end buffer.old
+        buffer.new }
+{
+    buffer.merge_clusters(start, end);
+    turn_within(buffer.info_slice_mut(), start, end);
+}
+
+fn turn_within(glyphs: &mut [hb_glyph_info_t], start: usize, end: usize)
+    requires ordered { start ≤ end }
+    requires within { end ≤ length glyphs.old }
+    ensures { glyphs.new ≡ take start glyphs.old ++ leading_turned (λ g. is_left_matra (item_of g))
+        (slice_range glyphs.old start end) [] [] ++ drop end glyphs.old }
+{
+    turn_groups(&mut glyphs[start..end]);
+}
+
+/// Groups that begin with left matras, the last in front: a left matra goes to the front, and what stands behind it follows.
+#[tactic(auto, using(crate::proofs::Groups::none_turned, crate::proofs::Groups::turned_end))]
+fn turn_groups(glyphs: &mut [hb_glyph_info_t])
+    ensures { glyphs.new ≡ leading_turned (λ g. is_left_matra (item_of g)) glyphs.old [] [] }
+{
+    let mut group = 0;
+    for i in 0..glyphs.len() {
+        let at = place_in_front(&glyphs[i], group);
+        put_in_front(glyphs, at, i);
+        group = at + 1;
+    }
+}
+
+/// A left matra goes to the front, another glyph behind the group that stands there.
+fn place_in_front(glyph: &hb_glyph_info_t, group: usize) -> usize
+    ensures { result ≡ (if is_left_matra (item_of glyph.now) then 0 else group) }
+{
+    if is_left_matra(glyph) { 0 } else { group }
+}
+
+fn put_in_front(glyphs: &mut [hb_glyph_info_t], at: usize, i: usize)
+    requires ordered { at ≤ i }
+    requires within { i < length glyphs.old }
+    ensures { glyphs.new ≡ take at glyphs.old ++ slice_rotate_right (slice_range glyphs.old at (i + 1)) 1
+        ++ drop (i + 1) glyphs.old }
+{
+    glyphs[at..i + 1].rotate_right(1);
+}
