@@ -2,3 +2,4 @@ pub mod Paired
 pub mod Attached
 pub mod MarkMark
 pub mod MarkLig
+pub mod Kept

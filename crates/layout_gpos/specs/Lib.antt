@@ -5,3 +5,4 @@ pub mod Pairs
 pub mod Anchors
 pub mod Marks
 pub mod Lemmas
+pub mod Bases

@@ -3,6 +3,7 @@
 
 pub mod anchor;
 pub mod apply;
+pub mod bases;
 pub mod mark;
 pub mod mark_lig;
 pub mod mark_mark;

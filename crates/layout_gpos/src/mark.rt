@@ -6,13 +6,15 @@ ghost use Rattle.layout_match.specs.Applied.{applied_of};
 ghost use Rattle.layout_rules.specs.Buffers.{are_glyphs};
 ghost use Rattle.layout_rules.specs.Performing.{Performed, cut_with};
 ghost use Rattle.layout_gpos.specs.Anchors.{is_near, mark_hung, told_if};
+ghost use Rattle.layout_gpos.specs.Bases.{IsKept, any_base};
 ghost use Rattle.layout_gpos.specs.Marks.{attach, attach_if, is_there, mark_to_base, on_base, with_found};
 
 use crate::anchor::{hang_mark, is_near};
 use crate::apply::Apply;
+use crate::bases::{LastBase, base_before};
 use crate::marking::{mark_attempt, mark_match};
 use crate::placing::pass;
-use crate::search::{base_before, glyph_before};
+use crate::search::glyph_before;
 use glyph_buffer::buffer::hb_buffer_t;
 use layout_match::hb_ot_apply_context_t;
 use layout_positions::mark::{MarkBasePos, MarkRecord};
@@ -131,24 +133,28 @@ pub fn attach_to_base(
 
 /// Mark to base attachment (OpenType, GPOS lookup type 4): where the subtable covers the mark at the cursor, it hangs on the
 /// nearest glyph before it that is neither a mark nor a later component of a multiple substitution, anchor on anchor. It
-/// tells whether it acted; where it didn't, it changed glyph flags alone.
+/// tells whether it acted; where it didn't, it changed glyph flags alone. The search for the base goes on from the last one
+/// of the same lookup on these glyphs.
 #[tactic(auto, using(layout_rules::specs::Lemmas::Glyphs::number_ahead, crate::proofs::Attached::no_base_mark, crate::proofs::Attached::base_mark))]
 pub fn apply_mark_base_pos(
     subtable: &MarkBasePos,
     ctx: &hb_ot_apply_context_t,
+    last: &mut LastBase,
     buffer: &mut hb_buffer_t,
 ) -> bool
     requires closed { buffer.old.is_open ≡ false }
     requires there { 0 < length buffer.old.ahead }
     requires placed { length buffer.old.positions ≡ length (all_glyphs buffer.old) }
     requires number { are_glyphs (items_of buffer.old) ≡ true }
-    ensures { (random : ℕ) → Performed (mark_to_base (applied_of ctx.now) subtable.now (cut_with random
+    requires kept { IsKept (any_base (applied_of ctx.now)) (items_of buffer.old) last.old }
+    ensures performed { (random : ℕ) → Performed (mark_to_base (applied_of ctx.now) subtable.now (cut_with random
         buffer.old)) result random random buffer.old buffer.new }
+    ensures kept { IsKept (any_base (applied_of ctx.now)) (items_of buffer.new) last.new }
 {
     let Some(mark) = subtable.mark(buffer.cur(0).as_glyph().0) else {
         return false;
     };
-    let found = base_before(ctx, buffer);
+    let found = base_before(ctx, last, buffer);
     attach_found(subtable, mark, found, buffer)
 }
 
@@ -183,6 +189,6 @@ impl Apply for MarkBasePos {
     ghost action = { λ s d a. mark_to_base a s };
 
     fn apply(&self, ctx: &hb_ot_apply_context_t, buffer: &mut hb_buffer_t) -> bool {
-        apply_mark_base_pos(self, ctx, buffer)
+        apply_mark_base_pos(self, ctx, &mut LastBase::new(), buffer)
     }
 }

@@ -52,7 +52,7 @@ pub fn item_before(ctx: &hb_ot_apply_context_t, buffer: &hb_buffer_t) -> Result<
     iter.prev(buffer)
 }
 
-fn is_later_component(info: &hb_glyph_info_t) -> bool
+pub(crate) fn is_later_component(info: &hb_glyph_info_t) -> bool
     ensures { result ≡ is_later_component (item_of info.now) }
 {
     _hb_glyph_info_multiplied(info)
@@ -60,7 +60,7 @@ fn is_later_component(info: &hb_glyph_info_t) -> bool
         && _hb_glyph_info_get_lig_comp(info) > 0
 }
 
-fn base_answer(is_later: bool, answer: match_t) -> match_t
+pub(crate) fn base_answer(is_later: bool, answer: match_t) -> match_t
     ensures { result ≡ base_answer is_later answer }
 {
     match answer {
@@ -72,7 +72,7 @@ fn base_answer(is_later: bool, answer: match_t) -> match_t
 /// The nearest glyph before the cursor that a mark may hang on, marks and later components being passed over; else how far
 /// the search read.
 #[tactic(auto, using(crate::specs::Lemmas::Nearest::taken_before, crate::specs::Lemmas::Nearest::refused_before, crate::specs::Lemmas::Nearest::passed_before, crate::specs::Lemmas::Nearest::ended_before))]
-pub fn base_before(ctx: &hb_ot_apply_context_t, buffer: &hb_buffer_t) -> Result<usize, usize>
+pub fn search_base(ctx: &hb_ot_apply_context_t, buffer: &hb_buffer_t) -> Result<usize, usize>
     requires { 0 < length buffer.now.ahead }
     ensures found { result ≡ base_before (applied_of ctx.now) (cut_of buffer.now) }
     ensures inside { IfOk result (λ at. at < length buffer.now.behind) }

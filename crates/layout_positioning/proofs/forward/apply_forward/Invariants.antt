@@ -1,4 +1,6 @@
 use Rattle.std.proofs.Common.{◌-◌}
+use Rattle.glyph_buffer.specs.Sides.{items_of}
+use Rattle.layout_gpos.specs.Bases.{IsKept, any_base}
 use Rattle.layout_match.specs.Applied.{applied_of}
 use Rattle.layout_stages.specs.Lemmas.Passage.{IsUnderway}
 use Rattle.layout_positioning.specs.Lookups.{lookup_action}
@@ -6,4 +8,7 @@ use Rattle.layout_positioning.proofs.forward.apply_forward.Given as goal
 
 -- as many steps are left as were not made
 abbrev pub invariant-loop : goal.invariant-loop
-invariant-loop l = IsUnderway (lookup_action l.table.lookups l.fn.buffer.direction (applied_of l.ctx) l.lookup) l.count (l.count - l.counter) l.ctx.random_state l.ctx.random_state l.fn.buffer l.buffer
+invariant-loop l = record {
+  underway : IsUnderway (lookup_action l.table.lookups l.fn.buffer.direction (applied_of l.ctx) l.lookup) l.count (l.count - l.counter) l.ctx.random_state l.ctx.random_state l.fn.buffer l.buffer;
+  kept : IsKept (any_base (applied_of l.ctx)) (items_of l.buffer) l.last;
+}

@@ -1,0 +1,7 @@
+use Rattle.glyph_buffer.specs.Sides.{items_of}
+use Rattle.layout_match.specs.Applied.{applied_of}
+use Rattle.layout_gpos.specs.Bases.{any_base}
+use Rattle.layout_gpos.proofs.mark.MarkBasePosApply.apply.Goals as goal
+
+pub apply_mark_base_pos-requires-clause-kept : goal.apply_mark_base_pos-requires-clause-kept
+apply_mark_base_pos-requires-clause-kept c = c.new.ensures (any_base (applied_of c.args.ctx.now)) (items_of c.args.buffer.now)
