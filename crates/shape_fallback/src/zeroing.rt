@@ -34,7 +34,8 @@ fn mark_zeroed(adjust: bool, glyph: &hb_glyph_info_t, position: GlyphPosition) -
     }
 }
 
-pub(crate) fn zeroed(adjust: bool, position: GlyphPosition) -> GlyphPosition
+/// A position without its advances; where it is adjusted, it goes back by them first.
+pub fn zeroed(adjust: bool, position: GlyphPosition) -> GlyphPosition
     ensures { result ≡ zeroed adjust position }
 {
     if adjust {
@@ -54,7 +55,8 @@ fn set_back(position: GlyphPosition) -> GlyphPosition
     }
 }
 
-pub(crate) fn without_advances(position: GlyphPosition) -> GlyphPosition
+/// A position without its advances.
+pub fn without_advances(position: GlyphPosition) -> GlyphPosition
     ensures { result ≡ without_advances position }
 {
     GlyphPosition {

@@ -1,0 +1,4 @@
+pub mod Counted
+pub mod Marked
+pub mod Placed
+pub mod Standing

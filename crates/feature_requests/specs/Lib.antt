@@ -1,0 +1,4 @@
+pub mod Asks
+pub mod Common
+pub mod Lists
+pub mod Pauses

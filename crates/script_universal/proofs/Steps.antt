@@ -1,0 +1,195 @@
+-- The steps of a syllable on a buffer.
+use Rattle.std.proofs.Common.{ℕ, zero, suc, ◌≡◌, ◌≤◌, ◌<◌, ◌+◌, ◌-◌, ◌&&◌, Bool, true, false, if◌then◌else◌, List, [], ◌∷◌, length, take, drop, get_or, Some, slice_get, refl, sym, ap, subst, ◌∙◌, arith}
+use Rattle.std.specs.Prelude.{bit_and, nat_lt, not, slice_range}
+use Rattle.std.specs.List.{prefix_len}
+use Rattle.std.proofs.lemmas.Option.{slice_get-get_or}
+use Rattle.std.proofs.lemmas.List.{length-map, drop_all, drop-map, get_or-take, get_or-drop, take-map}
+use Rattle.glyph_types.specs.declared.info.hb_glyph_info_t.{hb_glyph_info_t}
+use Rattle.script_constants.specs.declared.shaper.hb_ot_script_shaper_t.TheVariants.{UNIVERSAL_SHAPER}
+use Rattle.script_constants.specs.Shapers.{is_reordered}
+use Rattle.glyph_lists.specs.Items.{Item, item_of, strip}
+use Rattle.glyph_lists.specs.Lists.{seen_at}
+use Rattle.glyph_buffer.specs.Sides.{Sides, all_glyphs, items_of}
+use Rattle.layout_rules.specs.Ready.{IsReady}
+use Rattle.script_walks.specs.Rewriting.{Rewritten, kept, within}
+use Rattle.script_walks.specs.Parts.{first_to_back}
+use Rattle.script_walks.specs.Buffers.{IsRewritten}
+use Rattle.script_walks.specs.Lemmas.Rewritings.{counted, rewritten_count, rewritten_next, rewritten_same}
+use Rattle.script_walks.specs.Lemmas.Parts.{range_size, rewritten_part}
+use Rattle.script_universal.specs.Reordering.{Step, begins_with_reph, is_halant, is_left, left_at, left_met, left_walk, reph_end, reph_moved, stops_reph, universal_reordered, universal_syllable}
+use Rattle.script_universal.specs.Lemmas.Sizes.{left_size, reph_size}
+
+-- ---- items of a part
+
+pub there : (gs : List hb_glyph_info_t) (start end i : ℕ) (d : hb_glyph_info_t) → start + i < end → end ≤ length gs → slice_get (slice_range (strip gs) start end) i ≡ Some (item_of (get_or gs (start + i) d))
+there gs start end i d lt fits =
+    let len = length-map gs item_of in
+    let inside : i < length (slice_range (strip gs) start end) = omega (arith, range_size start end (strip gs) (omega (arith, lt)) (omega (arith, len, fits)), lt) in
+    slice_get-get_or (slice_range (strip gs) start end) i (item_of d) inside
+    ∙ ap Some (get_or-take (end - start) (drop start (strip gs)) i (item_of d) (omega (arith, lt)) ∙ get_or-drop start (strip gs) i (item_of d) ∙ seen_at item_of gs (start + i) d)
+
+range_seen : (start end : ℕ) (gs : List hb_glyph_info_t) → strip (slice_range gs start end) ≡ slice_range (strip gs) start end
+range_seen start end gs = sym (take-map item_of (end - start) (drop start gs)) ∙ ap (take (end - start)) (sym (drop-map item_of start gs))
+
+-- ---- what a reph passes
+
+abbrev pub passed : List Item → ℕ
+passed xs = prefix_len (λ (y : Item). not (stops_reph y)) xs
+
+abbrev pub passed_from : List hb_glyph_info_t → ℕ → ℕ
+passed_from gs i = i + passed (strip (drop i gs))
+
+split_at : (gs : List hb_glyph_info_t) (i : ℕ) (g : hb_glyph_info_t) → slice_get gs i ≡ Some g → drop i gs ≡ g ∷ drop (i + 1) gs
+split_at [] i g e = cc
+split_at (h ∷ gs) zero g e = let same : h ≡ g = cc in ap (λ k. k ∷ gs) same
+split_at (h ∷ gs) (suc i) g e = let next : suc i + 1 ≡ suc (i + 1) = omega arith in split_at gs i g e ∙ ap (λ n. g ∷ drop n (h ∷ gs)) (sym next)
+
+pub passed_next : (gs : List hb_glyph_info_t) (i n : ℕ) (g : hb_glyph_info_t) → slice_get gs i ≡ Some g → stops_reph (item_of g) ≡ false → passed_from gs i ≡ n → passed_from gs (i + 1) ≡ n
+passed_next gs i n g at e f =
+    let rest = passed (strip (drop (i + 1) gs)) in
+    let more : passed (strip (drop i gs)) ≡ 1 + rest = ap (λ hs. passed (strip hs)) (split_at gs i g at) ∙ ap (λ (t : Bool). if not t then 1 + rest else 0) e in
+    omega (arith, more, f)
+
+pub passed_last : (gs : List hb_glyph_info_t) (i n : ℕ) (g : hb_glyph_info_t) → slice_get gs i ≡ Some g → stops_reph (item_of g) ≡ true → passed_from gs i ≡ n → i ≡ n
+passed_last gs i n g at e f =
+    let rest = passed (strip (drop (i + 1) gs)) in
+    let more : passed (strip (drop i gs)) ≡ 0 = ap (λ hs. passed (strip hs)) (split_at gs i g at) ∙ ap (λ (t : Bool). if not t then 1 + rest else 0) e in
+    omega (arith, more, f)
+
+pub all_passed : (gs : List hb_glyph_info_t) (i n : ℕ) → length gs ≤ i → i ≤ length gs → passed_from gs i ≡ n → length gs ≡ n
+all_passed gs i n le ge f =
+    let more : passed (strip (drop i gs)) ≡ 0 = ap (λ hs. passed (strip hs)) (drop_all i gs le) in
+    omega (arith, more, f, le, ge)
+
+-- ---- a reph
+
+abbrev reph_if : List Item → Bool → Rewritten
+reph_if xs t = if t then within 0 (reph_end xs) (first_to_back 1) xs else kept xs
+
+pub reph_none : (start end : ℕ) (gs : List hb_glyph_info_t) (a : Sides) → start ≤ end → IsReady a → gs ≡ all_glyphs a → begins_with_reph (strip (slice_range gs start end)) ≡ false
+    → IsRewritten (reph_moved (slice_range (items_of a) start end)) start end a a
+reph_none start end gs a le ready e f =
+    let xs = slice_range (items_of a) start end in
+    let none : begins_with_reph xs ≡ false = sym (ap (λ hs. begins_with_reph (strip (slice_range hs start end))) e ∙ ap begins_with_reph (range_seen start end (all_glyphs a))) ∙ f in
+    subst (λ r. IsRewritten r start end a a) (sym (ap (reph_if xs) none)) (rewritten_same start end a le ready)
+
+pub reph_inside : (start end n : ℕ) (gs : List hb_glyph_info_t) (a : Sides) → start ≤ end → end ≤ length (all_glyphs a) → gs ≡ all_glyphs a → n ≤ length (slice_range gs start end) → start + n ≤ end
+reph_inside start end n gs a le fits e few =
+    let m = ap (λ hs. length (slice_range hs start end)) e ∙ range_size start end (all_glyphs a) le fits in
+    omega (arith, m, few, le)
+
+pub reph_some : (start end n : ℕ) (gs : List hb_glyph_info_t) (a b : Sides) → start ≤ end → end ≤ length (all_glyphs a) → gs ≡ all_glyphs a → n ≤ length (slice_range gs start end)
+    → begins_with_reph (strip (slice_range gs start end)) ≡ true → n ≡ reph_end (strip (slice_range gs start end))
+    → IsRewritten (first_to_back 1 (slice_range (items_of a) start (start + n))) start (start + n) a b → IsRewritten (reph_moved (slice_range (items_of a) start end)) start end a b
+reph_some start end n gs a b le fits e few f count g =
+    let xs = slice_range (items_of a) start end in
+    let seen : strip (slice_range gs start end) ≡ xs = ap (λ hs. strip (slice_range hs start end)) e ∙ range_seen start end (all_glyphs a) in
+    let yes_reph : begins_with_reph xs ≡ true = ap begins_with_reph (sym seen) ∙ f in
+    let at : n ≡ reph_end xs = count ∙ ap reph_end seen in
+    let inside = reph_inside start end n gs a le fits e few in
+    let h : IsRewritten (within 0 n (first_to_back 1) xs) start end a b = rewritten_part (first_to_back 1) start end 0 n start (start + n) a b (omega arith) refl (omega arith) inside (omega (arith, counted a, fits)) g in
+    subst (λ r. IsRewritten r start end a b) (sym (ap (reph_if xs) yes_reph)) (subst (λ k. IsRewritten (within 0 k (first_to_back 1) xs) start end a b) at h)
+
+-- ---- left vowels
+
+abbrev halant_if : Bool → Step → Step → Step
+halant_if t r s = if t then r else s
+
+pub halant_met : (start end i behind : ℕ) (x : Item) (a : Sides) → start ≤ end → IsReady a → is_halant x ≡ true → IsRewritten (left_met i behind (slice_range (items_of a) start end) x).rewritten start end a a
+halant_met start end i behind x a le ready e =
+    let xs = slice_range (items_of a) start end in
+    let other : Step = if is_left x && nat_lt behind i then record { rewritten = within behind (i + 1) (first_to_back (i - behind)) xs; behind = behind } else record { rewritten = kept xs; behind = behind } in
+    subst (λ t. IsRewritten (halant_if t (record { rewritten = kept xs; behind = i + 1 }) other).rewritten start end a a) (sym e) (rewritten_same start end a le ready)
+
+left_met_is : (i behind : ℕ) (xs : List Item) (x : Item) (t : Bool) → is_halant x ≡ false → (is_left x && nat_lt behind i) ≡ t
+    → left_met i behind xs x ≡ halant_if t (record { rewritten = within behind (i + 1) (first_to_back (i - behind)) xs; behind = behind }) (record { rewritten = kept xs; behind = behind })
+left_met_is i behind xs x t e f =
+    let moved : Step = record { rewritten = within behind (i + 1) (first_to_back (i - behind)) xs; behind = behind } in
+    let same : Step = record { rewritten = kept xs; behind = behind } in
+    ap (λ b. halant_if b (record { rewritten = kept xs; behind = i + 1 }) (halant_if (is_left x && nat_lt behind i) moved same)) e ∙ ap (λ b. halant_if b moved same) f
+
+pub other_met : (start end i behind : ℕ) (x : Item) (a : Sides) → start ≤ end → IsReady a → is_halant x ≡ false → (is_left x && nat_lt behind i) ≡ false
+    → IsRewritten (left_met i behind (slice_range (items_of a) start end) x).rewritten start end a a
+other_met start end i behind x a le ready e f =
+    subst (λ (s : Step). IsRewritten s.rewritten start end a a) (sym (left_met_is i behind (slice_range (items_of a) start end) x false e f)) (rewritten_same start end a le ready)
+
+pub left_met_does : (start end i behind : ℕ) (x : Item) (a b : Sides) → start + i < end → end ≤ length (all_glyphs a) → behind ≤ i → is_halant x ≡ false → (is_left x && nat_lt behind i) ≡ true
+    → IsRewritten (first_to_back (i - behind) (slice_range (items_of a) (start + behind) (start + (i + 1)))) (start + behind) (start + (i + 1)) a b
+    → IsRewritten (left_met i behind (slice_range (items_of a) start end) x).rewritten start end a b
+left_met_does start end i behind x a b lt fits le e f g =
+    subst (λ (s : Step). IsRewritten s.rewritten start end a b) (sym (left_met_is i behind (slice_range (items_of a) start end) x true e f))
+    (rewritten_part (first_to_back (i - behind)) start end behind (i + 1) (start + behind) (start + (i + 1)) a b refl refl (omega (arith, le)) (omega (arith, lt)) (omega (arith, counted a, fits)) g)
+
+pub met_is_there : (i behind : ℕ) (xs : List Item) (x : Item) → slice_get xs i ≡ Some x → left_at i behind xs ≡ left_met i behind xs x
+met_is_there i behind xs x e = rw e refl
+
+-- ---- the walk
+
+rewritten_even : (r : Rewritten) (from to : ℕ) (a b : Sides) → from ≤ to → to ≤ length (all_glyphs a) → length r.items ≡ length (slice_range (items_of a) from to) → IsRewritten r from to a b → length (all_glyphs b) ≡ length (all_glyphs a)
+rewritten_even r from to a b le fits len f =
+    let n = counted a in
+    let inside : to ≤ length (items_of a) = omega (arith, n, fits) in
+    rewritten_count r from to a b le inside (len ∙ range_size from to (items_of a) le inside) f
+
+pub reph_count : (start end : ℕ) (a b : Sides) → start ≤ end → end ≤ length (all_glyphs a) → IsRewritten (reph_moved (slice_range (items_of a) start end)) start end a b → length (all_glyphs b) ≡ length (all_glyphs a)
+reph_count start end a b le fits f = rewritten_even (reph_moved (slice_range (items_of a) start end)) start end a b le fits (reph_size (slice_range (items_of a) start end)) f
+
+-- the indices of a syllable before one were walked: whatever the others leave, all leave
+pub record IsInside (start end i behind : ℕ) (old now : Sides) : Type 0 where
+  pub ready : IsReady now
+  pub size : length (all_glyphs now) ≡ length (all_glyphs old)
+  pub passed : behind ≤ i
+  pub does : (new : Sides) → IsRewritten (left_walk (end - start - i) i behind (slice_range (items_of now) start end)) start end now new
+      → IsRewritten (left_walk (end - start) 0 0 (slice_range (items_of old) start end)) start end old new
+
+pub entered : (start end : ℕ) (s : Sides) → IsReady s → IsInside start end 0 0 s s
+entered start end s ready = record { ready = ready; size = refl; passed = omega arith; does = λ new f. let none : end - start - 0 ≡ end - start = omega arith in subst (λ n. IsRewritten (left_walk n 0 0 (slice_range (items_of s) start end)) start end s new) none f }
+
+pub gone_on : (start end i behind next_behind : ℕ) (old now next : Sides) → start ≤ end → end ≤ length (all_glyphs old) → i < end - start → IsInside start end i behind old now
+    → next_behind ≡ (left_at i behind (slice_range (items_of now) start end)).behind → next_behind ≤ i + 1
+    → IsRewritten (left_at i behind (slice_range (items_of now) start end)).rewritten start end now next → IsInside start end (i + 1) next_behind old next
+gone_on start end i behind next_behind old now next le fits lt u e few f =
+    let xs = slice_range (items_of now) start end in
+    let s = left_at i behind xs in
+    let same = u.size in
+    let there_is : end ≤ length (all_glyphs now) = omega (arith, same, fits) in
+    let inside : end ≤ length (items_of now) = omega (arith, counted now, there_is) in
+    let left : end - start - i ≡ suc (end - start - (i + 1)) = omega (arith, lt) in
+    let size = left_size i behind xs in
+    record {
+      ready = f.ready;
+      size = rewritten_even s.rewritten start end now next le there_is size f ∙ same;
+      passed = few;
+      does = λ new g.
+          let P : ℕ → Type 0 = λ n. IsRewritten (left_walk n i behind xs) start end now new in
+          let Q : ℕ → Type 0 = λ n. IsRewritten (left_walk (end - start - (i + 1)) (i + 1) n (slice_range (items_of next) start end)) start end next new in
+          u.does new (subst P (sym left) (rewritten_next s.rewritten (left_walk (end - start - (i + 1)) (i + 1) s.behind) start end now next new le inside (size ∙ range_size start end (items_of now) le inside) f (subst Q e g)));
+    }
+
+pub all_walked : (start end i behind : ℕ) (old now : Sides) → start ≤ end → end ≤ length (all_glyphs old) → end - start ≤ i → IsInside start end i behind old now
+    → IsRewritten (left_walk (end - start) 0 0 (slice_range (items_of old) start end)) start end old now
+all_walked start end i behind old now le fits past u =
+    let none : end - start - i ≡ 0 = omega (arith, past) in
+    let P : ℕ → Type 0 = λ n. IsRewritten (left_walk n i behind (slice_range (items_of now) start end)) start end now now in
+    u.does now (subst P (sym none) (rewritten_same start end now le u.ready))
+
+pub reordered_does : (start end : ℕ) (a b c : Sides) → start ≤ end → end ≤ length (all_glyphs a) → IsRewritten (reph_moved (slice_range (items_of a) start end)) start end a b
+    → IsRewritten (left_walk (end - start) 0 0 (slice_range (items_of b) start end)) start end b c → IsRewritten (universal_reordered (slice_range (items_of a) start end)) start end a c
+reordered_does start end a b c le fits f g =
+    let xs = slice_range (items_of a) start end in
+    let inside : end ≤ length (items_of a) = omega (arith, counted a, fits) in
+    let size : length xs ≡ end - start = range_size start end (items_of a) le inside in
+    let P : ℕ → Type 0 = λ n. IsRewritten (left_walk n 0 0 (slice_range (items_of b) start end)) start end b c in
+    rewritten_next (reph_moved xs) (left_walk (length xs) 0 0) start end a b c le inside (reph_size xs ∙ size) f (subst P (sym size) g)
+
+-- a syllable by its kind
+syllable_by : (xs : List Item) (x : Item) (t : Bool) → slice_get xs 0 ≡ Some x → is_reordered UNIVERSAL_SHAPER (bit_and x.syllable 15) ≡ t → universal_syllable xs ≡ (if t then universal_reordered xs else kept xs)
+syllable_by xs x t e f = rw e (ap (λ b. if b then universal_reordered xs else kept xs) f)
+
+pub kept_does : (start end : ℕ) (x : Item) (a : Sides) → start ≤ end → IsReady a → slice_get (slice_range (items_of a) start end) 0 ≡ Some x → is_reordered UNIVERSAL_SHAPER (bit_and x.syllable 15) ≡ false
+    → IsRewritten (universal_syllable (slice_range (items_of a) start end)) start end a a
+kept_does start end x a le ready e f = subst (λ r. IsRewritten r start end a a) (sym (syllable_by (slice_range (items_of a) start end) x false e f)) (rewritten_same start end a le ready)
+
+pub all_does : (start end : ℕ) (x : Item) (a b : Sides) → slice_get (slice_range (items_of a) start end) 0 ≡ Some x → is_reordered UNIVERSAL_SHAPER (bit_and x.syllable 15) ≡ true
+    → IsRewritten (universal_reordered (slice_range (items_of a) start end)) start end a b → IsRewritten (universal_syllable (slice_range (items_of a) start end)) start end a b
+all_does start end x a b e f g = subst (λ r. IsRewritten r start end a b) (sym (syllable_by (slice_range (items_of a) start end) x true e f)) g

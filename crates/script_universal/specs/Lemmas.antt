@@ -1,0 +1,2 @@
+-- Lemmas on the rules of a syllable.
+pub mod Sizes

@@ -1,0 +1,2 @@
+pub mod Reordering
+pub mod Lemmas

@@ -1,0 +1,191 @@
+//! A reph and left vowels of a syllable, which change places with the glyphs between.
+ghost use Rattle.std.specs.Prelude.{◌≡◌, ◌≤◌, ◌<◌, ◌+◌, ◌-◌, length, nat_lt, not, ◌&&◌, slice_get, slice_range, false, true, OnOk, Some};
+ghost use Rattle.std.specs.List.{prefix_len};
+ghost use Rattle.glyph_lists.specs.Items.{item_of, strip};
+ghost use Rattle.glyph_lists.specs.Readings.{always};
+ghost use Rattle.glyph_buffer.specs.Sides.{all_glyphs, items_of};
+ghost use Rattle.layout_rules.specs.Ready.{IsReady};
+ghost use Rattle.text_stages.specs.Stages.{IsFollowed};
+ghost use Rattle.script_walks.specs.Rewriting.{by_syllable};
+ghost use Rattle.script_walks.specs.Buffers.{IsRewritten, with_rule};
+ghost use Rattle.script_universal.specs.Reordering.{begins_with_reph, is_left, left_at, left_met, left_walk, reph_end, reph_moved, stops_reph, universal_reordered, universal_syllable};
+
+use crate::categories::{is_halant, is_left, stops_reph};
+use glyph_buffer::buffer::hb_buffer_t;
+use glyph_types::info::hb_glyph_info_t;
+use script_constants::category::R;
+use script_constants::hb_ot_script_shaper_t::UNIVERSAL_SHAPER;
+use script_walks::parts::first_to_back;
+use script_walks::walk::{SyllableRule, each_syllable};
+use std::alloc::AllocError;
+
+/// Reorders each syllable of a kind that is: a reph in front goes before the first glyph behind the base or halant that no
+/// ligature took, else to the end; a left vowel goes behind the last such halant before it, else to the start. What moves
+/// merges with what it passes.
+pub fn reorder_use(buffer: &mut hb_buffer_t) -> Result<(), AllocError>
+    requires ready { IsReady buffer.old }
+    ensures { OnOk result (IsFollowed (always (with_rule (by_syllable universal_syllable))) buffer.old buffer.new) }
+{
+    each_syllable(&UniversalOrder, buffer)
+}
+
+#[derive(Clone, Copy)]
+struct UniversalOrder;
+
+impl SyllableRule for UniversalOrder {
+    ghost use Rattle.script_universal.specs.Reordering.{universal_syllable};
+    ghost use Rattle.script_universal.specs.Lemmas.Sizes.{universal_keeps};
+
+    ghost rewritten = { λ _. universal_syllable };
+
+    fn rewrite(
+        &self,
+        buffer: &mut hb_buffer_t,
+        start: usize,
+        end: usize,
+    ) -> Result<(), AllocError> {
+        let first = glyph_at(buffer, start, end, 0);
+        if !UNIVERSAL_SHAPER.is_reordered(first.syllable & 15) {
+            return Ok(());
+        }
+        reorder_syllable(buffer, start, end);
+        Ok(())
+    }
+
+    ghost keeps_length = { λ _. universal_keeps };
+}
+
+/// The i-th glyph of those from `start` up to before `end`.
+fn glyph_at(buffer: &hb_buffer_t, start: usize, end: usize, i: usize) -> hb_glyph_info_t
+    requires ready { IsReady buffer.now }
+    requires there { start + i < end }
+    requires within { end ≤ length (all_glyphs buffer.now) }
+    ensures { slice_get (slice_range (items_of buffer.now) start end) i ≡ Some (item_of result) }
+{
+    buffer.info_slice()[start + i]
+}
+
+#[tactic(auto, using(crate::proofs::Steps::reph_count))]
+fn reorder_syllable(buffer: &mut hb_buffer_t, start: usize, end: usize)
+    requires ready { IsReady buffer.old }
+    requires ordered { start ≤ end }
+    requires within { end ≤ length (all_glyphs buffer.old) }
+    ensures { IsRewritten (universal_reordered (slice_range (items_of buffer.old) start end)) start end buffer.old
+        buffer.new }
+{
+    move_reph(buffer, start, end);
+    move_left(buffer, start, end);
+}
+
+fn move_reph(buffer: &mut hb_buffer_t, start: usize, end: usize)
+    requires ready { IsReady buffer.old }
+    requires ordered { start ≤ end }
+    requires within { end ≤ length (all_glyphs buffer.old) }
+    ensures { IsRewritten (reph_moved (slice_range (items_of buffer.old) start end)) start end buffer.old buffer.new }
+{
+    let count = reph_end(&buffer.info_slice()[start..end]);
+    if count == 0 {
+        return;
+    }
+    first_to_back(buffer, start, start + count, 1);
+}
+
+/// How many glyphs stand up to where a reph in front goes, 0 where there is none.
+fn reph_end(glyphs: &[hb_glyph_info_t]) -> usize
+    ensures none { result ≡ 0 → begins_with_reph (strip glyphs.now) ≡ false }
+    ensures some { 0 < result → begins_with_reph (strip glyphs.now) ≡ true }
+    ensures count { 0 < result → result ≡ reph_end (strip glyphs.now) }
+    ensures within { result ≤ length glyphs.now }
+{
+    if glyphs.len() < 2 {
+        return 0;
+    }
+    if glyphs[0].category != R {
+        return 0;
+    }
+    1 + passed_by_reph(&glyphs[1..])
+}
+
+/// How many glyphs in front stop no reph.
+#[tactic(auto, using(crate::proofs::Steps::passed_next, crate::proofs::Steps::passed_last, crate::proofs::Steps::all_passed))]
+fn passed_by_reph(glyphs: &[hb_glyph_info_t]) -> usize
+    ensures count { result ≡ prefix_len (λ y. not (stops_reph y)) (strip glyphs.now) }
+    ensures within { result ≤ length glyphs.now }
+{
+    for (i, glyph) in glyphs.iter().enumerate() {
+        if stops_reph(glyph) {
+            return i;
+        }
+    }
+    glyphs.len()
+}
+
+#[tactic(auto, using(crate::proofs::Steps::entered))]
+fn move_left(buffer: &mut hb_buffer_t, start: usize, end: usize)
+    requires ready { IsReady buffer.old }
+    requires ordered { start ≤ end }
+    requires within { end ≤ length (all_glyphs buffer.old) }
+    ensures { IsRewritten (left_walk (end - start) 0 0 (slice_range (items_of buffer.old) start end)) start end buffer.old
+        buffer.new }
+{
+    let mut behind = 0;
+    let mut i = 0;
+    while i < end - start {
+        behind = move_left_at(buffer, start, end, i, behind);
+        i += 1;
+    }
+}
+
+fn move_left_at(
+    buffer: &mut hb_buffer_t,
+    start: usize,
+    end: usize,
+    i: usize,
+    behind: usize,
+) -> usize
+    requires ready { IsReady buffer.old }
+    requires there { start + i < end }
+    requires within { end ≤ length (all_glyphs buffer.old) }
+    requires passed { behind ≤ i }
+    ensures rewritten { IsRewritten (left_at i behind (slice_range (items_of buffer.old) start end)).rewritten start end
+        buffer.old buffer.new }
+    ensures behind { result ≡ (left_at i behind (slice_range (items_of buffer.old) start end)).behind }
+    ensures passed { result ≤ i + 1 }
+{
+    let glyph = glyph_at(buffer, start, end, i);
+    move_met(buffer, start, end, i, behind, glyph)
+}
+
+fn move_met(
+    buffer: &mut hb_buffer_t,
+    start: usize,
+    end: usize,
+    i: usize,
+    behind: usize,
+    glyph: hb_glyph_info_t,
+) -> usize
+    requires ready { IsReady buffer.old }
+    requires there { start + i < end }
+    requires within { end ≤ length (all_glyphs buffer.old) }
+    requires passed { behind ≤ i }
+    ensures rewritten { IsRewritten
+        (left_met i behind (slice_range (items_of buffer.old) start end) (item_of glyph)).rewritten start end
+        buffer.old buffer.new }
+    ensures behind { result ≡ (left_met i behind (slice_range (items_of buffer.old) start end) (item_of glyph)).behind }
+    ensures passed { result ≤ i + 1 }
+{
+    if is_halant(&glyph) {
+        return i + 1;
+    }
+    if !moves(&glyph, i, behind) {
+        return behind;
+    }
+    first_to_back(buffer, start + behind, start + (i + 1), i - behind);
+    behind
+}
+
+fn moves(glyph: &hb_glyph_info_t, i: usize, behind: usize) -> bool
+    ensures { result ≡ (is_left (item_of glyph.now) && nat_lt behind i) }
+{
+    is_left(glyph) && behind < i
+}

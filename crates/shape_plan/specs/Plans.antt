@@ -1,0 +1,67 @@
+-- The plan for texts of one direction, script and language, and one font.
+use Rattle.std.specs.Prelude.{ℕ, Bool, false, ◌==◌, ◌&&◌, ◌||◌, not, List, Option, Some, None, is_some, codes}
+use Rattle.std.specs.Option.{option_map_or}
+use Rattle.shaping_text.specs.declared.tag.Tag.{Tag}
+use Rattle.shaping_text.specs.declared.script.Script.{Script}
+use Rattle.shaping_text.specs.declared.direction.Direction.{Direction}
+use Rattle.shaping_text.specs.Tag.{tag_of}
+use Rattle.shaping_text.specs.ScriptTags.{wanted_tags}
+use Rattle.feature_text.specs.declared.feature.Feature.{Feature}
+use Rattle.font_face.specs.declared.parts.FaceParts.{FaceParts}
+use Rattle.map_builder.specs.Compiled.{MapRequests, OtMapValue, compiled, feature_at, no_requests}
+use Rattle.map_stages.specs.Chosen.{script_tag}
+use Rattle.shape_plan.specs.declared.any_shaper.TheConstants.{HB_OT_SHAPE_ZERO_WIDTH_MARKS_NONE}
+use Rattle.shape_plan.specs.declared.plan.PlanChoices.{PlanChoices}
+use Rattle.shape_plan.specs.Shapers.{ShaperTraits}
+use Rattle.shape_plan.specs.Requests.{Asking, with_requests}
+
+-- nothing is asked yet: the scripts and language systems of the font's tables are chosen
+abbrev pub nothing_asked : FaceParts → Option Script → List Tag → MapRequests
+nothing_asked font script languages = no_requests (wanted_tags script) languages font.gsub font.gpos
+
+-- the script of GSUB that serves the text
+abbrev pub gsub_script : FaceParts → Option Script → List Tag → Option Tag
+gsub_script font script languages = script_tag (nothing_asked font script languages).tables.gsub
+
+-- the mask of a feature at the value 1, 0 where the map lacks it
+abbrev pub mask_at_one : List ℕ → OtMapValue → ℕ
+mask_at_one name m = option_map_or (λ f. f.one_mask) (feature_at (tag_of name) m) 0
+
+abbrev pub has_mask : List ℕ → OtMapValue → Bool
+has_mask name m = not (mask_at_one name m == 0)
+
+-- a fraction is one feature, or two for its numerator and its denominator
+abbrev pub has_fractions : OtMapValue → Bool
+has_fractions m = has_mask (codes "frac") m || has_mask (codes "numr") m && has_mask (codes "dnom") m
+
+abbrev pub is_chosen : Tag → Option Tag → Bool
+is_chosen wanted None = false
+is_chosen wanted (Some chosen) = wanted.0 == chosen.0
+
+-- a shaper that is made for one script of GPOS does not use the table under another
+abbrev pub disables_gpos : Option Tag → Option Tag → Bool
+disables_gpos None chosen = false
+disables_gpos (Some wanted) chosen = not (is_chosen wanted chosen)
+
+-- whether the font's own positioning is used
+abbrev pub uses_gpos : ShaperTraits → FaceParts → OtMapValue → Bool
+uses_gpos traits font m = is_some font.gpos && not (disables_gpos traits.gpos_tag m.tables.gpos.chosen_script)
+
+-- what a plan decides, beside its map
+abbrev pub choices : ShaperTraits → FaceParts → OtMapValue → PlanChoices
+choices traits font m = record {
+  has_frac = has_fractions m;
+  has_vert = has_mask (codes "vert") m;
+  has_gpos_mark = has_mask (codes "mark") m;
+  zero_marks = not (traits.zero_width_marks == HB_OT_SHAPE_ZERO_WIDTH_MARKS_NONE);
+  fallback_glyph_classes = not (is_some font.gdef.classes);
+  fallback_mark_positioning = not (uses_gpos traits font m) && traits.fallback_position;
+  adjust_mark_positioning_when_zeroing = not (uses_gpos traits font m);
+  apply_gpos = uses_gpos traits font m;
+  apply_fallback_kern = not (uses_gpos traits font m);
+}
+
+-- the map of a text's plan
+abbrev pub planned_map : Asking → FaceParts → List Tag → Direction → Option Script → List Feature → OtMapValue
+planned_map asking font languages direction script features =
+    compiled (with_requests asking direction script features (nothing_asked font script languages))
