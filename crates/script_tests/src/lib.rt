@@ -1,0 +1,11 @@
+// Worked rows of what the shapers of scripts do to a text.
+#![tactic(auto)]
+
+#[cfg(test)]
+mod joining;
+#[cfg(test)]
+mod marks;
+#[cfg(test)]
+mod numbers;
+#[cfg(test)]
+mod thai;
