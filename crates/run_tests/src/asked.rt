@@ -33,7 +33,7 @@ type Line = (
 );
 
 // A ligature merges what it covers. Where characters are kept apart it keeps its first glyph's number, and that glyph is
-// unsafe to break before unless it is of the least number.
+// unsafe to break before unless it is of the least number. Unsafe to concat is told only where it is asked for.
 static CLUSTERS: [Line; 8] = [
     (
         BufferClusterLevel::MonotoneGraphemes,
@@ -54,7 +54,7 @@ static CLUSTERS: [Line; 8] = [
         0,
         Direction::RightToLeft,
         "if",
-        "7=1+520#3\n",
+        "7=1+520#1\n",
     ),
     (
         BufferClusterLevel::Characters,

@@ -9,3 +9,5 @@ mod lines;
 mod memory;
 #[cfg(test)]
 mod streams;
+#[cfg(test)]
+mod substitutions;

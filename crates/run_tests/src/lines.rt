@@ -27,7 +27,7 @@ const REQUIRED: &str =
     {\"type\":\"ligature\",\"subtables\":[[[2,[[[2],8]]]]]}]}}";
 
 /// Script, direction, features, text, line.
-type Line = (
+pub(crate) type Line = (
     Option<Script>,
     Direction,
     &'static [&'static str],
@@ -224,7 +224,7 @@ const REFUSED_BYTES: [Refusal; 8] = [
     ),
 ];
 
-const REFUSED_TEXTS: [Refusal; 6] = [
+const REFUSED_TEXTS: [Refusal; 7] = [
     (
         None,
         Direction::Invalid,
@@ -279,16 +279,26 @@ const REFUSED_TEXTS: [Refusal; 6] = [
         b"fi",
         RunFault::NotYet,
     ),
+    // Mirrored forms of a line from right to left.
+    (
+        None,
+        Direction::RightToLeft,
+        &["rtlm=0"],
+        "{}",
+        "{\"gsub\":{\"features\":[[\"rtlm\",[0]]],\"lookups\":[{\"type\":\"ligature\",\"subtables\":[]}]}}",
+        b"a",
+        RunFault::NotYet,
+    ),
 ];
 
 // Fonts of the format with what is not acted on yet; a fault of the format comes first.
-const REFUSED_FONTS: [Refusal; 6] = [
+const REFUSED_FONTS: [Refusal; 2] = [
     (
         None,
         Direction::Invalid,
         &[],
         "{}",
-        "{\"gdef\":{\"classes\":[[1,3]]}}",
+        "{\"gpos\":{\"lookups\":[{\"type\":\"single\",\"subtables\":[]}]}}",
         BROKEN,
         WRONG_SHAPE,
     ),
@@ -297,43 +307,7 @@ const REFUSED_FONTS: [Refusal; 6] = [
         Direction::Invalid,
         &[],
         "{}",
-        "{\"gpos\":{\"lookups\":[{\"type\":\"single\",\"subtables\":[]}]}}",
-        b"a",
-        WRONG_SHAPE,
-    ),
-    (
-        None,
-        Direction::Invalid,
-        &[],
-        "{}",
-        "{\"gsub\":{\"lookups\":[{\"type\":\"single\",\"subtables\":[]}]}}",
-        b"a",
-        WRONG_SHAPE,
-    ),
-    (
-        None,
-        Direction::Invalid,
-        &[],
-        "{}",
-        "{\"gsub\":{\"lookups\":[{\"type\":\"ligature\",\"flags\":2,\"subtables\":[]}]}}",
-        b"a",
-        WRONG_SHAPE,
-    ),
-    (
-        None,
-        Direction::Invalid,
-        &["ccmp=0"],
-        "{}",
-        "{\"gsub\":{\"features\":[[\"ccmp\",[0]]],\"lookups\":[{\"type\":\"ligature\",\"subtables\":[]}]}}",
-        b"a",
-        WRONG_SHAPE,
-    ),
-    (
-        None,
-        Direction::Invalid,
-        &[],
-        "{}",
-        "{\"gdef\":{\"classes\":[[1,3]]},\"gpos\":{\"lookups\":[{\"type\":\"nothing\"}]}}",
+        "{\"gpos\":{\"lookups\":[{\"type\":\"single\",\"subtables\":[]},{\"type\":\"nothing\"}]}}",
         b"a",
         RunFault::Json(JsonFault::UnknownName),
     ),
@@ -390,7 +364,7 @@ fn are_refused_tables(alloc: Global, refusals: &[TablesRefusal]) -> Result<bool,
     Ok(true)
 }
 
-fn is_printed(alloc: Global, font: &str, line: &Line) -> Result<bool, Fail> {
+pub(crate) fn is_printed(alloc: Global, font: &str, line: &Line) -> Result<bool, Fail> {
     let (script, direction, features, text, line) = *line;
     let options = options(alloc, script, direction, features)?;
     let (answer, out) = ran(alloc, &options, "{}", font, text.as_bytes());

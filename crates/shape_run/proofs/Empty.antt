@@ -1,6 +1,6 @@
 -- The line of the empty text.
-use Rattle.std.proofs.Common.{ℕ, ◌+◌, ◌≡◌, Bool, true, false, if◌then◌else◌, List, [], ◌∷◌, Ok, refl, ap, ◌∙◌}
-use Rattle.std.specs.Prelude.{None, Some, Option, pos, slice_get}
+use Rattle.std.proofs.Common.{ℕ, ◌+◌, ◌≡◌, Bool, true, false, if◌then◌else◌, List, [], ◌∷◌, Ok, Err, refl, sym, subst, ap, ◌∙◌}
+use Rattle.std.specs.Prelude.{None, Some, Option, pos, slice_get, is_some}
 use Rattle.std.proofs.lemmas.Str.{chars-nil}
 use Rattle.shaping_text.specs.Direction.{is_backward, opposite}
 use Rattle.shaping_text.specs.declared.direction.Direction.{Direction}
@@ -9,9 +9,9 @@ use Rattle.glyph_types.specs.declared.level.BufferClusterLevel.{BufferClusterLev
 use Rattle.glyph_lists.specs.Origins.{Asks}
 use Rattle.font_face.specs.declared.parts.FaceParts.{FaceParts}
 use Rattle.glyph_lists.specs.Parts.{or}
-use Rattle.glyph_lists.specs.Events.{Reverse, Reset}
+use Rattle.glyph_lists.specs.Events.{Reverse}
 use Rattle.glyph_buffer.specs.Segment.{guessed_direction}
-use Rattle.glyph_lists.specs.Readings.{View, Read, Reading, Stage, with_events, then_read, then_reading, always, and_then}
+use Rattle.glyph_lists.specs.Readings.{View, Read, Reading, Run, Stage, run_after, with_events, then_read, then_reading, always, and_then}
 use Rattle.glyph_lists.specs.Steps.{nothing_then}
 use Rattle.layout_lookups.specs.Lookups.{is_reverse}
 use Rattle.layout_lookups.specs.declared.substitution.SubstLookup.{SubstLookup}
@@ -21,7 +21,11 @@ use Rattle.map_builder.specs.Compiled.{OtMapValue, TableStages, lookups_of_stage
 use Rattle.layout_stages.specs.Lookups.{lookup_stage, lookups_stage}
 use Rattle.layout_stages.specs.Substituting.{pause_stage, table_stage, table_stages, substitution_lookups}
 use Rattle.glyph_text.specs.Printed.{printed_text}
-use Rattle.shape_run.specs.Path.{substituted, no_pauses, substitution_map, is_turned, reversed_view, masked, mapped, after_substitution}
+use Rattle.shape_glyphs.specs.Classes.{with_font_classes}
+use Rattle.shape_glyphs.specs.Glyphs.{with_synthesized_classes}
+use Rattle.shape_glyphs.specs.Flags.{with_flags_spread}
+use Rattle.shape_run.specs.Output.{glyphs_of}
+use Rattle.shape_path.specs.Path.{substituted, no_pauses, substitution_map, is_turned, reversed_view, begun, ended, advanced, marks_zeroed, laid_out, masked, mapped, after_substitution}
 use Rattle.shape_run.specs.Answer.{line_of_reading, printed_line, text_run, asked_of}
 use Rattle.shape_run.specs.Laws.{EmptyTextGivesEmptyLine}
 
@@ -29,9 +33,9 @@ empty_printed : (font : FaceParts) (flags : SerializeFlags) → printed_line fon
 unfolding printed_text
 empty_printed font flags = refl
 
--- what is seen of a text without characters
+-- what is seen of a text without characters, once shaping has begun
 abbrev empty_view : Direction → View
-empty_view d = record { items = []; positions = []; lig_id = 0; max_ops = pos 0x1FFF_FFFF; random = 1; max_len = 0x3FFF_FFFF; direction = d; told = 0 }
+empty_view d = record { items = []; positions = []; lig_id = 0; max_ops = pos 16384; random = 1; max_len = 16384; direction = d; told = 0 }
 
 -- no lookup finds an index in no items
 either_empty : (b : Bool) (r : Reading) → (if b then r else r) ≡ r
@@ -67,24 +71,58 @@ substituted_empty font m d = ap (λ r. and_then r (always (λ (w : View). with_e
 abbrev ordered_read : Bool → Direction → Read
 ordered_read turned d = if turned then with_events (Reverse ∷ []) (record (reversed_view (empty_view d)) { direction = opposite d }) else with_events [] (empty_view d)
 
--- advances and the order on the line, of no items
-empty_placed : (font : FaceParts) (flags : SerializeFlags) (level : BufferClusterLevel) (asks : Asks) (d : Direction) (turned backward : Bool) (e : Direction) → line_of_reading font flags (text_run level asks d [])
-    (then_reading (record { view = empty_view e; events = λ level. Reset ∷ (if turned then Reverse ∷ [] else []) }) (Ok (if backward then with_events (Reverse ∷ []) (empty_view e) else with_events [] (empty_view e)))) ≡ Ok (10 ∷ [])
-empty_placed font flags level asks d true true e = ap Ok (empty_printed font flags)
-empty_placed font flags level asks d true false e = ap Ok (empty_printed font flags)
-empty_placed font flags level asks d false true e = ap Ok (empty_printed font flags)
-empty_placed font flags level asks d false false e = ap Ok (empty_printed font flags)
+-- a reading that leaves no items
+abbrev IsNothing : Reading → Type 0
+IsNothing (Ok r) = (r.view.items ≡ []) × (r.view.positions ≡ [])
+IsNothing (Err e) = ⊥
 
--- no items on the way, whichever way the line runs
-empty_read : (font : FaceParts) (flags : SerializeFlags) (level : BufferClusterLevel) (asks : Asks) (mask : ℕ) (stage : Stage) (turned : Bool) (d : Direction) → ((e : Direction) → stage (empty_view e) ≡ Ok (with_events [] (empty_view e))) →
-    line_of_reading font flags (text_run level asks d [])
-    (and_then (and_then (and_then (Ok (then_read (masked mask (empty_view d)) (ordered_read turned d))) (always (mapped font))) stage) (after_substitution font)) ≡ Ok (10 ∷ [])
-empty_read font flags level asks mask stage true d none = rw (none (opposite d)) (empty_placed font flags level asks d true (is_backward (opposite d)) (opposite d))
-empty_read font flags level asks mask stage false d none = rw (none d) (empty_placed font flags level asks d false (is_backward d) d)
+line_of_nothing : (font : FaceParts) (flags : SerializeFlags) (run : Run) (r : Reading) → IsNothing r → line_of_reading font flags run r ≡ Ok (10 ∷ [])
+line_of_nothing font flags run (Ok r) h =
+    ap (λ xs. Ok (printed_line font flags (glyphs_of xs (run_after r run).origins) r.view.positions)) h.0
+    ∙ ap (λ ps. Ok (printed_line font flags [] ps)) h.1 ∙ ap Ok (empty_printed font flags)
+line_of_nothing font flags run (Err e) h = absurd h
+
+-- no glyphs have no classes, be they the font's or the characters'
+classified_empty : (font : FaceParts) (e : Direction) (by_font : Bool) → (if by_font then with_font_classes font (empty_view e) else with_synthesized_classes (empty_view e)) ≡ with_events [] (empty_view e)
+classified_empty font e true = refl
+classified_empty font e false = refl
+
+-- what follows the substitutions, whichever way the line runs
+abbrev placed_by_way : FaceParts → Bool → Stage
+placed_by_way font backward v =
+    and_then (and_then (and_then (always (advanced font) v) (always (marks_zeroed font))) (always (λ (w : View). if backward then with_events (Reverse ∷ []) (reversed_view w) else with_events [] w))) (always with_flags_spread)
+
+placed_nothing : (font : FaceParts) (r s : Read) (e : Direction) (backward : Bool) → IsNothing (and_then (then_reading r (then_reading s (placed_by_way font backward (empty_view e)))) (always ended))
+placed_nothing font r s e true = (refl, refl)
+placed_nothing font r s e false = (refl, refl)
+
+-- no items on the way
+laid_nothing : (font : FaceParts) (m : OtMapValue) (r : Read) (e : Direction) → IsNothing (and_then (then_reading r (laid_out font m (empty_view e))) (always ended))
+laid_nothing font m r e =
+    let C : Read → Type 0 = λ c. IsNothing (and_then (then_reading r (and_then (and_then (Ok c) (substituted font m)) (after_substitution font))) (always ended)) in
+    let S : Reading → Type 0 = λ q. IsNothing (and_then (then_reading r (and_then (then_reading (with_events [] (empty_view e)) q) (after_substitution font))) (always ended)) in
+    let nothing = placed_nothing font r (then_read (with_events [] (empty_view e)) (with_events [] (empty_view e))) e (is_backward e) in
+    subst C (sym (classified_empty font e (is_some font.gdef.classes))) (subst S (sym (substituted_empty font m e)) nothing)
+
+-- the way to the glyphs of no characters
+abbrev empty_begin : FaceParts → BufferClusterLevel → Asks → ℕ → Bool → Direction → Read
+empty_begin font level asks mask turned d =
+    let ordered = then_read (then_read (begun (text_run level asks d []).view) (masked mask (empty_view d))) (ordered_read turned d) in
+    then_read ordered (mapped font ordered.view)
+
+empty_read : (font : FaceParts) (flags : SerializeFlags) (level : BufferClusterLevel) (asks : Asks) (mask : ℕ) (m : OtMapValue) (turned : Bool) (d : Direction) →
+    line_of_reading font flags (text_run level asks d []) (and_then (and_then (Ok (empty_begin font level asks mask turned d)) (laid_out font m)) (always ended)) ≡ Ok (10 ∷ [])
+empty_read font flags level asks mask m true d =
+    let e = opposite d in
+    let r = empty_begin font level asks mask true d in
+    line_of_nothing font flags (text_run level asks d []) (and_then (then_reading r (laid_out font m (empty_view e))) (always ended)) (laid_nothing font m r e)
+empty_read font flags level asks mask m false d =
+    let r = empty_begin font level asks mask false d in
+    line_of_nothing font flags (text_run level asks d []) (and_then (then_reading r (laid_out font m (empty_view d))) (always ended)) (laid_nothing font m r d)
 
 pub empty_text_gives_empty_line : EmptyTextGivesEmptyLine
 empty_text_gives_empty_line options font here =
     let script = or options.script None in
     let direction = guessed_direction options.direction script in
-    let m = substitution_map font script options.features.items in
-    rw (chars-nil, here) (empty_read font options.flags options.cluster_level (asked_of options.buffer_flags) m.global_mask (substituted font m) (is_turned script direction []) direction (substituted_empty font m))
+    let m = substitution_map font script direction options.features.items in
+    rw (chars-nil, here) (empty_read font options.flags options.cluster_level (asked_of options.buffer_flags) m.global_mask m (is_turned script direction []) direction)

@@ -1,7 +1,3 @@
-pub mod Stripped
-pub mod Steps
-pub mod Turned
-pub mod Whole
 pub mod Bytes
 pub mod Answering
 pub mod Reading

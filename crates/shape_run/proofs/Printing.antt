@@ -12,9 +12,10 @@ use Rattle.glyph_lists.specs.Origins.{origin_of, origins}
 use Rattle.glyph_lists.specs.Readings.{Reading, Run, Follows, read_of}
 use Rattle.glyph_buffer.specs.Text.{fits_text}
 use Rattle.shape_run.specs.Output.{glyph_of, glyphs_of}
-use Rattle.shape_run.specs.Stages.{is_glyph_number, text_buffer}
-use Rattle.shape_run.specs.Path.{shaping}
-use Rattle.shape_run.specs.Waiting.{waits}
+use Rattle.shape_path.specs.Stages.{is_glyph_number}
+use Rattle.shape_run.specs.Asked.{text_buffer}
+use Rattle.shape_path.specs.Path.{shaping}
+use Rattle.shape_path.specs.Waiting.{waits}
 use Rattle.font_face.specs.declared.parts.FaceParts.{FaceParts}
 use Rattle.run_options.specs.declared.fault.RunFault.{RunFault}
 use Rattle.run_options.specs.declared.fault.RunFault.TheVariants.{NotYet}
@@ -52,14 +53,14 @@ line_follows font flags (Err e) old s f = absurd f
 
 -- the line of a text that fits and does not wait
 pub line_of_fitting : (options : Options) (font : FaceParts) (text : List ℕ) → fits_text text empty_buffer ≡ true
-    → waits options.features.items (text_buffer options text).script (text_buffer options text).direction (items_of (text_buffer options text)) ≡ false
+    → waits font options.features.items (text_buffer options text).script (text_buffer options text).direction (items_of (text_buffer options text)) ≡ false
     → line_of options font text
     ≡ line_of_reading font options.flags (run_of (text_buffer options text)) (read_of (shaping font options.features.items (text_buffer options text).script) (run_of (text_buffer options text)))
 line_of_fitting options font text fits here = rw (fits, here) refl
 
 -- the same, once it is shaped
 pub line_shaped : (options : Options) (font : FaceParts) (text : List ℕ) (b : Sides) (line : List ℕ) → fits_text text empty_buffer ≡ true
-    → waits options.features.items (text_buffer options text).script (text_buffer options text).direction (items_of (text_buffer options text)) ≡ false
+    → waits font options.features.items (text_buffer options text).script (text_buffer options text).direction (items_of (text_buffer options text)) ≡ false
     → Follows (read_of (shaping font options.features.items (text_buffer options text).script) (run_of (text_buffer options text))) (run_of (text_buffer options text)) (run_of b)
     → line ≡ printed_line font options.flags (all_glyphs b) b.positions
     → line_of options font text ≡ Ok line
@@ -75,9 +76,9 @@ unshaped_line font flags false run r e h = ap (line_of_reading font flags run) h
 
 -- the line of a text that fits and was not shaped
 pub line_unshaped : (options : Options) (font : FaceParts) (text : List ℕ) (e : RunFault) → fits_text text empty_buffer ≡ true
-    → IsUnshaped (waits options.features.items (text_buffer options text).script (text_buffer options text).direction (items_of (text_buffer options text)))
+    → IsUnshaped (waits font options.features.items (text_buffer options text).script (text_buffer options text).direction (items_of (text_buffer options text)))
     (read_of (shaping font options.features.items (text_buffer options text).script) (run_of (text_buffer options text))) e
     → line_of options font text ≡ Err e
 line_unshaped options font text e fits h =
     let s = text_buffer options text in
-    rw fits (unshaped_line font options.flags (waits options.features.items s.script s.direction (items_of s)) (run_of s) (read_of (shaping font options.features.items s.script) (run_of s)) e h)
+    rw fits (unshaped_line font options.flags (waits font options.features.items s.script s.direction (items_of s)) (run_of s) (read_of (shaping font options.features.items s.script) (run_of s)) e h)

@@ -33,9 +33,9 @@ use Rattle.glyph_text.specs.Printed.{printed_text}
 use Rattle.glyph_buffer.specs.Sides.{empty_buffer, zero_positions}
 use Rattle.glyph_buffer.specs.Segment.{first_script, guessed_direction}
 use Rattle.glyph_buffer.specs.Text.{added_text, fits_text}
-use Rattle.shape_run.specs.Path.{shaping}
+use Rattle.shape_path.specs.Path.{shaping}
 use Rattle.shape_run.specs.Output.{glyphs_of}
-use Rattle.shape_run.specs.Waiting.{waits, font_waits}
+use Rattle.shape_path.specs.Waiting.{waits, font_waits}
 
 -- ---- bytes
 
@@ -90,7 +90,7 @@ line_of_reading font flags run (Err e) = Err (fault_of_cause e)
 
 -- the line of a text that is not shaped yet, or of what shaping makes of it
 abbrev pub line_of_text : FaceParts → SerializeFlags → List Feature → Option Script → Run → Result (List ℕ) RunFault
-line_of_text font flags features script run = if waits features script run.view.direction run.view.items then Err NotYet
+line_of_text font flags features script run = if waits font features script run.view.direction run.view.items then Err NotYet
     else line_of_reading font flags run (read_of (shaping font features script) run)
 
 -- why a text was not shaped: it is not shaped yet, or its reading refuses

@@ -1,6 +1,4 @@
-pub mod Waiting
-pub mod Path
-pub mod Stages
+pub mod Asked
 pub mod Output
 pub mod Values
 pub mod Tables

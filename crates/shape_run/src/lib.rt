@@ -2,13 +2,10 @@
 #![tactic(auto)]
 
 mod answer;
-mod feature_map;
 pub mod laws;
-mod path;
 mod read;
 pub mod run;
+mod shape;
 mod tables;
 mod values;
-mod waiting;
-mod waiting_font;
 mod write;

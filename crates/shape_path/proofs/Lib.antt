@@ -1,0 +1,4 @@
+pub mod Stripped
+pub mod Steps
+pub mod Turned
+pub mod Whole

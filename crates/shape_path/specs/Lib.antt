@@ -1,0 +1,4 @@
+pub mod Waiting
+pub mod Requests
+pub mod Path
+pub mod Stages
