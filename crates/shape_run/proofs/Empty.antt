@@ -20,7 +20,7 @@ use Rattle.map_stages.specs.declared.stages.StageMap.{StageMap}
 use Rattle.map_builder.specs.Compiled.{OtMapValue, TableStages, lookups_of_stage}
 use Rattle.layout_lookups.specs.declared.positioning.PositioningLookup.{PositioningLookup}
 use Rattle.layout_links.specs.Starting.{links_cleared}
-use Rattle.layout_links.specs.Finishing.{links_followed}
+use Rattle.layout_links.specs.Finishing.{drawn_if, has_attachments, links_followed}
 use Rattle.layout_positioning.specs.Lookups as Over
 use Rattle.layout_positioning.specs.Positioning as Positions
 use Rattle.layout_stages.specs.Lookups.{lookup_stage, lookups_stage}
@@ -119,12 +119,16 @@ abbrev finished_by_way : Bool → Stage
 finished_by_way backward v =
     and_then (always (λ (w : View). if backward then with_events (Reverse ∷ []) (reversed_view w) else with_events [] w) v) (always with_flags_spread)
 
--- what follows the lookups of positioning
-abbrev positioned_then : FaceParts → Bool → Read → Read → Read → Reading → Reading
-positioned_then font backward r x y q =
-    and_then (then_reading r (and_then (then_reading x (and_then (and_then (then_reading y q) (always (marks_zeroed font))) (always links_followed))) (finished_by_way backward))) (always ended)
+-- no glyph was attached to another
+none_attached : has_attachments 0 ≡ false
+none_attached = refl
 
-placed_nothing : (font : FaceParts) (r x y : Read) (e : Direction) (backward : Bool) → IsNothing (positioned_then font backward r x y (Ok (with_events [] (empty_view e))))
+-- what follows the lookups of positioning, whether or not glyphs were attached
+abbrev positioned_then : FaceParts → Bool → Bool → Read → Read → Read → Reading → Reading
+positioned_then font attached backward r x y q =
+    and_then (then_reading r (and_then (then_reading x (and_then (and_then (then_reading y q) (always (marks_zeroed font))) (always (λ (w : View). drawn_if attached w)))) (finished_by_way backward))) (always ended)
+
+placed_nothing : (font : FaceParts) (r x y : Read) (e : Direction) (backward : Bool) → IsNothing (positioned_then font false backward r x y (Ok (with_events [] (empty_view e))))
 placed_nothing font r x y e true = (refl, refl)
 placed_nothing font r x y e false = (refl, refl)
 
@@ -135,8 +139,10 @@ laid_nothing font m r e =
     let S : Reading → Type 0 = λ q. IsNothing (and_then (then_reading r (and_then (and_then (then_reading (with_events [] (empty_view e)) q) (placed_by_font font m)) after_positioning)) (always ended)) in
     let x = then_read (with_events [] (empty_view e)) (with_events [] (empty_view e)) in
     let y = then_read (advanced font (empty_view e)) (links_cleared (advanced font (empty_view e)).view) in
-    let T : Reading → Type 0 = λ q. IsNothing (positioned_then font (is_backward e) r x y q) in
-    let nothing = subst T (sym (positioned_empty font m e)) (placed_nothing font r x y e (is_backward e)) in
+    let A : Bool → Type 0 = λ attached. IsNothing (and_then (then_reading r (and_then (then_reading x (and_then (and_then (then_reading y (Ok (with_events [] (empty_view e)))) (always (marks_zeroed font))) (always (λ (w : View). drawn_if attached w)))) after_positioning)) (always ended)) in
+    let T : Reading → Type 0 = λ q. IsNothing (and_then (then_reading r (and_then (then_reading x (and_then (and_then (then_reading y q) (always (marks_zeroed font))) (always links_followed))) after_positioning)) (always ended)) in
+    let drawn : A (has_attachments 0) = subst A (sym none_attached) (placed_nothing font r x y e (is_backward e)) in
+    let nothing = subst T (sym (positioned_empty font m e)) drawn in
     subst C (sym (classified_empty font e (is_some font.gdef.classes))) (subst S (sym (substituted_empty font m e)) nothing)
 
 -- the way to the glyphs of no characters
