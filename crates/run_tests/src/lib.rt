@@ -8,6 +8,8 @@ mod lines;
 #[cfg(test)]
 mod memory;
 #[cfg(test)]
+mod positions;
+#[cfg(test)]
 mod streams;
 #[cfg(test)]
 mod substitutions;

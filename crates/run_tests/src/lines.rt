@@ -291,14 +291,14 @@ const REFUSED_TEXTS: [Refusal; 7] = [
     ),
 ];
 
-// Fonts of the format with what is not acted on yet; a fault of the format comes first.
+// A fault of the font comes before that of the text.
 const REFUSED_FONTS: [Refusal; 2] = [
     (
         None,
         Direction::Invalid,
         &[],
         "{}",
-        "{\"gpos\":{\"lookups\":[{\"type\":\"single\",\"subtables\":[]}]}}",
+        "{\"gpos\":{\"lookups\":5}}",
         BROKEN,
         WRONG_SHAPE,
     ),

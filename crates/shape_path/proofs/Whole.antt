@@ -15,13 +15,15 @@ use Rattle.glyph_lists.specs.Steps.{follows_then, follows_events, refused_first,
 use Rattle.glyph_buffer.specs.Sides.{Sides, all_glyphs, items_of, view_of, run_of, reversed, zero_position, zero_positions}
 use Rattle.glyph_buffer.specs.Masks.{with_masks, glyph_masked, item_masked}
 use Rattle.glyph_buffer.specs.Settings.{entered, left, length_limit, steps_limit}
+use Rattle.layout_links.specs.Starting.{links_cleared}
+use Rattle.layout_links.specs.Finishing.{links_followed}
 use Rattle.map_builder.specs.Compiled.{OtMapValue}
 use Rattle.layout_rules.specs.Buffers.{are_glyphs}
 use Rattle.layout_rules.specs.Ready.{IsReady, IsDone}
 use Rattle.shape_glyphs.specs.Classes.{with_font_classes}
 use Rattle.shape_glyphs.specs.Glyphs.{with_synthesized_classes}
 use Rattle.shape_glyphs.specs.Flags.{with_flags_spread}
-use Rattle.shape_path.specs.Path.{begun, ended, is_turned, reversed_view, native_order, mapped, mapped_item, classified, advanced, marks_zeroed, drawn_order, masked, substituted, before_substitution, after_substitution, laid_out, shaped_with}
+use Rattle.shape_path.specs.Path.{begun, ended, is_turned, reversed_view, native_order, mapped, mapped_item, classified, advanced, marks_zeroed, drawn_order, masked, substituted, before_substitution, after_positioning, laid_out, placed_by_font, positioned, shaped_with}
 use Rattle.shape_path.specs.Stages.{ordered, mapped_glyph, with_mapped, is_glyph_number}
 use Rattle.shape_path.proofs.Turned.{map-reverse, list_all-reverse}
 
@@ -150,24 +152,58 @@ done_both first second old now next f g = record {
   numbers = λ h. g.numbers (f.numbers h);
 }
 
-pub placed_done : (font : FaceParts) (s a b c new : Sides) → IsDone (always (advanced font)) s a → IsDone (always (marks_zeroed font)) a b → IsDone (always drawn_order) b c → IsDone (always with_flags_spread) c new
-    → IsDone (after_substitution font) s new
-placed_done font s a b c new f g h k =
-    let two = done_both (always (advanced font)) (always (marks_zeroed font)) s a b f g in
-    let three = done_both (λ v. and_then (always (advanced font) v) (always (marks_zeroed font))) (always drawn_order) s b c two h in
-    done_both (λ v. and_then (and_then (always (advanced font) v) (always (marks_zeroed font))) (always drawn_order)) (always with_flags_spread) s c new three k
+-- what stands before the lookups of positioning
+abbrev before_positions : FaceParts → Stage
+before_positions font v = and_then (always (advanced font) v) (always links_cleared)
 
-pub laid_done : (font : FaceParts) (m : OtMapValue) (s a b new : Sides) → IsDone (always (classified font)) s a → IsDone (substituted font m) a b → IsDone (after_substitution font) b new → IsDone (laid_out font m) s new
-laid_done font m s a b new f g h =
+pub placed_done : (font : FaceParts) (m : OtMapValue) (s a b c d new : Sides) → IsDone (always (advanced font)) s a → IsDone (always links_cleared) a b → IsDone (positioned font m) b c → IsDone (always (marks_zeroed font)) c d → IsDone (always links_followed) d new
+    → IsDone (placed_by_font font m) s new
+placed_done font m s a b c d new f g h k l =
+    let two = done_both (always (advanced font)) (always links_cleared) s a b f g in
+    let three = done_both (before_positions font) (positioned font m) s b c two h in
+    let four = done_both (λ v. and_then (before_positions font v) (positioned font m)) (always (marks_zeroed font)) s c d three k in
+    done_both (λ v. and_then (and_then (before_positions font v) (positioned font m)) (always (marks_zeroed font))) (always links_followed) s d new four l
+
+-- a refusal of the positioning is one of the placing
+pub placed_refused : (font : FaceParts) (m : OtMapValue) (s a b : Sides) (cause : ShapeCause) → IsDone (always (advanced font)) s a → IsDone (always links_cleared) a b → read_of (positioned font m) (run_of b) ≡ Err cause
+    → read_of (placed_by_font font m) (run_of s) ≡ Err cause
+placed_refused font m s a b cause f g e =
+    let two = done_both (always (advanced font)) (always links_cleared) s a b f g in
+    let r = read_of (before_positions font) (run_of s) in
+    let here = refused_then r (positioned font m) (run_of s) (run_of b) cause two.follows e in
+    refused_first (and_then (and_then r (positioned font m)) (always (marks_zeroed font))) (always links_followed) cause
+    (refused_first (and_then r (positioned font m)) (always (marks_zeroed font)) cause here)
+
+pub finished_done : (s a new : Sides) → IsDone (always drawn_order) s a → IsDone (always with_flags_spread) a new → IsDone after_positioning s new
+finished_done s a new f g = done_both (always drawn_order) (always with_flags_spread) s a new f g
+
+-- what stands before the placing
+abbrev before_placing : FaceParts → OtMapValue → Stage
+before_placing font m v = and_then (always (classified font) v) (substituted font m)
+
+pub laid_done : (font : FaceParts) (m : OtMapValue) (s a b c new : Sides) → IsDone (always (classified font)) s a → IsDone (substituted font m) a b → IsDone (placed_by_font font m) b c → IsDone after_positioning c new → IsDone (laid_out font m) s new
+laid_done font m s a b c new f g h k =
     let two = done_both (always (classified font)) (substituted font m) s a b f g in
-    done_both (λ v. and_then (always (classified font) v) (substituted font m)) (after_substitution font) s b new two h
+    let three = done_both (before_placing font m) (placed_by_font font m) s b c two h in
+    done_both (λ v. and_then (before_placing font m v) (placed_by_font font m)) after_positioning s c new three k
 
 -- a refusal of the substitutions is one of the layout
 pub laid_refused : (font : FaceParts) (m : OtMapValue) (s a : Sides) (cause : ShapeCause) → IsDone (always (classified font)) s a → read_of (substituted font m) (run_of a) ≡ Err cause
     → read_of (laid_out font m) (run_of s) ≡ Err cause
 laid_refused font m s a cause f e =
     let r = read_of (always (classified font)) (run_of s) in
-    refused_first (and_then r (substituted font m)) (after_substitution font) cause (refused_then r (substituted font m) (run_of s) (run_of a) cause f.follows e)
+    let here = refused_then r (substituted font m) (run_of s) (run_of a) cause f.follows e in
+    refused_first (and_then (and_then r (substituted font m)) (placed_by_font font m)) after_positioning cause
+    (refused_first (and_then r (substituted font m)) (placed_by_font font m) cause here)
+
+-- and so is one of the placing
+pub laid_unplaced : (font : FaceParts) (m : OtMapValue) (s a b : Sides) (cause : ShapeCause) → IsDone (always (classified font)) s a → IsDone (substituted font m) a b → read_of (placed_by_font font m) (run_of b) ≡ Err cause
+    → read_of (laid_out font m) (run_of s) ≡ Err cause
+laid_unplaced font m s a b cause f g e =
+    let two = done_both (always (classified font)) (substituted font m) s a b f g in
+    let r = read_of (before_placing font m) (run_of s) in
+    let here = refused_then r (placed_by_font font m) (run_of s) (run_of b) cause two.follows e in
+    refused_first (and_then r (placed_by_font font m)) after_positioning cause here
 
 abbrev pub glyphs_made : FaceParts → ℕ → Sides → Sides
 glyphs_made font m s = with_mapped font (ordered (with_masks m (entered s)))

@@ -11,6 +11,9 @@ use Rattle.feature_text.specs.declared.feature.Feature.{Feature}
 use Rattle.feature_text.specs.Feature.{is_global}
 use Rattle.map_features.specs.declared.flags.TheConstants.{F_NONE, F_GLOBAL}
 use Rattle.map_builder.specs.Compiled.{MapRequests, no_requests, with_request, OtMapValue, compiled}
+use Rattle.layout_links.specs.Starting.{links_cleared}
+use Rattle.layout_links.specs.Finishing.{links_followed}
+use Rattle.layout_positioning.specs.Positioning.{positioned_by}
 use Rattle.layout_stages.specs.Substituting.{Pauses, substituted_by}
 use Rattle.glyph_buffer.specs.Masks.{item_masked}
 use Rattle.glyph_buffer.specs.Settings.{length_limit, steps_limit}
@@ -156,8 +159,8 @@ abbrev pub requests : FaceParts → Option Script → Direction → List Feature
 requests font script direction features = fold with_asked (with_common direction (no_requests (wanted_tags script) [] font.gsub font.gpos)) features
 
 -- what the font does for that
-unfoldable pub substitution_map : FaceParts → Option Script → Direction → List Feature → OtMapValue
-substitution_map font script direction features = compiled (requests font script direction features)
+unfoldable pub layout_map : FaceParts → Option Script → Direction → List Feature → OtMapValue
+layout_map font script direction features = compiled (requests font script direction features)
 
 -- between the stages nothing is done but to end one
 abbrev pub no_pauses : Pauses
@@ -167,23 +170,33 @@ no_pauses n v = as_it_is v
 abbrev pub substituted : FaceParts → OtMapValue → Stage
 substituted font m v = substituted_by font m no_pauses v
 
+-- the lookups of positioning, stage after stage
+abbrev pub positioned : FaceParts → OtMapValue → Stage
+positioned font m v = positioned_by font m no_pauses v
+
 -- ---- all of it
 
 -- characters in the order of their writing become glyphs
 abbrev pub before_substitution : FaceParts → ℕ → Option Script → Stage
 before_substitution font mask script v = and_then (and_then (and_then (always begun v) (always (masked mask))) (always (native_order script))) (always (mapped font))
 
--- glyphs get their advances, marks none, and stand as they are drawn, those of a cluster with the same flags
-abbrev pub after_substitution : FaceParts → Stage
-after_substitution font v = and_then (and_then (and_then (always (advanced font) v) (always (marks_zeroed font))) (always drawn_order)) (always with_flags_spread)
+-- glyphs get their advances, and hang on none; the font's positioning moves them; then marks take no room, and what was attached is
+-- drawn where it hangs
+abbrev pub placed_by_font : FaceParts → OtMapValue → Stage
+placed_by_font font m v =
+    and_then (and_then (and_then (and_then (always (advanced font) v) (always links_cleared)) (positioned font m)) (always (marks_zeroed font))) (always links_followed)
+
+-- glyphs stand as they are drawn, those of a cluster with the same flags
+abbrev pub after_positioning : Stage
+after_positioning v = and_then (always drawn_order v) (always with_flags_spread)
 
 -- what becomes of glyphs
 abbrev pub laid_out : FaceParts → OtMapValue → Stage
-laid_out font m v = and_then (and_then (always (classified font) v) (substituted font m)) (after_substitution font)
+laid_out font m v = and_then (and_then (and_then (always (classified font) v) (substituted font m)) (placed_by_font font m)) after_positioning
 
--- the stages, where the substitutions are known
+-- the stages, where the lookups are known
 abbrev pub shaped_with : FaceParts → OtMapValue → Option Script → Stage
 shaped_with font m script v = and_then (and_then (before_substitution font m.global_mask script v) (laid_out font m)) (always ended)
 
 abbrev pub shaping : FaceParts → List Feature → Option Script → Stage
-shaping font features script v = shaped_with font (substitution_map font script v.direction features) script v
+shaping font features script v = shaped_with font (layout_map font script v.direction features) script v

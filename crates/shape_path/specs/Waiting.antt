@@ -5,7 +5,6 @@ use Rattle.std.specs.Option.{option_map_or}
 use Rattle.shaping_text.specs.Tag.{tag_of}
 use Rattle.layout_font.specs.Layout.{FeatureTable}
 use Rattle.layout_lookups.specs.declared.substitution.SubstitutionTable.{SubstitutionTable}
-use Rattle.layout_lookups.specs.declared.positioning.PositioningTable.{PositioningTable}
 use Rattle.font_face.specs.declared.parts.FaceParts.{FaceParts}
 use Rattle.feature_text.specs.declared.feature.Feature.{Feature}
 use Rattle.feature_text.specs.Feature.{is_global}
@@ -154,12 +153,3 @@ waits_for_mirroring font direction = is_backward direction && has_mirrored_forms
 -- a text waits for its characters, its direction, its script, the ranges of its features or mirrored forms
 abbrev pub waits : FaceParts → List Feature → Option Script → Direction → List Item → Bool
 waits font features s direction xs = has_later_characters xs || is_vertical direction || script_waits s || has_ranges features || waits_for_mirroring font direction
-
--- ---- fonts
-
-abbrev pub positioning_waits : Option PositioningTable → Bool
-positioning_waits table = option_map_or (λ t. not (length t.lookups == 0)) table false
-
--- a font waits for positioning
-abbrev pub font_waits : FaceParts → Bool
-font_waits font = positioning_waits font.gpos

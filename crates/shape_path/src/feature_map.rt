@@ -4,7 +4,7 @@ ghost use Rattle.feature_text.specs.Feature.{is_global};
 ghost use Rattle.map_builder.specs.Compiled.{no_requests};
 ghost use Rattle.map_features.specs.declared.flags.TheConstants.{F_GLOBAL, F_NONE};
 ghost use Rattle.shaping_text.specs.ScriptTags.{wanted_tags};
-ghost use Rattle.shape_path.specs.Path.{requests, substitution_map, with_asked};
+ghost use Rattle.shape_path.specs.Path.{requests, layout_map, with_asked};
 ghost use Rattle.shape_path.specs.Requests.{common_features, directional_features, variations, with_common, with_feature, with_features};
 
 use feature_text::feature::Feature;
@@ -183,15 +183,15 @@ fn requests<'a>(
 }
 
 /// What a font does for a script, a direction and what was asked: what every text has is on unless switched off.
-#[tactic(auto, unfolding(crate::specs::Path::substitution_map))]
-pub(crate) fn substitution_map(
+#[tactic(auto, unfolding(crate::specs::Path::layout_map))]
+pub(crate) fn layout_map(
     alloc: Global,
     face: &Face,
     script: Option<Script>,
     direction: Direction,
     features: &[Feature],
 ) -> Result<hb_ot_map_t, AllocError>
-    ensures { IfOk result (λ map. map ≡ substitution_map face.now script direction features.now) }
+    ensures { IfOk result (λ map. map ≡ layout_map face.now script direction features.now) }
 {
     let builder = requests(alloc, face, script, direction, features)?;
     builder.compile(alloc)

@@ -1,8 +1,8 @@
 // Shaping of a text whose script has no shaper of its own, until the pipeline stands: its order, its glyphs, the substitutions
-// of its font, and advances.
+// and the positioning of its font.
 #![tactic(auto)]
 
 mod feature_map;
 pub mod path;
 pub mod waiting;
-pub mod waiting_font;
+mod waiting_font;

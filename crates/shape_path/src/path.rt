@@ -1,4 +1,4 @@
-//! Shaping of a text: its order, its glyphs, the substitutions of its font, and advances.
+//! Shaping of a text: its order, its glyphs, the substitutions and the positioning of its font.
 ghost use Rattle.std.specs.Prelude.{◌≡◌, ◌≢◌, Err, ◌≤◌, ◌<◌, ◌&&◌, ◌||◌, false, true, Ok, [], length, take, map, IfOk, IfErr, OnOk};
 ghost use Rattle.glyph_lists.specs.Items.{strip};
 ghost use Rattle.glyph_lists.specs.Readings.{Follows, always, read_of};
@@ -10,16 +10,17 @@ ghost use Rattle.layout_rules.specs.Ready.{IsDone, IsReady};
 ghost use Rattle.std.specs.Option.{option_copied};
 ghost use Rattle.std.specs.List.{list_any, list_all};
 ghost use Rattle.unicode.specs.GeneralCategory.{general_category};
-ghost use Rattle.shape_path.specs.Path.{advance_position, advanced, after_substitution, classified, drawn_order, is_decimal_number, is_letter, is_regional_indicator, is_number_text, is_numeral, laid_out, marks_adjust, marks_zeroed, no_pauses, nominal_glyph, runs_against, script_direction, shaped_with, shaping, substituted, with_numbers};
+ghost use Rattle.shape_path.specs.Path.{advance_position, advanced, after_positioning, classified, drawn_order, is_decimal_number, is_letter, is_regional_indicator, is_number_text, is_numeral, laid_out, marks_adjust, marks_zeroed, no_pauses, nominal_glyph, placed_by_font, positioned, runs_against, script_direction, shaped_with, shaping, substituted, with_numbers};
 ghost use Rattle.shape_path.specs.Stages.{is_glyph_number, mapped_glyph, ordered, with_mapped, with_next_mapped};
 
-use crate::feature_map::substitution_map;
+use crate::feature_map::layout_map;
 use feature_text::feature::Feature;
 use font_face::Face;
 use glyph_buffer::buffer::hb_buffer_t;
 use glyph_types::cause::ShapeCause;
 use glyph_types::info::hb_glyph_info_t;
 use glyph_types::position::GlyphPosition;
+use layout_links::finish::{position_finish_offsets, position_start};
 use layout_stages::pause::Pause;
 use map_builder::map::hb_ot_map_t;
 use shape_fallback::zeroing::zero_mark_widths_by_gdef;
@@ -274,18 +275,43 @@ fn substitute(face: &Face, map: &hb_ot_map_t, buffer: &mut hb_buffer_t) -> Resul
     layout_stages::substitute::substitute(map, face, buffer, &NoPauses)
 }
 
-/// Gives glyphs their advances, and marks none, and puts them in the order in which they are drawn.
-fn place_glyphs(face: &Face, buffer: &mut hb_buffer_t)
-    requires { IsReady buffer.old }
-    ensures { IsDone (after_substitution face.now) buffer.old buffer.new }
+/// Does the lookups of the map's stages of positioning, in order.
+fn position(face: &Face, map: &hb_ot_map_t, buffer: &mut hb_buffer_t) -> Result<(), ShapeCause>
+    requires ready { IsReady buffer.old }
+    requires numbers { are_glyphs (items_of buffer.old) ≡ true }
+    ensures ok { OnOk result (IsDone (positioned face.now map.now) buffer.old buffer.new) }
+    ensures err { IfErr result (λ e. e ≢ ShapeCause.OutOfMemory
+        → read_of (positioned face.now map.now) (run_of buffer.old) ≡ Err e) }
+{
+    layout_positioning::position::position(map, face, buffer, &NoPauses)
+}
+
+/// Gives glyphs their advances, does the font's positioning, takes its room from each mark, and draws what was attached.
+fn place_glyphs(face: &Face, map: &hb_ot_map_t, buffer: &mut hb_buffer_t) -> Result<(), ShapeCause>
+    requires ready { IsReady buffer.old }
+    requires numbers { are_glyphs (items_of buffer.old) ≡ true }
+    ensures ok { OnOk result (IsDone (placed_by_font face.now map.now) buffer.old buffer.new) }
+    ensures err { IfErr result (λ e. e ≢ ShapeCause.OutOfMemory
+        → read_of (placed_by_font face.now map.now) (run_of buffer.old) ≡ Err e) }
 {
     position_default(face, buffer);
+    position_start(buffer);
+    position(face, map, buffer)?;
     zero_marks(face, buffer);
+    position_finish_offsets(buffer);
+    Ok(())
+}
+
+/// Puts glyphs in the order in which they are drawn, and gives those of a cluster one set of flags.
+fn finish(buffer: &mut hb_buffer_t)
+    requires { IsReady buffer.old }
+    ensures { IsDone after_positioning buffer.old buffer.new }
+{
     draw(buffer);
     propagate_flags(buffer);
 }
 
-/// Does the font's substitutions, and gives what they leave its places.
+/// Does the font's substitutions, gives what they leave its places, and puts it in the order in which it is drawn.
 fn lay_out(face: &Face, map: &hb_ot_map_t, buffer: &mut hb_buffer_t) -> Result<(), ShapeCause>
     requires ready { IsReady buffer.old }
     requires numbers { are_glyphs (items_of buffer.old) ≡ true }
@@ -295,12 +321,13 @@ fn lay_out(face: &Face, map: &hb_ot_map_t, buffer: &mut hb_buffer_t) -> Result<(
 {
     classify(face, buffer);
     substitute(face, map, buffer)?;
-    place_glyphs(face, buffer);
+    place_glyphs(face, map, buffer)?;
+    finish(buffer);
     Ok(())
 }
 
 /// Shapes a buffer's text by a map: puts it in native order, each character's glyph in its place, does the font's
-/// substitutions, gives each glyph its advance, and puts the glyphs in the order in which they are drawn.
+/// substitutions and its positioning, and puts the glyphs in the order in which they are drawn.
 fn shape_with(face: &Face, map: &hb_ot_map_t, buffer: &mut hb_buffer_t) -> Result<(), ShapeCause>
     requires closed { buffer.old.is_open ≡ false }
     requires unrefused { buffer.old.has_refused ≡ false }
@@ -319,8 +346,8 @@ fn shape_with(face: &Face, map: &hb_ot_map_t, buffer: &mut hb_buffer_t) -> Resul
 }
 
 /// Shapes a buffer's text by what is asked of its font for its script and direction: limits are set by the number of
-/// characters; these, in native order, become glyphs; the font's substitutions are done, glyphs get their advances and marks
-/// none, and stand as they are drawn. It refuses for want of memory, and where the text would grow past its limit.
+/// characters; these, in native order, become glyphs; the font's substitutions and its positioning are done, marks take no room,
+/// and glyphs stand as they are drawn. It refuses for want of memory, and where the text would grow past its limit.
 pub fn shape_buffer(
     alloc: Global,
     face: &Face,
@@ -337,6 +364,6 @@ pub fn shape_buffer(
     ensures err { IfErr result (λ e. e ≢ ShapeCause.OutOfMemory
         → read_of (shaping face.now features.now buffer.old.script) (run_of buffer.old) ≡ Err e) }
 {
-    let map = substitution_map(alloc, face, buffer.script(), buffer.direction(), features)?;
+    let map = layout_map(alloc, face, buffer.script(), buffer.direction(), features)?;
     shape_with(face, &map, buffer)
 }

@@ -35,7 +35,7 @@ use Rattle.glyph_buffer.specs.Segment.{first_script, guessed_direction}
 use Rattle.glyph_buffer.specs.Text.{added_text, fits_text}
 use Rattle.shape_path.specs.Path.{shaping}
 use Rattle.shape_run.specs.Output.{glyphs_of}
-use Rattle.shape_path.specs.Waiting.{waits, font_waits}
+use Rattle.shape_path.specs.Waiting.{waits}
 
 -- ---- bytes
 
@@ -46,14 +46,6 @@ without_line_feed text = if slice_index text (length text - 1) == 10 then take (
 -- the text of bytes
 abbrev pub text_of : List ℕ → Result (List ℕ) RunFault
 text_of bytes = if is_utf8 bytes then Ok (without_line_feed bytes) else Err NotUtf8
-
--- a font that shaping acts on in full; another is refused, once the font is of its format
-abbrev pub acted_on : FaceParts → Result FaceParts JsonFault
-acted_on font = if font_waits font then Err WrongShape else Ok font
-
--- the font of a JSON value
-abbrev pub font_of : Data → Result FaceParts JsonFault
-font_of d = and_then (face_of d) acted_on
 
 -- ---- glyphs
 
@@ -116,7 +108,7 @@ line_of options font text = if fits_text text empty_buffer
 
 -- the font of bytes
 unfoldable pub font_in : List ℕ → Result FaceParts RunFault
-font_in bytes = then_run (json_of bytes) (λ f. of_json (font_of f))
+font_in bytes = then_run (json_of bytes) (λ f. of_json (face_of f))
 
 -- the line of a text's bytes
 unfoldable pub line_in : Options → FaceParts → List ℕ → Result (List ℕ) RunFault

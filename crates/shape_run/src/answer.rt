@@ -4,7 +4,7 @@ ghost use Rattle.serde_json.specs.View.{view};
 ghost use Rattle.std.specs.List.{list_all};
 ghost use Rattle.glyph_buffer.specs.Sides.{all_glyphs, empty_buffer};
 ghost use Rattle.glyph_buffer.specs.Text.{fits_text};
-ghost use Rattle.shape_run.specs.Answer.{IsAnswer, answer_by, font_in, font_of, line_in, line_of, printed_line, text_of, without_line_feed};
+ghost use Rattle.shape_run.specs.Answer.{IsAnswer, answer_by, font_in, line_in, line_of, printed_line, text_of, without_line_feed};
 ghost use Rattle.shape_run.specs.Run.{IsOfRun};
 ghost use Rattle.shape_path.specs.Stages.{is_glyph_number};
 ghost use Rattle.shape_run.specs.Asked.{asked_buffer, text_buffer};
@@ -20,7 +20,6 @@ use json_values::fault::JsonFault;
 use run_options::fault::RunFault;
 use run_options::options::Options;
 use serde_json::Value;
-use shape_path::waiting_font::font_waits;
 use std::alloc::{AllocError, Global};
 use text_buffers::glyphs::GlyphBuffer;
 use text_buffers::unicode_buffer::UnicodeBuffer;
@@ -91,18 +90,6 @@ fn print(
     Ok(line)
 }
 
-/// A font, of which shaping has to act on all that would change the text.
-fn read_font(alloc: Global, value: &Value) -> Result<Face, JsonFault>
-    ensures ok { IfOk result (λ face. font_of (view value.now) ≡ Ok face) }
-    ensures refused { IfErr result (λ e. e ≢ JsonFault.OutOfMemory → font_of (view value.now) ≡ Err e) }
-{
-    let face = read_face(alloc, value)?;
-    if font_waits(&face) {
-        return Err(JsonFault::WrongShape);
-    }
-    Ok(face)
-}
-
 /// The line of a text in a font.
 fn line(alloc: Global, options: &Options, face: &Face, text: &str) -> Result<String, RunFault>
     ensures ok { IfOk result (λ line. line_of options.now face.now text.now ≡ Ok (string_bytes line)) }
@@ -123,7 +110,7 @@ fn font_in(alloc: Global, bytes: &[u8]) -> Result<Face, RunFault>
     ensures kind { IfErr result IsOfRun }
 {
     let font = read_json(alloc, bytes)?;
-    let face = read_font(alloc, &font)?;
+    let face = read_face(alloc, &font)?;
     Ok(face)
 }
 
