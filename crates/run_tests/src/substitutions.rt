@@ -228,7 +228,7 @@ fn are_repeated(alloc: Global, row: &Repeated, count: u32) -> Result<bool, Fail>
 #[test]
 fn long_texts_are_substituted(rt: HostRuntime) -> Result<(), Fail> {
     for row in &REPEATED {
-        assert!(rt; are_repeated(rt.alloc(), row, 3_000)?);
+        assert!(rt; are_repeated(rt.alloc(), row, 70_000)?);
     }
     Ok(())
 }
