@@ -224,7 +224,7 @@ fn are_repeated(alloc: Global, row: &Repeated, count: u32) -> Result<bool, Fail>
     Ok(answer == Ok(()) && out.as_slice() == line.as_bytes())
 }
 
-// Each kind of lookup at texts of thousands of characters.
+// Each kind of lookup at texts past 65,536 characters.
 #[test]
 fn long_texts_are_substituted(rt: HostRuntime) -> Result<(), Fail> {
     for row in &REPEATED {
