@@ -1,4 +1,5 @@
 pub mod Lookups
 pub mod Steps
+pub mod Settings
 pub mod Substituting
 pub mod Lemmas
