@@ -10,7 +10,7 @@ use crate::apply::apply_lookups;
 use font_face::Face;
 use glyph_buffer::buffer::hb_buffer_t;
 use glyph_types::cause::ShapeCause;
-use layout_stages::pause::{Pause, run_pause};
+use layout_walks::pause::{Pause, run_pause};
 use map_builder::map::hb_ot_map_t;
 use map_features::lookup::lookup_map_t;
 use map_features::per_table::TableIndex;

@@ -1,0 +1,4 @@
+pub mod Trying
+pub mod Steps
+pub mod Pauses
+pub mod Lemmas
