@@ -6,7 +6,5 @@ mod keyed;
 pub mod ligature;
 pub mod script;
 pub mod table;
-#[cfg(test)]
-mod tests;
 
 pub use sorted_rows::{Keyed, is_above, is_rising};

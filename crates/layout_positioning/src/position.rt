@@ -4,6 +4,7 @@ ghost use Rattle.glyph_lists.specs.Readings.{read_of};
 ghost use Rattle.glyph_buffer.specs.Sides.{items_of, run_of};
 ghost use Rattle.layout_rules.specs.Buffers.{are_glyphs};
 ghost use Rattle.layout_rules.specs.Ready.{IsDone, IsDoneFrom, IsReady, run_with};
+ghost use Rattle.layout_walks.specs.Settings.{text_settings};
 ghost use Rattle.layout_positioning.specs.Positioning.{lookups_stage, positioned_by, positioning_lookups, table_stages};
 
 use crate::apply::apply_lookups;
@@ -45,9 +46,9 @@ fn apply_layout_table<P: Pause>(
     requires ready { IsReady buffer.old }
     requires numbers { are_glyphs (items_of buffer.old) ≡ true }
     ensures ok { OnOk result (IsDoneFrom 1 1 (table_stages face.now (positioning_lookups face.now) map.now.tables.gpos
-        (P.stage pause.now) 0 map.now.tables.gpos.stages) buffer.old buffer.new) }
+        (P.stage pause.now (text_settings buffer.old)) 0 map.now.tables.gpos.stages) buffer.old buffer.new) }
     ensures err { IfErr result (λ e. e ≢ ShapeCause.OutOfMemory → read_of (table_stages face.now
-        (positioning_lookups face.now) map.now.tables.gpos (P.stage pause.now) 0 map.now.tables.gpos.stages)
+        (positioning_lookups face.now) map.now.tables.gpos (P.stage pause.now (text_settings buffer.old)) 0 map.now.tables.gpos.stages)
         (run_with 1 buffer.old) ≡ Err e) }
 {
     let stages = map.stages(TableIndex::GPOS);
@@ -71,9 +72,9 @@ pub fn position<P: Pause>(
 ) -> Result<(), ShapeCause>
     requires ready { IsReady buffer.old }
     requires numbers { are_glyphs (items_of buffer.old) ≡ true }
-    ensures ok { OnOk result (IsDone (positioned_by face.now map.now (P.stage pause.now)) buffer.old buffer.new) }
+    ensures ok { OnOk result (IsDone (positioned_by face.now map.now (P.stage pause.now (text_settings buffer.old))) buffer.old buffer.new) }
     ensures err { IfErr result (λ e. e ≢ ShapeCause.OutOfMemory
-        → read_of (positioned_by face.now map.now (P.stage pause.now)) (run_of buffer.old) ≡ Err e) }
+        → read_of (positioned_by face.now map.now (P.stage pause.now (text_settings buffer.old))) (run_of buffer.old) ≡ Err e) }
 {
     apply_layout_table(map, face, buffer, pause)
 }

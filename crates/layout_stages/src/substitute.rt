@@ -7,6 +7,7 @@ ghost use Rattle.map_features.specs.declared.per_table.TableIndex.TheVariants.{G
 ghost use Rattle.layout_rules.specs.Buffers.{are_glyphs};
 ghost use Rattle.layout_rules.specs.Ready.{IsDone, IsDoneFrom, IsReady, run_with};
 ghost use Rattle.layout_stages.specs.Lookups.{lookups_stage};
+ghost use Rattle.layout_walks.specs.Settings.{text_settings};
 ghost use Rattle.layout_stages.specs.Substituting.{substituted_by, substitution_lookups, table_stage, table_stages};
 
 use crate::apply::apply_all;
@@ -55,10 +56,10 @@ fn apply_layout_table<P: Pause>(
     requires numbers { are_glyphs (items_of buffer.old) ≡ true }
     ensures ok { OnOk result
         (IsDoneFrom ctx.old.random_state ctx.new.random_state (table_stages ctx.old.face.now
-        (substitution_lookups ctx.old.face.now) map.now.tables.gsub (P.stage pause.now) 0 map.now.tables.gsub.stages)
+        (substitution_lookups ctx.old.face.now) map.now.tables.gsub (P.stage pause.now (text_settings buffer.old)) 0 map.now.tables.gsub.stages)
         buffer.old buffer.new) }
     ensures err { IfErr result (λ e. e ≢ ShapeCause.OutOfMemory → read_of (table_stages ctx.old.face.now
-        (substitution_lookups ctx.old.face.now) map.now.tables.gsub (P.stage pause.now) 0 map.now.tables.gsub.stages)
+        (substitution_lookups ctx.old.face.now) map.now.tables.gsub (P.stage pause.now (text_settings buffer.old)) 0 map.now.tables.gsub.stages)
         (run_with ctx.old.random_state buffer.old) ≡ Err e) }
 {
     let stages = map.stages(TableIndex::GSUB);
@@ -80,9 +81,9 @@ pub fn substitute<P: Pause>(
 ) -> Result<(), ShapeCause>
     requires ready { IsReady buffer.old }
     requires numbers { are_glyphs (items_of buffer.old) ≡ true }
-    ensures ok { OnOk result (IsDone (substituted_by face.now map.now (P.stage pause.now)) buffer.old buffer.new) }
+    ensures ok { OnOk result (IsDone (substituted_by face.now map.now (P.stage pause.now (text_settings buffer.old))) buffer.old buffer.new) }
     ensures err { IfErr result (λ e. e ≢ ShapeCause.OutOfMemory
-        → read_of (substituted_by face.now map.now (P.stage pause.now)) (run_of buffer.old) ≡ Err e) }
+        → read_of (substituted_by face.now map.now (P.stage pause.now (text_settings buffer.old))) (run_of buffer.old) ≡ Err e) }
 {
     let mut ctx = hb_ot_apply_context_t::new(TableIndex::GSUB, face);
     apply_layout_table(map, &mut ctx, buffer, pause)

@@ -5,3 +5,5 @@
 mod maps;
 #[cfg(test)]
 mod requests;
+#[cfg(test)]
+mod scripts;

@@ -1,9 +1,9 @@
 -- A walk over the syllables of a buffer.
-use Rattle.std.proofs.Common.{ℕ, ◌≡◌, ◌≤◌, ◌<◌, ◌+◌, ◌-◌, List, length, take, drop, refl, sym, ap, subst, ◌∙◌, arith}
+use Rattle.std.proofs.Common.{ℕ, ◌≡◌, ◌≤◌, ◌<◌, ◌+◌, ◌-◌, List, length, drop, refl, sym, ap, subst, ◌∙◌, arith}
 use Rattle.std.specs.Prelude.{slice_range}
-use Rattle.std.proofs.lemmas.List.{length-take-le, length-drop, drop_all, drop-drop, drop-map}
+use Rattle.std.proofs.lemmas.List.{length-take-le, length-drop, drop_all}
 use Rattle.glyph_types.specs.declared.info.hb_glyph_info_t.{hb_glyph_info_t}
-use Rattle.glyph_lists.specs.Items.{Item, item_of, strip}
+use Rattle.glyph_lists.specs.Items.{Item}
 use Rattle.glyph_lists.specs.Readings.{always}
 use Rattle.glyph_slices.specs.Runs.{run_length}
 use Rattle.glyph_buffer.specs.Sides.{Sides, all_glyphs, items_of}
@@ -11,8 +11,8 @@ use Rattle.layout_rules.specs.Ready.{IsReady}
 use Rattle.text_stages.specs.Stages.{IsFollowed}
 use Rattle.script_walks.specs.Rewriting.{Rewritten, beside, each_rewritten, by_syllable}
 use Rattle.script_walks.specs.Buffers.{IsRewritten, with_rule}
-use Rattle.script_walks.proofs.Cuts.{seen_length, first_cut, run_within}
 use Rattle.script_walks.specs.Lemmas.Rewritings.{middle, items_after, rewritten_beside, rewritten_count, rewritten_follows, rewritten_nothing, counted}
+use Rattle.script_walks.specs.Lemmas.Syllables.{syllable_end, syllables_cut}
 
 -- the syllables before an index were rewritten: whatever the others become, all become
 pub record IsUnderway (rule : List Item → Rewritten) (start : ℕ) (old now : Sides) : Type 0 where
@@ -24,28 +24,9 @@ pub record IsUnderway (rule : List Item → Rewritten) (start : ℕ) (old now : 
 pub begun : (rule : List Item → Rewritten) (s : Sides) → IsReady s → IsUnderway rule 0 s s
 begun rule s ready = record { ready = ready; count = refl; does = λ new f. f }
 
-left : (start : ℕ) (s : Sides) → drop start (items_of s) ≡ strip (drop start (all_glyphs s))
-left start s = drop-map item_of start (all_glyphs s)
-
--- where the syllable at an index ends
-pub syllable_end : (start end : ℕ) (s : Sides) → start < length (all_glyphs s) → end ≡ start + run_length (λ (g : hb_glyph_info_t). g.syllable) (drop start (all_glyphs s))
-    → (start < end) × (end ≤ length (all_glyphs s))
-syllable_end start end s lt e =
-    let n = length-drop start (all_glyphs s) in
-    let w = run_within (λ (g : hb_glyph_info_t). g.syllable) (drop start (all_glyphs s)) (omega (arith, lt, n)) in
-    (omega (arith, e, w.0), omega (arith, e, w.1, n, lt))
-
 next_syllable : (rule : List Item → Rewritten) (start end : ℕ) (s : Sides) → start < length (all_glyphs s) → end ≡ start + run_length (λ (g : hb_glyph_info_t). g.syllable) (drop start (all_glyphs s))
     → by_syllable rule (drop start (items_of s)) ≡ beside (rule (slice_range (items_of s) start end)) (by_syllable rule (drop end (items_of s)))
-next_syllable rule start end s lt e =
-    let xs = drop start (items_of s) in
-    let n = run_length (λ (x : Item). x.syllable) xs in
-    let len : length xs ≡ length (all_glyphs s) - start = length-drop start (items_of s) ∙ ap (λ m. m - start) (counted s) in
-    let same : end ≡ start + n = e ∙ ap (λ m. start + m) (seen_length (λ (x : Item). x.syllable) item_of (drop start (all_glyphs s)) ∙ ap (run_length (λ (x : Item). x.syllable)) (sym (left start s))) in
-    let size : n ≡ end - start = omega (arith, same) in
-    ap (each_rewritten rule) (first_cut (λ (x : Item). x.syllable) xs (omega (arith, len, lt)))
-    ∙ ap (λ ys. beside (rule ys) (by_syllable rule (drop n xs))) (ap (λ m. take m xs) size)
-    ∙ ap (λ ys. beside (rule (slice_range (items_of s) start end)) (by_syllable rule ys)) (drop-drop n start (items_of s) ∙ ap (λ m. drop m (items_of s)) (sym same))
+next_syllable rule start end s lt e = ap (each_rewritten rule) (syllables_cut start end s lt e)
 
 -- one syllable more
 pub walked : (rule : List Item → Rewritten) → ((xs : List Item) → length (rule xs).items ≡ length xs) → (start end : ℕ) (old now next : Sides) → IsUnderway rule start old now → start < length (all_glyphs now)

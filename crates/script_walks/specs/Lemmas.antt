@@ -3,3 +3,6 @@ pub mod Shifts
 pub mod Rewritings
 pub mod Parts
 pub mod Permuted
+pub mod Cuts
+pub mod Syllables
+pub mod Numbers

@@ -27,7 +27,7 @@ pub trait SyllableRule {
 }
 
 /// Rewrites each syllable by itself, from the first on: neighbours with one syllable byte are one syllable.
-#[tactic(auto, using(crate::proofs::Walks::begun, crate::proofs::Walks::syllable_end))]
+#[tactic(auto, using(crate::proofs::Walks::begun, crate::specs::Lemmas::Syllables::syllable_end))]
 pub fn each_syllable<R: SyllableRule>(rule: &R, buffer: &mut hb_buffer_t) -> Result<(), AllocError>
     requires ready { IsReady buffer.old }
     ensures { OnOk result (IsFollowed (always (with_rule (by_syllable (R.rewritten rule.now)))) buffer.old buffer.new) }

@@ -1,5 +1,5 @@
 -- Stages over glyphs.
-use Rattle.std.proofs.Common.{suc, ◌≡◌, ◌∷◌, arith, Bool, true, false, not, if◌then◌else◌, List, [], length, map, min, take, refl, sym, ap, ◌∙◌}
+use Rattle.std.proofs.Common.{ℕ, suc, nat_le, ◌≡◌, ◌∷◌, arith, Bool, true, false, not, if◌then◌else◌, List, [], length, map, min, take, refl, sym, ap, ◌∙◌}
 use Rattle.std.proofs.lemmas.List.{length-map}
 use Rattle.glyph_types.specs.declared.info.hb_glyph_info_t.{hb_glyph_info_t}
 use Rattle.glyph_lists.specs.Items.{Item, Position, item_of, item_masked}
@@ -17,7 +17,7 @@ use Rattle.layout_rules.specs.Buffers.{are_glyphs}
 use Rattle.layout_rules.specs.Ready.{IsDone, IsReady}
 use Rattle.text_stages.specs.Stages.{IsFollowed, mapped}
 use Rattle.text_stages.specs.Lemmas.Written.{happened_followed}
-use Rattle.shape_glyphs.specs.Glyphs.{are_chosen, as_glyph}
+use Rattle.shape_glyphs.specs.Glyphs.{as_glyph}
 use Rattle.shape_glyphs.specs.Flags.{with_flags_spread}
 use Rattle.shape_glyphs.specs.Ignorables.{without_ignorables}
 
@@ -39,13 +39,17 @@ mapped_done k same old new f = record {
   numbers = λ are. ap are_glyphs (mapped_items k old new f) ∙ kept_numbers k same (items_of old) ∙ are;
 }
 
-chosen_numbers : (xs : List Item) → are_glyphs (map as_glyph xs) ≡ are_chosen xs
+glyph_if : (n : ℕ) (b : Bool) → nat_le n 65535 ≡ b → nat_le (if b then n else 0) 65535 ≡ true
+glyph_if n true h = h
+glyph_if n false h = refl
+
+chosen_numbers : (xs : List Item) → are_glyphs (map as_glyph xs) ≡ true
 chosen_numbers [] = refl
-chosen_numbers (x ∷ xs) = rw (chosen_numbers xs) refl
+chosen_numbers (x ∷ xs) = rw (glyph_if x.glyph_index (nat_le x.glyph_index 65535) refl, chosen_numbers xs) refl
 
 -- chosen glyphs are glyphs
-pub chosen_glyphs : (old new : Sides) → IsFollowed (always (mapped as_glyph)) old new → are_chosen (items_of old) ≡ true → are_glyphs (items_of new) ≡ true
-chosen_glyphs old new f are = ap are_glyphs (mapped_items as_glyph old new f) ∙ chosen_numbers (items_of old) ∙ are
+pub chosen_glyphs : (old new : Sides) → IsFollowed (always (mapped as_glyph)) old new → are_glyphs (items_of new) ≡ true
+chosen_glyphs old new f = ap are_glyphs (mapped_items as_glyph old new f) ∙ chosen_numbers (items_of old)
 
 -- ---- flags
 

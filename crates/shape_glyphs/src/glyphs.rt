@@ -7,7 +7,7 @@ ghost use Rattle.glyph_buffer.specs.Sides.{items_of};
 ghost use Rattle.layout_rules.specs.Buffers.{are_glyphs};
 ghost use Rattle.layout_rules.specs.Ready.{IsDone, IsReady};
 ghost use Rattle.text_stages.specs.Stages.{IsFollowed};
-ghost use Rattle.shape_glyphs.specs.Glyphs.{are_chosen, synthesized_class, with_glyphs, with_synthesized_classes};
+ghost use Rattle.shape_glyphs.specs.Glyphs.{glyph_or_missing, synthesized_class, with_glyphs, with_synthesized_classes};
 
 use glyph_buffer::buffer::hb_buffer_t;
 use glyph_types::flags::{GlyphPropsFlags, UnicodeProps};
@@ -15,19 +15,26 @@ use glyph_types::info::hb_glyph_info_t;
 use text_stages::categories::is_nonspacing_mark;
 use text_stages::glyphs::map_glyphs;
 
-/// Puts the glyph that was chosen for each character in its place. It takes linear time and no memory.
+/// Puts the glyph that was chosen for each character in its place, and the missing glyph for a number that no glyph can have.
+/// It takes linear time and no memory.
 pub fn map_glyphs_fast(buffer: &mut hb_buffer_t)
     requires { IsReady buffer.old }
     ensures stage { IsFollowed (always with_glyphs) buffer.old buffer.new }
-    ensures numbers { are_chosen (items_of buffer.old) ≡ true → are_glyphs (items_of buffer.new) ≡ true }
+    ensures numbers { are_glyphs (items_of buffer.new) ≡ true }
 {
     map_glyphs(
         buffer,
         |glyph| hb_glyph_info_t {
-            glyph_id: glyph.glyph_index,
+            glyph_id: glyph_or_missing(glyph.glyph_index),
             ..*glyph
         },
     );
+}
+
+fn glyph_or_missing(number: u32) -> u32
+    ensures { result ≡ glyph_or_missing number }
+{
+    if number <= 65535 { number } else { 0 }
 }
 
 /// Gives glyphs classes by their characters, for a font that doesn't classify them: nonspacing marks that are not ignored

@@ -257,7 +257,7 @@ fn classify(face: &Face, buffer: &mut hb_buffer_t)
 struct NoPauses;
 
 impl Pause for NoPauses {
-    ghost stage = { λ _ n v. no_pauses n v };
+    ghost stage = { λ _ _ n v. no_pauses n v };
 
     fn run(&self, _pause: u8, _buffer: &mut hb_buffer_t) -> Result<bool, ShapeCause> {
         Ok(false)

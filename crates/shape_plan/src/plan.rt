@@ -33,47 +33,56 @@ pub struct PlanChoices {
     pub apply_fallback_kern: bool,
 }
 
-/// A plan, which shapes any text of its direction and script.
-#[derive(Debug, Drop)]
-pub struct hb_ot_shape_plan_t<S: PlannedShaper> {
+/// What a shaper reads of a plan.
+#[derive(Drop)]
+pub struct hb_script_plan_t<D> {
+    /// The direction of the lines that the plan is for.
     pub direction: Direction,
     pub script: Option<Script>,
-    pub shaper: S,
-    pub ot_map: hb_ot_map_t,
+    pub map: hb_ot_map_t,
     pub choices: PlanChoices,
+    /// What the shaper keeps for the texts of the plan.
+    pub plan_data: D,
+}
+
+/// A plan, which shapes any text of its direction and script.
+#[derive(Drop)]
+pub struct hb_ot_shape_plan_t<S: PlannedShaper> {
+    pub shaper: S,
+    pub script_plan: hb_script_plan_t<S::PlanData>,
     pub user_features: Vec<Feature>,
 }
 
-impl<S: PlannedShaper> hb_ot_shape_plan_t<S> {
+impl<D> hb_script_plan_t<D> {
     /// The mask of glyphs in a fraction, without a glyph flag.
     pub fn frac_mask(&self) -> u32
-        ensures value { result ≡ mask_at_one (codes "frac") self.now.ot_map }
+        ensures value { result ≡ mask_at_one (codes "frac") self.now.map }
         ensures flagless { bit_and result 7 ≡ 0 }
     {
-        self.ot_map.get_1_mask(Tag::from_bytes(b"frac"))
+        self.map.get_1_mask(Tag::from_bytes(b"frac"))
     }
 
     /// The mask of glyphs in a numerator, without a glyph flag.
     pub fn numr_mask(&self) -> u32
-        ensures value { result ≡ mask_at_one (codes "numr") self.now.ot_map }
+        ensures value { result ≡ mask_at_one (codes "numr") self.now.map }
         ensures flagless { bit_and result 7 ≡ 0 }
     {
-        self.ot_map.get_1_mask(Tag::from_bytes(b"numr"))
+        self.map.get_1_mask(Tag::from_bytes(b"numr"))
     }
 
     /// The mask of glyphs in a denominator, without a glyph flag.
     pub fn dnom_mask(&self) -> u32
-        ensures value { result ≡ mask_at_one (codes "dnom") self.now.ot_map }
+        ensures value { result ≡ mask_at_one (codes "dnom") self.now.map }
         ensures flagless { bit_and result 7 ≡ 0 }
     {
-        self.ot_map.get_1_mask(Tag::from_bytes(b"dnom"))
+        self.map.get_1_mask(Tag::from_bytes(b"dnom"))
     }
 
     /// The mask of characters that a backward line mirrors by a feature, without a glyph flag.
     pub fn rtlm_mask(&self) -> u32
-        ensures value { result ≡ mask_at_one (codes "rtlm") self.now.ot_map }
+        ensures value { result ≡ mask_at_one (codes "rtlm") self.now.map }
         ensures flagless { bit_and result 7 ≡ 0 }
     {
-        self.ot_map.get_1_mask(Tag::from_bytes(b"rtlm"))
+        self.map.get_1_mask(Tag::from_bytes(b"rtlm"))
     }
 }

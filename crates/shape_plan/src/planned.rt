@@ -8,23 +8,29 @@ ghost use Rattle.shape_plan.specs.Shapers.{shaper_features, shaper_overrides, tr
 use crate::any_shaper::{hb_ot_any_shaper_t, hb_ot_shape_zero_width_marks_type_t};
 use feature_requests::collecting;
 use map_builder::builder::hb_ot_map_builder_t;
+use map_builder::map::hb_ot_map_t;
 use normal_forms::NormalizationMode;
 use shaping_text::script::Script;
 use shaping_text::tag::Tag;
-use std::alloc::AllocError;
+use std::alloc::{AllocError, Global};
 
 /// What a shaper decides once for all texts, and what it asks of a font's features.
 pub trait PlannedShaper: Drop {
-    ghost use Rattle.std.specs.Prelude.{◌≡◌, OnOk, Option};
-    ghost use Rattle.map_builder.specs.Compiled.{MapRequests};
+    ghost use Rattle.std.specs.Prelude.{◌≡◌, IfOk, OnOk, Option};
+    ghost use Rattle.map_builder.specs.Compiled.{MapRequests, OtMapValue};
     ghost use Rattle.shaping_text.specs.declared.script.Script.{Script};
     ghost use Rattle.shape_plan.specs.Shapers.{ShaperTraits};
+
+    /// What the shaper keeps for the texts of a plan.
+    type PlanData: Drop;
 
     ghost traits: { Self → ShaperTraits };
 
     ghost collects: { Self → Option Script → MapRequests → MapRequests };
 
     ghost overrides: { Self → Option Script → MapRequests → MapRequests };
+
+    ghost data_of: { Self → OtMapValue → Option Script → Self.PlanData };
 
     /// How far characters are split and composed.
     fn normalization_preference(&self) -> NormalizationMode
@@ -57,14 +63,27 @@ pub trait PlannedShaper: Drop {
         script: Option<Script>,
     ) -> Result<(), AllocError>
         ensures { OnOk result (builder.new ≡ overrides self.now script builder.old) };
+
+    /// What the shaper keeps for texts of a script that are shaped by a map.
+    fn create_data(
+        &self,
+        alloc: Global,
+        map: &hb_ot_map_t,
+        script: Option<Script>,
+    ) -> Result<Self::PlanData, AllocError>
+        ensures { IfOk result (λ kept. kept ≡ data_of self.now map.now script) };
 }
 
 impl PlannedShaper for hb_ot_any_shaper_t {
+    type PlanData = ();
+
     ghost traits = { traits_of };
 
     ghost collects = { collected };
 
     ghost overrides = { overridden };
+
+    ghost data_of = { λ _ _ _. tt };
 
     fn normalization_preference(&self) -> NormalizationMode {
         hb_ot_any_shaper_t::normalization_preference(*self)
@@ -104,5 +123,14 @@ impl PlannedShaper for hb_ot_any_shaper_t {
             hb_ot_any_shaper_t::Script(shaper) => collecting::override_features(shaper, builder),
             _ => Ok(()),
         }
+    }
+
+    fn create_data(
+        &self,
+        _alloc: Global,
+        _map: &hb_ot_map_t,
+        _script: Option<Script>,
+    ) -> Result<(), AllocError> {
+        Ok(())
     }
 }

@@ -10,7 +10,7 @@ ghost use Rattle.std.specs.Prelude.{OnOk};
 
 use crate::any_shaper::{DEFAULT_SHAPER, HB_OT_SHAPE_ZERO_WIDTH_MARKS_NONE, hb_ot_any_shaper_t};
 use crate::dispatch::hb_ot_shape_complex_categorize;
-use crate::plan::{PlanChoices, hb_ot_shape_plan_t};
+use crate::plan::{PlanChoices, hb_ot_shape_plan_t, hb_script_plan_t};
 use crate::planned::PlannedShaper;
 use feature_requests::{common, user};
 use feature_text::feature::Feature;
@@ -136,30 +136,36 @@ impl<'a, S: PlannedShaper> hb_ot_shape_planner_t<'a, S> {
         self.shaper.override_features(&mut self.ot_map, self.script)
     }
 
-    /// The plan of what was asked; it keeps the user's features.
+    /// The plan of what was asked, with what the shaper keeps for its texts; it keeps the user's features.
     pub fn compile(
         self,
         alloc: Global,
         features: &[Feature],
     ) -> Result<hb_ot_shape_plan_t<S>, AllocError>
-        ensures direction { IfOk result (λ plan. plan.direction ≡ self.entry.direction) }
-        ensures script { IfOk result (λ plan. plan.script ≡ self.entry.script) }
+        ensures direction { IfOk result (λ plan. plan.script_plan.direction ≡ self.entry.direction) }
+        ensures script { IfOk result (λ plan. plan.script_plan.script ≡ self.entry.script) }
         ensures shaper { IfOk result (λ plan. plan.shaper ≡ self.entry.shaper) }
-        ensures map { IfOk result (λ plan. plan.ot_map ≡ compiled self.entry.ot_map) }
-        ensures choices { IfOk result (λ plan. plan.choices
+        ensures map { IfOk result (λ plan. plan.script_plan.map ≡ compiled self.entry.ot_map) }
+        ensures choices { IfOk result (λ plan. plan.script_plan.choices
             ≡ choices (S.traits self.entry.shaper) self.entry.face.now (compiled self.entry.ot_map)) }
+        ensures data { IfOk result (λ plan. plan.script_plan.plan_data
+            ≡ S.data_of self.entry.shaper (compiled self.entry.ot_map) self.entry.script) }
         ensures features { IfOk result (λ plan. plan.user_features.items ≡ features.now) }
     {
-        let ot_map = self.ot_map.compile(alloc)?;
-        let choices = plan_choices(&self.shaper, self.face, &ot_map);
+        let map = self.ot_map.compile(alloc)?;
+        let choices = plan_choices(&self.shaper, self.face, &map);
+        let plan_data = self.shaper.create_data(alloc, &map, self.script)?;
         let mut user_features = Vec::new(alloc);
         user_features.extend_from_slice(features)?;
         Ok(hb_ot_shape_plan_t {
-            direction: self.direction,
-            script: self.script,
             shaper: self.shaper,
-            ot_map,
-            choices,
+            script_plan: hb_script_plan_t {
+                direction: self.direction,
+                script: self.script,
+                map,
+                choices,
+                plan_data,
+            },
             user_features,
         })
     }

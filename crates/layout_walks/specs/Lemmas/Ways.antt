@@ -1,12 +1,13 @@
 -- Stages one after another, each done from one random state to another.
-use Rattle.std.proofs.Common.{ℕ, ◌≡◌, true, Ok, Err, Some, [], refl, ◌∙◌}
+use Rattle.std.proofs.Common.{ℕ, ◌≡◌, true, Ok, Err, Option, Some, [], refl, subst, ◌∙◌}
 use Rattle.glyph_types.specs.declared.cause.ShapeCause.{ShapeCause}
 use Rattle.glyph_lists.specs.Readings.{View, Run, Reading, Stage, Follows, read_of, always, with_events, and_then, as_it_is}
 use Rattle.glyph_lists.specs.Steps.{follows_then, follows_same, refused_first, refused_then}
-use Rattle.glyph_buffer.specs.Sides.{Sides, settings_of, items_of, run_of}
+use Rattle.glyph_buffer.specs.Sides.{Sides, Settings, settings_of, items_of, run_of}
 use Rattle.layout_rules.specs.Buffers.{are_glyphs}
 use Rattle.layout_rules.specs.Ready.{IsReady, IsDone, IsDoneFrom, run_with}
 use Rattle.layout_walks.specs.Pauses.{Pauses, pause_stage}
+use Rattle.layout_walks.specs.Settings.{TextSettings, text_settings, text_settings_of}
 
 -- nothing is done by a stage that leaves all as it is
 pub nothing_done : (r : ℕ) (s : Sides) → IsReady s → IsDoneFrom r r as_it_is s s
@@ -44,6 +45,15 @@ paused pauses n r old new d = record {
 
 pub pause_refused : (pauses : Pauses) (n : ℕ) (r : ℕ) (old : Sides) (cause : ShapeCause) → read_of (pauses n) (run_of old) ≡ Err cause → read_of (pause_stage pauses (Some n)) (run_with r old) ≡ Err cause
 pause_refused pauses n r old cause e = refused_first (read_of (pauses n) (run_of old)) (always (λ (w : View). with_events [] (record w { random = r }))) cause e
+
+-- a pause knows the settings of the text as they were before the stages
+pub paused_as_set : (stage : TextSettings → Pauses) (p : Option ℕ) (r : ℕ) (was old new : Sides) → settings_of old ≡ settings_of was → IsDoneFrom r r (pause_stage (stage (text_settings old)) p) old new
+    → IsDoneFrom r r (pause_stage (stage (text_settings was)) p) old new
+paused_as_set stage p r was old new same d = let P : Settings → Type 0 = λ st. IsDoneFrom r r (pause_stage (stage (text_settings_of st)) p) old new in subst P same d
+
+pub refused_as_set : (stage : TextSettings → Pauses) (p : Option ℕ) (r : ℕ) (was old : Sides) (cause : ShapeCause) → settings_of old ≡ settings_of was → read_of (pause_stage (stage (text_settings old)) p) (run_with r old) ≡ Err cause
+    → read_of (pause_stage (stage (text_settings was)) p) (run_with r old) ≡ Err cause
+refused_as_set stage p r was old cause same e = let P : Settings → Type 0 = λ st. read_of (pause_stage (stage (text_settings_of st)) p) (run_with r old) ≡ Err cause in subst P same e
 
 -- some stages were done; whatever follows, or is refused, by those that are left is so by all
 pub record AreStagesDone (all left : Stage) (before r : ℕ) (old now : Sides) : Type 0 where

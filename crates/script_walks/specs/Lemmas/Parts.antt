@@ -140,7 +140,7 @@ move_rewrites start end n middle a b at le fits f =
 
 -- ---- masks
 
-without_again : (m bits : ℕ) → without_flags (bit_or m (without_flags bits)) ≡ bit_or (without_flags m) (without_flags bits)
+pub without_again : (m bits : ℕ) → without_flags (bit_or m (without_flags bits)) ≡ bit_or (without_flags m) (without_flags bits)
 without_again m bits =
     let r = m % 8 in
     let q = m / 8 in
@@ -157,7 +157,7 @@ without_again m bits =
     let set = and_mask (bit_or m (without_flags bits)) 3 in
     omega (arith, first, second, none, nothing, set)
 
-flags_again : (m bits : ℕ) → bit_and (bit_or m (without_flags bits)) 7 ≡ bit_and m 7
+pub flags_again : (m bits : ℕ) → bit_and (bit_or m (without_flags bits)) 7 ≡ bit_and m 7
 flags_again m bits =
     let put = and_mask bits 3 in
     let none : bit_and (without_flags bits) 7 ≡ 0 = and_mask (without_flags bits) 3 ∙ omega (arith, put) in
@@ -184,7 +184,7 @@ part_seen v from to xs ys =
     map-append v (take from xs ++ ys) (drop to xs) ∙ ap (λ zs. zs ++ map v (drop to xs)) (map-append v (take from xs) ys)
     ∙ ap (λ zs. zs ++ map v ys ++ map v (drop to xs)) (sym (take-map v from xs)) ∙ ap (λ zs. take from (map v xs) ++ map v ys ++ zs) (sym (drop-map v to xs))
 
-range_seen : {X Y : Type 0} (v : X → Y) (from to : ℕ) (xs : List X) → map v (slice_range xs from to) ≡ slice_range (map v xs) from to
+pub range_seen : {X Y : Type 0} (v : X → Y) (from to : ℕ) (xs : List X) → map v (slice_range xs from to) ≡ slice_range (map v xs) from to
 range_seen v from to xs = sym (take-map v (to - from) (drop from xs)) ∙ ap (take (to - from)) (sym (drop-map v from xs))
 
 between : {X : Type 0} (from to : ℕ) (xs ys : List X) → from ≤ to → to ≤ length xs → length ys ≡ to - from → length (take from xs ++ ys ++ drop to xs) ≡ length xs

@@ -1,4 +1,5 @@
 use Rattle.std.proofs.Common.{◌≡◌}
+use Rattle.layout_walks.specs.Settings.{text_settings}
 use Rattle.layout_positioning.specs.Positioning.{positioning_lookups}
 use Rattle.layout_positioning.proofs.Ways.{AreTableStagesDone}
 use Rattle.layout_positioning.proofs.position.apply_layout_table.Given as goal
@@ -6,6 +7,6 @@ use Rattle.layout_positioning.proofs.position.apply_layout_table.Given as goal
 -- the stages so far were done
 abbrev pub invariant-loop-i : goal.invariant-loop-i
 invariant-loop-i g l = record {
-  done : AreTableStagesDone l.face (positioning_lookups l.face) l.map.tables.gpos (g.P.Pause.stage l.pause) l.i l.fn.buffer l.buffer;
+  done : AreTableStagesDone l.face (positioning_lookups l.face) l.map.tables.gpos (g.P.Pause.stage l.pause (text_settings l.fn.buffer)) l.i l.fn.buffer l.buffer;
   stages : l.stages ≡ l.map.tables.gpos.stages;
 }

@@ -1,5 +1,6 @@
 use Rattle.std.proofs.Common.{◌≡◌}
 use Rattle.map_features.specs.declared.per_table.TableIndex.TheVariants.{GSUB}
+use Rattle.layout_walks.specs.Settings.{text_settings}
 use Rattle.layout_stages.specs.Substituting.{substitution_lookups}
 use Rattle.layout_stages.proofs.Ways.{AreTableStagesDone}
 use Rattle.layout_stages.proofs.substitute.apply_layout_table.Given as goal
@@ -7,7 +8,7 @@ use Rattle.layout_stages.proofs.substitute.apply_layout_table.Given as goal
 -- the stages so far were done
 abbrev pub invariant-loop-i : goal.invariant-loop-i
 invariant-loop-i g l = record {
-  done : AreTableStagesDone l.fn.ctx.face.now (substitution_lookups l.fn.ctx.face.now) l.map.tables.gsub (g.P.Pause.stage l.pause) l.i l.fn.ctx.random_state l.ctx.random_state l.fn.buffer l.buffer;
+  done : AreTableStagesDone l.fn.ctx.face.now (substitution_lookups l.fn.ctx.face.now) l.map.tables.gsub (g.P.Pause.stage l.pause (text_settings l.fn.buffer)) l.i l.fn.ctx.random_state l.ctx.random_state l.fn.buffer l.buffer;
   substitution : l.ctx.table_index ≡ GSUB;
   face : l.ctx.face.now ≡ l.fn.ctx.face.now;
   stages : l.stages ≡ l.map.tables.gsub.stages;

@@ -1,6 +1,7 @@
 use Rattle.std.proofs.Common.{◌<◌, ◌≤◌, length, arith}
 use Rattle.glyph_buffer.specs.Sides.{all_glyphs}
-use Rattle.script_walks.proofs.Walks.{syllable_end, walked, all_walked}
+use Rattle.script_walks.proofs.Walks.{walked, all_walked}
+use Rattle.script_walks.specs.Lemmas.Syllables.{syllable_end}
 use Rattle.script_walks.proofs.walk.each_syllable.Goals as goal
 
 pub rewrite-requires-clause-within : goal.rewrite-requires-clause-within

@@ -1,8 +1,9 @@
-//! Look-ups of present and missing keys, and lists out of order.
-use crate::is_rising;
-use crate::ligature::{Ligature, LigatureSet, LigatureSubst};
-use crate::script::{LangSys, LangSysRecord, ScriptRecord};
-use crate::table::{FeatureRecord, LayoutTable};
+//! Scripts, language systems, features and ligature sets of a layout table: present and missing keys, and lists out of
+//! order.
+use layout_font::is_rising;
+use layout_font::ligature::{Ligature, LigatureSet, LigatureSubst};
+use layout_font::script::{LangSys, LangSysRecord, ScriptRecord};
+use layout_font::table::{FeatureRecord, LayoutTable};
 use shaping_text::tag::Tag;
 use std::alloc::{AllocError, Global};
 use std::test::Fail;

@@ -1,0 +1,19 @@
+-- The end of shaping.
+use Rattle.std.specs.Prelude.{[], ◌∷◌}
+use Rattle.glyph_lists.specs.Readings.{Stage, always}
+use Rattle.shape_glyphs.specs.Flags.{with_flags_spread}
+use Rattle.shape_glyphs.specs.Ignorables.{hidden}
+use Rattle.shape_glyphs.specs.Selectors.{with_selectors}
+use Rattle.shape_reading.specs.Chains.{in_order}
+use Rattle.shape_reading.specs.Limits.{ended}
+use Rattle.shape_reading.specs.Shaping.{Shaping, postprocessed}
+
+-- selectors that the font does not join are shown, ignorables are hidden or go; the shaper changes the glyphs; those of a cluster get one set of flags; the limits are as at first
+unfoldable pub text_ended : Shaping → Stage
+text_ended p = in_order (
+    always (with_selectors p.settings.not_found_variation_selector) ∷
+    always (hidden p.settings.flags p.settings.invisible p.font) ∷
+    postprocessed p ∷
+    always with_flags_spread ∷
+    always (ended p.direction) ∷
+    [])

@@ -1,0 +1,2 @@
+-- Lemmas for what stands above: stages done one after another.
+pub mod Chains

@@ -1,0 +1,10 @@
+pub mod Chains
+pub mod Shaping
+pub mod Limits
+pub mod Characters
+pub mod Masks
+pub mod Glyphs
+pub mod Places
+pub mod Endings
+pub mod Reading
+pub mod Lemmas

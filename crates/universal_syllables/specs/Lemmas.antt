@@ -1,0 +1,2 @@
+-- Lemmas on rules of syllables.
+pub mod Sizes

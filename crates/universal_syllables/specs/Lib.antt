@@ -1,0 +1,5 @@
+pub mod Spans
+pub mod Features
+pub mod Recorded
+pub mod Formed
+pub mod Lemmas
