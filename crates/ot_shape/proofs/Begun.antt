@@ -10,7 +10,7 @@ use Rattle.glyph_lists.specs.Steps.{follows_events}
 use Rattle.glyph_buffer.specs.Sides.{Sides, Settings, all_glyphs, items_of, run_of, settings_of, view_of}
 use Rattle.glyph_buffer.specs.Settings.{entered, length_limit, steps_limit}
 use Rattle.layout_rules.specs.Ready.{IsDone, IsReady}
-use Rattle.layout_stages.specs.Settings.{text_settings}
+use Rattle.layout_walks.specs.Settings.{text_settings}
 use Rattle.text_stages.specs.Stages.{IsFollowed}
 use Rattle.shape_masks.specs.Masks.{with_one_mask}
 use Rattle.shape_text.specs.Properties.{are_characters, with_properties}

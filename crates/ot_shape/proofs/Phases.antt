@@ -7,7 +7,7 @@ use Rattle.glyph_lists.specs.Readings.{Stage, always, read_of}
 use Rattle.glyph_buffer.specs.Sides.{Sides, run_of, settings_of}
 use Rattle.layout_rules.specs.Ready.{IsDone}
 use Rattle.layout_links.specs.Finishing.{links_followed}
-use Rattle.layout_stages.specs.Settings.{text_settings}
+use Rattle.layout_walks.specs.Settings.{text_settings}
 use Rattle.layout_stages.specs.Substituting.{substituted_by}
 use Rattle.layout_positioning.specs.Positioning.{positioned_by}
 use Rattle.text_stages.specs.Stages.{IsFollowed}

@@ -17,7 +17,7 @@ use Rattle.glyph_lists.specs.Steps.{follows_events}
 use Rattle.glyph_buffer.specs.Sides.{Sides, all_glyphs, items_of, reversed, run_of, view_of, with_cleared_positions, zero_position, zero_positions}
 use Rattle.layout_rules.specs.Buffers.{are_glyphs}
 use Rattle.layout_rules.specs.Ready.{IsDone, IsReady}
-use Rattle.layout_stages.specs.Settings.{text_flags}
+use Rattle.layout_walks.specs.Settings.{text_flags}
 use Rattle.text_stages.specs.Stages.{IsFollowed}
 use Rattle.shape_fallback.specs.Zeroing.{with_marks_zeroed}
 use Rattle.fallback_marks.specs.Marks.{components_direction, with_placed_marks}

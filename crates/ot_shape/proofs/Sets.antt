@@ -11,7 +11,7 @@ use Rattle.font_face.specs.Glyphs.{nominal_glyph}
 use Rattle.glyph_lists.specs.Readings.{Read, Stage, View, always, as_it_is, read_of, with_events}
 use Rattle.glyph_buffer.specs.Sides.{Sides, Settings, settings_of, run_of}
 use Rattle.layout_rules.specs.Ready.{IsDone}
-use Rattle.layout_stages.specs.Settings.{TextSettings, text_flags, text_settings, text_settings_of}
+use Rattle.layout_walks.specs.Settings.{TextSettings, text_flags, text_settings, text_settings_of}
 use Rattle.text_stages.specs.Stages.{IsFollowed}
 use Rattle.text_stages.specs.Places.{placed}
 use Rattle.shape_glyphs.specs.Ignorables.{hidden, hidden_by, preserves_ignorables, removes_ignorables}

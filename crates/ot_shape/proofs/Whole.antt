@@ -9,7 +9,7 @@ use Rattle.glyph_lists.specs.Readings.{Follows, Reading, Run, read_of}
 use Rattle.glyph_buffer.specs.Sides.{Sides, all_glyphs, run_of, settings_of, view_of}
 use Rattle.glyph_buffer.specs.Moving.{moved_to}
 use Rattle.layout_rules.specs.Ready.{IsReady}
-use Rattle.layout_stages.specs.Settings.{text_settings}
+use Rattle.layout_walks.specs.Settings.{text_settings}
 use Rattle.text_stages.specs.Stages.{IsFollowed}
 use Rattle.shape_reading.specs.Chains.{in_order}
 use Rattle.shape_reading.specs.Masks.{ranges_set}

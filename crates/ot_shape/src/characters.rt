@@ -3,7 +3,7 @@ ghost use Rattle.std.specs.Prelude.{◌≡◌, ◌≢◌, Err, IfErr, OnOk, true
 ghost use Rattle.glyph_lists.specs.Readings.{always, read_of};
 ghost use Rattle.glyph_buffer.specs.Sides.{items_of, run_of};
 ghost use Rattle.layout_rules.specs.Ready.{IsReady};
-ghost use Rattle.layout_stages.specs.Settings.{text_settings};
+ghost use Rattle.layout_walks.specs.Settings.{text_settings};
 ghost use Rattle.text_stages.specs.Stages.{IsFollowed};
 ghost use Rattle.shape_text.specs.Properties.{are_characters};
 ghost use Rattle.shape_normalize.specs.Rounds.{normalization};

@@ -19,7 +19,7 @@ pub struct hb_ot_shape_context_t<'a, S: hb_ot_shaper_t, P: SyllableSpans> {
 
 /// What a text is shaped by, as its reading knows it.
 pub trait Shaped {
-    ghost use Rattle.layout_stages.specs.Settings.{TextSettings};
+    ghost use Rattle.layout_walks.specs.Settings.{TextSettings};
     ghost use Rattle.shape_reading.specs.Shaping.{Shaping};
 
     ghost shaping: { Self → TextSettings → Shaping };

@@ -4,7 +4,7 @@ ghost use Rattle.glyph_lists.specs.Items.{clusters};
 ghost use Rattle.glyph_lists.specs.Readings.{always, read_of};
 ghost use Rattle.glyph_buffer.specs.Sides.{all_glyphs, run_of};
 ghost use Rattle.layout_rules.specs.Ready.{IsReady};
-ghost use Rattle.layout_stages.specs.Settings.{text_settings};
+ghost use Rattle.layout_walks.specs.Settings.{text_settings};
 ghost use Rattle.text_stages.specs.Stages.{IsFollowed};
 ghost use Rattle.shape_fractions.specs.Fractions.{with_fractions};
 ghost use Rattle.shape_reading.specs.Chains.{only_if};

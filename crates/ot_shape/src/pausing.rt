@@ -3,7 +3,7 @@
 use crate::context::hb_ot_shape_context_t;
 use glyph_buffer::buffer::hb_buffer_t;
 use glyph_types::cause::ShapeCause;
-use layout_stages::pause::Pause;
+use layout_walks::pause::Pause;
 use script_syllables::SyllableSpans;
 use shape_shaper::hb_ot_shaper_t;
 

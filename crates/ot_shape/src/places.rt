@@ -5,7 +5,7 @@ ghost use Rattle.glyph_lists.specs.Readings.{always, read_of};
 ghost use Rattle.glyph_buffer.specs.Sides.{items_of, run_of};
 ghost use Rattle.layout_rules.specs.Buffers.{are_glyphs};
 ghost use Rattle.layout_rules.specs.Ready.{IsDone, IsReady};
-ghost use Rattle.layout_stages.specs.Settings.{text_settings};
+ghost use Rattle.layout_walks.specs.Settings.{text_settings};
 ghost use Rattle.layout_positioning.specs.Positioning.{positioned_by};
 ghost use Rattle.shape_glyphs.specs.Widths.{zero_widths};
 ghost use Rattle.shape_reading.specs.Chains.{only_if};

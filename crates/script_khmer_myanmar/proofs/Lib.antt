@@ -1,7 +1,6 @@
 pub mod There
 pub mod KhmerMoves
 pub mod KhmerWalk
-pub mod KhmerPermuted
 pub mod Placing
 pub mod Groups
 pub mod MyanmarSteps

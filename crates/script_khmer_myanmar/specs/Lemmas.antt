@@ -2,3 +2,5 @@
 pub mod KhmerSize
 pub mod Sizes
 pub mod MyanmarSize
+pub mod KhmerPermuted
+pub mod MyanmarPermuted

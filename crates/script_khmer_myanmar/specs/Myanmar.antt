@@ -11,7 +11,8 @@ use Rattle.glyph_slices.specs.Turning.{groups_turned}
 use Rattle.glyph_lists.specs.Items.{Item}
 use Rattle.glyph_lists.specs.Levels.{InList}
 use Rattle.glyph_lists.specs.Events.{Move, Sort}
-use Rattle.script_walks.specs.Rewriting.{Rewritten, kept, then_rule, within}
+use Rattle.syllable_lists.specs.Pieces.{ArePermuted}
+use Rattle.script_walks.specs.Rewriting.{Rewritten, kept, then_rule, within, in_syllables, by_syllable}
 
 -- ---- places, by the categories of a syllable's items
 
@@ -130,3 +131,8 @@ myanmar_first xs (Some x) = if is_reordered MYANMAR_SHAPER (bit_and x.syllable 1
 
 abbrev pub myanmar_syllable : List Item → Rewritten
 myanmar_syllable xs = myanmar_first xs (slice_get xs 0)
+
+-- the reordering permutes each syllable by itself, by glyph numbers
+abbrev pub MyanmarPermutes : Type 0
+MyanmarPermutes = (xs : List Item)
+    → ArePermuted (map (map (λ (x : Item). x.number)) (in_syllables xs)) (map (λ (x : Item). x.number) (by_syllable myanmar_syllable xs).items)

@@ -1,12 +1,13 @@
 -- The universal shaper: which items of a syllable change places (OpenType specification, Universal Shaping Engine).
-use Rattle.std.specs.Prelude.{ℕ, zero, suc, ◌+◌, ◌-◌, ◌==◌, ◌&&◌, ◌||◌, not, Bool, false, nat_lt, bit_and, if◌then◌else◌, List, [], ◌∷◌, drop, length, slice_get, Option, None, Some}
+use Rattle.std.specs.Prelude.{ℕ, zero, suc, ◌+◌, ◌-◌, ◌==◌, ◌&&◌, ◌||◌, not, Bool, false, nat_lt, bit_and, if◌then◌else◌, List, [], ◌∷◌, drop, length, map, slice_get, Option, None, Some}
 use Rattle.std.specs.List.{list_any, prefix_len}
 use Rattle.script_constants.specs.declared.category.TheConstants as category
 use Rattle.script_constants.specs.declared.shaper.hb_ot_script_shaper_t.TheVariants.{UNIVERSAL_SHAPER}
 use Rattle.script_constants.specs.Shapers.{is_reordered}
 use Rattle.layout_match.specs.LigatureWords.{is_ligated, lig_comp}
 use Rattle.glyph_lists.specs.Items.{Item}
-use Rattle.script_walks.specs.Rewriting.{Rewritten, kept, then_rule, within}
+use Rattle.syllable_lists.specs.Pieces.{ArePermuted}
+use Rattle.script_walks.specs.Rewriting.{Rewritten, kept, then_rule, within, in_syllables, by_syllable}
 use Rattle.script_walks.specs.Parts.{first_to_back}
 
 -- categories of what stands behind a base: finals, medials, vowels, their modifiers and those of finals
@@ -86,3 +87,8 @@ universal_first xs (Some x) = if is_reordered UNIVERSAL_SHAPER (bit_and x.syllab
 
 abbrev pub universal_syllable : List Item → Rewritten
 universal_syllable xs = universal_first xs (slice_get xs 0)
+
+-- the reordering permutes each syllable by itself, by glyph numbers
+abbrev pub UniversalPermutes : Type 0
+UniversalPermutes = (xs : List Item)
+    → ArePermuted (map (map (λ (x : Item). x.number)) (in_syllables xs)) (map (λ (x : Item). x.number) (by_syllable universal_syllable xs).items)

@@ -2,4 +2,5 @@
 #![tactic(auto)]
 
 mod categories;
+pub mod laws;
 pub mod reorder;

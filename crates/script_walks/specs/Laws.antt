@@ -9,6 +9,13 @@ use Rattle.script_walks.specs.Rewriting.{Rewritten, in_syllables, by_syllable}
 abbrev pub PermutesSeen : (Item → ℕ) → (List Item → Rewritten) → Type 0
 PermutesSeen see rule = (xs : List Item) → IsPermutation (map see xs) (map see (rule xs).items)
 
+abbrev pub numbers_of : List Item → List ℕ
+numbers_of xs = map (λ (x : Item). x.number) xs
+
+-- a list was rewritten to a permutation of its numbers
+abbrev pub IsPermuted : List Item → Rewritten → Type 0
+IsPermuted xs r = IsPermutation (numbers_of xs) (numbers_of r.items)
+
 -- such a rule, used syllable by syllable, permutes each syllable by itself
 abbrev pub PermutesEachSyllable : Type 0
 PermutesEachSyllable = (see : Item → ℕ) (rule : List Item → Rewritten) → PermutesSeen see rule → (xs : List Item)

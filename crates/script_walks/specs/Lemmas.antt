@@ -5,3 +5,4 @@ pub mod Parts
 pub mod Permuted
 pub mod Cuts
 pub mod Syllables
+pub mod Numbers

@@ -8,7 +8,7 @@ use Rattle.glyph_lists.specs.EventParts.{AreEvenRuns, HaveNoConcat}
 use Rattle.glyph_lists.specs.Order.{BringsNone}
 use Rattle.glyph_lists.specs.Readings.{Follows, Run}
 use Rattle.glyph_buffer.specs.Sides.{Settings}
-use Rattle.layout_stages.specs.Settings.{text_flags, text_settings_of}
+use Rattle.layout_walks.specs.Settings.{text_flags, text_settings_of}
 use Rattle.shape_reading.specs.Reading.{reading}
 use Rattle.shape_reading.specs.Shaping.{Shaping}
 

@@ -9,8 +9,8 @@ ghost use Rattle.unicode_tables.specs.Tables.{tables_of, first_row_fault, split_
 use crate::depth::{MAX_SPLITS, all_chains_end, split};
 use crate::hangul::compose_hangul;
 use crate::records::UnicodeRecords;
-use sorted_rows::PagedRows;
-use std::alloc::Global;
+use sorted_rows::{Numbered, PagedRows};
+use std::alloc::{AllocError, Global};
 use std::marker::Model;
 use unicode_rows::{
     CharacterClass, CharacterRanges, Counterpart, IndicRow, JoiningRow, Pair, Split, TablesFault,
@@ -79,7 +79,6 @@ impl UnicodeTables {
 
     /// The tables of records whose keys rise, or `SplitDepth` where a chain of first parts, by the rule for Hangul and
     /// the table of splits, has more than eight splits.
-    #[tactic(auto, using(unicode_rows::specs::Searches::numbers_from))]
     pub fn of_records(alloc: Global, records: UnicodeRecords) -> Result<UnicodeTables, TablesFault>
         requires { AreRising records }
         ensures tables { IfOk result (λ t. t ≡ tables_of_records records) }
@@ -88,20 +87,16 @@ impl UnicodeTables {
         ensures deep { result ≡ Err TablesFault.SplitDepth
             → HasDeepChain (split_of (tables_of_records records)) MAX_SPLITS }
     {
-        let splits = PagedRows::new(alloc, records.splits)?;
-        if !all_chains_end(&splits) {
-            return Err(TablesFault::SplitDepth);
-        }
         Ok(UnicodeTables {
-            splits,
+            splits: shallow_splits(alloc, records.splits)?,
             pairs: records.pairs,
-            classes: PagedRows::new(alloc, records.classes)?,
-            mirrored: PagedRows::new(alloc, records.mirrored)?,
-            vertical: PagedRows::new(alloc, records.vertical)?,
+            classes: paged(alloc, records.classes)?,
+            mirrored: paged(alloc, records.mirrored)?,
+            vertical: paged(alloc, records.vertical)?,
             pictographic: CharacterRanges::new(alloc, records.pictographic)?,
-            joining: PagedRows::new(alloc, records.joining)?,
-            indic: PagedRows::new(alloc, records.indic)?,
-            universal: PagedRows::new(alloc, records.universal)?,
+            joining: paged(alloc, records.joining)?,
+            indic: paged(alloc, records.indic)?,
+            universal: paged(alloc, records.universal)?,
             thai: records.thai,
         })
     }
@@ -182,6 +177,32 @@ impl UnicodeTables {
     {
         Some(self.vertical.get(c as u32)?.counterpart)
     }
+}
+
+/// Splits, or `SplitDepth` where a chain of first parts has more than eight of them.
+fn shallow_splits(alloc: Global, rows: Vec<Split>) -> Result<PagedRows<Split>, TablesFault>
+    requires { is_rising (λ _. 0) (λ (r : Split). r.whole) rows.items ≡ true }
+    ensures rows { IfOk result (λ s. s ≡ rows.items) }
+    ensures ends { IfOk result (λ s. EndWithin (splits_of s) MAX_SPLITS) }
+    ensures shallow { OnOk result (EndWithin (splits_of rows.items) MAX_SPLITS) }
+    ensures refused { IfErr result (λ e. e ≢ TablesFault.OutOfMemory → e ≡ TablesFault.SplitDepth) }
+    ensures deep { result ≡ Err TablesFault.SplitDepth → HasDeepChain (splits_of rows.items) MAX_SPLITS }
+{
+    let splits = paged(alloc, rows)?;
+    if all_chains_end(&splits) {
+        Ok(splits)
+    } else {
+        Err(TablesFault::SplitDepth)
+    }
+}
+
+/// Records of one number each, with an index of their numbers.
+#[tactic(auto, using(unicode_rows::specs::Searches::numbers_from))]
+fn paged<R: Numbered>(alloc: Global, rows: Vec<R>) -> Result<PagedRows<R>, AllocError>
+    requires { is_rising (λ _. 0) R.number_of rows.items ≡ true }
+    ensures { IfOk result (λ p. p ≡ rows.items) }
+{
+    PagedRows::new(alloc, rows)
 }
 
 /// What a character splits into, as far as one split goes: the rule for Hangul, else the table.

@@ -1,4 +1,4 @@
-use Rattle.layout_stages.specs.Settings.{text_settings}
+use Rattle.layout_walks.specs.Settings.{text_settings}
 use Rattle.shape_reading.specs.Shaping.{Shaping}
 use Rattle.ot_shape.proofs.Phases.{normal_refused_as_set}
 use Rattle.ot_shape.proofs.context.hb_ot_shape_context_t.normalize.Goals as goal

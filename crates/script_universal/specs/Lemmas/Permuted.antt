@@ -1,0 +1,69 @@
+-- The reordering permutes a syllable.
+use Rattle.std.proofs.Common.{ℕ, zero, suc, ◌≡◌, ◌<◌, ◌+◌, ◌-◌, ◌&&◌, Bool, true, false, if◌then◌else◌, List, length, Option, Some, None, slice_get, refl, arith}
+use Rattle.std.specs.Prelude.{bit_and, nat_lt}
+use Rattle.std.proofs.lemmas.Bool.Decides.{nat_tests}
+use Rattle.std.proofs.lemmas.Grind.{common_steps}
+use Rattle.std.proofs.lemmas.List.Sorted.{IsPermutation-refl}
+use Rattle.script_constants.specs.declared.shaper.hb_ot_script_shaper_t.TheVariants.{UNIVERSAL_SHAPER}
+use Rattle.script_constants.specs.Shapers.{is_reordered}
+use Rattle.glyph_lists.specs.Items.{Item}
+use Rattle.script_walks.specs.Rewriting.{kept, within}
+use Rattle.script_walks.specs.Parts.{first_to_back}
+use Rattle.script_walks.specs.Laws.{IsPermuted, numbers_of}
+use Rattle.script_walks.specs.Lemmas.Numbers.{moved_permutes, then_permutes, within_permutes}
+use Rattle.script_walks.specs.Lemmas.Permuted.{permutes_each_syllable}
+use Rattle.script_universal.specs.Reordering.{Step, begins_with_reph, is_halant, is_left, left_at, left_there, left_walk, reph_end, reph_moved, universal_first, universal_reordered, universal_syllable, UniversalPermutes}
+
+abbrev StepPermutes : List Item → Step → Type 0
+StepPermutes xs s = IsPermuted xs s.rewritten
+
+reph_permutes : (xs : List Item) → IsPermuted xs (reph_moved xs)
+reph_permutes xs = by_test (begins_with_reph xs)
+  where
+    by_test : (t : Bool) → IsPermuted xs (if t then within 0 (reph_end xs) (first_to_back 1) xs else kept xs)
+    by_test true = within_permutes (first_to_back 1) 0 (reph_end xs) xs (moved_permutes 1) (omega arith)
+    by_test false = IsPermutation-refl (numbers_of xs)
+
+left_permutes : (i behind : ℕ) (xs : List Item) → StepPermutes xs (left_at i behind xs)
+left_permutes i behind xs = by_item (slice_get xs i)
+  where
+    second : (a b : Bool) → (a && b) ≡ true → b ≡ true
+    second true b h = h
+    second false b h = cc
+
+    moves : (x : Item) (t : Bool) → (is_left x && nat_lt behind i) ≡ t
+        → StepPermutes xs (if t then record { rewritten = within behind (i + 1) (first_to_back (i - behind)) xs; behind = behind } else record { rewritten = kept xs; behind = behind })
+    moves x true e =
+        let less : nat_lt behind i ≡ true = second (is_left x) (nat_lt behind i) e in
+        let before : behind < i = grind (arith, nat_tests, common_steps, less) in
+        within_permutes (first_to_back (i - behind)) behind (i + 1) xs (moved_permutes (i - behind)) (omega (arith, before))
+    moves x false e = IsPermutation-refl (numbers_of xs)
+
+    met : (x : Item) (t : Bool)
+        → StepPermutes xs (if t then record { rewritten = kept xs; behind = i + 1 } else if is_left x && nat_lt behind i then record { rewritten = within behind (i + 1) (first_to_back (i - behind)) xs; behind = behind } else record { rewritten = kept xs; behind = behind })
+    met x true = IsPermutation-refl (numbers_of xs)
+    met x false = moves x (is_left x && nat_lt behind i) refl
+
+    by_item : (a : Option Item) → StepPermutes xs (left_there i behind xs a)
+    by_item None = IsPermutation-refl (numbers_of xs)
+    by_item (Some x) = met x (is_halant x)
+
+walk_permutes : (n i behind : ℕ) (xs : List Item) → IsPermuted xs (left_walk n i behind xs)
+walk_permutes zero i behind xs = IsPermutation-refl (numbers_of xs)
+walk_permutes (suc n) i behind xs =
+    let s = left_at i behind xs in
+    then_permutes xs s.rewritten (left_walk n (i + 1) s.behind) (left_permutes i behind xs) (walk_permutes n (i + 1) s.behind s.rewritten.items)
+
+pub syllable_permutes : (xs : List Item) → IsPermuted xs (universal_syllable xs)
+syllable_permutes xs = by_first (slice_get xs 0)
+  where
+    by_kind : (t : Bool) → IsPermuted xs (if t then universal_reordered xs else kept xs)
+    by_kind true = then_permutes xs (reph_moved xs) (left_walk (length xs) 0 0) (reph_permutes xs) (walk_permutes (length xs) 0 0 (reph_moved xs).items)
+    by_kind false = IsPermutation-refl (numbers_of xs)
+
+    by_first : (a : Option Item) → IsPermuted xs (universal_first xs a)
+    by_first None = IsPermutation-refl (numbers_of xs)
+    by_first (Some x) = by_kind (is_reordered UNIVERSAL_SHAPER (bit_and x.syllable 15))
+
+pub universal_permutes : UniversalPermutes
+universal_permutes xs = permutes_each_syllable (λ (x : Item). x.number) universal_syllable syllable_permutes xs
