@@ -1,4 +1,4 @@
--- Lemmas for the loop over the records of a rule.
+-- Lemmas for the loop over the records of a rule, and for what applies nested lookups.
 pub mod Steps
 pub mod Lengths
 pub mod Rising
@@ -6,3 +6,4 @@ pub mod Walks
 pub mod Inside
 pub mod Acting
 pub mod Subtables
+pub mod Nested

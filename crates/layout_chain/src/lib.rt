@@ -11,5 +11,5 @@ pub mod rules;
 pub use chain::{ChainRule, match_chain};
 pub use counts::glyph_count;
 pub use places::settle_places;
-pub use records::{begin_record, go_behind, settle_match};
+pub use records::{MAX_NESTING_LEVEL, begin_record, go_behind, settle_match};
 pub use rules::{class_rule, coverage_rule, glyph_rule, is_tried_at, rule_at, rule_count};

@@ -15,6 +15,9 @@ use glyph_types::cause::ShapeCause;
 use layout_contexts::context::SequenceLookupRecord;
 use layout_match::MatchPositions;
 
+/// How deep lookups may be nested in others.
+pub const MAX_NESTING_LEVEL: u32 = 64;
+
 /// Puts the cursor at a place.
 #[tactic(auto, using(crate::proofs::Cuts::went_there, crate::proofs::Cuts::held_is, crate::proofs::Cuts::not_held, crate::proofs::Cuts::short_memory))]
 fn go_to(place: usize, buffer: &mut hb_buffer_t) -> Result<(), ShapeCause>

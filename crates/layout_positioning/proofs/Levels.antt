@@ -23,8 +23,8 @@ use Rattle.layout_rules.specs.Lemmas.Frames.{still_direction}
 use Rattle.layout_rules.specs.Actions.{Action, Outcome, Refuses, first_rule}
 use Rattle.layout_rules.specs.Performing.{cut_with, Performed, Performs}
 use Rattle.layout_rules.specs.Lemmas.Performed.{passes_nothing}
-use Rattle.layout_stages.specs.Lookups.{meets}
-use Rattle.layout_stages.specs.Lemmas.Met.{met, unmet}
+use Rattle.layout_walks.specs.Trying.{meets}
+use Rattle.layout_walks.specs.Lemmas.Met.{met, unmet}
 use Rattle.layout_positioning.specs.Lookups.{first_subtable, lookup_action, nested, nested_act, nested_lookup, under_flag}
 
 pub no_depth : (table : List PositioningLookup) (depth : ℕ) (d : Direction) (a : Applied) → depth ≡ 0 → nested table depth d a ≡ None

@@ -15,9 +15,9 @@ use Rattle.layout_rules.specs.Buffers.{are_glyphs, IsStill}
 use Rattle.layout_rules.specs.Performing.{cut_with}
 use Rattle.layout_rules.specs.Ready.{IsReady, IsDoneFrom, run_with}
 use Rattle.layout_rules.specs.Lemmas.Frames.{still_settings, still_open, still_refused, still_direction}
-use Rattle.layout_stages.specs.Lookups.{tried}
-use Rattle.layout_stages.specs.Steps.{IsGivenUp, IsStep}
-use Rattle.layout_stages.specs.Lemmas.Passage.{IsUnderway, ended_view, gone_on}
+use Rattle.layout_walks.specs.Trying.{tried}
+use Rattle.layout_walks.specs.Steps.{IsGivenUp, IsStep}
+use Rattle.layout_walks.specs.Lemmas.Passage.{IsUnderway, ended_view, gone_on}
 use Rattle.layout_positioning.specs.Lookups.{looked_over}
 
 -- in a list within its limit a glyph more may be done

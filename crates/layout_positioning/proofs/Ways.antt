@@ -14,8 +14,8 @@ use Rattle.layout_lookups.specs.declared.positioning.PositioningTable.{Positioni
 use Rattle.map_features.specs.declared.lookup.lookup_map_t.{lookup_map_t}
 use Rattle.map_builder.specs.Compiled.{TableStages, lookups_of_stage}
 use Rattle.layout_rules.specs.Ready.{IsReady, IsDone, IsDoneFrom, run_with}
-use Rattle.layout_stages.specs.Substituting.{Pauses, pause_stage}
-use Rattle.layout_stages.specs.Lemmas.Ways.{AreStagesDone, both_done, first_refused, next_done, next_refused, no_stage_done, nothing_done, second_refused, stages_done}
+use Rattle.layout_walks.specs.Pauses.{Pauses, pause_stage}
+use Rattle.layout_walks.specs.Lemmas.Ways.{AreStagesDone, both_done, first_refused, next_done, next_refused, no_stage_done, nothing_done, second_refused, stages_done}
 use Rattle.layout_positioning.specs.Lookups.{lookup_stage}
 use Rattle.layout_positioning.specs.Positioning.{lookups_stage, positioning_lookups, table_stage, table_stages}
 

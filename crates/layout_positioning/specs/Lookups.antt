@@ -16,7 +16,7 @@ use Rattle.layout_cursive.specs.Joins.{cursive_subtable}
 use Rattle.layout_gpos.specs.Marks.{mark_to_base, mark_to_ligature, mark_to_mark}
 use Rattle.layout_gpos.specs.Pairs.{pair_subtable}
 use Rattle.layout_gpos.specs.Singles.{single_subtable}
-use Rattle.layout_stages.specs.Lookups.{met_first, tried}
+use Rattle.layout_walks.specs.Trying.{met_first, tried}
 
 -- with what a lookup of a map is applied: its flag is its own, its mask and how it passes over joiners, keeps to syllables and draws are the map's
 abbrev pub applied_by : FaceParts → PositioningLookup → lookup_map_t → Applied

@@ -7,7 +7,7 @@ use Rattle.layout_lookups.specs.declared.positioning.PositioningLookup.{Position
 use Rattle.map_features.specs.declared.lookup.lookup_map_t.{lookup_map_t}
 use Rattle.map_stages.specs.declared.stages.StageMap.{StageMap}
 use Rattle.map_builder.specs.Compiled.{OtMapValue, TableStages, lookups_of_stage}
-use Rattle.layout_stages.specs.Substituting.{Pauses, pause_stage}
+use Rattle.layout_walks.specs.Pauses.{Pauses, pause_stage}
 use Rattle.layout_positioning.specs.Lookups.{lookup_stage}
 
 -- lookups of a table, one after another

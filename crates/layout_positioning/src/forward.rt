@@ -4,7 +4,7 @@ ghost use Rattle.glyph_buffer.specs.Sides.{items_of};
 ghost use Rattle.layout_match.specs.Applied.{applied_of};
 ghost use Rattle.layout_rules.specs.Buffers.{are_glyphs};
 ghost use Rattle.layout_rules.specs.Ready.{IsDoneFrom, IsReady, run_with};
-ghost use Rattle.layout_stages.specs.Steps.{IsGivenUp, IsStep};
+ghost use Rattle.layout_walks.specs.Steps.{IsGivenUp, IsStep};
 ghost use Rattle.layout_gpos.specs.Bases.{IsKept, any_base};
 ghost use Rattle.layout_positioning.specs.Lookups.{looked_over, lookup_action};
 
@@ -17,7 +17,7 @@ use layout_lookups::positioning::{PositioningLookup, PositioningTable};
 use layout_match::hb_ot_apply_context_t;
 
 /// Tries a lookup at the cursor, and goes on over the glyph where it doesn't act; at the end it does nothing.
-#[tactic(auto, using(layout_stages::specs::Lemmas::Steps::step_ended, layout_stages::specs::Lemmas::Steps::given_up, layout_stages::specs::Lemmas::Steps::passed_there, crate::proofs::Passed::closed_there, crate::proofs::Passed::passed_kept))]
+#[tactic(auto, using(layout_walks::specs::Lemmas::Steps::step_ended, layout_walks::specs::Lemmas::Steps::given_up, layout_walks::specs::Lemmas::Steps::passed_there, crate::proofs::Passed::closed_there, crate::proofs::Passed::passed_kept))]
 fn apply_next(
     table: &PositioningTable,
     lookup: &PositioningLookup,

@@ -10,11 +10,11 @@ use crate::nested::apply_subtables;
 use crate::subtables::apply_first_base;
 use glyph_buffer::buffer::hb_buffer_t;
 use glyph_types::cause::ShapeCause;
+use layout_chain::MAX_NESTING_LEVEL;
 use layout_gpos::bases::LastBase;
 use layout_lookups::positioning::{PositioningLookup, PositioningSubtables, PositioningTable};
 use layout_match::hb_ot_apply_context_t;
-use layout_stages::lookup::meets;
-use layout_stages::nested::MAX_NESTING_LEVEL;
+use layout_walks::lookup::meets;
 
 /// Does what a lookup does at the glyph at the cursor of a buffer without an output, where it meets it: what the first of
 /// its subtables does that acts. It tells whether one acted; where none did it changed glyph flags alone. The search for a

@@ -247,7 +247,7 @@ fn apply_records(
 
 /// Applies a record of a rule: its lookup, at its place; answers where the match ends then.
 #[cycle(nested)]
-#[tactic(auto, using(layout_stages::specs::Lemmas::Nested::begun_closed, layout_stages::specs::Lemmas::Nested::begun_unrefused, layout_stages::specs::Lemmas::Nested::begun_numbers, layout_stages::specs::Lemmas::Nested::begun_there))]
+#[tactic(auto, using(layout_chain::specs::Lemmas::Nested::begun_closed, layout_chain::specs::Lemmas::Nested::begun_unrefused, layout_chain::specs::Lemmas::Nested::begun_numbers, layout_chain::specs::Lemmas::Nested::begun_there))]
 fn apply_record(
     table: &PositioningTable,
     depth: u32,

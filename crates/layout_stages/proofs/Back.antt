@@ -25,7 +25,8 @@ use Rattle.layout_rules.specs.Ready.{IsReady, IsDoneFrom, run_with}
 use Rattle.layout_rules.specs.Lemmas.Frames.{still_settings, still_refused, still_direction, still_open, same_level, same_asks, same_numbers}
 use Rattle.layout_rules.specs.Lemmas.Performed.{same_with}
 use Rattle.layout_gsub.specs.Reverses.{put_after, put_around, put_before, reverse_subtable}
-use Rattle.layout_stages.specs.Lookups.{after_outcome, cut_at, tried_back, looked_back, meets, at_met, reverse_action, first_reverse}
+use Rattle.layout_walks.specs.Trying.{after_outcome, meets, at_met}
+use Rattle.layout_stages.specs.Lookups.{cut_at, tried_back, looked_back, reverse_action, first_reverse}
 use Rattle.layout_stages.specs.Steps.{IsStepBack}
 use Rattle.layout_stages.proofs.Blind.{IsBlind, drawing, leaving, first_blind, at_first_blind}
 

@@ -12,8 +12,9 @@ use Rattle.layout_rules.specs.Buffers.{cut_of}
 use Rattle.layout_rules.specs.Performing.{cut_with, Performed, Performs, PerformsInPlace}
 use Rattle.layout_rules.specs.Lemmas.Does.{passed_same}
 use Rattle.layout_rules.specs.Lemmas.Performed.{passes_nothing}
-use Rattle.layout_stages.specs.Lookups.{meets, lookup_action, reverse_action, first_subtable, first_reverse, nested}
-use Rattle.layout_stages.specs.Lemmas.Met.{met, unmet}
+use Rattle.layout_walks.specs.Trying.{meets}
+use Rattle.layout_stages.specs.Lookups.{lookup_action, reverse_action, first_subtable, first_reverse, nested}
+use Rattle.layout_walks.specs.Lemmas.Met.{met, unmet}
 
 -- a lookup passes over a glyph that it doesn't meet
 pub lookup_passes : (table : List SubstLookup) (a : Applied) (lookup : SubstLookup) (r : ℕ) (s : Sides) (g : hb_glyph_info_t) → slice_get s.ahead 0 ≡ Some g → meets a (item_of g) ≡ false → Performed (lookup_action table a lookup (cut_with r s)) false r r s s

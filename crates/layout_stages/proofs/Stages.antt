@@ -11,7 +11,8 @@ use Rattle.layout_lookups.specs.declared.substitution.SubstLookup.{SubstLookup}
 use Rattle.map_features.specs.declared.lookup.lookup_map_t.{lookup_map_t}
 use Rattle.layout_rules.specs.Buffers.{are_glyphs}
 use Rattle.layout_rules.specs.Ready.{IsReady, IsDone, IsDoneFrom, run_with}
-use Rattle.layout_stages.specs.Lookups.{lookup_stage, lookups_stage, with_own_random}
+use Rattle.layout_walks.specs.Pauses.{with_own_random}
+use Rattle.layout_stages.specs.Lookups.{lookup_stage, lookups_stage}
 
 -- one of two stages
 pub either_done : (b : Bool) (back forth : Stage) (r after : ℕ) (old new : Sides) → b ≡ true → IsDoneFrom r after back old new → IsDoneFrom r after (λ v. if b then back v else forth v) old new

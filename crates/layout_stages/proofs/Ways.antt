@@ -14,8 +14,9 @@ use Rattle.map_features.specs.declared.lookup.lookup_map_t.{lookup_map_t}
 use Rattle.map_builder.specs.Compiled.{TableStages, lookups_of_stage}
 use Rattle.layout_rules.specs.Ready.{IsReady, IsDoneFrom, run_with}
 use Rattle.layout_stages.specs.Lookups.{lookup_stage, lookups_stage}
-use Rattle.layout_stages.specs.Substituting.{Pauses, pause_stage, substitution_lookups, table_stage, table_stages}
-use Rattle.layout_stages.specs.Lemmas.Ways.{AreStagesDone, both_done, first_refused, next_done, nothing_done, second_refused}
+use Rattle.layout_walks.specs.Pauses.{Pauses, pause_stage}
+use Rattle.layout_stages.specs.Substituting.{substitution_lookups, table_stage, table_stages}
+use Rattle.layout_walks.specs.Lemmas.Ways.{AreStagesDone, both_done, first_refused, next_done, nothing_done, second_refused}
 
 -- lookups of a font without a table
 pub no_lookups : (font : FaceParts) (maps : List lookup_map_t) (r : ℕ) (s : Sides) → IsReady s → IsDoneFrom r r (lookups_stage font [] maps) s s

@@ -1,23 +1,13 @@
 -- The lookups of substitution, stage after stage, each stage ended by its pause.
-use Rattle.std.specs.Prelude.{ℕ, ◌+◌, ◌==◌, ◌≡◌, true, List, [], ◌∷◌, Option, Some, None}
-use Rattle.std.specs.List.{list_any}
+use Rattle.std.specs.Prelude.{ℕ, ◌+◌, List, [], ◌∷◌, Option}
 use Rattle.std.specs.Option.{option_map_or}
-use Rattle.glyph_lists.specs.Items.{Item}
 use Rattle.glyph_lists.specs.Readings.{Stage, and_then, as_it_is}
 use Rattle.font_face.specs.declared.parts.FaceParts.{FaceParts}
 use Rattle.layout_lookups.specs.declared.substitution.SubstLookup.{SubstLookup}
 use Rattle.map_stages.specs.declared.stages.StageMap.{StageMap}
 use Rattle.map_builder.specs.Compiled.{OtMapValue, TableStages, lookups_of_stage}
-use Rattle.layout_stages.specs.Lookups.{lookups_stage, with_own_random}
-
--- what a pause does, by its number
-abbrev pub Pauses : Type 0
-Pauses = ℕ → Stage
-
--- what a pause draws at random it draws from a state of its own
-abbrev pub pause_stage : Pauses → Option ℕ → Stage
-pause_stage pauses None v = as_it_is v
-pause_stage pauses (Some n) v = with_own_random (pauses n) v
+use Rattle.layout_walks.specs.Pauses.{Pauses, pause_stage, with_own_random}
+use Rattle.layout_stages.specs.Lookups.{lookups_stage}
 
 -- the lookups of a stage, then its pause
 abbrev pub table_stage : FaceParts → List SubstLookup → TableStages → Pauses → ℕ → Option ℕ → Stage
@@ -35,7 +25,3 @@ substitution_lookups font = option_map_or (λ t. t.lookups) font.gsub []
 -- the stages of a map for substitution; alternates are drawn from one state, 1 at first
 abbrev pub substituted_by : FaceParts → OtMapValue → Pauses → Stage
 substituted_by font m pauses v = with_own_random (table_stages font (substitution_lookups font) m.tables.gsub pauses 0 m.tables.gsub.stages) v
-
--- each glyph number that is there was there
-abbrev pub BringsNoGlyph : List Item → List Item → Type 0
-BringsNoGlyph old new = (n : ℕ) → list_any (λ (x : Item). x.number == n) new ≡ true → list_any (λ (x : Item). x.number == n) old ≡ true

@@ -5,7 +5,8 @@ ghost use Rattle.map_features.specs.declared.per_table.TableIndex.TheVariants.{G
 ghost use Rattle.layout_match.specs.Applied.{applied_of};
 ghost use Rattle.layout_rules.specs.Buffers.{are_glyphs};
 ghost use Rattle.layout_rules.specs.Ready.{IsDone, IsDoneFrom, IsReady, run_with};
-ghost use Rattle.layout_stages.specs.Lookups.{applied_by, lookup_applied, lookup_stage, lookups_stage, with_own_random};
+ghost use Rattle.layout_walks.specs.Pauses.{with_own_random};
+ghost use Rattle.layout_stages.specs.Lookups.{applied_by, lookup_applied, lookup_stage, lookups_stage};
 
 use crate::backward::apply_backward;
 use crate::forward::apply_forward;

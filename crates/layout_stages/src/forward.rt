@@ -4,8 +4,9 @@ ghost use Rattle.glyph_buffer.specs.Sides.{items_of};
 ghost use Rattle.layout_match.specs.Applied.{applied_of};
 ghost use Rattle.layout_rules.specs.Buffers.{are_glyphs};
 ghost use Rattle.layout_rules.specs.Ready.{IsDoneFrom, IsReady, run_with};
-ghost use Rattle.layout_stages.specs.Lookups.{looked_up, lookup_action};
-ghost use Rattle.layout_stages.specs.Steps.{IsGivenUp, IsStep};
+ghost use Rattle.layout_walks.specs.Trying.{looked_up};
+ghost use Rattle.layout_stages.specs.Lookups.{lookup_action};
+ghost use Rattle.layout_walks.specs.Steps.{IsGivenUp, IsStep};
 
 use crate::lookup::apply_lookup;
 use glyph_buffer::buffer::hb_buffer_t;
@@ -14,7 +15,7 @@ use layout_lookups::substitution::{SubstLookup, SubstitutionTable};
 use layout_match::hb_ot_apply_context_t;
 
 /// Tries a lookup at the cursor, and goes on over the glyph where it doesn't act; at the end it does nothing.
-#[tactic(auto, using(crate::specs::Lemmas::Steps::step_ended))]
+#[tactic(auto, using(layout_walks::specs::Lemmas::Steps::step_ended))]
 fn apply_next(
     table: &SubstitutionTable,
     lookup: &SubstLookup,
@@ -43,7 +44,7 @@ fn apply_next(
 }
 
 /// Tries a lookup at each glyph once, from the left, and goes on after what it made.
-#[tactic(auto, using(crate::specs::Lemmas::Passage::begun))]
+#[tactic(auto, using(layout_walks::specs::Lemmas::Passage::begun))]
 pub fn apply_forward(
     table: &SubstitutionTable,
     lookup: &SubstLookup,

@@ -6,5 +6,4 @@ pub mod backward;
 pub mod forward;
 pub mod lookup;
 pub mod nested;
-pub mod pause;
 pub mod substitute;

@@ -1,29 +1,21 @@
 ghost use Rattle.std.specs.Prelude.{◌≡◌, ◌<◌, true, false, length};
 ghost use Rattle.glyph_buffer.specs.Sides.{items_of};
-ghost use Rattle.glyph_lists.specs.Items.{item_of};
 ghost use Rattle.layout_match.specs.Applied.{applied_of};
 ghost use Rattle.layout_rules.specs.Actions.{first_rule};
 ghost use Rattle.layout_rules.specs.Buffers.{are_glyphs, cut_of};
 ghost use Rattle.layout_rules.specs.Performing.{Performs, PerformsInPlace, cut_with};
 ghost use Rattle.layout_gsub.specs.Reverses.{reverse_subtable};
-ghost use Rattle.layout_stages.specs.Lookups.{first_reverse, lookup_action, meets, reverse_action};
+ghost use Rattle.layout_stages.specs.Lookups.{first_reverse, lookup_action, reverse_action};
 
-use crate::nested::{MAX_NESTING_LEVEL, apply_subtables};
+use crate::nested::apply_subtables;
 use glyph_buffer::buffer::hb_buffer_t;
 use glyph_types::cause::ShapeCause;
-use glyph_types::info::hb_glyph_info_t;
+use layout_chain::MAX_NESTING_LEVEL;
 use layout_gsub::reverse::apply_reverse_chain_single_subst;
 use layout_lookups::substitution::{SubstLookup, SubstitutionSubtables, SubstitutionTable};
 use layout_match::hb_ot_apply_context_t;
-use layout_rules::mask::shares_mask;
 use layout_substitutions::reverse::ReverseChainSubst;
-
-/// Whether a lookup meets a glyph: it has a bit of the lookup's mask, and the lookup's flag doesn't leave it out.
-pub fn meets(ctx: &hb_ot_apply_context_t, info: &hb_glyph_info_t) -> bool
-    ensures { result ≡ meets (applied_of ctx.now) (item_of info.now) }
-{
-    shares_mask(ctx.lookup_mask(), info) && ctx.check_glyph_property(info, ctx.lookup_props)
-}
+use layout_walks::lookup::meets;
 
 /// Does what a lookup does at the glyph at the cursor, where it meets it: what the first of its subtables does that acts. It
 /// tells whether one acted; where none did it changed glyph flags alone. It refuses for want of memory, or where the output

@@ -25,9 +25,6 @@ use layout_gsub::apply::apply_first;
 use layout_lookups::substitution::{SubstitutionSubtables, SubstitutionTable};
 use layout_match::{MatchPositions, hb_ot_apply_context_t};
 
-/// How deep lookups may be nested in others.
-pub const MAX_NESTING_LEVEL: u32 = 64;
-
 /// Applies the lookup at an index of the table at the cursor, nested in another: with its own flag, and without asking
 /// whether it meets the glyph there. An index without one does nothing. Lookups may be nested in it so many levels deep.
 #[cycle(nested)]
@@ -245,7 +242,7 @@ fn apply_records(
 
 /// Applies a record of a rule: its lookup, at its place; answers where the match ends then.
 #[cycle(nested)]
-#[tactic(auto, using(crate::specs::Lemmas::Nested::begun_open, crate::specs::Lemmas::Nested::begun_unrefused, crate::specs::Lemmas::Nested::begun_numbers, crate::specs::Lemmas::Nested::begun_there))]
+#[tactic(auto, using(layout_chain::specs::Lemmas::Nested::begun_open, layout_chain::specs::Lemmas::Nested::begun_unrefused, layout_chain::specs::Lemmas::Nested::begun_numbers, layout_chain::specs::Lemmas::Nested::begun_there))]
 fn apply_record(
     table: &SubstitutionTable,
     depth: u32,

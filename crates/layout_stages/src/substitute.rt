@@ -7,15 +7,15 @@ ghost use Rattle.map_features.specs.declared.per_table.TableIndex.TheVariants.{G
 ghost use Rattle.layout_rules.specs.Buffers.{are_glyphs};
 ghost use Rattle.layout_rules.specs.Ready.{IsDone, IsDoneFrom, IsReady, run_with};
 ghost use Rattle.layout_stages.specs.Lookups.{lookups_stage};
-ghost use Rattle.layout_stages.specs.Settings.{text_settings};
+ghost use Rattle.layout_walks.specs.Settings.{text_settings};
 ghost use Rattle.layout_stages.specs.Substituting.{substituted_by, substitution_lookups, table_stage, table_stages};
 
 use crate::apply::apply_all;
-use crate::pause::{Pause, run_pause};
 use font_face::Face;
 use glyph_buffer::buffer::hb_buffer_t;
 use glyph_types::cause::ShapeCause;
 use layout_match::hb_ot_apply_context_t;
+use layout_walks::pause::{Pause, run_pause};
 use map_builder::map::hb_ot_map_t;
 use map_features::lookup::lookup_map_t;
 use map_features::per_table::TableIndex;

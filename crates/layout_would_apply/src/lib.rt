@@ -2,3 +2,5 @@
 #![tactic(auto)]
 
 pub mod lookup;
+#[cfg(test)]
+mod tests;

@@ -14,7 +14,8 @@ use Rattle.map_builder.specs.Compiled.{MapRequests, no_requests, with_request, O
 use Rattle.layout_links.specs.Starting.{links_cleared}
 use Rattle.layout_links.specs.Finishing.{links_followed}
 use Rattle.layout_positioning.specs.Positioning.{positioned_by}
-use Rattle.layout_stages.specs.Substituting.{Pauses, substituted_by}
+use Rattle.layout_walks.specs.Pauses.{Pauses}
+use Rattle.layout_stages.specs.Substituting.{substituted_by}
 use Rattle.glyph_buffer.specs.Masks.{item_masked}
 use Rattle.glyph_buffer.specs.Settings.{length_limit, steps_limit}
 use Rattle.shaping_text.specs.Direction.{direction_of_script, opposite, is_backward, is_forward}

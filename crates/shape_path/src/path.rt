@@ -21,7 +21,7 @@ use glyph_types::cause::ShapeCause;
 use glyph_types::info::hb_glyph_info_t;
 use glyph_types::position::GlyphPosition;
 use layout_links::finish::{position_finish_offsets, position_start};
-use layout_stages::pause::Pause;
+use layout_walks::pause::Pause;
 use map_builder::map::hb_ot_map_t;
 use shape_fallback::zeroing::zero_mark_widths_by_gdef;
 use shape_glyphs::classes::hb_ot_layout_substitute_start;

@@ -159,3 +159,24 @@ categorized s direction chosen =
 abbrev pub shaper_of : Option Script → Direction → Option Tag → hb_ot_any_shaper_t
 shaper_of None direction chosen = any.Default
 shaper_of (Some s) direction chosen = categorized s direction chosen
+
+-- ---- scripts whose shapers are not there yet
+
+-- scripts with a shaper that they share with few
+abbrev pub other_scripts : List Script
+other_scripts =
+    script.ARABIC ∷
+    script.SYRIAC ∷
+    script.THAI ∷
+    script.LAO ∷
+    script.HANGUL ∷
+    script.HEBREW ∷
+    script.KHMER ∷
+    script.MYANMAR_ZAWGYI ∷
+    script.MYANMAR ∷
+    []
+
+-- a script waits where a text of it may have another shaper than the default one
+abbrev pub script_waits : Option Script → Bool
+script_waits None = false
+script_waits (Some s) = is_among indic_scripts s || is_among universal_scripts s || is_among other_scripts s

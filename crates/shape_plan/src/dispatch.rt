@@ -1,6 +1,6 @@
 //! Which shaper a script has.
 ghost use Rattle.std.specs.Prelude.{◌≡◌};
-ghost use Rattle.shape_plan.specs.Dispatch.{categorized, ends_in_three, indic_shaper, is_default_or_latin, joins, myanmar_shaper, own_shaper, universal_shaper};
+ghost use Rattle.shape_plan.specs.Dispatch.{categorized, ends_in_three, indic_shaper, is_default_or_latin, joins, myanmar_shaper, own_shaper, script_waits, universal_shaper};
 
 use crate::any_shaper::{DEFAULT_SHAPER, hb_ot_any_shaper_t};
 use script_constants::hb_ot_script_shaper_t::{
@@ -102,6 +102,31 @@ const UNIVERSAL: [Script; 84] = [
     TODHRI,
     TULU_TIGALARI,
 ];
+
+/// Scripts with a shaper that they share with few.
+const OTHERS: [Script; 9] = [
+    ARABIC,
+    SYRIAC,
+    THAI,
+    LAO,
+    HANGUL,
+    HEBREW,
+    KHMER,
+    MYANMAR_ZAWGYI,
+    MYANMAR,
+];
+
+/// Whether a script waits for its shaper: whether a text of it may have another than the default shaper.
+pub fn script_waits(script: Option<Script>) -> bool
+    ensures { result ≡ script_waits script }
+{
+    match script {
+        Some(script) => {
+            INDIC.contains(&script) || UNIVERSAL.contains(&script) || OTHERS.contains(&script)
+        }
+        None => false,
+    }
+}
 
 /// The shaper of a text by its script, its direction, and the script of GSUB that serves it (`chosen_script`).
 pub fn hb_ot_shape_complex_categorize(

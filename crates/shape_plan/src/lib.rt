@@ -8,4 +8,4 @@ pub mod planned;
 pub mod planner;
 
 pub use any_shaper::{DEFAULT_SHAPER, DUMBER_SHAPER, hb_ot_any_shaper_t};
-pub use dispatch::hb_ot_shape_complex_categorize;
+pub use dispatch::{hb_ot_shape_complex_categorize, script_waits};

@@ -1,5 +1,5 @@
 -- A text's characters, until they are as the font and the shaper want them.
-use Rattle.std.specs.Prelude.{ℕ, ◌&&◌, if◌then◌else◌, List, [], ◌∷◌, Option, None, codes}
+use Rattle.std.specs.Prelude.{◌&&◌, if◌then◌else◌, [], ◌∷◌, None, codes}
 use lib.Utf8.{scalar}
 use Rattle.font_face.specs.Glyphs.{nominal_glyph, variation_glyph}
 use Rattle.glyph_lists.specs.Readings.{View, Read, Stage, always}

@@ -1,5 +1,5 @@
 -- Characters become glyphs, and the font substitutes them.
-use Rattle.std.specs.Prelude.{List, [], ◌∷◌}
+use Rattle.std.specs.Prelude.{[], ◌∷◌}
 use Rattle.glyph_lists.specs.Readings.{Stage, always}
 use Rattle.layout_stages.specs.Substituting.{substituted_by}
 use Rattle.shape_fallback.specs.Classes.{with_places}

@@ -1,5 +1,5 @@
 -- How much a text may grow while it is shaped.
-use Rattle.std.specs.Prelude.{ℕ, pos, max, length, []}
+use Rattle.std.specs.Prelude.{pos, max, length, []}
 use Rattle.shaping_text.specs.declared.direction.Direction.{Direction}
 use Rattle.glyph_lists.specs.Readings.{View, Read, with_events}
 use Rattle.glyph_buffer.specs.Settings.{length_limit, steps_limit}

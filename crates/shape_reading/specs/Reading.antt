@@ -1,6 +1,6 @@
 -- The whole reading of a text.
-use Rattle.std.specs.Prelude.{ℕ, List, [], ◌∷◌, Ok, Err, map}
-use Rattle.glyph_lists.specs.Origins.{Origin, numbers}
+use Rattle.std.specs.Prelude.{ℕ, List, [], ◌∷◌, Ok, Err}
+use Rattle.glyph_lists.specs.Origins.{numbers}
 use Rattle.glyph_lists.specs.Events.{origins_after}
 use Rattle.glyph_lists.specs.Readings.{Reading, Run, Stage}
 use Rattle.shape_reading.specs.Chains.{in_order}

@@ -7,8 +7,8 @@ use Rattle.unicode_tables.specs.Tables.{Tables}
 use Rattle.font_face.specs.declared.parts.FaceParts.{FaceParts}
 use Rattle.glyph_lists.specs.Readings.{Stage}
 use Rattle.map_builder.specs.Compiled.{OtMapValue}
-use Rattle.layout_stages.specs.Settings.{TextSettings}
-use Rattle.layout_stages.specs.Substituting.{Pauses}
+use Rattle.layout_walks.specs.Settings.{TextSettings}
+use Rattle.layout_walks.specs.Pauses.{Pauses}
 use Rattle.shape_plan.specs.declared.plan.PlanChoices.{PlanChoices}
 use Rattle.shape_plan.specs.Shapers.{ShaperTraits}
 use Rattle.shape_shaper.specs.Rules.{ShaperRules, Spans}

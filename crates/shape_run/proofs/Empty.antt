@@ -24,7 +24,8 @@ use Rattle.layout_links.specs.Finishing.{drawn_if, has_attachments, links_follow
 use Rattle.layout_positioning.specs.Lookups as Over
 use Rattle.layout_positioning.specs.Positioning as Positions
 use Rattle.layout_stages.specs.Lookups.{lookup_stage, lookups_stage}
-use Rattle.layout_stages.specs.Substituting.{pause_stage, table_stage, table_stages, substitution_lookups}
+use Rattle.layout_walks.specs.Pauses.{pause_stage}
+use Rattle.layout_stages.specs.Substituting.{table_stage, table_stages, substitution_lookups}
 use Rattle.glyph_text.specs.Printed.{printed_text}
 use Rattle.shape_glyphs.specs.Classes.{with_font_classes}
 use Rattle.shape_glyphs.specs.Glyphs.{with_synthesized_classes}

@@ -8,8 +8,8 @@ use Rattle.font_face.specs.declared.parts.FaceParts.{FaceParts}
 use Rattle.glyph_lists.specs.Items.{Item}
 use Rattle.glyph_lists.specs.Events.{IsPlain}
 use Rattle.glyph_lists.specs.Readings.{IsMonotone, Read, Stage, View, as_it_is}
-use Rattle.layout_stages.specs.Settings.{TextSettings}
-use Rattle.layout_stages.specs.Substituting.{Pauses}
+use Rattle.layout_walks.specs.Settings.{TextSettings}
+use Rattle.layout_walks.specs.Pauses.{Pauses}
 use Rattle.normal_forms.specs.Arranged.{Arranged, kept}
 
 -- where the syllable that begins at an index ends, and its kind, by the categories of all glyphs

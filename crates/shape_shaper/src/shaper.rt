@@ -21,8 +21,8 @@ pub trait hb_ot_shaper_t: PlannedShaper {
     ghost use Rattle.glyph_buffer.specs.Sides.{all_glyphs, items_of, run_of};
     ghost use Rattle.layout_rules.specs.Buffers.{are_glyphs};
     ghost use Rattle.layout_rules.specs.Ready.{IsDone, IsReady};
-    ghost use Rattle.layout_stages.specs.Settings.{text_settings};
-    ghost use Rattle.layout_stages.specs.Substituting.{BringsNoGlyph};
+    ghost use Rattle.layout_walks.specs.Settings.{text_settings};
+    ghost use Rattle.layout_walks.specs.Pauses.{BringsNoGlyph};
     ghost use Rattle.normal_rounds.specs.Rearranged.{Rearranges};
     ghost use Rattle.text_stages.specs.Stages.{IsFollowed};
     ghost use Rattle.shape_plan.specs.declared.plan.hb_script_plan_t.{hb_script_plan_t};

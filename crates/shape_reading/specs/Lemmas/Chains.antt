@@ -1,10 +1,9 @@
 -- Stages done one after another on a buffer.
-use Rattle.std.proofs.Common.{◌≡◌, Bool, true, false, if◌then◌else◌, List, [], ◌∷◌, Ok, Err, refl, sym, ap, subst, ◌∙◌}
+use Rattle.std.proofs.Common.{◌≡◌, Bool, true, false, List, [], ◌∷◌, Err, refl, sym, subst, ◌∙◌}
 use Rattle.glyph_types.specs.declared.cause.ShapeCause.{ShapeCause}
-use Rattle.glyph_lists.specs.Readings.{Stage, read_of, as_it_is, and_then}
+use Rattle.glyph_lists.specs.Readings.{Stage, read_of}
 use Rattle.glyph_lists.specs.Steps.{follows_then, follows_same, refused_first, refused_then}
-use Rattle.glyph_buffer.specs.Sides.{Sides, items_of, run_of}
-use Rattle.layout_rules.specs.Buffers.{are_glyphs}
+use Rattle.glyph_buffer.specs.Sides.{Sides, run_of}
 use Rattle.layout_rules.specs.Ready.{IsDone, IsReady}
 use Rattle.text_stages.specs.Stages.{IsFollowed}
 use Rattle.shape_reading.specs.Chains.{in_order, only_if}

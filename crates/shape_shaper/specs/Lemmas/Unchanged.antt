@@ -1,14 +1,13 @@
 -- Rules that leave a text as it is.
-use Rattle.std.proofs.Common.{ℕ, zero, suc, ◌≡◌, Bool, true, List, [], Option, Some, None, Ok, refl, sym, subst}
+use Rattle.std.proofs.Common.{ℕ, zero, suc, ◌≡◌, Bool, true, List, [], Option, Some, None, refl, subst}
 use Rattle.std.specs.Prelude.{is_none}
-use Rattle.glyph_types.specs.declared.level.BufferClusterLevel.{BufferClusterLevel}
 use Rattle.glyph_lists.specs.Items.{Item}
 use Rattle.glyph_lists.specs.Events.{IsPlain}
-use Rattle.glyph_lists.specs.Readings.{IsMonotone, Read, View, as_it_is, with_events}
+use Rattle.glyph_lists.specs.Readings.{Read, as_it_is, with_events}
 use Rattle.glyph_lists.specs.Steps.{follows_same}
 use Rattle.glyph_buffer.specs.Sides.{Sides, run_of}
 use Rattle.layout_rules.specs.Ready.{IsDone, IsReady}
-use Rattle.layout_stages.specs.Substituting.{BringsNoGlyph}
+use Rattle.layout_walks.specs.Pauses.{BringsNoGlyph}
 use Rattle.glyph_buffer.specs.Sides.{items_of}
 use Rattle.normal_forms.specs.Arranged.{kept}
 use Rattle.normal_rounds.specs.Rearranged.{Rearranges}

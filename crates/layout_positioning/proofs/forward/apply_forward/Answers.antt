@@ -4,7 +4,7 @@ use Rattle.layout_gpos.specs.Bases.{any_base}
 use Rattle.glyph_buffer.specs.Moving.{moved_to}
 use Rattle.layout_match.specs.Applied.{applied_of}
 use Rattle.layout_rules.specs.Lemmas.Frames.{still_open}
-use Rattle.layout_stages.specs.Lemmas.Passage.{begun, passed_on}
+use Rattle.layout_walks.specs.Lemmas.Passage.{begun, passed_on}
 use Rattle.layout_positioning.specs.Lookups.{lookup_action}
 use Rattle.layout_positioning.proofs.Over.{looked_over_done, over_next, over_refused}
 use Rattle.layout_positioning.proofs.forward.apply_forward.Goals as goal

@@ -2,7 +2,7 @@ use Rattle.std.proofs.Common.{◌-◌}
 use Rattle.glyph_buffer.specs.Sides.{items_of}
 use Rattle.layout_gpos.specs.Bases.{IsKept, any_base}
 use Rattle.layout_match.specs.Applied.{applied_of}
-use Rattle.layout_stages.specs.Lemmas.Passage.{IsUnderway}
+use Rattle.layout_walks.specs.Lemmas.Passage.{IsUnderway}
 use Rattle.layout_positioning.specs.Lookups.{lookup_action}
 use Rattle.layout_positioning.proofs.forward.apply_forward.Given as goal
 

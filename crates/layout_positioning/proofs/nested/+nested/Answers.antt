@@ -17,7 +17,7 @@ use Rattle.layout_chain.specs.Records.{IsBegun}
 use Rattle.layout_chain.specs.Rules.{chains_of}
 use Rattle.layout_chain.specs.Lemmas.Acting.{match_inside, rule_acted, rule_failed}
 use Rattle.layout_chain.specs.Lemmas.Inside.{then_stays}
-use Rattle.layout_stages.specs.Lemmas.Nested.{begun_some, get_or_any, last_walked, matched_closed, matched_numbers, matched_unrefused, next_failed, next_walked, none_nested, not_tried, record_acted, record_inside, record_passed, tried_there}
+use Rattle.layout_chain.specs.Lemmas.Nested.{begun_some, get_or_any, last_walked, matched_closed, matched_numbers, matched_unrefused, next_failed, next_walked, none_nested, not_tried, record_acted, record_inside, record_passed, tried_there}
 use Rattle.layout_positioning.specs.Lookups.{nested, nested_act}
 use Rattle.layout_positioning.proofs.Levels.{no_depth, some_depth, record_lookup_refused}
 use Rattle.layout_positioning.proofs.nested.+nested.Goals as goal

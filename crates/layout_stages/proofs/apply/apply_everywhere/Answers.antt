@@ -1,7 +1,8 @@
 use Rattle.std.proofs.Common.{sym, ◌∙◌}
 use Rattle.layout_lookups.specs.Lookups.{is_reverse}
 use Rattle.layout_match.specs.Applied.{applied_of}
-use Rattle.layout_stages.specs.Lookups.{looked_back, looked_up, lookup_action, reverse_action}
+use Rattle.layout_walks.specs.Trying.{looked_up}
+use Rattle.layout_stages.specs.Lookups.{looked_back, lookup_action, reverse_action}
 use Rattle.layout_stages.proofs.Stages.{either_done}
 use Rattle.layout_stages.proofs.apply.apply_everywhere.Goals as goal
 

@@ -2,7 +2,7 @@ use Rattle.std.proofs.Common.{◌≡◌, ◌-◌, true, false, Ok, ap, sym, subs
 use Rattle.glyph_buffer.specs.Sides.{Sides, fits_joined}
 use Rattle.layout_match.specs.Applied.{applied_of}
 use Rattle.layout_stages.specs.Lookups.{lookup_action}
-use Rattle.layout_stages.specs.Lemmas.Passage.{IsUnderway, gone_on_by, looked_up_done, looked_up_long, looked_up_refused_by, passed_on}
+use Rattle.layout_walks.specs.Lemmas.Passage.{IsUnderway, gone_on_by, looked_up_done, looked_up_long, looked_up_refused_by, passed_on}
 use Rattle.layout_stages.proofs.forward.apply_forward.Goals as goal
 
 pub returns-in_err-apply_next-clause-err : goal.returns-in_err-apply_next-clause-err

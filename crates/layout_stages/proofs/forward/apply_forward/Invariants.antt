@@ -1,7 +1,7 @@
 use Rattle.std.proofs.Common.{◌≡◌, ◌-◌}
 use Rattle.layout_match.specs.Applied.{applied_of}
 use Rattle.layout_stages.specs.Lookups.{lookup_action}
-use Rattle.layout_stages.specs.Lemmas.Passage.{IsUnderway}
+use Rattle.layout_walks.specs.Lemmas.Passage.{IsUnderway}
 use Rattle.layout_stages.proofs.forward.apply_forward.Given as goal
 
 -- as many steps are left as were not made

@@ -1,7 +1,7 @@
 use Rattle.std.proofs.Common.{◌≡◌, ◌<◌, ◌∙◌, true, Ok, ap, sym, length, arith}
 use Rattle.layout_match.specs.Applied.{applied_of}
 use Rattle.layout_stages.specs.Lookups.{lookup_action}
-use Rattle.layout_stages.specs.Lemmas.Steps.{step_acted, step_passed}
+use Rattle.layout_walks.specs.Lemmas.Steps.{step_acted, step_passed}
 use Rattle.layout_stages.proofs.forward.apply_next.Goals as goal
 
 pub returns-then-branch-clause-ok : goal.returns-then-branch-clause-ok

@@ -13,7 +13,7 @@ use Rattle.layout_chain.specs.Lemmas.Acting.{match_inside, rule_acted, rule_fail
 use Rattle.layout_chain.specs.Lemmas.Inside.{then_stays}
 use Rattle.layout_stages.specs.Lookups.{nested, nested_act}
 use Rattle.layout_contexts.specs.declared.context.SequenceLookupRecord.{SequenceLookupRecord}
-use Rattle.layout_stages.specs.Lemmas.Nested.{begun_some, get_or_any, last_walked, matched_numbers, matched_open, matched_unrefused, next_failed, next_walked, none_nested, not_tried, record_acted, record_inside, record_passed, tried_there}
+use Rattle.layout_chain.specs.Lemmas.Nested.{begun_some, get_or_any, last_walked, matched_numbers, matched_open, matched_unrefused, next_failed, next_walked, none_nested, not_tried, record_acted, record_inside, record_passed, tried_there}
 use Rattle.layout_stages.proofs.Levels.{no_depth, some_depth}
 use Rattle.layout_stages.proofs.nested.+nested.Goals as goal
 

@@ -6,8 +6,8 @@ use Rattle.glyph_lists.specs.Steps.{follows_then, follows_same, refused_first, r
 use Rattle.glyph_buffer.specs.Sides.{Sides, Settings, settings_of, items_of, run_of}
 use Rattle.layout_rules.specs.Buffers.{are_glyphs}
 use Rattle.layout_rules.specs.Ready.{IsReady, IsDone, IsDoneFrom, run_with}
-use Rattle.layout_stages.specs.Settings.{TextSettings, text_settings, text_settings_of}
-use Rattle.layout_stages.specs.Substituting.{Pauses, pause_stage}
+use Rattle.layout_walks.specs.Pauses.{Pauses, pause_stage}
+use Rattle.layout_walks.specs.Settings.{TextSettings, text_settings, text_settings_of}
 
 -- nothing is done by a stage that leaves all as it is
 pub nothing_done : (r : ℕ) (s : Sides) → IsReady s → IsDoneFrom r r as_it_is s s

@@ -14,8 +14,8 @@ use Rattle.layout_rules.specs.Buffers.{are_glyphs, IsStill, Happened, IsPassed}
 use Rattle.layout_rules.specs.Performing.{cut_with, Performed}
 use Rattle.layout_rules.specs.Lemmas.Frames.{still_settings, still_limit, still_open, same_level, same_asks, same_lengths, same_numbers}
 use Rattle.layout_rules.specs.Lemmas.Performed.{same_with}
-use Rattle.layout_stages.specs.Lookups.{tried, tried_before, after_outcome, gone_over}
-use Rattle.layout_stages.specs.Steps.{IsStep, IsGivenUp}
+use Rattle.layout_walks.specs.Trying.{tried, tried_before, after_outcome, gone_over}
+use Rattle.layout_walks.specs.Steps.{IsStep, IsGivenUp}
 
 empty : {X : Type 0} (xs : List X) → length xs ≡ 0 → xs ≡ []
 empty [] e = refl

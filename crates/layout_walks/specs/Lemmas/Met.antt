@@ -7,7 +7,7 @@ use Rattle.layout_match.specs.Applied.{Applied}
 use Rattle.layout_rules.specs.Actions.{Passes, Action, at_first}
 use Rattle.layout_rules.specs.Performing.{cut_with}
 use Rattle.layout_rules.specs.Lemmas.Glyphs.{first_item}
-use Rattle.layout_stages.specs.Lookups.{meets, at_met, met_first}
+use Rattle.layout_walks.specs.Trying.{meets, at_met, met_first}
 
 pub unmet : (a : Applied) (act : Action) (r : ℕ) (s : Sides) (g : hb_glyph_info_t) → slice_get s.ahead 0 ≡ Some g → meets a (item_of g) ≡ false → met_first a act (cut_with r s) ≡ Passes []
 unmet a act r s g at none = ap (λ o. at_first (at_met a act) o (cut_with r s)) (first_item s.ahead g at) ∙ rw none refl

@@ -4,8 +4,8 @@ ghost use Rattle.glyph_lists.specs.Readings.{Stage, read_of};
 ghost use Rattle.glyph_buffer.specs.Sides.{items_of, run_of};
 ghost use Rattle.layout_rules.specs.Buffers.{are_glyphs};
 ghost use Rattle.layout_rules.specs.Ready.{IsDone, IsDoneFrom, IsReady, run_with};
-ghost use Rattle.layout_stages.specs.Settings.{TextSettings, text_settings};
-ghost use Rattle.layout_stages.specs.Substituting.{BringsNoGlyph, pause_stage};
+ghost use Rattle.layout_walks.specs.Pauses.{BringsNoGlyph, pause_stage};
+ghost use Rattle.layout_walks.specs.Settings.{TextSettings, text_settings};
 
 use glyph_buffer::buffer::hb_buffer_t;
 use glyph_types::cause::ShapeCause;

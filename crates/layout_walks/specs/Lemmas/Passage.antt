@@ -14,8 +14,8 @@ use Rattle.layout_rules.specs.Buffers.{are_glyphs, IsStill}
 use Rattle.layout_rules.specs.Performing.{cut_with}
 use Rattle.layout_rules.specs.Ready.{IsReady, IsDoneFrom, run_with}
 use Rattle.layout_rules.specs.Lemmas.Frames.{still_settings, still_refused, still_direction}
-use Rattle.layout_stages.specs.Lookups.{tried, unplaced, joined, looked_up}
-use Rattle.layout_stages.specs.Steps.{IsStep, IsGivenUp}
+use Rattle.layout_walks.specs.Trying.{tried, unplaced, joined, looked_up}
+use Rattle.layout_walks.specs.Steps.{IsStep, IsGivenUp}
 
 -- from an opened buffer so many steps are left
 pub record IsUnderway (act : Action) (count left before after : ℕ) (start now : Sides) : Type 0 where

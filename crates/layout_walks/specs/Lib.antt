@@ -1,0 +1,5 @@
+pub mod Trying
+pub mod Steps
+pub mod Settings
+pub mod Pauses
+pub mod Lemmas
