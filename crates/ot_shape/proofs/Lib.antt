@@ -1,0 +1,6 @@
+mod Sets
+mod Begun
+mod Placed
+mod Ended
+mod Phases
+mod Whole
