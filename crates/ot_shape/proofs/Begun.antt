@@ -1,13 +1,11 @@
 -- A text begun.
-use Rattle.std.proofs.Common.{ℕ, ◌≡◌, Bool, true, List, [], ◌∷◌, Err, map, refl, sym, ap, subst, ◌∙◌}
+use Rattle.std.proofs.Common.{ℕ, ◌≡◌, true, List, [], ◌∷◌, Err, map, refl, sym, ap, subst, ◌∙◌}
 use Rattle.std.proofs.lemmas.List.{length-map}
 use Rattle.glyph_types.specs.declared.cause.ShapeCause.{ShapeCause}
-use Rattle.shaping_text.specs.declared.script.Script.{Script}
-use Rattle.std.specs.Prelude.{Option}
 use Rattle.glyph_lists.specs.Items.{Item, item_masked, item_of}
 use Rattle.glyph_lists.specs.Readings.{Run, Stage, always, read_of}
 use Rattle.glyph_lists.specs.Steps.{follows_events}
-use Rattle.glyph_buffer.specs.Sides.{Sides, Settings, all_glyphs, items_of, run_of, settings_of, view_of}
+use Rattle.glyph_buffer.specs.Sides.{Sides, all_glyphs, items_of, run_of, settings_of, view_of}
 use Rattle.glyph_buffer.specs.Settings.{entered, length_limit, steps_limit}
 use Rattle.layout_rules.specs.Ready.{IsDone, IsReady}
 use Rattle.layout_walks.specs.Settings.{text_settings}
@@ -17,7 +15,6 @@ use Rattle.shape_text.specs.Properties.{are_characters, with_properties}
 use Rattle.shape_text.specs.Circle.{first_circle}
 use Rattle.shape_text.specs.Clusters.{with_clusters}
 use Rattle.shape_direction.specs.NativeOrder.{native_order}
-use Rattle.shape_reading.specs.Chains.{in_order}
 use Rattle.shape_reading.specs.Limits.{begun}
 use Rattle.shape_reading.specs.Characters.{text_begun}
 use Rattle.shape_reading.specs.Shaping.{Shaping}

@@ -1,5 +1,5 @@
 -- A text ended.
-use Rattle.std.proofs.Common.{ℕ, ◌≡◌, max, length, refl, sym, ap, subst, ◌∙◌}
+use Rattle.std.proofs.Common.{◌≡◌, max, refl, sym, ap, subst, ◌∙◌}
 use Rattle.std.specs.Prelude.{pos, []}
 use Rattle.std.proofs.lemmas.List.{length-map}
 use Rattle.shaping_text.specs.declared.direction.Direction.{Direction}

@@ -4,3 +4,4 @@ mod Placed
 mod Ended
 mod Phases
 mod Whole
+mod Numbers

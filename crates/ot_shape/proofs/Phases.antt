@@ -1,5 +1,5 @@
 -- The parts of shaping, each of some stages.
-use Rattle.std.proofs.Common.{ℕ, ◌≡◌, List, [], ◌∷◌, Ok, Err, Option, sym, subst, ◌∙◌}
+use Rattle.std.proofs.Common.{ℕ, ◌≡◌, [], ◌∷◌, Ok, Err, Option, sym, subst, ◌∙◌}
 use Rattle.std.specs.Prelude.{◌≢◌, IfErr, IsErrAnd, Result}
 use Rattle.glyph_types.specs.declared.cause.ShapeCause.TheVariants.{OutOfMemory}
 use Rattle.glyph_types.specs.declared.cause.ShapeCause.{ShapeCause}

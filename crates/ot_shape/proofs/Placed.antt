@@ -1,20 +1,19 @@
 -- Positions.
-use Rattle.std.proofs.Common.{ℕ, ◌≡◌, Bool, true, false, if◌then◌else◌, List, [], ◌∷◌, Ok, map, take, length, reverse, refl, sym, ap, subst, ◌∙◌}
+use Rattle.std.proofs.Common.{◌≡◌, Bool, true, false, if◌then◌else◌, List, [], ◌∷◌, Ok, map, take, length, reverse, refl, sym, ap, subst, ◌∙◌}
 use Rattle.std.proofs.lemmas.List.{length-replicate, length-reverse, take-append-drop}
 use Rattle.std.specs.List.{list_all}
 use Rattle.std.proofs.lemmas.Grind.{reverse_onto}
 use Rattle.std.proofs.lemmas.List.{map-append}
 use Rattle.std.proofs.lemmas.List.Folds.{list_all-append}
-use Rattle.std.specs.Prelude.{◌&&◌, ◌++◌}
+use Rattle.std.specs.Prelude.{◌&&◌}
 use Rattle.shaping_text.specs.Direction.{is_backward}
 use Rattle.shaping_text.specs.declared.direction.Direction.{Direction}
-use Rattle.font_face.specs.declared.parts.FaceParts.{FaceParts}
-use Rattle.glyph_lists.specs.Items.{Position, item_of, strip}
+use Rattle.glyph_lists.specs.Items.{item_of, strip}
 use Rattle.glyph_lists.specs.Origins.{origin_of, origins}
 use Rattle.glyph_lists.specs.Events.{Reverse}
 use Rattle.glyph_lists.specs.Readings.{Follows, Run, View, always, with_events}
 use Rattle.glyph_lists.specs.Steps.{follows_events}
-use Rattle.glyph_buffer.specs.Sides.{Sides, all_glyphs, items_of, reversed, run_of, view_of, with_cleared_positions, zero_position, zero_positions}
+use Rattle.glyph_buffer.specs.Sides.{Sides, all_glyphs, items_of, reversed, run_of, view_of, with_cleared_positions, zero_position}
 use Rattle.layout_rules.specs.Buffers.{are_glyphs}
 use Rattle.layout_rules.specs.Ready.{IsDone, IsReady}
 use Rattle.layout_walks.specs.Settings.{text_flags}

@@ -1,5 +1,5 @@
 -- Stages that read what is set for a text.
-use Rattle.std.proofs.Common.{ℕ, ◌≡◌, ◌==◌, ◌&&◌, not, Bool, if◌then◌else◌, List, length, Err, refl, sym, ap, subst, ◌∙◌}
+use Rattle.std.proofs.Common.{ℕ, ◌≡◌, ◌==◌, ◌&&◌, Bool, if◌then◌else◌, List, length, Err, refl, sym, subst}
 use Rattle.std.specs.Prelude.{bit_and, is_some, [], Option, None}
 use Rattle.std.specs.Option.{option_or}
 use Rattle.std.proofs.lemmas.Nat.{and_assoc}

@@ -1,17 +1,16 @@
 -- All stages.
-use Rattle.std.proofs.Common.{ℕ, ◌≡◌, ◌+◌, ◌-◌, true, false, List, [], ◌∷◌, Ok, Err, length, drop, map, arith, refl, sym, ap, subst, ◌∙◌}
+use Rattle.std.proofs.Common.{ℕ, ◌≡◌, ◌+◌, ◌-◌, false, List, [], ◌∷◌, Ok, Err, length, arith, refl, sym, ap, subst, ◌∙◌}
 use Rattle.std.proofs.lemmas.List.{length-append}
 use Rattle.glyph_types.specs.declared.info.hb_glyph_info_t.{hb_glyph_info_t}
 use Rattle.glyph_types.specs.declared.cause.ShapeCause.{ShapeCause}
 use Rattle.glyph_lists.specs.Items.{clusters, strip}
-use Rattle.glyph_lists.specs.Origins.{Origin, numbers, origins}
+use Rattle.glyph_lists.specs.Origins.{numbers, origins}
 use Rattle.glyph_lists.specs.Readings.{Follows, Reading, Run, read_of}
-use Rattle.glyph_buffer.specs.Sides.{Sides, all_glyphs, run_of, settings_of, view_of}
+use Rattle.glyph_buffer.specs.Sides.{Sides, all_glyphs, run_of, view_of}
 use Rattle.glyph_buffer.specs.Moving.{moved_to}
 use Rattle.layout_rules.specs.Ready.{IsReady}
 use Rattle.layout_walks.specs.Settings.{text_settings}
 use Rattle.text_stages.specs.Stages.{IsFollowed}
-use Rattle.shape_reading.specs.Chains.{in_order}
 use Rattle.shape_reading.specs.Masks.{ranges_set}
 use Rattle.shape_reading.specs.Reading.{after_ranges, before_ranges, clusters_after, reading, shaped}
 use Rattle.shape_reading.specs.Shaping.{Shaping}

@@ -1,12 +1,13 @@
 //! The end of shaping.
-ghost use Rattle.std.specs.Prelude.{◌≡◌, ◌≢◌, Err, IfErr, OnOk};
+ghost use Rattle.std.specs.Prelude.{◌≡◌, ◌≢◌, Err, IfErr, OnOk, true};
 ghost use Rattle.glyph_lists.specs.Readings.{always, read_of};
-ghost use Rattle.glyph_buffer.specs.Sides.{run_of};
+ghost use Rattle.glyph_buffer.specs.Sides.{items_of, run_of};
+ghost use Rattle.layout_rules.specs.Buffers.{are_glyphs};
 ghost use Rattle.layout_rules.specs.Ready.{IsDone, IsReady};
 ghost use Rattle.layout_walks.specs.Settings.{text_settings};
 ghost use Rattle.text_stages.specs.Stages.{IsFollowed};
-ghost use Rattle.shape_glyphs.specs.Ignorables.{hidden};
-ghost use Rattle.shape_reading.specs.Endings.{text_ended};
+ghost use Rattle.shape_glyphs.specs.Ignorables.{hidden, is_glyph_if_set};
+ghost use Rattle.shape_reading.specs.Endings.{sets_glyphs, text_ended};
 ghost use Rattle.shape_reading.specs.Limits.{ended};
 ghost use Rattle.shape_reading.specs.Shaping.{postprocessed};
 
@@ -24,8 +25,10 @@ use shaping_text::direction::Direction;
 #[tactic(auto, using(crate::proofs::Sets::hidden_as_asked))]
 fn hide_ignorables(face: &Face, buffer: &mut hb_buffer_t)
     requires { IsReady buffer.old }
-    ensures { IsFollowed (always (hidden (text_settings buffer.old).flags (text_settings buffer.old).invisible face.now))
+    ensures stage { IsFollowed (always (hidden (text_settings buffer.old).flags (text_settings buffer.old).invisible face.now))
         buffer.old buffer.new }
+    ensures numbers { is_glyph_if_set buffer.old.invisible ≡ true
+        → are_glyphs (items_of buffer.old) ≡ true → are_glyphs (items_of buffer.new) ≡ true }
 {
     hide_default_ignorables(face, buffer);
 }
@@ -58,6 +61,8 @@ impl<S: hb_ot_shaper_t, P: SyllableSpans> hb_ot_shape_context_t<'_, S, P> {
         requires { IsReady buffer.old }
         ensures ok { OnOk result (IsFollowed
             (text_ended (⟦<Self as Shaped>⟧.shaping self.now (text_settings buffer.old))) buffer.old buffer.new) }
+        ensures numbers { OnOk result (sets_glyphs (text_settings buffer.old) ≡ true
+            → are_glyphs (items_of buffer.old) ≡ true → are_glyphs (items_of buffer.new) ≡ true) }
         ensures err { IfErr result (λ e. e ≢ ShapeCause.OutOfMemory → read_of
             (text_ended (⟦<Self as Shaped>⟧.shaping self.now (text_settings buffer.old))) (run_of buffer.old) ≡ Err e) }
     {

@@ -2,10 +2,12 @@
 ghost use Rattle.std.specs.Prelude.{◌≡◌, ◌≢◌, Err, IfErr, OnOk, true, false};
 ghost use Rattle.glyph_lists.specs.Readings.{Follows, read_of};
 ghost use Rattle.glyph_buffer.specs.Sides.{items_of, run_of, settings_of};
+ghost use Rattle.layout_rules.specs.Buffers.{are_glyphs};
 ghost use Rattle.layout_rules.specs.Ready.{IsReady};
 ghost use Rattle.layout_walks.specs.Settings.{text_settings};
 ghost use Rattle.text_stages.specs.Stages.{IsFollowed};
 ghost use Rattle.shape_text.specs.Properties.{are_characters};
+ghost use Rattle.shape_reading.specs.Endings.{sets_glyphs};
 ghost use Rattle.shape_reading.specs.Reading.{after_ranges, before_ranges, reading};
 
 use crate::context::{Shaped, hb_ot_shape_context_t};
@@ -23,8 +25,8 @@ fn rewind(buffer: &mut hb_buffer_t)
     ensures run { run_of buffer.new ≡ run_of buffer.old }
     ensures settings { settings_of buffer.new ≡ settings_of buffer.old }
 {
-    let _count = buffer.len();
-    let _places = buffer.pos_slice().len();
+    let is_placed = buffer.pos_slice().len() == buffer.len();
+    prove!(is_placed);
     let _moved = buffer.move_to(0);
 }
 
@@ -49,6 +51,8 @@ impl<S: hb_ot_shaper_t, P: SyllableSpans> hb_ot_shape_context_t<'_, S, P> {
         requires { IsReady buffer.old }
         ensures ok { OnOk result (IsFollowed
             (after_ranges (⟦<Self as Shaped>⟧.shaping self.now (text_settings buffer.old))) buffer.old buffer.new) }
+        ensures numbers { OnOk result (sets_glyphs (text_settings buffer.old) ≡ true
+            → are_glyphs (items_of buffer.new) ≡ true) }
         ensures err { IfErr result (λ e. e ≢ ShapeCause.OutOfMemory → read_of
             (after_ranges (⟦<Self as Shaped>⟧.shaping self.now (text_settings buffer.old))) (run_of buffer.old) ≡ Err e) }
     {
@@ -67,6 +71,8 @@ impl<S: hb_ot_shaper_t, P: SyllableSpans> hb_ot_shape_context_t<'_, S, P> {
             (run_of buffer.old)) (run_of buffer.old) (run_of buffer.new)) }
         ensures still_closed { OnOk result (buffer.new.is_open ≡ false) }
         ensures settings { OnOk result (settings_of buffer.new ≡ settings_of buffer.old) }
+        ensures numbers { OnOk result (sets_glyphs (text_settings buffer.old) ≡ true
+            → are_glyphs (items_of buffer.new) ≡ true) }
         ensures err { IfErr result (λ e. e ≢ ShapeCause.OutOfMemory → reading
             (⟦<Self as Shaped>⟧.shaping self.now (text_settings buffer.old)) (run_of buffer.old) ≡ Err e) }
     {
@@ -77,7 +83,8 @@ impl<S: hb_ot_shaper_t, P: SyllableSpans> hb_ot_shape_context_t<'_, S, P> {
     }
 
     /// Shapes a text by the plan: all that the stages see of the buffer, and where its glyphs come from, follow the text's
-    /// reading. It refuses by the reading's own cause, or for want of memory.
+    /// reading. The result has numbers of glyphs, if those that are set for it are such. It refuses by the reading's own cause,
+    /// or for want of memory.
     pub fn shape_internal(&self, buffer: &mut hb_buffer_t) -> Result<(), ShapeCause>
         requires closed { buffer.old.is_open ≡ false }
         requires unrefused { buffer.old.has_refused ≡ false }
@@ -86,6 +93,8 @@ impl<S: hb_ot_shaper_t, P: SyllableSpans> hb_ot_shape_context_t<'_, S, P> {
             (run_of buffer.old)) (run_of buffer.old) (run_of buffer.new)) }
         ensures still_closed { OnOk result (buffer.new.is_open ≡ false) }
         ensures settings { OnOk result (settings_of buffer.new ≡ settings_of buffer.old) }
+        ensures numbers { OnOk result (sets_glyphs (text_settings buffer.old) ≡ true
+            → are_glyphs (items_of buffer.new) ≡ true) }
         ensures err { IfErr result (λ e. e ≢ ShapeCause.OutOfMemory → reading
             (⟦<Self as Shaped>⟧.shaping self.now (text_settings buffer.old)) (run_of buffer.old) ≡ Err e) }
     {

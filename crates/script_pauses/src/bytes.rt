@@ -3,7 +3,7 @@ ghost use Rattle.std.specs.Prelude.{◌≡◌, ◌≢◌, false, Ok, Err, IfErr,
 ghost use Rattle.glyph_lists.specs.Readings.{read_of};
 ghost use Rattle.glyph_buffer.specs.Sides.{items_of, run_of};
 ghost use Rattle.layout_rules.specs.Ready.{IsDone, IsReady};
-ghost use Rattle.layout_stages.specs.Substituting.{BringsNoGlyph};
+ghost use Rattle.layout_walks.specs.Pauses.{BringsNoGlyph};
 ghost use Rattle.script_circles.specs.Bytes.{syllables_set};
 
 use glyph_buffer::buffer::hb_buffer_t;

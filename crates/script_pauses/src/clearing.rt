@@ -4,7 +4,7 @@ ghost use Rattle.glyph_lists.specs.Items.{item_of};
 ghost use Rattle.glyph_lists.specs.Origins.{origin_of};
 ghost use Rattle.glyph_buffer.specs.Sides.{items_of};
 ghost use Rattle.layout_rules.specs.Ready.{IsDone, IsReady};
-ghost use Rattle.layout_stages.specs.Substituting.{BringsNoGlyph};
+ghost use Rattle.layout_walks.specs.Pauses.{BringsNoGlyph};
 ghost use Rattle.text_stages.specs.Stages.{IsFollowed};
 ghost use Rattle.script_pauses.specs.Syllables.{substitutions_forgotten, syllables_cleared, unsubstituted, without_syllable};
 

@@ -4,8 +4,8 @@ ghost use Rattle.glyph_lists.specs.Readings.{read_of};
 ghost use Rattle.glyph_buffer.specs.Sides.{items_of, run_of};
 ghost use Rattle.layout_rules.specs.Buffers.{are_glyphs};
 ghost use Rattle.layout_rules.specs.Ready.{IsDone, IsReady};
-ghost use Rattle.layout_stages.specs.Substituting.{BringsNoGlyph};
-ghost use Rattle.layout_stages.specs.Settings.{text_settings};
+ghost use Rattle.layout_walks.specs.Pauses.{BringsNoGlyph};
+ghost use Rattle.layout_walks.specs.Settings.{text_settings};
 ghost use Rattle.script_pauses.specs.Syllables.{myanmar_order};
 
 use font_face::Face;

@@ -1,12 +1,12 @@
 -- Readings of runs that are seen alike.
-use Rattle.std.proofs.Common.{ℕ, ◌≡◌, ◌&&◌, Bool, true, false, if◌then◌else◌, List, [], ◌∷◌, Ok, Err, refl, sym, ap, subst, ◌∙◌}
+use Rattle.std.proofs.Common.{ℕ, ◌≡◌, ◌&&◌, Bool, true, false, if◌then◌else◌, List, [], ◌∷◌, Ok, Err, refl, sym, ap, ◌∙◌}
 use Rattle.feature_text.specs.declared.feature.Feature.{Feature}
 use Rattle.feature_text.specs.Feature.{is_global}
 use Rattle.glyph_lists.specs.Items.{Item}
-use Rattle.glyph_lists.specs.Readings.{Read, Reading, Run, Stage, View, and_then, then_reading, with_events}
+use Rattle.glyph_lists.specs.Readings.{Reading, Run, Stage, View, and_then, then_reading, with_events}
 use Rattle.glyph_buffer.specs.Masks.{items_set}
 use Rattle.glyph_buffer.specs.Sides.{Settings}
-use Rattle.layout_walks.specs.Settings.{TextSettings, text_flags, text_settings_of}
+use Rattle.layout_walks.specs.Settings.{text_flags, text_settings_of}
 use Rattle.map_builder.specs.Compiled.{OtMapValue}
 use Rattle.shape_masks.specs.Ranges.{bits_of, placed_value, with_all_ranges, with_range}
 use Rattle.shape_reading.specs.Chains.{in_order}

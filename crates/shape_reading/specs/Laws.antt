@@ -1,5 +1,5 @@
 -- What holds of all readings.
-use Rattle.std.specs.Prelude.{◌≡◌, true, false, List, Bool, Ok}
+use Rattle.std.specs.Prelude.{◌≡◌, true, false, List, Bool}
 use Rattle.std.specs.List.{list_all}
 use Rattle.feature_text.specs.declared.feature.Feature.{Feature}
 use Rattle.feature_text.specs.Feature.{is_global}

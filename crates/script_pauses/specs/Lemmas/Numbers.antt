@@ -7,7 +7,7 @@ use Rattle.std.proofs.lemmas.List.Sums.{sum_by-cons}
 use Rattle.std.proofs.lemmas.List.Sorted.{sum_by-IsPermutation}
 use Rattle.glyph_lists.specs.Items.{Item}
 use Rattle.layout_rules.specs.Buffers.{are_glyphs}
-use Rattle.layout_stages.specs.Substituting.{BringsNoGlyph}
+use Rattle.layout_walks.specs.Pauses.{BringsNoGlyph}
 use Rattle.script_walks.specs.Laws.{numbers_of}
 
 abbrev one_if : Bool → ℕ

@@ -14,8 +14,8 @@ use Rattle.glyph_lists.specs.Steps.{follows_then, refused_first}
 use Rattle.glyph_buffer.specs.Sides.{Sides, items_of, run_of, view_of}
 use Rattle.layout_rules.specs.Buffers.{are_glyphs}
 use Rattle.layout_rules.specs.Ready.{IsDone, IsReady}
-use Rattle.layout_stages.specs.Settings.{text_flags}
-use Rattle.layout_stages.specs.Substituting.{BringsNoGlyph}
+use Rattle.layout_walks.specs.Settings.{text_flags}
+use Rattle.layout_walks.specs.Pauses.{BringsNoGlyph}
 use Rattle.text_stages.specs.Stages.{IsFollowed, mapped}
 use Rattle.script_walks.specs.Rewriting.{Rewritten, kept, by_syllable}
 use Rattle.script_walks.specs.Laws.{IsPermuted, numbers_of}

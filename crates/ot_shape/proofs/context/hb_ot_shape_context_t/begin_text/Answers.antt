@@ -1,4 +1,4 @@
-use Rattle.std.proofs.Common.{◌≡◌, refl, true, ap, subst, sym, ◌∙◌}
+use Rattle.std.proofs.Common.{refl, subst}
 use Rattle.glyph_lists.specs.Readings.{always}
 use Rattle.glyph_buffer.specs.Sides.{Sides}
 use Rattle.layout_rules.specs.Ready.{IsDone}
