@@ -1,8 +1,11 @@
 -- Faults of bytes.
-use Rattle.std.proofs.Common.{◌≡◌, ◌≢◌, ℕ, Bool, false, List, Ok, Err, refl, sym, ap, subst}
-use Rattle.std.specs.Prelude.{Option, Some, None, IfSome, Result, IfErr, IsErrAnd}
+use Rattle.std.proofs.Common.{◌≡◌, ◌≢◌, ℕ, Bool, true, false, List, Ok, Err, refl, sym, ap, subst, ◌∙◌}
+use Rattle.std.specs.Prelude.{Option, Some, None, IfSome, Result, IfErr, IsErrAnd, OnOk, unwrap_or}
 use Rattle.run_options.specs.declared.fault.RunFault.{RunFault}
-use Rattle.run_options.specs.declared.fault.RunFault.TheVariants.{OutOfMemory}
+use Rattle.run_options.specs.declared.fault.RunFault.TheVariants.{NotYet, OutOfMemory}
+use Rattle.shaping_text.specs.declared.script.Script.{Script}
+use Rattle.shaping_text.specs.declared.script.TheConstants.{UNKNOWN}
+use Rattle.shape_plan.specs.Dispatch.{script_waits}
 use Rattle.run_options.specs.declared.options.Options.{Options}
 use Rattle.run_options.specs.Fault.{fault_of_cause}
 use Rattle.glyph_types.specs.declared.cause.ShapeCause.{ShapeCause}
@@ -30,8 +33,22 @@ pub passed_on : {A E : Type 0} (r : Result A E) (e : E) (P : E → Type 0) → I
 passed_on (Ok a) e P h p = tt
 passed_on (Err f) e P h p = subst P (sym h) p
 
--- a text that doesn't wait, and whose reading refuses
-pub refused_reading : (waiting : Bool) (r : Reading) (cause : ShapeCause) → waiting ≡ false → (cause ≢ NoMemory → r ≡ Err cause) → fault_of_cause cause ≢ OutOfMemory → IsUnshaped waiting r (fault_of_cause cause)
-refused_reading waiting r cause here h not_memory =
-    let P : Bool → Type 0 = λ b. IsUnshaped b r (fault_of_cause cause) in
-    subst P (sym here) (cause, h (λ e. not_memory (ap fault_of_cause e)), refl)
+-- a text whose reading refuses
+pub refused_as : (r : Reading) (cause : ShapeCause) (e : RunFault) → e ≡ fault_of_cause cause → (cause ≢ NoMemory → r ≡ Err cause) → e ≢ OutOfMemory → IsUnshaped false r e
+refused_as r cause e is h not_memory = (cause, h (λ m. not_memory (is ∙ ap fault_of_cause m)), is)
+
+-- ---- whether a text waits
+
+pub known_script : (o : Option Script) → script_waits (Some (unwrap_or o UNKNOWN)) ≡ script_waits o
+known_script None = refl
+known_script (Some s) = refl
+
+pub waiting_unshaped : (b : Bool) (r : Reading) → b ≡ true → IsUnshaped b r NotYet
+waiting_unshaped b r waits = let P : Bool → Type 0 = λ x. IsUnshaped x r NotYet in subst P (sym waits) refl
+
+pub still_unshaped : (b : Bool) (r : Reading) (e : RunFault) → b ≡ false → IsUnshaped false r e → IsUnshaped b r e
+still_unshaped b r e here h = let P : Bool → Type 0 = λ x. IsUnshaped x r e in subst P (sym here) h
+
+pub on_ok : {A E : Type 0} (r : Result A E) (P : Type 0) → P → OnOk r P
+on_ok (Ok a) P p = p
+on_ok (Err e) P p = tt

@@ -5,3 +5,5 @@ pub mod Printing
 pub mod Faults
 pub mod Empty
 pub mod Writing
+pub mod Languages
+pub mod Guessed

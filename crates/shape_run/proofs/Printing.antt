@@ -1,33 +1,24 @@
 -- What is printed of a buffer is what is printed of its reading.
-use Rattle.std.proofs.Common.{ℕ, ◌≡◌, ◌≤◌, ◌+◌, Bool, true, false, if◌then◌else◌, List, [], ◌∷◌, Ok, Err, refl, sym, ap, ◌∙◌, arith}
-use Rattle.std.specs.Prelude.{bit_and, All}
-use Rattle.std.specs.List.{list_all}
+use Rattle.std.proofs.Common.{ℕ, ◌≡◌, ◌+◌, Bool, true, false, if◌then◌else◌, List, [], ◌∷◌, Ok, Err, refl, sym, ap, subst, ◌∙◌, arith}
+use Rattle.std.specs.Prelude.{bit_and}
 use Rattle.std.proofs.lemmas.Nat.{and_mask}
-use Rattle.std.proofs.lemmas.Bool.Decides.{nat_tests}
-use Rattle.std.proofs.lemmas.List.Sums.{AllPass-from_list_all}
 use Rattle.glyph_types.specs.declared.info.hb_glyph_info_t.{hb_glyph_info_t}
 use Rattle.glyph_types.specs.declared.flags.SerializeFlags.{SerializeFlags}
 use Rattle.glyph_lists.specs.Items.{item_of, strip, without_flags}
 use Rattle.glyph_lists.specs.Origins.{origin_of, origins}
-use Rattle.glyph_lists.specs.Readings.{Reading, Run, Follows, read_of}
+use Rattle.glyph_lists.specs.Readings.{Follows, Reading, Run}
 use Rattle.glyph_buffer.specs.Text.{fits_text}
 use Rattle.shape_run.specs.Output.{glyph_of, glyphs_of}
-use Rattle.shape_path.specs.Stages.{is_glyph_number}
+use Rattle.shape_plan.specs.Dispatch.{script_waits}
+use Rattle.shape_pipeline.specs.Shaped.{text_reading}
 use Rattle.shape_run.specs.Asked.{text_buffer}
-use Rattle.shape_path.specs.Path.{shaping}
-use Rattle.shape_path.specs.Waiting.{waits}
+use Rattle.shape_run.specs.Tables.{RunTables}
 use Rattle.font_face.specs.declared.parts.FaceParts.{FaceParts}
 use Rattle.run_options.specs.declared.fault.RunFault.{RunFault}
 use Rattle.run_options.specs.declared.fault.RunFault.TheVariants.{NotYet}
 use Rattle.run_options.specs.declared.options.Options.{Options}
-use Rattle.glyph_buffer.specs.Sides.{Sides, all_glyphs, items_of, run_of, empty_buffer}
-use Rattle.shape_run.specs.Answer.{printed_line, line_of, line_of_run, line_of_reading, IsUnshaped}
-
--- glyph numbers, as the printing asks for them
-pub glyph_numbers : (gs : List hb_glyph_info_t) → list_all is_glyph_number gs ≡ true → All (λ (g : hb_glyph_info_t). g.glyph_id ≤ 65535) gs
-glyph_numbers gs h k d lt =
-    let one = AllPass-from_list_all is_glyph_number gs h k d lt in
-    grind (arith, nat_tests, one)
+use Rattle.glyph_buffer.specs.Sides.{Sides, all_glyphs, empty_buffer, run_of}
+use Rattle.shape_run.specs.Answer.{IsUnshaped, line_of, line_of_reading, line_of_run, printed_line, shaping}
 
 -- ---- a glyph is its item and its origin
 
@@ -52,22 +43,20 @@ line_follows font flags (Ok r) old s f = ap (λ (run : Run). Ok (line_of_run fon
 line_follows font flags (Err e) old s f = absurd f
 
 -- the line of a text that fits and does not wait
-pub line_of_fitting : (options : Options) (font : FaceParts) (text : List ℕ) → fits_text text empty_buffer ≡ true
-    → waits font options.features.items (text_buffer options text).script (text_buffer options text).direction (items_of (text_buffer options text)) ≡ false
-    → line_of options font text
-    ≡ line_of_reading font options.flags (run_of (text_buffer options text)) (read_of (shaping font options.features.items (text_buffer options text).script) (run_of (text_buffer options text)))
-line_of_fitting options font text fits here = rw (fits, here) refl
+pub line_of_fitting : (options : Options) (t : RunTables) (font : FaceParts) (text : List ℕ) (s : Sides) → s ≡ text_buffer options text → fits_text text empty_buffer ≡ true → script_waits s.script ≡ false
+    → line_of options t font text ≡ line_of_reading font options.flags (run_of s) (text_reading (shaping t font options.features.items s) (run_of s))
+line_of_fitting options t font text s is fits here =
+    let L : Sides → Type 0 = λ x. script_waits x.script ≡ false → line_of options t font text ≡ line_of_reading font options.flags (run_of x) (text_reading (shaping t font options.features.items x) (run_of x)) in
+    subst L (sym is) (λ now. rw (fits, now) refl) here
 
 -- the same, once it is shaped
-pub line_shaped : (options : Options) (font : FaceParts) (text : List ℕ) (b : Sides) (line : List ℕ) → fits_text text empty_buffer ≡ true
-    → waits font options.features.items (text_buffer options text).script (text_buffer options text).direction (items_of (text_buffer options text)) ≡ false
-    → Follows (read_of (shaping font options.features.items (text_buffer options text).script) (run_of (text_buffer options text))) (run_of (text_buffer options text)) (run_of b)
+pub line_shaped : (options : Options) (t : RunTables) (font : FaceParts) (text : List ℕ) (s b : Sides) (line : List ℕ) → s ≡ text_buffer options text → fits_text text empty_buffer ≡ true → script_waits s.script ≡ false
+    → Follows (text_reading (shaping t font options.features.items s) (run_of s)) (run_of s) (run_of b)
     → line ≡ printed_line font options.flags (all_glyphs b) b.positions
-    → line_of options font text ≡ Ok line
-line_shaped options font text b line fits here f e =
-    let s = text_buffer options text in
-    let r = read_of (shaping font options.features.items s.script) (run_of s) in
-    line_of_fitting options font text fits here ∙ line_follows font options.flags r (run_of s) b f ∙ ap Ok (sym e)
+    → line_of options t font text ≡ Ok line
+line_shaped options t font text s b line is fits here f e =
+    let r = text_reading (shaping t font options.features.items s) (run_of s) in
+    line_of_fitting options t font text s is fits here ∙ line_follows font options.flags r (run_of s) b f ∙ ap Ok (sym e)
 
 -- a text that was not shaped has no line
 unshaped_line : (font : FaceParts) (flags : SerializeFlags) (waiting : Bool) (run : Run) (r : Reading) (e : RunFault) → IsUnshaped waiting r e → (if waiting then Err NotYet else line_of_reading font flags run r) ≡ Err e
@@ -75,10 +64,9 @@ unshaped_line font flags true run r e h = ap Err (sym h)
 unshaped_line font flags false run r e h = ap (line_of_reading font flags run) h.1 ∙ ap Err (sym h.2)
 
 -- the line of a text that fits and was not shaped
-pub line_unshaped : (options : Options) (font : FaceParts) (text : List ℕ) (e : RunFault) → fits_text text empty_buffer ≡ true
-    → IsUnshaped (waits font options.features.items (text_buffer options text).script (text_buffer options text).direction (items_of (text_buffer options text)))
-    (read_of (shaping font options.features.items (text_buffer options text).script) (run_of (text_buffer options text))) e
-    → line_of options font text ≡ Err e
-line_unshaped options font text e fits h =
-    let s = text_buffer options text in
-    rw fits (unshaped_line font options.flags (waits font options.features.items s.script s.direction (items_of s)) (run_of s) (read_of (shaping font options.features.items s.script) (run_of s)) e h)
+pub line_unshaped : (options : Options) (t : RunTables) (font : FaceParts) (text : List ℕ) (s : Sides) (e : RunFault) → s ≡ text_buffer options text → fits_text text empty_buffer ≡ true
+    → IsUnshaped (script_waits s.script) (text_reading (shaping t font options.features.items s) (run_of s)) e
+    → line_of options t font text ≡ Err e
+line_unshaped options t font text s e is fits h =
+    let L : Sides → Type 0 = λ x. IsUnshaped (script_waits x.script) (text_reading (shaping t font options.features.items x) (run_of x)) e → line_of options t font text ≡ Err e in
+    subst L (sym is) (λ now. rw fits (unshaped_line font options.flags (script_waits (text_buffer options text).script) (run_of (text_buffer options text)) (text_reading (shaping t font options.features.items (text_buffer options text)) (run_of (text_buffer options text))) e now)) h

@@ -1,18 +1,15 @@
 -- What holds of every run.
-use Rattle.std.specs.Prelude.{ℕ, ◌≡◌, false, List, [], ◌∷◌, Result, Ok, None}
+use Rattle.std.specs.Prelude.{ℕ, ◌≡◌, false, List, [], ◌∷◌, Result, Ok}
 use Rattle.run_options.specs.declared.options.Options.{Options}
 use Rattle.font_face.specs.declared.parts.FaceParts.{FaceParts}
-use Rattle.glyph_lists.specs.Parts.{or}
-use Rattle.glyph_buffer.specs.Segment.{guessed_direction}
-use Rattle.shape_path.specs.Waiting.{waits}
+use Rattle.shape_plan.specs.Dispatch.{script_waits}
 use Rattle.run_options.specs.declared.fault.RunFault.{RunFault}
 use Rattle.shape_run.specs.Answer.{IsAnswer, line_of}
+use Rattle.shape_run.specs.Tables.{RunTables}
 
 -- no glyphs and a line feed, where such a text does not wait
 abbrev pub EmptyTextGivesEmptyLine : Type 0
-EmptyTextGivesEmptyLine = (options : Options) (font : FaceParts)
-    → waits font options.features.items (or options.script None) (guessed_direction options.direction (or options.script None)) [] ≡ false
-    → line_of options font [] ≡ Ok (10 ∷ [])
+EmptyTextGivesEmptyLine = (options : Options) (t : RunTables) (font : FaceParts) → script_waits options.script ≡ false → line_of options t font [] ≡ Ok (10 ∷ [])
 
 -- tables, a font and a text have one answer at most
 abbrev pub AnswersAreOne : Type 0

@@ -5,3 +5,4 @@ pub mod Tables
 pub mod Answer
 pub mod Run
 pub mod Laws
+pub mod OneGlyph

@@ -1,16 +1,15 @@
 //! From the bytes of tables, a font and a text to the printed line.
 ghost use Rattle.std.specs.Prelude.{◌≡◌, ◌≢◌, Ok, Err, IfOk, IfErr, OnOk, true, false, string_bytes};
 ghost use Rattle.serde_json.specs.View.{view};
-ghost use Rattle.std.specs.List.{list_all};
 ghost use Rattle.glyph_buffer.specs.Sides.{all_glyphs, empty_buffer};
 ghost use Rattle.glyph_buffer.specs.Text.{fits_text};
 ghost use Rattle.shape_run.specs.Answer.{IsAnswer, answer_by, font_in, line_in, line_of, printed_line, text_of, without_line_feed};
 ghost use Rattle.shape_run.specs.Run.{IsOfRun};
-ghost use Rattle.shape_path.specs.Stages.{is_glyph_number};
+ghost use Rattle.shape_run.specs.Tables.{tables_value};
 ghost use Rattle.shape_run.specs.Asked.{asked_buffer, text_buffer};
 
 use crate::shape::shape;
-use crate::tables::{check_laws, tables_in};
+use crate::tables::{TextTables, check_laws, tables_in};
 use crate::values::{read_json, utf8};
 use face_json::read_face;
 use font_face::Face;
@@ -74,14 +73,12 @@ fn text_buffer(alloc: Global, options: &Options, text: &str) -> Result<UnicodeBu
 }
 
 /// The printed text of glyphs, by the font's names and boxes, and a line feed.
-#[tactic(auto, using(crate::proofs::Printing::glyph_numbers))]
 fn print(
     alloc: Global,
     face: &Face,
     flags: SerializeFlags,
     glyphs: &GlyphBuffer,
 ) -> Result<String, AllocError>
-    requires numbers { list_all is_glyph_number (all_glyphs glyphs.now) ≡ true }
     ensures { IfOk result (λ line.
         string_bytes line ≡ printed_line face.now flags (all_glyphs glyphs.now) glyphs.now.positions) }
 {
@@ -91,14 +88,21 @@ fn print(
 }
 
 /// The line of a text in a font.
-fn line(alloc: Global, options: &Options, face: &Face, text: &str) -> Result<String, RunFault>
-    ensures ok { IfOk result (λ line. line_of options.now face.now text.now ≡ Ok (string_bytes line)) }
+fn line(
+    alloc: Global,
+    options: &Options,
+    tables: &TextTables,
+    face: &Face,
+    text: &str,
+) -> Result<String, RunFault>
+    ensures ok { IfOk result (λ line.
+        line_of options.now (tables_value tables.now) face.now text.now ≡ Ok (string_bytes line)) }
     ensures refused { IfErr result (λ e. e ≢ RunFault.OutOfMemory
-        → line_of options.now face.now text.now ≡ Err e) }
+        → line_of options.now (tables_value tables.now) face.now text.now ≡ Err e) }
     ensures kind { IfErr result IsOfRun }
 {
     let text = text_buffer(alloc, options, text)?;
-    let glyphs = shape(alloc, face, &options.features, text)?;
+    let glyphs = shape(alloc, tables, face, &options.features, text)?;
     let line = print(alloc, face, options.flags, &glyphs)?;
     Ok(line)
 }
@@ -115,24 +119,40 @@ fn font_in(alloc: Global, bytes: &[u8]) -> Result<Face, RunFault>
 }
 
 #[tactic(auto, unfolding(crate::specs::Answer::line_in))]
-fn line_in(alloc: Global, options: &Options, face: &Face, bytes: &[u8]) -> Result<String, RunFault>
-    ensures ok { IfOk result (λ line. line_in options.now face.now bytes.now ≡ Ok (string_bytes line)) }
-    ensures refused { IfErr result (λ e. e ≢ RunFault.OutOfMemory → line_in options.now face.now bytes.now ≡ Err e) }
+fn line_in(
+    alloc: Global,
+    options: &Options,
+    tables: &TextTables,
+    face: &Face,
+    bytes: &[u8],
+) -> Result<String, RunFault>
+    ensures ok { IfOk result (λ line.
+        line_in options.now (tables_value tables.now) face.now bytes.now ≡ Ok (string_bytes line)) }
+    ensures refused { IfErr result (λ e. e ≢ RunFault.OutOfMemory
+        → line_in options.now (tables_value tables.now) face.now bytes.now ≡ Err e) }
     ensures kind { IfErr result IsOfRun }
 {
     let text = read_text(bytes)?;
-    line(alloc, options, face, text)
+    line(alloc, options, tables, face, text)
 }
 
 /// The line for the bytes of a font and a text.
 #[tactic(auto, unfolding(crate::specs::Answer::answer_by))]
-fn answer_by(alloc: Global, options: &Options, font: &[u8], text: &[u8]) -> Result<String, RunFault>
-    ensures ok { IfOk result (λ line. answer_by options.now font.now text.now ≡ Ok (string_bytes line)) }
-    ensures refused { IfErr result (λ e. e ≢ RunFault.OutOfMemory → answer_by options.now font.now text.now ≡ Err e) }
+fn answer_by(
+    alloc: Global,
+    options: &Options,
+    tables: &TextTables,
+    font: &[u8],
+    text: &[u8],
+) -> Result<String, RunFault>
+    ensures ok { IfOk result (λ line.
+        answer_by options.now (tables_value tables.now) font.now text.now ≡ Ok (string_bytes line)) }
+    ensures refused { IfErr result (λ e. e ≢ RunFault.OutOfMemory
+        → answer_by options.now (tables_value tables.now) font.now text.now ≡ Err e) }
     ensures kind { IfErr result IsOfRun }
 {
     let face = font_in(alloc, font)?;
-    line_in(alloc, options, &face, text)
+    line_in(alloc, options, tables, &face, text)
 }
 
 /// The line for the bytes of tables, a font and a text. The tables are asked whether they are lawful before the font is
@@ -151,6 +171,6 @@ pub(crate) fn answer(
     ensures kind { IfErr result IsOfRun }
 {
     let tables = tables_in(alloc, tables)?;
-    check_laws(tables)?;
-    answer_by(alloc, options, font, text)
+    check_laws(&tables.characters)?;
+    answer_by(alloc, options, &tables, font, text)
 }

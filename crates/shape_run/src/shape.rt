@@ -1,49 +1,69 @@
 //! Shaping of a text that doesn't wait.
-ghost use Rattle.std.specs.Prelude.{◌≡◌, ◌≢◌, false, true, IfOk, IfErr, OnOk};
-ghost use Rattle.std.specs.List.{list_all};
-ghost use Rattle.glyph_lists.specs.Readings.{Follows, read_of};
-ghost use Rattle.glyph_buffer.specs.Sides.{all_glyphs, items_of, run_of};
-ghost use Rattle.shape_path.specs.Path.{shaping};
-ghost use Rattle.shape_path.specs.Stages.{is_glyph_number};
-ghost use Rattle.shape_path.specs.Waiting.{waits};
-ghost use Rattle.shape_run.specs.Answer.{IsUnshaped};
+ghost use Rattle.std.specs.Prelude.{◌≡◌, ◌≢◌, false, IfOk, IfErr, OnOk};
+ghost use Rattle.glyph_lists.specs.Readings.{Follows};
+ghost use Rattle.glyph_buffer.specs.Segment.{guessed};
+ghost use Rattle.glyph_buffer.specs.Sides.{run_of};
+ghost use Rattle.shape_plan.specs.Dispatch.{script_waits};
+ghost use Rattle.shape_pipeline.specs.Shaped.{text_reading};
+ghost use Rattle.shape_run.specs.Answer.{IsUnshaped, shaping};
 ghost use Rattle.shape_run.specs.Run.{IsOfRun};
+ghost use Rattle.shape_run.specs.Tables.{tables_value};
 
+use crate::spans::OneGlyph;
+use crate::tables::TextTables;
 use feature_text::feature::Feature;
 use font_face::Face;
 use run_options::fault::RunFault;
-use shape_path::path::shape_buffer;
-use shape_path::waiting::waits;
+use shape_pipeline::hb_shape_data_t;
+use shape_plan::script_waits;
 use std::alloc::Global;
 use text_buffers::glyphs::GlyphBuffer;
 use text_buffers::unicode_buffer::UnicodeBuffer;
 
-/// Shapes a text. One that waits is not shaped yet.
-pub(crate) fn shape(
+/// Shapes a text whose direction and script are known.
+fn shape_text(
     alloc: Global,
+    tables: &TextTables,
     face: &Face,
     features: &[Feature],
     text: UnicodeBuffer,
 ) -> Result<GlyphBuffer, RunFault>
-    ensures shaped { OnOk result (waits face.now features.now text.script text.direction (items_of text) ≡ false) }
     ensures ok { IfOk result (λ glyphs. Follows
-        (read_of (shaping face.now features.now text.script) (run_of text)) (run_of text) (run_of glyphs)) }
-    ensures numbers { IfOk result (λ glyphs. list_all is_glyph_number (all_glyphs glyphs) ≡ true) }
-    ensures refused { IfErr result (λ e. e ≢ RunFault.OutOfMemory
-        → IsUnshaped (waits face.now features.now text.script text.direction (items_of text))
-        (read_of (shaping face.now features.now text.script) (run_of text)) e) }
+        (text_reading (shaping (tables_value tables.now) face.now features.now (guessed text)) (run_of (guessed text)))
+        (run_of (guessed text)) (run_of glyphs)) }
+    ensures refused { IfErr result (λ e. e ≢ RunFault.OutOfMemory → IsUnshaped false
+        (text_reading (shaping (tables_value tables.now) face.now features.now (guessed text)) (run_of (guessed text))) e) }
     ensures kind { IfErr result IsOfRun }
 {
-    let mut buffer = text.into_buffer();
-    if waits(
-        face,
-        features,
-        buffer.script(),
-        buffer.direction(),
-        buffer.info_slice(),
-    ) {
+    let shape_data = hb_shape_data_t {
+        tables: &tables.characters,
+        spans: &OneGlyph,
+        languages: &tables.languages,
+    };
+    match shape_pipeline::shape::shape(alloc, face, shape_data, features, text) {
+        Ok(glyphs) => Ok(glyphs),
+        Err(fault) => Err(RunFault::from(fault.cause)),
+    }
+}
+
+/// Shapes a text. One that waits for its script's shaper is not shaped yet.
+pub(crate) fn shape(
+    alloc: Global,
+    tables: &TextTables,
+    face: &Face,
+    features: &[Feature],
+    text: UnicodeBuffer,
+) -> Result<GlyphBuffer, RunFault>
+    ensures shaped { OnOk result (script_waits text.script ≡ false) }
+    ensures ok { IfOk result (λ glyphs. Follows
+        (text_reading (shaping (tables_value tables.now) face.now features.now (guessed text)) (run_of (guessed text)))
+        (run_of (guessed text)) (run_of glyphs)) }
+    ensures refused { IfErr result (λ e. e ≢ RunFault.OutOfMemory → IsUnshaped (script_waits text.script)
+        (text_reading (shaping (tables_value tables.now) face.now features.now (guessed text)) (run_of (guessed text))) e) }
+    ensures kind { IfErr result IsOfRun }
+{
+    if script_waits(Some(text.script())) {
         return Err(RunFault::NotYet);
     }
-    shape_buffer(alloc, face, features, &mut buffer)?;
-    Ok(GlyphBuffer::from_buffer(buffer))
+    shape_text(alloc, tables, face, features, text)
 }

@@ -1,4 +1,0 @@
-pub mod Stripped
-pub mod Steps
-pub mod Turned
-pub mod Whole

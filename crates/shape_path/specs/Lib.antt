@@ -1,4 +1,0 @@
-pub mod Waiting
-pub mod Requests
-pub mod Path
-pub mod Stages

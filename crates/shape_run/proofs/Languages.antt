@@ -1,0 +1,62 @@
+-- The tags of languages, by their rows and by what a JSON value says of them.
+use Rattle.std.proofs.Common.{ℕ, ◌≡◌, Bool, true, false, if◌then◌else◌, List, [], ◌∷◌, map, refl, sym, ap, ◌∙◌}
+use Rattle.std.specs.Prelude.{Option, Some, None, find}
+use Rattle.std.specs.Option.{option_map, option_map_or}
+use Rattle.std.specs.Str.{bytes_eq}
+use Rattle.shaping_text.specs.declared.tag.Tag.{Tag}
+use Rattle.language_tables.specs.declared.language_table.LanguageRow.{LanguageRow}
+use Rattle.language_tables.specs.declared.language_table.LanguageTable.{LanguageTable}
+use Rattle.language_tables.specs.LanguageRows.{primary_part, row_of, row_text, tags_in}
+use Rattle.language_tables.specs.LanguageTable.{rows_of, tags_of_table}
+use Rattle.tables_json.specs.Languages.{Language, language_in, languages_in}
+use Rattle.shaping_text.specs.declared.language.Language as Text
+use Rattle.shaping_text.specs.Language.{language_text}
+use Rattle.shaping_text.specs.ScriptTags.{wanted_language_tags}
+use Rattle.feature_text.specs.declared.feature.Feature.{Feature}
+use Rattle.font_face.specs.declared.parts.FaceParts.{FaceParts}
+use Rattle.unicode_tables.specs.Tables.{Tables}
+use Rattle.glyph_buffer.specs.Sides.{Sides}
+use Rattle.layout_walks.specs.Settings.{text_settings}
+use Rattle.shape_plan.specs.Plans.{planned_shaper, text_choices, text_map}
+use Rattle.shape_plan.specs.Shapers.{traits_of}
+use Rattle.shape_shaper.specs.Rules.{Spans, plain_rules}
+use Rattle.shape_reading.specs.Shaping.{Shaping}
+use Rattle.shape_pipeline.specs.Shaped.{by_text}
+use Rattle.shape_run.specs.Tables.{language_of, language_tags}
+
+found_in : (text : List ℕ) (rows : List LanguageRow) → language_of (map language_in rows) text ≡ option_map language_in (row_of rows text)
+found_in text [] = refl
+found_in text (row ∷ rows) =
+    elim (bytes_eq (row_text row) text) as (λ b. (if b then Some (language_in row) else language_of (map language_in rows) text) ≡ option_map language_in (if b then Some row else row_of rows text))
+    [ true ↦ refl | false ↦ found_in text rows ]
+
+tags_found : (o : Option LanguageRow) (other : List Tag) → option_map_or (λ (l : Language). l.1) (option_map language_in o) other ≡ option_map_or (λ (row : LanguageRow). row.tags.items) o other
+tags_found None other = refl
+tags_found (Some row) other = refl
+
+pub same_tags : (table : LanguageTable) (text : List ℕ) → language_tags (languages_in table) text ≡ tags_of_table table text
+same_tags table text = rw (found_in text (rows_of table), found_in (primary_part text) (rows_of table))
+    (tags_found (row_of (rows_of table) text) _ ∙ ap (λ other. option_map_or (λ (row : LanguageRow). row.tags.items) (row_of (rows_of table) text) other) (tags_found (row_of (rows_of table) (primary_part text)) []))
+
+wanted_same : (table : LanguageTable) (l : Option Text.Language) → wanted_language_tags (tags_of_table table) l ≡ wanted_language_tags (language_tags (languages_in table)) l
+wanted_same table None = refl
+wanted_same table (Some l) = sym (same_tags table (language_text l))
+
+abbrev by_tags : FaceParts → Tables → Spans → List Feature → Sides → List Tag → Shaping
+by_tags font tables spans features s tags = record {
+  font = font;
+  tables = tables;
+  settings = text_settings s;
+  direction = s.direction;
+  script = s.script;
+  map = text_map font tags s.direction s.script features;
+  choices = text_choices font tags s.direction s.script features;
+  features = features;
+  traits = traits_of (planned_shaper font tags s.direction s.script);
+  rules = plain_rules;
+  spans = spans;
+}
+
+-- a text is shaped alike by a table of languages and by what it was read from
+pub same_shaping : (font : FaceParts) (tables : Tables) (table : LanguageTable) (spans : Spans) (features : List Feature) (s : Sides) → by_text font tables (tags_of_table table) spans features s ≡ by_text font tables (language_tags (languages_in table)) spans features s
+same_shaping font tables table spans features s = ap (by_tags font tables spans features s) (wanted_same table s.language)

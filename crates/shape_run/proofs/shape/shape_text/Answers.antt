@@ -1,0 +1,25 @@
+use Rattle.std.proofs.Common.{◌≡◌, Err, subst}
+use Rattle.glyph_lists.specs.Readings.{Follows}
+use Rattle.glyph_buffer.specs.Segment.{guessed}
+use Rattle.glyph_buffer.specs.Sides.{run_of}
+use Rattle.shape_reading.specs.Shaping.{Shaping}
+use Rattle.shape_pipeline.specs.Shaped.{text_reading}
+use Rattle.shape_run.specs.OneGlyph.{one_glyph}
+use Rattle.shape_run.proofs.Faults.{refused_as}
+use Rattle.shape_run.proofs.Languages.{same_shaping}
+use Rattle.shape_run.proofs.shape.shape_text.Goals as goal
+
+pub returns-in-Ok-clause-ok : goal.returns-in-Ok-clause-ok
+returns-in-Ok-clause-ok c =
+    let t = c.args.tables.now in
+    let run = run_of (guessed c.args.text) in
+    let P : Shaping → Type 0 = λ p. Follows (text_reading p run) run (run_of c.in-Ok.glyphs) in
+    subst P (same_shaping c.args.face.now t.characters t.languages one_glyph c.args.features.now (guessed c.args.text)) c.in-Ok.ensures.ok
+
+pub returns-in-Err-clause-refused : goal.returns-in-Err-clause-refused
+returns-in-Err-clause-refused c =
+    let t = c.args.tables.now in
+    let run = run_of (guessed c.args.text) in
+    let P : Shaping → Type 0 = λ p. text_reading p run ≡ Err c.in-Err.fault.cause in
+    refused_as _ c.in-Err.fault.cause c.from.result c.from.ensures
+    (λ not_memory. subst P (same_shaping c.args.face.now t.characters t.languages one_glyph c.args.features.now (guessed c.args.text)) (c.in-Err.ensures.refused not_memory))
