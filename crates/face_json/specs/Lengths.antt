@@ -1,6 +1,6 @@
 -- Lengths of lists, against which classes are held.
 use Rattle.std.specs.Prelude.{ℕ, List, min, Option, Some, None}
-use Rattle.std.specs.Option.{option_map_or, option_and_then, unwrap_or}
+use Rattle.std.specs.Option.{option_map_or}
 use Rattle.serde_json.specs.Data.{Data, Items, no_items, item}
 use Rattle.serde_json.specs.Find.{get, at, as_array}
 use Rattle.face_json.specs.Lists.{item_count}

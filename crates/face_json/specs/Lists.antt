@@ -1,6 +1,6 @@
 -- Lists of parts inside a row, and lists of rows.
 use Rattle.std.specs.Prelude.{ℕ, suc, nat_lt, if◌then◌else◌, is_some, List, [], ◌∷◌, ◌++◌, Option, Some, None, Result, Ok, Err, ⊤}
-use Rattle.std.specs.Option.{ok_or, option_map_or}
+use Rattle.std.specs.Option.{option_map_or}
 use Rattle.serde_json.specs.Data.{Data, null, boolean, number, string, array, object, Items, no_items, item}
 use Rattle.serde_json.specs.Find.{get, as_array, as_object}
 use Rattle.json_values.specs.declared.fault.JsonFault.{JsonFault}

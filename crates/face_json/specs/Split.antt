@@ -1,5 +1,5 @@
 -- Lists of values as their items.
-use Rattle.std.proofs.Common.{◌≡◌, ◌≢◌, suc, ◌<◌, List, [], ◌∷◌, length, drop, get_or, false, is_some, Ok, Err, ap, arith, refl}
+use Rattle.std.proofs.Common.{◌≡◌, ◌≢◌, suc, List, [], ◌∷◌, length, drop, get_or, false, is_some, Ok, Err, ap, arith, refl}
 use Rattle.serde_json.specs.declared.value.Value.{Value}
 use Rattle.serde_json.specs.View.{view, items_view}
 use Rattle.json_values.specs.declared.fault.JsonFault.TheVariants.{WrongShape}

@@ -2,18 +2,22 @@
 ghost use Rattle.std.specs.Prelude.{◌≡◌, ◌≢◌, ℕ, IfOk, IfErr, Ok, Err, codes};
 ghost use Rattle.serde_json.specs.Find.{get};
 ghost use Rattle.serde_json.specs.View.{view};
-ghost use Rattle.face_json.specs.Face.{few_sets, glyph_definition, glyph_definition_in, no_definition, face_keys, face_of};
+ghost use Rattle.face_json.specs.Face.{few_sets, glyph_definition, glyph_definition_in, no_definition, character_keys, advance_keys, drawing_keys, layout_keys, face_keys, face_of};
 
 use crate::glyphs::{GLYPH_LIMIT, read_classes_at};
 use crate::objects::{object, read_by_key_at, read_in_turn_at, read_optional_at};
 use crate::value::Part;
 use font_face::Face;
-use font_face::parts::{FaceParts, GlyphDefinition};
+use font_face::parts::{CharacterRow, FaceParts, GlyphDefinition, NameRow, VariationRow};
+use glyph_types::names::hb_glyph_extents_t;
 use json_values::fault::JsonFault;
 use json_values::keys::read_key;
 use layout_common::array::Array;
 use layout_common::class_definition::ClassDefinition;
 use layout_common::coverage::Coverage;
+use layout_common::glyph_row::GlyphRow;
+use layout_lookups::positioning::PositioningTable;
+use layout_lookups::substitution::SubstitutionTable;
 use serde_json::Value;
 use sorted_rows::SortedRows;
 use std::alloc::Global;
@@ -40,17 +44,13 @@ fn read_face_parts(alloc: Global, value: &Value) -> Result<FaceParts, JsonFault>
 {
     let upem = read_key(value, "upem", 0u16)?;
     let ascender = read_key(value, "ascender", 0i16)?;
-    let cmap = read_by_key_at(alloc, value, "cmap", GLYPH_LIMIT)?;
-    let variants = read_by_key_at(alloc, value, "variants", GLYPH_LIMIT)?;
-    let h = read_by_key_at(alloc, value, "h", GLYPH_LIMIT)?;
-    let v = read_by_key_at(alloc, value, "v", GLYPH_LIMIT)?;
-    let origins = read_by_key_at(alloc, value, "origins", GLYPH_LIMIT)?;
-    let extents = read_by_key_at(alloc, value, "extents", GLYPH_LIMIT)?;
-    let names = read_by_key_at(alloc, value, "names", GLYPH_LIMIT)?;
-    let gdef = read_definition_at(alloc, value)?;
-    let set_count = gdef.sets.len();
-    let gsub = read_optional_at(alloc, value, "gsub", set_count)?;
-    let gpos = read_optional_at(alloc, value, "gpos", set_count)?;
+    let characters = read_characters(alloc, value)?;
+    let advances = read_advances(alloc, value)?;
+    let drawing = read_drawing(alloc, value)?;
+    let (gdef, (gsub, gpos)) = read_layouts(alloc, value)?;
+    let (cmap, variants) = characters;
+    let (h, v) = advances;
+    let (origins, (extents, names)) = drawing;
     Ok(FaceParts {
         upem,
         ascender,
@@ -65,6 +65,65 @@ fn read_face_parts(alloc: Global, value: &Value) -> Result<FaceParts, JsonFault>
         gsub,
         gpos,
     })
+}
+
+/// The glyphs of characters, and those of characters with variation selectors.
+fn read_characters(
+    alloc: Global,
+    value: &Value,
+) -> Result<(SortedRows<CharacterRow>, SortedRows<VariationRow>), JsonFault>
+    ensures ok { IfOk result (λ p. character_keys (view value.now) ≡ Ok p) }
+    ensures refused { IfErr result (λ e. e ≢ JsonFault.OutOfMemory
+        → character_keys (view value.now) ≡ Err e) }
+{
+    let cmap = read_by_key_at(alloc, value, "cmap", GLYPH_LIMIT)?;
+    let variants = read_by_key_at(alloc, value, "variants", GLYPH_LIMIT)?;
+    Ok((cmap, variants))
+}
+
+type Rows<V> = SortedRows<GlyphRow<V>>;
+
+/// Advances of glyphs along a line and down a column.
+fn read_advances(alloc: Global, value: &Value) -> Result<(Rows<u16>, Rows<u16>), JsonFault>
+    ensures ok { IfOk result (λ p. advance_keys (view value.now) ≡ Ok p) }
+    ensures refused { IfErr result (λ e. e ≢ JsonFault.OutOfMemory
+        → advance_keys (view value.now) ≡ Err e) }
+{
+    let h = read_by_key_at(alloc, value, "h", GLYPH_LIMIT)?;
+    let v = read_by_key_at(alloc, value, "v", GLYPH_LIMIT)?;
+    Ok((h, v))
+}
+
+type Drawing = (Rows<i16>, (Rows<hb_glyph_extents_t>, SortedRows<NameRow>));
+
+/// Origins, boxes and names of glyphs.
+fn read_drawing(alloc: Global, value: &Value) -> Result<Drawing, JsonFault>
+    ensures ok { IfOk result (λ p. drawing_keys (view value.now) ≡ Ok p) }
+    ensures refused { IfErr result (λ e. e ≢ JsonFault.OutOfMemory
+        → drawing_keys (view value.now) ≡ Err e) }
+{
+    let origins = read_by_key_at(alloc, value, "origins", GLYPH_LIMIT)?;
+    let extents = read_by_key_at(alloc, value, "extents", GLYPH_LIMIT)?;
+    let names = read_by_key_at(alloc, value, "names", GLYPH_LIMIT)?;
+    Ok((origins, (extents, names)))
+}
+
+type Layouts = (
+    GlyphDefinition,
+    (Option<SubstitutionTable>, Option<PositioningTable>),
+);
+
+/// What is said of glyphs, substitution and positioning.
+fn read_layouts(alloc: Global, value: &Value) -> Result<Layouts, JsonFault>
+    ensures ok { IfOk result (λ p. layout_keys (view value.now) ≡ Ok p) }
+    ensures refused { IfErr result (λ e. e ≢ JsonFault.OutOfMemory
+        → layout_keys (view value.now) ≡ Err e) }
+{
+    let gdef = read_definition_at(alloc, value)?;
+    let set_count = gdef.sets.len();
+    let gsub = read_optional_at(alloc, value, "gsub", set_count)?;
+    let gpos = read_optional_at(alloc, value, "gpos", set_count)?;
+    Ok((gdef, (gsub, gpos)))
 }
 
 fn read_definition_at(alloc: Global, value: &Value) -> Result<GlyphDefinition, JsonFault>

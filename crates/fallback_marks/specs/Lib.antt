@@ -1,3 +1,4 @@
 pub mod Bases
 pub mod Around
 pub mod Marks
+pub mod Lemmas

@@ -21,6 +21,13 @@ near_step bound pen moved x y fits_x fits_y is_moved h = rw is_moved (record {
   along = record { low = omega (arith, ints, h.along.low, fits_y); high = omega (arith, ints, h.along.high, fits_y) };
 })
 
+-- a pen that moved as often as there can be glyphs
+pub near_enough : (i : ℕ) (pen : Pen) → i < 2 ^ 64 → IsWithin (2 ^ 31 * i) pen → IsWithin (2 ^ 96) pen
+near_enough i pen lt h = record {
+  across = record { low = omega (arith, ints, h.across.low, lt); high = omega (arith, ints, h.across.high, lt) };
+  along = record { low = omega (arith, ints, h.along.low, lt); high = omega (arith, ints, h.along.high, lt) };
+}
+
 -- the bound of one move more
 pub near_more : (i : ℕ) (pen : Pen) → IsWithin (2 ^ 31 * i + 2 ^ 31) pen → IsWithin (2 ^ 31 * (i + 1)) pen
 near_more i pen h = let e : 2 ^ 31 * i + 2 ^ 31 ≡ 2 ^ 31 * (i + 1) = omega arith in subst (λ (b : ℕ). IsWithin b pen) e h

@@ -1,5 +1,5 @@
 -- The text that is printed of a run of glyphs.
-use Rattle.std.specs.Prelude.{ℕ, ◌≤◌, Bool, false, not, ◌||◌, ◌&&◌, ◌==◌, if◌then◌else◌, List, [], ◌∷◌, ◌++◌, pos, Option, None, Some, unwrap_or, codes, bit_and, All}
+use Rattle.std.specs.Prelude.{ℕ, Bool, false, not, ◌&&◌, ◌==◌, nat_le, if◌then◌else◌, List, [], ◌∷◌, ◌++◌, pos, Option, None, Some, unwrap_or, codes, bit_and}
 use Rattle.std.specs.Ordering.{int_eq}
 use Rattle.std.specs.Fmt.{decimal, signed_decimal, digits}
 use Rattle.std.specs.List.{join_with_byte}
@@ -26,20 +26,16 @@ shows_extents flags = bit_and flags.0 8 == 8
 abbrev pub shows_glyph_flags : SerializeFlags → Bool
 shows_glyph_flags flags = bit_and flags.0 16 == 16
 
--- whether the font is asked about the glyphs
-abbrev pub asks_font : SerializeFlags → Bool
-asks_font flags = not (drops_names flags) || shows_extents flags
-
--- the numbers are numbers of a font's glyphs, of 16 bits
-abbrev pub HasGlyphNumbers : List hb_glyph_info_t → Type 0
-HasGlyphNumbers glyphs = All (λ glyph. glyph.glyph_id ≤ 65535) glyphs
-
 -- the names and the boxes of a font's glyphs, for those that have one
 abbrev pub Names : Type 0
 Names = ℕ → Option (List ℕ)
 
 abbrev pub Boxes : Type 0
 Boxes = ℕ → Option hb_glyph_extents_t
+
+-- what a font says of a glyph; of a number that no glyph can have it says nothing
+abbrev pub of_glyph : {A : Type 0} → (ℕ → Option A) → ℕ → Option A
+of_glyph says number = if nat_le number 65535 then says number else None
 
 -- the glyph's name; `gid` and its number where it has none
 abbrev pub name_or_number : Option (List ℕ) → ℕ → List ℕ
@@ -48,7 +44,7 @@ name_or_number (Some name) number = name
 
 -- the same, or the bare number where names are dropped
 unfoldable pub name_text : Names → SerializeFlags → ℕ → List ℕ
-name_text name_of flags number = if drops_names flags then decimal number else name_or_number (name_of number) number
+name_text name_of flags number = if drops_names flags then decimal number else name_or_number (of_glyph name_of number) number
 
 -- `=` and the cluster
 unfoldable pub cluster_text : SerializeFlags → ℕ → List ℕ
@@ -85,7 +81,7 @@ no_box = record { x_bearing = pos 0; y_bearing = pos 0; width = pos 0; height = 
 
 -- the glyph's box in font units
 unfoldable pub extents_text : Boxes → SerializeFlags → ℕ → List ℕ
-extents_text extents_of flags number = if shows_extents flags then box_text (unwrap_or (extents_of number) no_box) else []
+extents_text extents_of flags number = if shows_extents flags then box_text (unwrap_or (of_glyph extents_of number) no_box) else []
 
 -- a glyph: its name or number, cluster, position, flags and box
 unfoldable pub glyph_text : Names → Boxes → SerializeFlags → Pen → hb_glyph_info_t → GlyphPosition → List ℕ

@@ -1,14 +1,35 @@
 ghost use Rattle.std.specs.Prelude.{◌≡◌, ℕ, ◌≤◌, ◌++◌, ◌+ℤ◌, ◌^◌, false, true, OnOk, string_bytes};
+ghost use Rattle.std.specs.Option.{option_copied};
 ghost use Rattle.glyph_text.specs.Pen.{IsWithin};
-ghost use Rattle.glyph_text.specs.Printed.{drops_names, shows_extents, name_text, cluster_text, offset_text, advance_text, position_text, flag_text, box_text, extents_text};
+ghost use Rattle.glyph_text.specs.Printed.{drops_names, shows_extents, name_text, of_glyph, cluster_text, offset_text, advance_text, position_text, flag_text, box_text, extents_text};
 
 use crate::pen::Pen;
 use bitflags::Flags;
 use glyph_types::flags::SerializeFlags;
 use glyph_types::info::{DEFINED, hb_glyph_info_t};
-use glyph_types::names::{GlyphNames, hb_glyph_extents_t};
+use glyph_types::names::{GlyphId, GlyphNames, hb_glyph_extents_t};
 use glyph_types::position::GlyphPosition;
 use std::alloc::AllocError;
+
+/// The name of a glyph; a number that no glyph can have has none.
+fn glyph_name<N: GlyphNames>(names: &N, number: u32) -> Option<&str>
+    ensures { option_copied result ≡ of_glyph (N.name_of names.now) number }
+{
+    match u16::try_from(number) {
+        Ok(glyph) => names.glyph_name(GlyphId(glyph)),
+        Err(_) => None,
+    }
+}
+
+/// The box of a glyph; a number that no glyph can have has none.
+fn glyph_extents<N: GlyphNames>(names: &N, number: u32) -> Option<hb_glyph_extents_t>
+    ensures { result ≡ of_glyph (N.extents_of names.now) number }
+{
+    match u16::try_from(number) {
+        Ok(glyph) => names.glyph_extents(GlyphId(glyph)),
+        Err(_) => None,
+    }
+}
 
 /// Appends the glyph's name, or its number.
 #[tactic(auto, unfolding(crate::specs::Printed::name_text))]
@@ -18,14 +39,13 @@ pub fn push_name<N: GlyphNames>(
     flags: SerializeFlags,
     glyph: &hb_glyph_info_t,
 ) -> Result<(), AllocError>
-    requires { drops_names flags ≡ false → glyph.now.glyph_id ≤ 65535 }
     ensures { OnOk result (string_bytes text.new ≡ string_bytes text.old
         ++ name_text (N.name_of names.now) flags glyph.now.glyph_id) }
 {
     if flags.contains(SerializeFlags::NO_GLYPH_NAMES) {
         return write!(text, "{}", glyph.glyph_id);
     }
-    match names.glyph_name(glyph.as_glyph()) {
+    match glyph_name(names, glyph.glyph_id) {
         Some(name) => text.push_str(name),
         None => write!(text, "gid{}", glyph.glyph_id),
     }
@@ -120,7 +140,6 @@ pub fn push_extents<N: GlyphNames>(
     flags: SerializeFlags,
     glyph: &hb_glyph_info_t,
 ) -> Result<(), AllocError>
-    requires { shows_extents flags ≡ true → glyph.now.glyph_id ≤ 65535 }
     ensures { OnOk result (string_bytes text.new ≡ string_bytes text.old
         ++ extents_text (N.extents_of names.now) flags glyph.now.glyph_id) }
 {
@@ -129,7 +148,7 @@ pub fn push_extents<N: GlyphNames>(
     }
     push_box(
         text,
-        names.glyph_extents(glyph.as_glyph()).unwrap_or_default(),
+        glyph_extents(names, glyph.glyph_id).unwrap_or_default(),
     )
 }
 

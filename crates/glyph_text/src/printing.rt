@@ -1,6 +1,6 @@
-ghost use Rattle.std.specs.Prelude.{◌≡◌, ◌≤◌, ◌^◌, ◌++◌, true, length, IfOk, OnOk, string_bytes};
+ghost use Rattle.std.specs.Prelude.{◌≡◌, ◌^◌, ◌++◌, true, length, IfOk, OnOk, string_bytes};
 ghost use Rattle.glyph_text.specs.Pen.{IsWithin};
-ghost use Rattle.glyph_text.specs.Printed.{HasGlyphNumbers, asks_font, glyph_text, printed_text, separator};
+ghost use Rattle.glyph_text.specs.Printed.{glyph_text, printed_text, separator};
 
 use crate::pen::Pen;
 use crate::pieces::{push_cluster, push_extents, push_glyph_flags, push_name, push_position};
@@ -30,7 +30,6 @@ fn push_glyph<N: GlyphNames>(
     glyph: &hb_glyph_info_t,
     place: &GlyphPosition,
 ) -> Result<(), AllocError>
-    requires number { asks_font flags ≡ true → glyph.now.glyph_id ≤ 65535 }
     requires near { IsWithin (2 ^ 96) pen }
     ensures { OnOk result (string_bytes text.new ≡ string_bytes text.old
         ++ glyph_text (N.name_of names.now) (N.extents_of names.now) flags pen glyph.now place.now) }
@@ -45,7 +44,8 @@ fn push_glyph<N: GlyphNames>(
 /// Prints a run of glyphs, as `name=cluster@x,y+x_advance,y_advance#flags<x_bearing,y_bearing,width,height>`, with `|`
 /// between two glyphs. Numbers are decimal, in font units, and the glyph flags are hexadecimal. Parts that are 0 are left
 /// out as follows: the offset where both sums are 0, the advance in y, and the glyph flags. A glyph without
-/// a name is `gid` and its number, and one without a box has a box of zeros.
+/// a name is `gid` and its number, and one without a box has a box of zeros; so is a number above 65535, which no glyph
+/// of a font can have.
 ///
 /// Where the advances are dropped, the offset is counted from where the run begins. The only error is that there is no
 /// memory for the text.
@@ -58,7 +58,6 @@ pub fn serialize<N: GlyphNames>(
     flags: SerializeFlags,
 ) -> Result<String, AllocError>
     requires same_length { length glyphs.now ≡ length positions.now }
-    requires numbers { asks_font flags ≡ true → HasGlyphNumbers glyphs.now }
     ensures { IfOk result (λ text. string_bytes text
         ≡ printed_text (N.name_of names.now) (N.extents_of names.now) flags glyphs.now positions.now) }
 {

@@ -2,3 +2,4 @@ pub mod Erased
 pub mod Put
 pub mod Underway
 pub mod Marking
+pub mod Glyphs

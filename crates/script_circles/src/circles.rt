@@ -5,6 +5,7 @@ ghost use Rattle.glyph_lists.specs.Items.{glyph_flags, item_of, strip};
 ghost use Rattle.glyph_lists.specs.Origins.{origin_of};
 ghost use Rattle.glyph_lists.specs.Readings.{read_of};
 ghost use Rattle.glyph_buffer.specs.Sides.{all_glyphs, items_of, moved_on, origins_of, run_of};
+ghost use Rattle.layout_rules.specs.Buffers.{are_glyphs};
 ghost use Rattle.layout_rules.specs.Ready.{IsReady};
 ghost use Rattle.text_stages.specs.Stages.{IsFollowed};
 ghost use Rattle.script_circles.specs.Circles.{begins, circle_glyph, circle_item, circles_by, circles_put, is_broken, is_repha, puts_circles, with_circles};
@@ -52,6 +53,7 @@ pub fn insert_dotted_circles(
     circle_position: Option<u8>,
 ) -> Result<bool, ShapeCause>
     requires ready { IsReady buffer.old }
+    ensures glyphs { OnOk result (are_glyphs (items_of buffer.old) ≡ true → are_glyphs (items_of buffer.new) ≡ true) }
     ensures told { IfOk result (λ b. b ≡ puts_circles
         (circle_rule face.now buffer.old.flags kind circle_category repha_category circle_position) (items_of buffer.old)) }
     ensures ok { OnOk result (IsFollowed
@@ -74,8 +76,11 @@ pub fn insert_dotted_circles(
     circles_by(&rule, buffer)
 }
 
+#[tactic(auto, using(crate::proofs::Glyphs::put_keeps_glyphs))]
 fn circles_by(rule: &CircleRule, buffer: &mut hb_buffer_t) -> Result<bool, ShapeCause>
     requires ready { IsReady buffer.old }
+    ensures glyphs { OnOk result (rule.now.glyph ≤ 65535 → are_glyphs (items_of buffer.old) ≡ true
+        → are_glyphs (items_of buffer.new) ≡ true) }
     ensures told { IfOk result (λ b. b ≡ puts_circles (Some rule.now) (items_of buffer.old)) }
     ensures ok { OnOk result (IsFollowed (circles_by (Some rule.now)) buffer.old buffer.new) }
     ensures err { IfErr result (λ e. e ≢ ShapeCause.OutOfMemory

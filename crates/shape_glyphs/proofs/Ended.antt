@@ -1,6 +1,7 @@
 -- Stages over glyphs.
 use Rattle.std.proofs.Common.{ℕ, suc, nat_le, ◌≡◌, ◌∷◌, arith, Bool, true, false, not, if◌then◌else◌, List, [], length, map, min, take, refl, sym, ap, ◌∙◌}
 use Rattle.std.proofs.lemmas.List.{length-map}
+use Rattle.std.proofs.lemmas.Bool.{and_parts}
 use Rattle.glyph_types.specs.declared.info.hb_glyph_info_t.{hb_glyph_info_t}
 use Rattle.glyph_lists.specs.Items.{Item, Position, item_of, item_masked}
 use Rattle.glyph_lists.specs.Events.{Spread}
@@ -19,7 +20,7 @@ use Rattle.text_stages.specs.Stages.{IsFollowed, mapped}
 use Rattle.text_stages.specs.Lemmas.Written.{happened_followed}
 use Rattle.shape_glyphs.specs.Glyphs.{as_glyph}
 use Rattle.shape_glyphs.specs.Flags.{with_flags_spread}
-use Rattle.shape_glyphs.specs.Ignorables.{without_ignorables}
+use Rattle.shape_glyphs.specs.Ignorables.{hidden_item, without_ignorables}
 
 -- ---- numbers
 
@@ -50,6 +51,31 @@ chosen_numbers (x ∷ xs) = rw (glyph_if x.glyph_index (nat_le x.glyph_index 655
 -- chosen glyphs are glyphs
 pub chosen_glyphs : (old new : Sides) → IsFollowed (always (mapped as_glyph)) old new → are_glyphs (items_of new) ≡ true
 chosen_glyphs old new f = ap are_glyphs (mapped_items as_glyph old new f) ∙ chosen_numbers (items_of old)
+
+-- an ignorable is shown as a glyph
+hidden_each : (g : ℕ) (b : Bool) (x : Item) → nat_le g 65535 ≡ true → nat_le x.number 65535 ≡ true → nat_le (if b then record x { number = g } else x).number 65535 ≡ true
+hidden_each g true x h k = h
+hidden_each g false x h k = k
+
+hidden_glyphs : (g : ℕ) (xs : List Item) → nat_le g 65535 ≡ true → are_glyphs xs ≡ true → are_glyphs (map (hidden_item g) xs) ≡ true
+hidden_glyphs g [] h k = refl
+hidden_glyphs g (x ∷ xs) h k =
+    let both = and_parts (nat_le x.number 65535) (are_glyphs xs) k in
+    rw (hidden_each g (is_default_ignorable x) x h both.0, hidden_glyphs g xs h both.1) refl
+
+pub hidden_numbers : (g : ℕ) (old new : Sides) → IsFollowed (always (mapped (hidden_item g))) old new → nat_le g 65535 ≡ true → are_glyphs (items_of old) ≡ true → are_glyphs (items_of new) ≡ true
+hidden_numbers g old new f h are = ap are_glyphs (mapped_items (hidden_item g) old new f) ∙ hidden_glyphs g (items_of old) h are
+
+-- glyphs of which some go
+kept_each : (b : Bool) (x : Item) (xs : List Item) → nat_le x.number 65535 ≡ true → are_glyphs xs ≡ true → are_glyphs (if not b then x ∷ xs else xs) ≡ true
+kept_each true x xs h k = k
+kept_each false x xs h k = rw (h, k) refl
+
+pub kept_glyphs : (q : Item → Bool) (xs : List Item) → are_glyphs xs ≡ true → are_glyphs (items_kept q xs) ≡ true
+kept_glyphs q [] h = refl
+kept_glyphs q (x ∷ xs) h =
+    let both = and_parts (nat_le x.number 65535) (are_glyphs xs) h in
+    kept_each (q x) x (items_kept q xs) both.0 (kept_glyphs q xs both.1)
 
 -- ---- flags
 

@@ -1,6 +1,6 @@
 -- Default ignorable characters, which show no glyph.
-use Rattle.std.specs.Prelude.{ℕ, ◌==◌, Bool, if◌then◌else◌, [], Option, Some, None}
-use Rattle.std.specs.Option.{option_or}
+use Rattle.std.specs.Prelude.{ℕ, ◌==◌, Bool, true, nat_le, if◌then◌else◌, [], Option, Some, None}
+use Rattle.std.specs.Option.{option_map_or, option_or}
 use Rattle.std.specs.Int.RustNames.{bit_and}
 use Rattle.shaping_text.specs.declared.constants.BufferFlags.{BufferFlags}
 use Rattle.font_face.specs.declared.parts.FaceParts.{FaceParts}
@@ -22,6 +22,10 @@ removes_ignorables flags = bit_and flags.0 8 == 8
 -- the glyph that stands for an ignorable: the one that was set, else the font's space; none where they are to be taken out
 abbrev pub invisible_glyph : BufferFlags → Option ℕ → FaceParts → Option ℕ
 invisible_glyph flags set font = if removes_ignorables flags then None else option_or set (nominal_glyph 0x20 font)
+
+-- a number that is set is one that a glyph can have
+abbrev pub is_glyph_if_set : Option ℕ → Bool
+is_glyph_if_set set = option_map_or (λ n. nat_le n 65535) set true
 
 abbrev pub hidden_item : ℕ → Item → Item
 hidden_item glyph x = if is_default_ignorable x then record x { number = glyph } else x

@@ -1,11 +1,14 @@
 //! Default ignorable characters, which show no glyph.
-ghost use Rattle.std.specs.Prelude.{◌≡◌};
+ghost use Rattle.std.specs.Prelude.{◌≡◌, nat_le, true};
+ghost use Rattle.font_face.specs.Glyphs.{nominal_glyph};
+ghost use Rattle.glyph_buffer.specs.Sides.{items_of};
+ghost use Rattle.layout_rules.specs.Buffers.{are_glyphs};
 ghost use Rattle.glyph_lists.specs.Items.{item_of};
 ghost use Rattle.glyph_lists.specs.Origins.{origin_of};
 ghost use Rattle.glyph_lists.specs.Readings.{always};
 ghost use Rattle.layout_rules.specs.Ready.{IsReady};
 ghost use Rattle.text_stages.specs.Stages.{IsFollowed, mapped};
-ghost use Rattle.shape_glyphs.specs.Ignorables.{hidden, hidden_item, invisible_glyph, preserves_ignorables, without_ignorables};
+ghost use Rattle.shape_glyphs.specs.Ignorables.{hidden, hidden_item, invisible_glyph, is_glyph_if_set, preserves_ignorables, without_ignorables};
 
 use crate::glyphs::is_default_ignorable;
 use bitflags::Flags;
@@ -20,7 +23,9 @@ use text_stages::glyphs::map_glyphs;
 /// takes linear time and no memory.
 pub fn hide_default_ignorables(face: &Face, buffer: &mut hb_buffer_t)
     requires { IsReady buffer.old }
-    ensures { IsFollowed (always (hidden buffer.old.flags buffer.old.invisible face.now)) buffer.old buffer.new }
+    ensures stage { IsFollowed (always (hidden buffer.old.flags buffer.old.invisible face.now)) buffer.old buffer.new }
+    ensures numbers { is_glyph_if_set buffer.old.invisible ≡ true
+        → are_glyphs (items_of buffer.old) ≡ true → are_glyphs (items_of buffer.new) ≡ true }
 {
     if preserves_ignorables(buffer.flags()) {
         return;
@@ -38,7 +43,8 @@ fn preserves_ignorables(flags: BufferFlags) -> bool
 }
 
 fn invisible_glyph(face: &Face, buffer: &hb_buffer_t) -> Option<u32>
-    ensures { result ≡ invisible_glyph buffer.now.flags buffer.now.invisible face.now }
+    ensures value { result ≡ invisible_glyph buffer.now.flags buffer.now.invisible face.now }
+    ensures number { is_glyph_if_set buffer.now.invisible ≡ true → is_glyph_if_set result ≡ true }
 {
     if buffer
         .flags()
@@ -48,13 +54,25 @@ fn invisible_glyph(face: &Face, buffer: &hb_buffer_t) -> Option<u32>
     }
     match buffer.invisible() {
         Some(glyph) => Some(glyph),
-        None => face.get_nominal_glyph(' ').map(u32::from),
+        None => space_glyph(face),
+    }
+}
+
+fn space_glyph(face: &Face) -> Option<u32>
+    ensures value { result ≡ nominal_glyph 0x20 face.now }
+    ensures number { is_glyph_if_set result ≡ true }
+{
+    match face.get_nominal_glyph(' ') {
+        Some(glyph) => Some(u32::from(glyph)),
+        None => None,
     }
 }
 
 fn hide_by(invisible: u32, buffer: &mut hb_buffer_t)
     requires { IsReady buffer.old }
-    ensures { IsFollowed (always (mapped (hidden_item invisible))) buffer.old buffer.new }
+    ensures stage { IsFollowed (always (mapped (hidden_item invisible))) buffer.old buffer.new }
+    ensures numbers { nat_le invisible 65535 ≡ true
+        → are_glyphs (items_of buffer.old) ≡ true → are_glyphs (items_of buffer.new) ≡ true }
 {
     map_glyphs(buffer, |glyph| hidden(invisible, glyph));
 }
@@ -75,7 +93,8 @@ fn hidden(invisible: u32, glyph: &hb_glyph_info_t) -> hb_glyph_info_t
 
 fn delete_ignorables(buffer: &mut hb_buffer_t)
     requires { IsReady buffer.old }
-    ensures { IsFollowed (always without_ignorables) buffer.old buffer.new }
+    ensures stage { IsFollowed (always without_ignorables) buffer.old buffer.new }
+    ensures numbers { are_glyphs (items_of buffer.old) ≡ true → are_glyphs (items_of buffer.new) ≡ true }
 {
     buffer.delete_glyphs_inplace(|glyph| is_default_ignorable(glyph));
 }

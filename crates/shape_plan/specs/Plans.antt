@@ -1,5 +1,5 @@
 -- The plan for texts of one direction, script and language, and one font.
-use Rattle.std.specs.Prelude.{ℕ, Bool, false, ◌==◌, ◌&&◌, ◌||◌, not, List, Option, Some, None, is_some, codes}
+use Rattle.std.specs.Prelude.{ℕ, ⊤, Bool, false, ◌≡◌, ◌==◌, ◌&&◌, ◌||◌, not, List, Option, Some, None, is_some, codes}
 use Rattle.std.specs.Option.{option_map_or}
 use Rattle.shaping_text.specs.declared.tag.Tag.{Tag}
 use Rattle.shaping_text.specs.declared.script.Script.{Script}
@@ -11,9 +11,12 @@ use Rattle.font_face.specs.declared.parts.FaceParts.{FaceParts}
 use Rattle.map_builder.specs.Compiled.{MapRequests, OtMapValue, compiled, feature_at, no_requests}
 use Rattle.map_stages.specs.Chosen.{script_tag}
 use Rattle.shape_plan.specs.declared.any_shaper.TheConstants.{HB_OT_SHAPE_ZERO_WIDTH_MARKS_NONE}
+use Rattle.shape_plan.specs.declared.any_shaper.hb_ot_any_shaper_t.{hb_ot_any_shaper_t}
 use Rattle.shape_plan.specs.declared.plan.PlanChoices.{PlanChoices}
-use Rattle.shape_plan.specs.Shapers.{ShaperTraits}
-use Rattle.shape_plan.specs.Requests.{Asking, with_requests}
+use Rattle.shape_plan.specs.declared.plan.hb_ot_shape_plan_t.{hb_ot_shape_plan_t}
+use Rattle.shape_plan.specs.Dispatch.{shaper_of}
+use Rattle.shape_plan.specs.Shapers.{ShaperTraits, traits_of}
+use Rattle.shape_plan.specs.Requests.{Asking, collected, overridden, with_requests}
 
 -- nothing is asked yet: the scripts and language systems of the font's tables are chosen
 abbrev pub nothing_asked : FaceParts → Option Script → List Tag → MapRequests
@@ -65,3 +68,30 @@ choices traits font m = record {
 abbrev pub planned_map : Asking → FaceParts → List Tag → Direction → Option Script → List Feature → OtMapValue
 planned_map asking font languages direction script features =
     compiled (with_requests asking direction script features (nothing_asked font script languages))
+
+-- ---- plans of the stack's shapers
+
+-- the shaper of a text, by its script
+unfoldable pub planned_shaper : FaceParts → List Tag → Direction → Option Script → hb_ot_any_shaper_t
+planned_shaper font languages direction script = shaper_of script direction (gsub_script font script languages)
+
+abbrev pub asking_of : hb_ot_any_shaper_t → Asking
+asking_of shaper = record { collects = collected shaper; overrides = overridden shaper }
+
+-- the map of a text's plan, by its script
+unfoldable pub text_map : FaceParts → List Tag → Direction → Option Script → List Feature → OtMapValue
+text_map font languages direction script features =
+    planned_map (asking_of (planned_shaper font languages direction script)) font languages direction script features
+
+unfoldable pub text_choices : FaceParts → List Tag → Direction → Option Script → List Feature → PlanChoices
+text_choices font languages direction script features =
+    choices (traits_of (planned_shaper font languages direction script)) font (text_map font languages direction script features)
+
+-- the plan of a text: its shaper, its map, what it decided, and what was asked for
+pub record IsPlanned (font : FaceParts) (languages : List Tag) (d : Direction) (s : Option Script) (asked : List Feature) (plan : hb_ot_shape_plan_t hb_ot_any_shaper_t ⊤) : Type 0 where
+  pub shaper : plan.shaper ≡ planned_shaper font languages d s
+  pub direction : plan.script_plan.direction ≡ d
+  pub script : plan.script_plan.script ≡ s
+  pub map : plan.script_plan.map ≡ text_map font languages d s asked
+  pub choices : plan.script_plan.choices ≡ text_choices font languages d s asked
+  pub features : plan.user_features.items ≡ asked

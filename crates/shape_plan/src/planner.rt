@@ -3,7 +3,7 @@ ghost use Rattle.std.specs.Prelude.{◌≡◌, ◌&&◌, not, codes, IfOk, is_so
 ghost use Rattle.std.specs.Option.{option_copied};
 ghost use Rattle.shaping_text.specs.ScriptTags.{wanted_language_tags};
 ghost use Rattle.shape_plan.specs.Dispatch.{shaper_of};
-ghost use Rattle.shape_plan.specs.Plans.{choices, disables_gpos, gsub_script, has_fractions, has_mask, nothing_asked, planned_map, uses_gpos};
+ghost use Rattle.shape_plan.specs.Plans.{IsPlanned, choices, disables_gpos, gsub_script, has_fractions, has_mask, nothing_asked, planned_map, uses_gpos};
 ghost use Rattle.shape_plan.specs.Requests.{with_requests, with_user};
 ghost use Rattle.map_builder.specs.Compiled.{compiled};
 ghost use Rattle.std.specs.Prelude.{OnOk};
@@ -168,6 +168,31 @@ impl<'a, S: PlannedShaper> hb_ot_shape_planner_t<'a, S> {
             },
             user_features,
         })
+    }
+}
+
+impl hb_ot_shape_plan_t<hb_ot_any_shaper_t> {
+    /// The plan for texts of a direction, a script and a language in a font, with the shaper that the script has for the
+    /// font and with the features that the user asks for. One plan serves all such texts. It takes memory for the map of
+    /// features and for the stages of lookups.
+    pub fn new<L: LanguageTags>(
+        alloc: Global,
+        face: &Face,
+        languages: &L,
+        direction: Direction,
+        script: Option<Script>,
+        language: Option<&Language>,
+        features: &[Feature],
+    ) -> Result<hb_ot_shape_plan_t<hb_ot_any_shaper_t>, AllocError>
+        ensures { IfOk result (IsPlanned face.now (wanted_language_tags (L.tags_of languages.now) (option_copied language.entry))
+            direction script features.now) }
+    {
+        let mut planner = hb_ot_shape_planner_t::new(
+            alloc, face, languages, direction, script, language,
+        );
+        planner.collect_features(features)?;
+        let plan = planner.compile(alloc, features)?;
+        Ok(plan)
     }
 }
 

@@ -1,8 +1,9 @@
 -- The end of shaping.
-use Rattle.std.specs.Prelude.{[], ◌∷◌}
+use Rattle.std.specs.Prelude.{◌&&◌, Bool, [], ◌∷◌}
+use Rattle.layout_walks.specs.Settings.{TextSettings}
 use Rattle.glyph_lists.specs.Readings.{Stage, always}
 use Rattle.shape_glyphs.specs.Flags.{with_flags_spread}
-use Rattle.shape_glyphs.specs.Ignorables.{hidden}
+use Rattle.shape_glyphs.specs.Ignorables.{hidden, is_glyph_if_set}
 use Rattle.shape_glyphs.specs.Selectors.{with_selectors}
 use Rattle.shape_reading.specs.Chains.{in_order}
 use Rattle.shape_reading.specs.Limits.{ended}
@@ -17,3 +18,7 @@ text_ended p = in_order (
     always with_flags_spread ∷
     always (ended p.direction) ∷
     [])
+
+-- the glyphs that are set for what is not to be seen, and for a selector that the font does not know, are numbers that a glyph can have
+abbrev pub sets_glyphs : TextSettings → Bool
+sets_glyphs settings = is_glyph_if_set settings.invisible && is_glyph_if_set settings.not_found_variation_selector

@@ -7,4 +7,5 @@ pub mod Glyphs
 pub mod Places
 pub mod Endings
 pub mod Reading
+pub mod Laws
 pub mod Lemmas

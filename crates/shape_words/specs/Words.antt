@@ -44,18 +44,34 @@ list_rule id = record (new_rule id) { long = Some id; action = Some Append }
 abbrev pub switch_rule : List ℕ → Rule
 switch_rule id = record (new_rule id) { long = Some id; action = Some SetTrue }
 
-abbrev pub hb_shape : App
-hb_shape =
-    with_rule (with_rule (with_rule (with_rule (with_rule (with_rule (with_rule (with_rule (with_rule (with_rule (with_rule
-    (with_rule (with_rule (with_rule (with_rule (with_rule (with_rule (with_rule (with_rule (with_rule (with_rule
-    (new_app (codes "hb_shape"))
+-- options with values: of the text, and which features are on
+abbrev pub with_options : App → App
+with_options app =
+    with_rule (with_rule (with_rule (with_rule (with_rule app
     (option_rule (codes "direction"))) (option_rule (codes "script"))) (option_rule (codes "language")))
-    (list_rule (codes "features"))) (option_rule (codes "cluster-level"))) (switch_rule (codes "bot")))
-    (switch_rule (codes "eot"))) (switch_rule (codes "preserve-default-ignorables"))) (switch_rule (codes "remove-default-ignorables")))
-    (switch_rule (codes "no-dotted-circle"))) (switch_rule (codes "unsafe-to-concat"))) (switch_rule (codes "safe-to-insert-tatweel")))
+    (list_rule (codes "features"))) (option_rule (codes "cluster-level"))
+
+-- switches of the text
+abbrev pub with_text_switches : App → App
+with_text_switches app =
+    with_rule (with_rule (with_rule (with_rule (with_rule (with_rule (with_rule app
+    (switch_rule (codes "bot"))) (switch_rule (codes "eot"))) (switch_rule (codes "preserve-default-ignorables")))
+    (switch_rule (codes "remove-default-ignorables"))) (switch_rule (codes "no-dotted-circle")))
+    (switch_rule (codes "unsafe-to-concat"))) (switch_rule (codes "safe-to-insert-tatweel"))
+
+-- switches of what is printed
+abbrev pub with_print_switches : App → App
+with_print_switches app =
+    with_rule (with_rule (with_rule (with_rule (with_rule (with_rule app
     (switch_rule (codes "no-clusters"))) (switch_rule (codes "no-positions"))) (switch_rule (codes "no-glyph-names")))
-    (switch_rule (codes "show-extents"))) (switch_rule (codes "show-flags"))) (switch_rule (codes "no-advances")))
-    (file_rule (codes "tables"))) (file_rule (codes "font"))) (file_rule (codes "text"))
+    (switch_rule (codes "show-extents"))) (switch_rule (codes "show-flags"))) (switch_rule (codes "no-advances"))
+
+-- the names of the three files
+abbrev pub with_files : App → App
+with_files app = with_rule (with_rule (with_rule app (file_rule (codes "tables"))) (file_rule (codes "font"))) (file_rule (codes "text"))
+
+abbrev pub hb_shape : App
+hb_shape = with_files (with_print_switches (with_text_switches (with_options (new_app (codes "hb_shape")))))
 
 -- ---- what it asks for
 

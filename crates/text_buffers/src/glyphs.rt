@@ -1,5 +1,5 @@
 ghost use Rattle.std.specs.Prelude.{◌≡◌, ◌==◌, length, false, true, IfOk, string_bytes};
-ghost use Rattle.glyph_text.specs.Printed.{HasGlyphNumbers, asks_font, printed_text};
+ghost use Rattle.glyph_text.specs.Printed.{printed_text};
 ghost use Rattle.glyph_buffer.specs.Sides.{empty_buffer, all_glyphs};
 
 use crate::unicode_buffer::UnicodeBuffer;
@@ -91,7 +91,6 @@ impl GlyphBuffer {
         names: &N,
         flags: SerializeFlags,
     ) -> Result<String, AllocError>
-        requires { asks_font flags ≡ true → HasGlyphNumbers (all_glyphs self.now) }
         ensures { IfOk result
             (λ text. string_bytes text
             ≡ printed_text (N.name_of names.now) (N.extents_of names.now) flags

@@ -1,6 +1,6 @@
 //! Properties of characters by tables.
+use crate::properties::characters_have_words;
 use serde_json::Value;
-use std::alloc::Global;
 use std::process::Abort;
 use std::test::Fail;
 use tables_json::read_tables;
@@ -10,7 +10,7 @@ use unicode_tables::{
 
 const TABLES: &str = r#"{"splits":[[225,97,769],[6918,6917,6965],[8491,197,0]],
     "pairs":[[97,769,225],[6917,6965,6918]],
-    "classes":[[769,230],[803,220]],
+    "classes":[[769,230],[803,220],[847,0]],
     "mirrored":[[40,41],[41,40]],
     "vertical":[[12289,65041]],
     "pictographic":[[169,4351],[174,174]],
@@ -18,11 +18,6 @@ const TABLES: &str = r#"{"splits":[[225,97,769],[6918,6917,6965],[8491,197,0]],
     "indic":[[2325,"ML","END"]],
     "universal":[[6917,"HR"]],
     "thai":[[3640,"SD",63256,63257],[3640,"RD",63258,63259]]}"#;
-
-fn tables(alloc: Global) -> Result<UnicodeTables, Fail> {
-    let value = Value::from_str(alloc, TABLES)?;
-    Ok(read_tables(alloc, &value)?)
-}
 
 fn characters_split(rt: &impl Abort, tables: &UnicodeTables) {
     for (c, parts) in [
@@ -83,10 +78,12 @@ fn characters_have_properties(rt: &impl Abort, tables: &UnicodeTables) {
 
 #[test]
 fn characters_by_tables(rt: HostRuntime) -> Result<(), Fail> {
-    let tables = tables(rt.alloc())?;
+    let value = Value::from_str(rt.alloc(), TABLES)?;
+    let tables = read_tables(rt.alloc(), &value)?;
     characters_split(&rt, &tables);
     characters_compose(&rt, &tables);
     characters_have_properties(&rt, &tables);
+    characters_have_words(&rt, &tables);
     Ok(())
 }
 

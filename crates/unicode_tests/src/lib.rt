@@ -6,8 +6,6 @@ mod characters;
 #[cfg(test)]
 mod faults;
 #[cfg(test)]
-mod laws;
-#[cfg(test)]
 mod machines;
 #[cfg(test)]
 mod properties;

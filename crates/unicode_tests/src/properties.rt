@@ -3,14 +3,11 @@ ghost use Rattle.std.specs.Char.{IsScalar};
 
 use glyph_properties::info::{clear_continuation, init_unicode_props};
 use glyph_types::info::hb_glyph_info_t;
-use serde_json::Value;
 use shaping_text::constants::{
     HB_BUFFER_SCRATCH_FLAG_HAS_CGJ, HB_BUFFER_SCRATCH_FLAG_HAS_DEFAULT_IGNORABLES,
     HB_BUFFER_SCRATCH_FLAG_HAS_NON_ASCII,
 };
-use std::alloc::Global;
-use std::test::Fail;
-use tables_json::read_tables;
+use std::process::Abort;
 use unicode_tables::UnicodeTables;
 
 const ASCII: u32 = 0;
@@ -23,7 +20,7 @@ const JOINER: u32 = IGNORABLE | HB_BUFFER_SCRATCH_FLAG_HAS_CGJ;
 
 // Characters with their property words as they are and as continuations are cleared, their classes and scratch flags:
 // the categories are those of UnicodeData.txt, as numbers in the order Cc Cf Cn Co Cs Ll Lm Lo Lt Lu Mc Me Mn and so on.
-static PROPERTIES: [(char, u16, u16, u8, u32); 17] = [
+const PROPERTIES: [(char, u16, u16, u8, u32); 17] = [
     ('a', 5, 5, 0, ASCII),
     ('\u{7F}', 0, 0, 0, ASCII),
     ('\u{80}', 0, 0, 0, PLAIN),
@@ -47,9 +44,24 @@ static PROPERTIES: [(char, u16, u16, u8, u32); 17] = [
     ('\u{FE00}', 0xAC, 0x2C, 0, IGNORABLE),
 ];
 
-fn tables(alloc: Global) -> Result<UnicodeTables, Fail> {
-    let value = Value::from_str(alloc, r#"{"classes":[[769,230],[847,0]]}"#)?;
-    Ok(read_tables(alloc, &value)?)
+/// The property word of a character, the word of a continuation that is cleared, its class, the scratch flags, and its number
+/// and cluster, which stay.
+fn words_of(tables: &UnicodeTables, u: char) -> (u16, u16, u8, u32, u32, u32) {
+    let mut info = standing_for(u);
+    let mut scratch_flags = 0x1000000;
+    init_unicode_props(&mut info, tables, &mut scratch_flags);
+    let props = info.unicode_props.0;
+    clear_continuation(&mut info);
+    let kept = info.unicode_props.0;
+    let class = info.modified_combining_class;
+    (
+        props,
+        kept,
+        class,
+        scratch_flags,
+        info.glyph_id,
+        info.cluster,
+    )
 }
 
 fn standing_for(u: char) -> hb_glyph_info_t
@@ -63,19 +75,9 @@ fn standing_for(u: char) -> hb_glyph_info_t
     }
 }
 
-#[test]
-fn properties_of_characters(rt: HostRuntime) -> Result<(), Fail> {
-    let tables = tables(rt.alloc())?;
-    for (u, props, kept, class, flags) in &PROPERTIES {
-        let mut info = standing_for(*u);
-        let mut scratch_flags = 0x1000000;
-        init_unicode_props(&mut info, &tables, &mut scratch_flags);
-        assert_eq!(rt; info.unicode_props.0, *props, "{u:?}");
-        assert_eq!(rt; info.modified_combining_class, *class, "{u:?}");
-        assert_eq!(rt; scratch_flags, 0x1000000 | *flags, "{u:?}");
-        clear_continuation(&mut info);
-        assert_eq!(rt; info.unicode_props.0, *kept, "{u:?}");
-        assert_eq!(rt; (info.glyph_id, info.cluster), (u32::from(*u), 7));
+pub(crate) fn characters_have_words(rt: &impl Abort, tables: &UnicodeTables) {
+    for (u, props, kept, class, flags) in PROPERTIES {
+        let want = (props, kept, class, 0x1000000 | flags, u32::from(u), 7);
+        assert_eq!(rt; words_of(tables, u), want, "{u:?}");
     }
-    Ok(())
 }

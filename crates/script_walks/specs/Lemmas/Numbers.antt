@@ -51,7 +51,7 @@ then_permutes xs r rule p q = IsPermutation-trans (numbers_of xs) (numbers_of r.
 
 -- ---- all syllables together
 
-abbrev joined : {X : Type 0} → List (List X) → List X
+abbrev pub joined : {X : Type 0} → List (List X) → List X
 joined [] = []
 joined (xs ∷ xss) = xs ++ joined xss
 
@@ -60,7 +60,7 @@ pair_joins key x [] = refl
 pair_joins key x ([] ∷ runs) = refl
 pair_joins key x ((y ∷ ys) ∷ runs) = elim (key y == key x) as (λ t. joined (if t then (x ∷ y ∷ ys) ∷ runs else (x ∷ []) ∷ (y ∷ ys) ∷ runs) ≡ x ∷ (y ∷ ys) ++ joined runs) [ true ↦ refl | false ↦ refl ]
 
-runs_join : {X : Type 0} (key : X → ℕ) (xs : List X) → joined (runs_of key xs) ≡ xs
+pub runs_join : {X : Type 0} (key : X → ℕ) (xs : List X) → joined (runs_of key xs) ≡ xs
 runs_join key [] = refl
 runs_join key (x ∷ xs) = pair_joins key x (runs_of key xs) ∙ ap (λ ys. x ∷ ys) (runs_join key xs)
 

@@ -1,6 +1,9 @@
 use Rattle.std.proofs.Common.{arith, ◌<◌, ◌∙◌, length}
-use Rattle.glyph_text.proofs.Steps.{near_more, pen_step, printed_step}
+use Rattle.glyph_text.proofs.Steps.{near_enough, near_more, pen_step, printed_step}
 use Rattle.glyph_text.proofs.printing.serialize.Goals as goal
+
+pub moved-pen-requires : goal.moved-pen-requires
+moved-pen-requires g c = near_enough _ _ (omega arith) c.loop-index.invariant.near
 
 pub loop-index-preserved : goal.loop-index-preserved
 loop-index-preserved g c =

@@ -1,0 +1,2 @@
+-- Lemmas for what stands above: texts without marks.
+pub mod Unmarked

@@ -1,0 +1,7 @@
+mod Sets
+mod Begun
+mod Placed
+mod Ended
+mod Phases
+mod Whole
+mod Numbers

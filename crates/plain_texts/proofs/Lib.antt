@@ -1,0 +1,7 @@
+mod Words
+mod Texts
+mod Begun
+mod Chosen
+mod Glyphs
+mod Places
+mod Whole

@@ -1,0 +1,243 @@
+-- A run between two stretches that stay is put in order.
+use Rattle.std.proofs.Common.{ℕ, suc, ◌≡◌, ◌≤◌, ◌+◌, ◌-◌, ◌==◌, Bool, true, false, if◌then◌else◌, List, [], ◌∷◌, ◌++◌, Option, None, Some, length, map, take, drop, refl, sym, ap, ◌∙◌, arith, append_assoc}
+use Rattle.std.specs.Prelude.{max, slice_range}
+use Rattle.std.proofs.lemmas.List.{length-append, length-drop, length-take-le, take-append-le, drop-append-le, take-append-drop, map-append, take_all, append-nil}
+use Rattle.glyph_lists.specs.Items.{Item}
+use Rattle.glyph_lists.specs.Levels.{InList}
+use Rattle.glyph_types.specs.declared.level.BufferClusterLevel.{BufferClusterLevel}
+use Rattle.glyph_lists.specs.Events.{Event, Merge, Replace, Circle, Delete, Move, Arrange, Sort, Reverse, Break, Concat, Tatweel, Spread, Reset}
+use Rattle.glyph_lists.specs.Origins.{changed_within}
+use Rattle.glyph_lists.specs.Readings.{Read, Run, View, always, with_events}
+use Rattle.glyph_buffer.specs.Sides.{Settings, Sides, items_of, origins_by, settings_of, view_of}
+use Rattle.layout_rules.specs.Ready.{IsReady}
+use Rattle.text_stages.specs.Stages.{IsFollowed}
+use Rattle.normal_forms.specs.Arranged.{Arranged, kept, shifted}
+use Rattle.normal_rounds.specs.Brought.{frame_of}
+use Rattle.normal_rounds.specs.Rearranged.{IsRearranged}
+use Rattle.script_moves.specs.Moves.{moved, order_of_move, with_move}
+use Rattle.script_moves.specs.Lemmas.Moved.{moved_front, moved_length}
+use Rattle.script_joining.specs.Marks as arabic
+use Rattle.script_hebrew_thai.specs.Hebrew as hebrew
+use Rattle.script_mark_orders.specs.Orders.{arabic_order, hebrew_order, leading_first, led_by, swapped_at}
+use Rattle.script_mark_orders.specs.Lemmas.Counts.{leads_within, leading_length, three_within}
+
+-- ---- behind a front
+
+take_past : {X : Type 0} (front ys : List X) (n : ℕ) → take (length front + n) (front ++ ys) ≡ front ++ take n ys
+take_past [] ys n = let same : 0 + n ≡ n = omega arith in ap (λ m. take m ys) same
+take_past (x ∷ front) ys n = let same : length (x ∷ front) + n ≡ suc (length front + n) = omega arith in ap (λ m. take m (x ∷ (front ++ ys))) same ∙ ap (λ zs. x ∷ zs) (take_past front ys n)
+
+drop_past : {X : Type 0} (front ys : List X) (n : ℕ) → drop (length front + n) (front ++ ys) ≡ drop n ys
+drop_past [] ys n = let same : 0 + n ≡ n = omega arith in ap (λ m. drop m ys) same
+drop_past (x ∷ front) ys n = let same : length (x ∷ front) + n ≡ suc (length front + n) = omega arith in ap (λ m. drop m (x ∷ (front ++ ys))) same ∙ drop_past front ys n
+
+drop_past_to : {X : Type 0} (front ys : List X) (m n : ℕ) → m ≡ length front + n → drop m (front ++ ys) ≡ drop n ys
+drop_past_to front ys m n e = ap (λ k. drop k (front ++ ys)) e ∙ drop_past front ys n
+
+moved_past : {X : Type 0} (front ys : List X) (start n k : ℕ) → moved (length front + start) n k (front ++ ys) ≡ front ++ moved start n k ys
+moved_past {X = X} front ys start n k =
+    rw (
+      take_past front ys start,
+      drop_past_to front ys (length front + start + n) (start + n) (omega arith),
+      drop_past front ys start,
+      drop_past_to front ys (length front + start + (n + k)) (start + (n + k)) (omega arith),
+    )
+    (sides front (take start ys) (take k (drop (start + n) ys) ++ take n (drop start ys)) (drop (start + (n + k)) ys))
+  where
+    sides : (a b c d : List X) → (a ++ b) ++ c ++ d ≡ a ++ (b ++ c ++ d)
+    sides a b c d = simp append_assoc
+
+moved_between : {X : Type 0} (front run rest : List X) (start n k : ℕ) → start + (n + k) ≤ length run → moved (length front + start) n k (front ++ (run ++ rest)) ≡ front ++ (moved start n k run ++ rest)
+moved_between front run rest start n k le = moved_past front (run ++ rest) start n k ∙ ap (λ ys. front ++ ys) (moved_front start n k run rest le)
+
+changed_between : (f : Item → Item) (front run rest : List Item) (n : ℕ) → n ≤ length run → changed_within f (length front + 0) (length front + n) (front ++ (run ++ rest)) ≡ front ++ (changed_within f 0 n run ++ rest)
+changed_between f front run rest n le =
+    let most : max (length front + 0) (length front + n) ≡ length front + n = omega arith in
+    let all : max 0 n ≡ n = omega arith in
+    let count : length front + n - (length front + 0) ≡ n = omega arith in
+    let none : n - 0 ≡ n = omega arith in
+    rw (most, all, count, none, take_past front (run ++ rest) 0, drop_past front (run ++ rest) 0, drop_past front (run ++ rest) n, take-append-le n run rest le, drop-append-le n run rest le)
+    (sides front (map f (take n run)) (drop n run) rest)
+  where
+    sides : (a b c d : List Item) → (a ++ []) ++ b ++ (c ++ d) ≡ a ++ (([] ++ b ++ c) ++ d)
+    sides a b c d = simp (append_assoc, append-nil)
+
+run_seen : {X : Type 0} (front run rest : List X) (start end : ℕ) → length front ≡ start → start + length run ≡ end → slice_range (front ++ (run ++ rest)) start end ≡ run
+run_seen front run rest start end a b =
+    let n : end - start ≡ length run = omega (arith, b) in
+    let at : start ≡ length front + 0 = omega (arith, a) in
+    ap (λ m. take m (drop start (front ++ (run ++ rest)))) n ∙ ap (take (length run)) (drop_past_to front (run ++ rest) start 0 at) ∙ take-append-le (length run) run rest (omega arith) ∙ take_all (length run) run (omega arith)
+
+-- ---- what stays of a buffer
+
+abbrev framed : View → Settings → Bool → Bool → Sides
+framed v st opened refused = record {
+  behind = [];
+  ahead = [];
+  positions = v.positions;
+  is_open = opened;
+  read = 0;
+  has_refused = refused;
+  max_len = v.max_len;
+  max_ops = v.max_ops;
+  lig_id = v.lig_id;
+  level = st.level;
+  direction = v.direction;
+  script = st.script;
+  language = st.language;
+  pre_context = st.pre_context;
+  post_context = st.post_context;
+  invisible = st.invisible;
+  not_found_variation_selector = st.not_found_variation_selector;
+  scratch_flags = v.told;
+  flags = st.flags;
+}
+
+frame_stays : (xs : List Item) (a b : Sides) → view_of b ≡ record (view_of a) { items = xs } → settings_of b ≡ settings_of a → IsReady a → IsReady b → frame_of b ≡ frame_of a
+frame_stays xs a b view settings ready after =
+    ap (λ v. framed v (settings_of b) b.is_open b.has_refused) view
+    ∙ ap (λ st. framed (view_of a) st b.is_open b.has_refused) settings
+    ∙ ap (λ t. framed (view_of a) (settings_of a) t b.has_refused) (after.closed ∙ sym ready.closed)
+    ∙ ap (λ t. framed (view_of a) (settings_of a) a.is_open t) (after.unrefused ∙ sym ready.unrefused)
+
+-- a stage that puts a run in order rearranges it
+pub stage_rearranges : (r : View → Read) (order : Arranged) (front rest : List Item) (a b : Sides) → IsReady a → IsFollowed (always r) a b
+    → (r (view_of a)).view ≡ record (view_of a) { items = front ++ (order.items ++ rest) } → (r (view_of a)).events a.level ≡ map (shifted (length front)) order.events → IsRearranged front order rest a b
+stage_rearranges r order front rest a b ready f view events =
+    let seen : view_of b ≡ record (view_of a) { items = front ++ (order.items ++ rest) } = ap (λ (run : Run). run.view) f.follows ∙ view in
+    record {
+      items = ap (λ (v : View). v.items) seen;
+      happened = ap (λ (run : Run). run.origins) f.follows ∙ ap (λ es. origins_by es a) events;
+      frame = frame_stays (front ++ (order.items ++ rest)) a b seen f.settings ready f.ready;
+      ready = f.ready;
+    }
+
+-- ---- Hebrew
+
+pub hebrew_rearranges : (start end : ℕ) (a b : Sides) (front run rest : List Item) → IsReady a → IsFollowed (always (hebrew.marks_reordered start end)) a b → items_of a ≡ front ++ (run ++ rest) → length front ≡ start → start + length run ≡ end
+    → IsRearranged front (hebrew_order run) rest a b
+hebrew_rearranges start end a b front run rest ready f e at last =
+    let seen : slice_range (items_of a) start end ≡ run = ap (λ xs. slice_range xs start end) e ∙ run_seen front run rest start end at last in
+    by_place (hebrew.first_three run) refl (ap hebrew.first_three seen)
+  where
+    by_place : (n : Option ℕ) → hebrew.first_three run ≡ n → hebrew.first_three (slice_range (items_of a) start end) ≡ hebrew.first_three run → IsRearranged front (swapped_at (hebrew.first_three run) run) rest a b
+    by_place None h same =
+        stage_rearranges (hebrew.marks_reordered start end) (swapped_at (hebrew.first_three run) run) front rest a b ready f
+        (ap (λ p. (hebrew.with_swapped start p (view_of a)).view) (same ∙ h) ∙ ap (λ xs. record (view_of a) { items = xs }) (e ∙ ap (λ p. front ++ ((swapped_at p run).items ++ rest)) (sym h)))
+        (ap (λ p. (hebrew.with_swapped start p (view_of a)).events a.level) (same ∙ h) ∙ ap (λ p. map (shifted (length front)) (swapped_at p run).events) (sym h))
+    by_place (Some n) h same =
+        let le = three_within run n h in
+        let there : start + (n + 1) ≡ length front + (n + 1) = omega (arith, at) in
+        stage_rearranges (hebrew.marks_reordered start end) (swapped_at (hebrew.first_three run) run) front rest a b ready f
+        (ap (λ p. (hebrew.with_swapped start p (view_of a)).view) (same ∙ h)
+        ∙ ap (λ xs. record (view_of a) { items = xs }) (ap (λ m. moved m 1 1 (items_of a)) there ∙ ap (moved (length front + (n + 1)) 1 1) e ∙ moved_between front run rest (n + 1) 1 1 (omega (arith, le)) ∙ ap (λ p. front ++ ((swapped_at p run).items ++ rest)) (sym h)))
+        (ap (λ p. (hebrew.with_swapped start p (view_of a)).events a.level) (same ∙ h) ∙ ap (λ m. Move InList m (order_of_move 1 1) ∷ []) there ∙ ap (λ p. map (shifted (length front)) (swapped_at p run).events) (sym h))
+
+-- ---- Arabic
+
+further : (n m i : ℕ) → n + (m + i) ≡ n + m + i
+further n m i = omega arith
+
+moved_size : (below leading : ℕ) (run : List Item) → below + leading ≤ length run → length (moved 0 below leading run) ≡ length run
+moved_size below leading run le = moved_length 0 below leading run (omega (arith, le))
+
+abbrev led_items : ℕ → ℕ → ℕ → ℕ → View → Bool → Read
+led_items class start below leading v t = if t then with_events [] v else arabic.reclassed class start (start + leading) (with_move start below leading v)
+
+abbrev led_here : ℕ → ℕ → ℕ → List Item → Bool → Arranged
+led_here class below leading run t =
+    if t then kept run else record { items = changed_within (arabic.classed class) 0 leading (moved 0 below leading run); events = Move InList 0 (order_of_move below leading) ∷ [] }
+
+-- marks that lead a run, seen in the whole list
+record IsLed (class start below leading : ℕ) (front run rest : List Item) (v : View) : Type 0 where
+  view : (arabic.led class start below leading v).view ≡ record v { items = front ++ ((led_by class below leading run).items ++ rest) }
+  events : (level : BufferClusterLevel) → (arabic.led class start below leading v).events level ≡ map (shifted (length front)) (led_by class below leading run).events
+
+led_between : (class start below leading : ℕ) (front run rest : List Item) (v : View) → v.items ≡ front ++ (run ++ rest) → length front ≡ start → below + leading ≤ length run → IsLed class start below leading front run rest v
+led_between class start below leading front run rest v e at le = record { view = seen (leading == 0); events = λ level. happened level (leading == 0) }
+  where
+    first : start ≡ length front + 0
+    first = omega (arith, at)
+
+    last : start + leading ≡ length front + leading
+    last = omega (arith, at)
+
+    seen : (t : Bool) → (led_items class start below leading v t).view ≡ record v { items = front ++ ((led_here class below leading run t).items ++ rest) }
+    seen true = ap (λ xs. record v { items = xs }) e
+    seen false =
+        let long = moved_size below leading run le in
+        ap (λ xs. record v { items = xs })
+        (ap (λ xs. changed_within (arabic.classed class) start (start + leading) (moved start below leading xs)) e
+        ∙ ap (λ m. changed_within (arabic.classed class) m (start + leading) (moved m below leading (front ++ (run ++ rest)))) first
+        ∙ ap (λ m. changed_within (arabic.classed class) (length front + 0) m (moved (length front + 0) below leading (front ++ (run ++ rest)))) last
+        ∙ ap (changed_within (arabic.classed class) (length front + 0) (length front + leading)) (moved_between front run rest 0 below leading (omega (arith, le)))
+        ∙ changed_between (arabic.classed class) front (moved 0 below leading run) rest leading (omega (arith, long, le)))
+
+    happened : (level : BufferClusterLevel) (t : Bool) → (led_items class start below leading v t).events level ≡ map (shifted (length front)) (led_here class below leading run t).events
+    happened level true = refl
+    happened level false = ap (λ m. Move InList m (order_of_move below leading) ∷ []) first
+
+leading_between : (class new start end : ℕ) (front run rest : List Item) (v : View) → v.items ≡ front ++ (run ++ rest) → length front ≡ start → start + length run ≡ end
+    → ((arabic.with_leading class new start end v).view ≡ record v { items = front ++ ((leading_first class new run).items ++ rest) })
+    × ((level : BufferClusterLevel) → (arabic.with_leading class new start end v).events level ≡ map (shifted (length front)) (leading_first class new run).events)
+leading_between class new start end front run rest v e at last =
+    let seen : slice_range v.items start end ≡ run = ap (λ xs. slice_range xs start end) e ∙ run_seen front run rest start end at last in
+    let l = led_between new start (arabic.count_below class run) (arabic.count_leading class run) front run rest v e at (leads_within class run) in
+    let same : arabic.with_leading class new start end v ≡ arabic.led new start (arabic.count_below class run) (arabic.count_leading class run) v =
+    ap (λ xs. arabic.led new start (arabic.count_below class xs) (arabic.count_leading class xs) v) seen in
+    (ap (λ (r : Read). r.view) same ∙ l.view, λ level. ap (λ (r : Read). r.events level) same ∙ l.events level)
+
+shift_event : (n m : ℕ) (e : Event) → shifted n (shifted m e) ≡ shifted (n + m) e
+shift_event n m (Merge how from to) = rw (further n m from, further n m to) refl
+shift_event n m (Replace at taken given) = rw (further n m at) refl
+shift_event n m (Circle after beside like) = rw (further n m beside, further n m like) refl
+shift_event n m (Delete at) = rw (further n m at) refl
+shift_event n m (Move how from order) = rw (further n m from) refl
+shift_event n m (Arrange from order) = rw (further n m from) refl
+shift_event n m (Sort from order) = rw (further n m from) refl
+shift_event n m Reverse = refl
+shift_event n m (Break from to) = rw (further n m from, further n m to) refl
+shift_event n m (Concat from to) = rw (further n m from, further n m to) refl
+shift_event n m (Tatweel from to) = rw (further n m from, further n m to) refl
+shift_event n m Spread = refl
+shift_event n m Reset = refl
+
+shift_events : (n m : ℕ) (es : List Event) → map (shifted n) (map (shifted m) es) ≡ map (shifted (n + m)) es
+shift_events n m [] = refl
+shift_events n m (e ∷ es) = rw (shift_event n m e, shift_events n m es) refl
+
+pub arabic_rearranges : (start end : ℕ) (a b : Sides) (front run rest : List Item) → IsReady a → IsFollowed (always (arabic.marks_reordered start end)) a b → items_of a ≡ front ++ (run ++ rest) → length front ≡ start → start + length run ≡ end
+    → IsRearranged front (arabic_order run) rest a b
+arabic_rearranges start end a b front run rest ready f e at last =
+    let v = view_of a in
+    let n = arabic.count_leading 220 run in
+    let first = leading_first 220 25 run in
+    let one = leading_between 220 25 start end front run rest v e at last in
+    let long = leading_length 220 25 run in
+    let few = leads_within 220 run in
+    let ys = drop n first.items in
+    let mid = front ++ take n first.items in
+    let seen : slice_range v.items start end ≡ run = ap (λ xs. slice_range xs start end) e ∙ run_seen front run rest start end at last in
+    let count : arabic.count_leading 220 (slice_range v.items start end) ≡ n = ap (arabic.count_leading 220) seen in
+    let w = (arabic.with_leading 220 25 start end v).view in
+    let there : w.items ≡ mid ++ (ys ++ rest) = ap (λ (u : View). u.items) one.0 ∙ cut front (take n first.items) ys rest first.items (sym (take-append-drop n first.items)) in
+    let head : length (take n first.items) ≡ n = length-take-le n first.items (omega (arith, long, few)) in
+    let place : length mid ≡ start + n = length-append front (take n first.items) ∙ omega (arith, at, head) in
+    let end_is : start + n + length ys ≡ end = omega (arith, length-drop n first.items, long, few, last) in
+    let two = leading_between 230 26 (start + n) end mid ys rest w there place end_is in
+    let second = leading_first 230 26 ys in
+    let to_here : arabic.with_leading 230 26 (start + arabic.count_leading 220 (slice_range v.items start end)) end w ≡ arabic.with_leading 230 26 (start + n) end w = ap (λ m. arabic.with_leading 230 26 (start + m) end w) count in
+    let reached : length mid ≡ length front + n = omega (arith, place, at) in
+    stage_rearranges (arabic.marks_reordered start end) (arabic_order run) front rest a b ready f
+    (ap (λ (r : Read). r.view) to_here ∙ two.0 ∙ ap (λ (u : View). record u { items = mid ++ (second.items ++ rest) }) one.0
+    ∙ ap (λ xs. record v { items = xs }) (joins front (take n first.items) second.items rest))
+    (ap (λ es. es ++ (arabic.with_leading 230 26 (start + arabic.count_leading 220 (slice_range v.items start end)) end w).events a.level) (one.1 a.level)
+    ∙ ap (λ (r : Read). map (shifted (length front)) first.events ++ r.events a.level) to_here
+    ∙ ap (λ es. map (shifted (length front)) first.events ++ es) (two.1 a.level ∙ ap (λ m. map (shifted m) second.events) reached ∙ sym (shift_events (length front) n second.events))
+    ∙ sym (map-append (shifted (length front)) first.events (map (shifted n) second.events)))
+  where
+    joins : (a b c d : List Item) → (a ++ b) ++ (c ++ d) ≡ a ++ ((b ++ c) ++ d)
+    joins a b c d = simp append_assoc
+
+    cut : (a b c d whole : List Item) → whole ≡ b ++ c → a ++ (whole ++ d) ≡ (a ++ b) ++ (c ++ d)
+    cut a b c d whole e = ap (λ xs. a ++ (xs ++ d)) e ∙ sym (joins a b c d)

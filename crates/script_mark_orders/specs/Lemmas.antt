@@ -1,0 +1,2 @@
+-- Lemmas on the orders of marks.
+pub mod Counts

@@ -1,0 +1,30 @@
+//! A shaper's own order of a run of marks.
+ghost use Rattle.std.specs.Prelude.{◌≤◌, length};
+ghost use Rattle.glyph_buffer.specs.Sides.{all_glyphs};
+ghost use Rattle.layout_rules.specs.Ready.{IsReady};
+ghost use Rattle.normal_rounds.specs.Rearranged.{Rearranges};
+ghost use Rattle.script_mark_orders.specs.Orders.{arabic_order, hebrew_order};
+
+use glyph_buffer::buffer::hb_buffer_t;
+use script_hebrew_thai::hebrew;
+use script_joining::marks;
+
+/// Puts a run of marks in the order of Arabic. It takes linear time and no memory.
+pub fn reorder_arabic_marks(buffer: &mut hb_buffer_t, start: usize, end: usize)
+    requires ready { IsReady buffer.old }
+    requires ordered { start ≤ end }
+    requires within { end ≤ length (all_glyphs buffer.old) }
+    ensures { Rearranges arabic_order start end buffer.old buffer.new }
+{
+    marks::reorder_marks(buffer, start, end);
+}
+
+/// Puts a run of marks in the order of Hebrew. It takes linear time and no memory.
+pub fn reorder_hebrew_marks(buffer: &mut hb_buffer_t, start: usize, end: usize)
+    requires ready { IsReady buffer.old }
+    requires ordered { start ≤ end }
+    requires within { end ≤ length (all_glyphs buffer.old) }
+    ensures { Rearranges hebrew_order start end buffer.old buffer.new }
+{
+    hebrew::reorder_marks(buffer, start, end);
+}

@@ -1,0 +1,31 @@
+-- The categories that the shapers of syllables see characters in.
+use Rattle.std.specs.Prelude.{ℕ, Option, None, Some, if◌then◌else◌, unwrap_or}
+use lib.Utf8.{scalar}
+use Rattle.script_constants.specs.declared.category.TheConstants as category
+use Rattle.script_constants.specs.declared.ot_category_t.TheConstants as ot_category
+use Rattle.unicode_tables.specs.Tables.{Tables, indic_of, universal_of}
+use Rattle.glyph_lists.specs.Items.{Item}
+use Rattle.glyph_lists.specs.Readings.{Stage, always}
+use Rattle.text_stages.specs.Stages.{mapped}
+
+abbrev pub category_or_none : Option (ℕ × ℕ) → ℕ
+category_or_none None = ot_category.OT_X
+category_or_none (Some p) = p.0
+
+-- of a character of Khmer or Myanmar; one that is not listed is of none
+abbrev pub listed_category : Tables → ℕ → ℕ
+listed_category t u = category_or_none (indic_of t u)
+
+abbrev pub ot_category_of : Tables → ℕ → ℕ
+ot_category_of t u = if scalar u then listed_category t u else ot_category.OT_X
+
+-- of a character of the universal shaper; one that is not listed is other
+abbrev pub universal_category_of : Tables → ℕ → ℕ
+universal_category_of t u = if scalar u then unwrap_or (universal_of t u) category.O else category.O
+
+abbrev pub with_category : (ℕ → ℕ) → Item → Item
+with_category category_of x = record x { category = category_of x.number }
+
+-- each item gets its character's category
+abbrev pub categories_set : (ℕ → ℕ) → Stage
+categories_set category_of = always (mapped (with_category category_of))

@@ -1,0 +1,4 @@
+-- Lemmas on pauses.
+pub mod Quiet
+pub mod Numbers
+pub mod Rules

@@ -1,0 +1,4 @@
+pub mod Quiet
+pub mod Syllables
+pub mod Categories
+pub mod Lemmas

@@ -1,0 +1,81 @@
+-- What is done between the stages of lookups for texts in syllables (OpenType specification, script development for Khmer, Myanmar and the Universal Shaping Engine).
+use Rattle.std.specs.Prelude.{ℕ, ◌-◌, List, Option, None, Some, bit_and}
+use Rattle.shaping_text.specs.declared.constants.BufferFlags.{BufferFlags}
+use Rattle.font_face.specs.declared.parts.FaceParts.{FaceParts}
+use Rattle.script_constants.specs.declared.category.TheConstants as category
+use Rattle.script_constants.specs.declared.ot_category_t.TheConstants as ot_category
+use Rattle.script_constants.specs.declared.shaper.hb_ot_script_shaper_t.{hb_ot_script_shaper_t}
+use Rattle.script_constants.specs.declared.syllable_kinds.khmer.TheConstants as khmer
+use Rattle.script_constants.specs.declared.syllable_kinds.myanmar.TheConstants as myanmar
+use Rattle.script_constants.specs.declared.syllable_kinds.universal.TheConstants as universal
+use Rattle.glyph_lists.specs.Items.{Item}
+use Rattle.glyph_lists.specs.Readings.{Stage, and_then, always, as_it_is}
+use Rattle.text_stages.specs.Stages.{mapped}
+use Rattle.script_walks.specs.Rewriting.{Rewritten, by_syllable}
+use Rattle.script_walks.specs.Buffers.{with_rule}
+use Rattle.script_circles.specs.declared.circles.CircleRule.{CircleRule}
+use Rattle.script_circles.specs.Circles.{circles_by}
+use Rattle.script_circles.specs.Rules.{circle_rule}
+use Rattle.script_khmer_myanmar.specs.declared.khmer.KhmerMasks.{KhmerMasks}
+use Rattle.script_khmer_myanmar.specs.Khmer.{khmer_syllable}
+use Rattle.script_khmer_myanmar.specs.Myanmar.{myanmar_syllable}
+use Rattle.script_universal.specs.Reordering.{universal_syllable}
+use Rattle.universal_syllables.specs.declared.forms.FormMasks.{FormMasks}
+use Rattle.universal_syllables.specs.Features.{rphf_masked, topography}
+use Rattle.universal_syllables.specs.Spans.{universal_set}
+
+-- each syllable is rewritten by itself
+abbrev pub syllables_by : (List Item → Rewritten) → Stage
+syllables_by rule = always (with_rule (by_syllable rule))
+
+-- a stage, and then each syllable is rewritten by itself
+abbrev pub then_syllables : Stage → (List Item → Rewritten) → Stage
+then_syllables stage rule v = and_then (stage v) (syllables_by rule)
+
+-- ---- circles and the order of syllables
+
+abbrev pub khmer_circles : FaceParts → BufferFlags → Option CircleRule
+khmer_circles font flags = circle_rule font flags khmer.BROKEN_CLUSTER ot_category.OT_DOTTEDCIRCLE (Some ot_category.OT_Repha) None
+
+abbrev pub myanmar_circles : FaceParts → BufferFlags → Option CircleRule
+myanmar_circles font flags = circle_rule font flags myanmar.BROKEN_CLUSTER ot_category.OT_DOTTEDCIRCLE None None
+
+abbrev pub universal_circles : FaceParts → BufferFlags → Option CircleRule
+universal_circles font flags = circle_rule font flags universal.BROKEN_CLUSTER category.B (Some category.R) None
+
+-- broken syllables get their circles, and then each syllable is put in order
+abbrev pub khmer_order : FaceParts → BufferFlags → KhmerMasks → Stage
+khmer_order font flags masks = then_syllables (circles_by (khmer_circles font flags)) (khmer_syllable masks)
+
+abbrev pub myanmar_order : FaceParts → BufferFlags → Stage
+myanmar_order font flags = then_syllables (circles_by (myanmar_circles font flags)) myanmar_syllable
+
+abbrev pub universal_order : FaceParts → BufferFlags → Stage
+universal_order font flags = then_syllables (circles_by (universal_circles font flags)) universal_syllable
+
+-- ---- the universal shaper's syllables
+
+-- the forms of syllables, where letters of the script don't join
+abbrev pub forms_set : Option FormMasks → Stage
+forms_set None = as_it_is
+forms_set (Some masks) = always (with_rule (topography masks))
+
+-- where syllables stand, which of their glyphs may become a reph, and their forms
+abbrev pub universal_syllables_set : (hb_ot_script_shaper_t → List ℕ → ℕ → ℕ × ℕ) → ℕ → Option FormMasks → Stage
+universal_syllables_set span_of rphf forms v = and_then (then_syllables (universal_set span_of) (rphf_masked rphf) v) (forms_set forms)
+
+-- ---- what is forgotten
+
+abbrev pub without_syllable : Item → Item
+without_syllable x = record x { syllable = 0 }
+
+-- no item is of a syllable
+abbrev pub syllables_cleared : Stage
+syllables_cleared = always (mapped without_syllable)
+
+abbrev pub unsubstituted : Item → Item
+unsubstituted x = record x { glyph_props = x.glyph_props - bit_and x.glyph_props 16 }
+
+-- no item says that a substitution put it there
+abbrev pub substitutions_forgotten : Stage
+substitutions_forgotten = always (mapped unsubstituted)

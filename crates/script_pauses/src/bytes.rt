@@ -1,0 +1,35 @@
+//! Where the syllables of Khmer and Myanmar stand.
+ghost use Rattle.std.specs.Prelude.{◌≡◌, ◌≢◌, false, Ok, Err, IfErr, OnOk};
+ghost use Rattle.glyph_lists.specs.Readings.{read_of};
+ghost use Rattle.glyph_buffer.specs.Sides.{items_of, run_of};
+ghost use Rattle.layout_rules.specs.Ready.{IsDone, IsReady};
+ghost use Rattle.layout_walks.specs.Pauses.{BringsNoGlyph};
+ghost use Rattle.script_circles.specs.Bytes.{syllables_set};
+
+use glyph_buffer::buffer::hb_buffer_t;
+use glyph_types::cause::ShapeCause;
+use script_circles::syllables;
+use script_constants::hb_ot_script_shaper_t;
+use script_syllables::SyllableSpans;
+use std::alloc::Global;
+
+/// Gives the glyphs of each syllable its byte and marks it as unsafe to break. Answers false: no glyph came in.
+///
+/// # Errors
+///
+/// `UnknownSyllableKind` where the spans name a kind that the shaper does not have, or want of memory.
+pub fn setup_syllables<S: SyllableSpans>(
+    alloc: Global,
+    spans: &S,
+    shaper: hb_ot_script_shaper_t,
+    buffer: &mut hb_buffer_t,
+) -> Result<bool, ShapeCause>
+    requires ready { IsReady buffer.old }
+    ensures ok { OnOk result (IsDone (syllables_set (S.span_of spans.now) shaper) buffer.old buffer.new) }
+    ensures told { result ≡ Ok false → BringsNoGlyph (items_of buffer.old) (items_of buffer.new) }
+    ensures err { IfErr result (λ e. e ≢ ShapeCause.OutOfMemory
+        → read_of (syllables_set (S.span_of spans.now) shaper) (run_of buffer.old) ≡ Err e) }
+{
+    syllables::setup_syllables(alloc, spans, shaper, buffer)?;
+    Ok(false)
+}

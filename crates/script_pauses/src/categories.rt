@@ -1,0 +1,73 @@
+//! The categories of a text's characters.
+ghost use Rattle.std.specs.Prelude.{◌≡◌};
+ghost use Rattle.glyph_lists.specs.Items.{item_of};
+ghost use Rattle.glyph_lists.specs.Origins.{origin_of};
+ghost use Rattle.layout_rules.specs.Ready.{IsReady};
+ghost use Rattle.text_stages.specs.Stages.{IsFollowed};
+ghost use Rattle.script_pauses.specs.Categories.{categories_set, listed_category, ot_category_of, universal_category_of, with_category};
+
+use glyph_buffer::buffer::hb_buffer_t;
+use glyph_types::info::hb_glyph_info_t;
+use script_constants::category;
+use script_constants::ot_category_t::OT_X;
+use text_stages::glyphs::map_glyphs;
+use unicode_tables::UnicodeTables;
+
+/// Each character keeps its category for the universal shaper. It takes linear time and no memory.
+pub fn set_universal_categories(tables: &UnicodeTables, buffer: &mut hb_buffer_t)
+    requires ready { IsReady buffer.old }
+    ensures { IsFollowed (categories_set (universal_category_of tables.now)) buffer.old buffer.new }
+{
+    map_glyphs(buffer, |glyph| with_universal_category(tables, glyph));
+}
+
+fn with_universal_category(tables: &UnicodeTables, glyph: &hb_glyph_info_t) -> hb_glyph_info_t
+    ensures item { item_of result ≡ with_category (universal_category_of tables.now) (item_of glyph.now) }
+    ensures origin { origin_of result ≡ origin_of glyph.now }
+{
+    let category = universal_category(tables, glyph.glyph_id);
+    hb_glyph_info_t { category, ..*glyph }
+}
+
+fn universal_category(tables: &UnicodeTables, u: u32) -> u8
+    ensures { result ≡ universal_category_of tables.now u }
+{
+    match char::from_u32(u) {
+        Some(c) => tables.universal(c).unwrap_or(category::O),
+        None => category::O,
+    }
+}
+
+/// Each character keeps its category for the shapers of Khmer and Myanmar. It takes linear time and no memory.
+pub fn set_ot_categories(tables: &UnicodeTables, buffer: &mut hb_buffer_t)
+    requires ready { IsReady buffer.old }
+    ensures { IsFollowed (categories_set (ot_category_of tables.now)) buffer.old buffer.new }
+{
+    map_glyphs(buffer, |glyph| with_ot_category(tables, glyph));
+}
+
+fn with_ot_category(tables: &UnicodeTables, glyph: &hb_glyph_info_t) -> hb_glyph_info_t
+    ensures item { item_of result ≡ with_category (ot_category_of tables.now) (item_of glyph.now) }
+    ensures origin { origin_of result ≡ origin_of glyph.now }
+{
+    let category = ot_category(tables, glyph.glyph_id);
+    hb_glyph_info_t { category, ..*glyph }
+}
+
+fn ot_category(tables: &UnicodeTables, u: u32) -> u8
+    ensures { result ≡ ot_category_of tables.now u }
+{
+    match char::from_u32(u) {
+        Some(c) => listed_category(tables, c),
+        None => OT_X,
+    }
+}
+
+fn listed_category(tables: &UnicodeTables, c: char) -> u8
+    ensures { result ≡ listed_category tables.now c }
+{
+    match tables.indic(c) {
+        Some((category, _)) => category,
+        None => OT_X,
+    }
+}

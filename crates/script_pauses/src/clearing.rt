@@ -1,0 +1,67 @@
+//! What is forgotten once the syllables are in order.
+ghost use Rattle.std.specs.Prelude.{◌≡◌};
+ghost use Rattle.glyph_lists.specs.Items.{item_of};
+ghost use Rattle.glyph_lists.specs.Origins.{origin_of};
+ghost use Rattle.glyph_buffer.specs.Sides.{items_of};
+ghost use Rattle.layout_rules.specs.Ready.{IsDone, IsReady};
+ghost use Rattle.layout_walks.specs.Pauses.{BringsNoGlyph};
+ghost use Rattle.text_stages.specs.Stages.{IsFollowed};
+ghost use Rattle.script_pauses.specs.Syllables.{substitutions_forgotten, syllables_cleared, unsubstituted, without_syllable};
+
+use glyph_buffer::buffer::hb_buffer_t;
+use glyph_types::flags::GlyphPropsFlags;
+use glyph_types::info::hb_glyph_info_t;
+use text_stages::glyphs::map_glyphs;
+
+/// No glyph is of a syllable any more. It takes linear time and no memory.
+pub fn clear_syllables(buffer: &mut hb_buffer_t)
+    requires ready { IsReady buffer.old }
+    ensures ok { IsDone syllables_cleared buffer.old buffer.new }
+    ensures told { BringsNoGlyph (items_of buffer.old) (items_of buffer.new) }
+{
+    without_syllables(buffer);
+}
+
+fn without_syllables(buffer: &mut hb_buffer_t)
+    requires ready { IsReady buffer.old }
+    ensures { IsFollowed syllables_cleared buffer.old buffer.new }
+{
+    map_glyphs(buffer, |glyph| without_syllable(glyph));
+}
+
+fn without_syllable(glyph: &hb_glyph_info_t) -> hb_glyph_info_t
+    ensures item { item_of result ≡ without_syllable (item_of glyph.now) }
+    ensures origin { origin_of result ≡ origin_of glyph.now }
+{
+    hb_glyph_info_t {
+        syllable: 0,
+        ..*glyph
+    }
+}
+
+/// No glyph says any more that a substitution put it there. It takes linear time and no memory.
+pub fn _hb_clear_substitution_flags(buffer: &mut hb_buffer_t)
+    requires ready { IsReady buffer.old }
+    ensures ok { IsDone substitutions_forgotten buffer.old buffer.new }
+    ensures told { BringsNoGlyph (items_of buffer.old) (items_of buffer.new) }
+{
+    without_substitutions(buffer);
+}
+
+fn without_substitutions(buffer: &mut hb_buffer_t)
+    requires ready { IsReady buffer.old }
+    ensures { IsFollowed substitutions_forgotten buffer.old buffer.new }
+{
+    map_glyphs(buffer, |glyph| unsubstituted(glyph));
+}
+
+fn unsubstituted(glyph: &hb_glyph_info_t) -> hb_glyph_info_t
+    ensures item { item_of result ≡ unsubstituted (item_of glyph.now) }
+    ensures origin { origin_of result ≡ origin_of glyph.now }
+{
+    let props = glyph.glyph_props.0;
+    hb_glyph_info_t {
+        glyph_props: GlyphPropsFlags(props - (props & GlyphPropsFlags::SUBSTITUTED.0)),
+        ..*glyph
+    }
+}

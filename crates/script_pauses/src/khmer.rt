@@ -1,0 +1,47 @@
+//! The pauses of the Khmer shaper.
+ghost use Rattle.std.specs.Prelude.{◌≡◌, ◌≢◌, true, false, Ok, Err, IfErr, OnOk};
+ghost use Rattle.glyph_lists.specs.Readings.{read_of};
+ghost use Rattle.glyph_buffer.specs.Sides.{items_of, run_of};
+ghost use Rattle.layout_rules.specs.Buffers.{are_glyphs};
+ghost use Rattle.layout_rules.specs.Ready.{IsDone, IsReady};
+ghost use Rattle.layout_walks.specs.Pauses.{BringsNoGlyph};
+ghost use Rattle.layout_walks.specs.Settings.{text_settings};
+ghost use Rattle.script_pauses.specs.Syllables.{khmer_order};
+
+use font_face::Face;
+use glyph_buffer::buffer::hb_buffer_t;
+use glyph_types::cause::ShapeCause;
+use script_circles::circles::insert_dotted_circles;
+use script_constants::ot_category_t::{OT_DOTTEDCIRCLE, OT_Repha};
+use script_constants::syllable_kinds::khmer::BROKEN_CLUSTER;
+use script_khmer_myanmar::khmer::{self, KhmerMasks};
+
+/// Puts a circle into each broken syllable and its glyphs in order. Answers whether circles came in.
+///
+/// # Errors
+///
+/// `TooLong` where the text would have more glyphs than the buffer may hold, or want of memory.
+pub fn reorder_khmer(
+    face: &Face,
+    masks: &KhmerMasks,
+    buffer: &mut hb_buffer_t,
+) -> Result<bool, ShapeCause>
+    requires ready { IsReady buffer.old }
+    requires numbers { are_glyphs (items_of buffer.old) ≡ true }
+    ensures ok { OnOk result
+        (IsDone (khmer_order face.now (text_settings buffer.old).flags masks.now) buffer.old buffer.new) }
+    ensures told { result ≡ Ok false → BringsNoGlyph (items_of buffer.old) (items_of buffer.new) }
+    ensures err { IfErr result (λ e. e ≢ ShapeCause.OutOfMemory
+        → read_of (khmer_order face.now (text_settings buffer.old).flags masks.now) (run_of buffer.old) ≡ Err e) }
+{
+    let inserted = insert_dotted_circles(
+        face,
+        buffer,
+        BROKEN_CLUSTER,
+        OT_DOTTEDCIRCLE,
+        Some(OT_Repha),
+        None,
+    )?;
+    khmer::reorder_khmer(masks, buffer)?;
+    Ok(inserted)
+}

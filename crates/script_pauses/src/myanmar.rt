@@ -1,0 +1,48 @@
+//! The pauses of the Myanmar shaper.
+ghost use Rattle.std.specs.Prelude.{◌≡◌, ◌≢◌, true, false, Ok, Err, IfErr, OnOk};
+ghost use Rattle.glyph_lists.specs.Readings.{read_of};
+ghost use Rattle.glyph_buffer.specs.Sides.{items_of, run_of};
+ghost use Rattle.layout_rules.specs.Buffers.{are_glyphs};
+ghost use Rattle.layout_rules.specs.Ready.{IsDone, IsReady};
+ghost use Rattle.layout_walks.specs.Pauses.{BringsNoGlyph};
+ghost use Rattle.layout_walks.specs.Settings.{text_settings};
+ghost use Rattle.script_pauses.specs.Syllables.{myanmar_order};
+
+use font_face::Face;
+use glyph_buffer::buffer::hb_buffer_t;
+use glyph_types::cause::ShapeCause;
+use script_circles::circles::insert_dotted_circles;
+use script_constants::ot_category_t::OT_DOTTEDCIRCLE;
+use script_constants::syllable_kinds::myanmar::BROKEN_CLUSTER;
+use script_khmer_myanmar::myanmar;
+use std::alloc::Global;
+
+/// Puts a circle into each broken syllable and its glyphs in order. Answers whether circles came in.
+///
+/// # Errors
+///
+/// `TooLong` where the text would have more glyphs than the buffer may hold, or want of memory.
+pub fn reorder_myanmar(
+    alloc: Global,
+    face: &Face,
+    buffer: &mut hb_buffer_t,
+) -> Result<bool, ShapeCause>
+    requires ready { IsReady buffer.old }
+    requires numbers { are_glyphs (items_of buffer.old) ≡ true }
+    ensures ok { OnOk result
+        (IsDone (myanmar_order face.now (text_settings buffer.old).flags) buffer.old buffer.new) }
+    ensures told { result ≡ Ok false → BringsNoGlyph (items_of buffer.old) (items_of buffer.new) }
+    ensures err { IfErr result (λ e. e ≢ ShapeCause.OutOfMemory
+        → read_of (myanmar_order face.now (text_settings buffer.old).flags) (run_of buffer.old) ≡ Err e) }
+{
+    let inserted = insert_dotted_circles(
+        face,
+        buffer,
+        BROKEN_CLUSTER,
+        OT_DOTTEDCIRCLE,
+        None,
+        None,
+    )?;
+    myanmar::reorder_myanmar(alloc, buffer)?;
+    Ok(inserted)
+}

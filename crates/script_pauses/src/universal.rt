@@ -1,0 +1,129 @@
+//! The pauses of the universal shaper.
+ghost use Rattle.std.specs.Prelude.{◌≡◌, ◌≢◌, true, false, Ok, Err, IfErr, OnOk};
+ghost use Rattle.glyph_lists.specs.Readings.{read_of};
+ghost use Rattle.glyph_buffer.specs.Sides.{items_of, run_of};
+ghost use Rattle.layout_rules.specs.Buffers.{are_glyphs};
+ghost use Rattle.layout_rules.specs.Ready.{IsDone, IsReady};
+ghost use Rattle.layout_walks.specs.Pauses.{BringsNoGlyph};
+ghost use Rattle.layout_walks.specs.Settings.{text_settings};
+ghost use Rattle.universal_syllables.specs.Features.{pref_recorded, rphf_recorded};
+ghost use Rattle.script_pauses.specs.Quiet.{IsQuiet};
+ghost use Rattle.script_pauses.specs.Syllables.{forms_set, syllables_by, universal_order, universal_syllables_set};
+
+use font_face::Face;
+use glyph_buffer::buffer::hb_buffer_t;
+use glyph_types::cause::ShapeCause;
+use glyph_types::info::hb_mask_t;
+use script_circles::circles::insert_dotted_circles;
+use script_constants::category::{B, R};
+use script_constants::syllable_kinds::universal::BROKEN_CLUSTER;
+use script_syllables::SyllableSpans;
+use script_universal::reorder;
+use std::alloc::Global;
+use universal_syllables::forms::{FormMasks, setup_topographical_masks};
+use universal_syllables::recording;
+use universal_syllables::rphf::setup_rphf_mask;
+use universal_syllables::spans::find_syllables;
+
+/// Gives the glyphs of each syllable its byte, marks it as unsafe to break, and gives its glyphs the features rphf and, where
+/// letters of the script don't join, of its form. Answers false: no glyph came in.
+///
+/// # Errors
+///
+/// `UnknownSyllableKind` where the spans name a kind that the shaper does not have, or want of memory.
+pub fn setup_syllables<S: SyllableSpans>(
+    alloc: Global,
+    spans: &S,
+    rphf_mask: hb_mask_t,
+    forms: Option<FormMasks>,
+    buffer: &mut hb_buffer_t,
+) -> Result<bool, ShapeCause>
+    requires ready { IsReady buffer.old }
+    ensures ok { OnOk result
+        (IsDone (universal_syllables_set (S.span_of spans.now) rphf_mask forms) buffer.old buffer.new) }
+    ensures told { result ≡ Ok false → BringsNoGlyph (items_of buffer.old) (items_of buffer.new) }
+    ensures err { IfErr result (λ e. e ≢ ShapeCause.OutOfMemory
+        → read_of (universal_syllables_set (S.span_of spans.now) rphf_mask forms) (run_of buffer.old) ≡ Err e) }
+{
+    set_up(alloc, spans, rphf_mask, forms, buffer)?;
+    Ok(false)
+}
+
+fn set_up<S: SyllableSpans>(
+    alloc: Global,
+    spans: &S,
+    rphf_mask: hb_mask_t,
+    forms: Option<FormMasks>,
+    buffer: &mut hb_buffer_t,
+) -> Result<(), ShapeCause>
+    requires ready { IsReady buffer.old }
+    ensures ok { OnOk result
+        (IsQuiet (universal_syllables_set (S.span_of spans.now) rphf_mask forms) buffer.old buffer.new) }
+    ensures err { IfErr result (λ e. e ≢ ShapeCause.OutOfMemory
+        → read_of (universal_syllables_set (S.span_of spans.now) rphf_mask forms) (run_of buffer.old) ≡ Err e) }
+{
+    find_syllables(alloc, spans, buffer)?;
+    setup_rphf_mask(rphf_mask, buffer)?;
+    setup_forms(forms, buffer);
+    Ok(())
+}
+
+#[tactic(auto, using(crate::specs::Lemmas::Quiet::quiet_same, crate::specs::Lemmas::Rules::forms_quiet))]
+fn setup_forms(forms: Option<FormMasks>, buffer: &mut hb_buffer_t)
+    requires ready { IsReady buffer.old }
+    ensures { IsQuiet (forms_set forms) buffer.old buffer.new }
+{
+    if let Some(masks) = forms {
+        setup_topographical_masks(&masks, buffer);
+    }
+}
+
+/// The first glyph of each syllable that a substitution put there becomes a reph, if it and all before it have the feature
+/// rphf. Answers false.
+///
+/// # Errors
+///
+/// Want of memory.
+pub fn record_rphf(mask: hb_mask_t, buffer: &mut hb_buffer_t) -> Result<bool, ShapeCause>
+    requires ready { IsReady buffer.old }
+    ensures ok { OnOk result (IsDone (syllables_by (rphf_recorded mask)) buffer.old buffer.new) }
+    ensures told { result ≡ Ok false → BringsNoGlyph (items_of buffer.old) (items_of buffer.new) }
+    ensures err { IfErr result (λ e. e ≡ ShapeCause.OutOfMemory) }
+{
+    recording::record_rphf(mask, buffer)?;
+    Ok(false)
+}
+
+/// The first glyph of each syllable that a substitution put there becomes a left vowel. Answers false.
+///
+/// # Errors
+///
+/// Want of memory.
+pub fn record_pref(buffer: &mut hb_buffer_t) -> Result<bool, ShapeCause>
+    requires ready { IsReady buffer.old }
+    ensures ok { OnOk result (IsDone (syllables_by pref_recorded) buffer.old buffer.new) }
+    ensures told { result ≡ Ok false → BringsNoGlyph (items_of buffer.old) (items_of buffer.new) }
+    ensures err { IfErr result (λ e. e ≡ ShapeCause.OutOfMemory) }
+{
+    recording::record_pref(buffer)?;
+    Ok(false)
+}
+
+/// Puts a circle into each broken syllable and its glyphs in order. Answers whether circles came in.
+///
+/// # Errors
+///
+/// `TooLong` where the text would have more glyphs than the buffer may hold, or want of memory.
+pub fn reorder_use(face: &Face, buffer: &mut hb_buffer_t) -> Result<bool, ShapeCause>
+    requires ready { IsReady buffer.old }
+    requires numbers { are_glyphs (items_of buffer.old) ≡ true }
+    ensures ok { OnOk result
+        (IsDone (universal_order face.now (text_settings buffer.old).flags) buffer.old buffer.new) }
+    ensures told { result ≡ Ok false → BringsNoGlyph (items_of buffer.old) (items_of buffer.new) }
+    ensures err { IfErr result (λ e. e ≢ ShapeCause.OutOfMemory
+        → read_of (universal_order face.now (text_settings buffer.old).flags) (run_of buffer.old) ≡ Err e) }
+{
+    let inserted = insert_dotted_circles(face, buffer, BROKEN_CLUSTER, B, Some(R), None)?;
+    reorder::reorder_use(buffer)?;
+    Ok(inserted)
+}
