@@ -1,0 +1,3 @@
+pub mod Tiles
+pub mod Words
+pub mod Runs

@@ -1,0 +1,6 @@
+// The tiles that Arabic words are stretched over.
+#![tactic(auto)]
+
+pub mod runs;
+pub mod tiles;
+pub mod words;
