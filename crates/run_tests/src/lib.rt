@@ -13,3 +13,5 @@ mod positions;
 mod streams;
 #[cfg(test)]
 mod substitutions;
+#[cfg(test)]
+mod texts;

@@ -224,34 +224,8 @@ const REFUSED_BYTES: [Refusal; 8] = [
     ),
 ];
 
-const REFUSED_TEXTS: [Refusal; 7] = [
-    (
-        None,
-        Direction::Invalid,
-        &[],
-        "{}",
-        FONT,
-        b"a\xC3\xA9",
-        RunFault::NotYet,
-    ),
-    (
-        None,
-        Direction::TopToBottom,
-        &[],
-        "{}",
-        FONT,
-        b"a",
-        RunFault::NotYet,
-    ),
-    (
-        Some(LATIN),
-        Direction::BottomToTop,
-        &[],
-        "{}",
-        FONT,
-        b"a",
-        RunFault::NotYet,
-    ),
+// Scripts whose shapers are not there yet.
+const REFUSED_TEXTS: [Refusal; 2] = [
     (
         Some(ARABIC),
         Direction::Invalid,
@@ -268,25 +242,6 @@ const REFUSED_TEXTS: [Refusal; 7] = [
         "{}",
         FONT,
         b"",
-        RunFault::NotYet,
-    ),
-    (
-        None,
-        Direction::Invalid,
-        &["liga[0:1]"],
-        "{}",
-        LIGATURES,
-        b"fi",
-        RunFault::NotYet,
-    ),
-    // Mirrored forms of a line from right to left.
-    (
-        None,
-        Direction::RightToLeft,
-        &["rtlm=0"],
-        "{}",
-        "{\"gsub\":{\"features\":[[\"rtlm\",[0]]],\"lookups\":[{\"type\":\"ligature\",\"subtables\":[]}]}}",
-        b"a",
         RunFault::NotYet,
     ),
 ];
