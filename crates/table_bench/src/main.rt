@@ -121,36 +121,41 @@ fn tell(rt: &HostRuntime, name: &str, start: Instant, found: usize) -> io::Resul
     eprintln!(rt; "{name}: {picoseconds} ps a look-up")
 }
 
+/// Asks for a text, by halves and by pages.
 fn compare(
     rt: &HostRuntime,
     name: &str,
+    text: Text,
     halves: &SortedRows<Class>,
     pages: &PagedRows<Class>,
-    text: &[u32],
 ) -> io::Result<()> {
+    let text = characters(rt.alloc(), text, halves.as_slice())?;
     let start = Instant::now(rt)?;
-    let found = found_by_halves(halves, text);
+    let found = found_by_halves(halves, &text);
     tell(rt, name, start, found)?;
     let start = Instant::now(rt)?;
-    let found = found_by_pages(pages, text);
+    let found = found_by_pages(pages, &text);
     tell(rt, name, start, found)
 }
 
+fn compare_texts(
+    rt: &HostRuntime,
+    halves: &SortedRows<Class>,
+    pages: &PagedRows<Class>,
+) -> io::Result<()> {
+    compare(rt, "running", Text::Running, halves, pages)?;
+    compare(rt, "random", Text::Random, halves, pages)?;
+    compare(rt, "latin", Text::Latin, halves, pages)
+}
+
 fn run(rt: &HostRuntime) -> io::Result<()> {
-    let alloc = rt.alloc();
-    let halves = rows(alloc)?;
-    let pages = rows(alloc)?;
+    let halves = rows(rt.alloc())?;
+    let pages = rows(rt.alloc())?;
     if !is_rising(&halves) || !is_rising(&pages) {
         return Ok(());
     }
-    let running = characters(alloc, Text::Running, &halves)?;
-    let random = characters(alloc, Text::Random, &halves)?;
-    let latin = characters(alloc, Text::Latin, &halves)?;
-    let halves = SortedRows::new(halves);
-    let pages = PagedRows::new(alloc, pages)?;
-    compare(rt, "running", &halves, &pages, &running)?;
-    compare(rt, "random", &halves, &pages, &random)?;
-    compare(rt, "latin", &halves, &pages, &latin)
+    let pages = PagedRows::new(rt.alloc(), pages)?;
+    compare_texts(rt, &SortedRows::new(halves), &pages)
 }
 
 fn main(rt: HostRuntime) -> io::Result<ExitCode> {

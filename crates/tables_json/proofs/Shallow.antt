@@ -1,10 +1,10 @@
 -- No row of tables has the fault of chains that are too long.
-use Rattle.std.proofs.Common.{◌≡◌, ◌≢◌, ℕ, ℤ, pos, negsuc, Bool, List, [], ◌∷◌, Option, Some, None, Result, Ok, Err, refl}
+use Rattle.std.proofs.Common.{◌≡◌, ◌≢◌, ℕ, ℤ, pos, negsuc, Bool, List, [], ◌∷◌, Option, Some, None, Result, Ok, Err}
 use Rattle.std.specs.Prelude.{⊤, codes, if◌then◌else◌, nat_lt, nat_le}
 use Rattle.std.specs.Option.{ok_or}
 use Rattle.std.proofs.lemmas.Bool.{cond_both}
 use Rattle.serde_json.specs.Data.{Num, Data, Items, no_items, item}
-use Rattle.serde_json.specs.Find.{get, as_array, as_integer, as_number, as_str, as_object}
+use Rattle.serde_json.specs.Find.{get, as_array, as_integer, as_number, as_str}
 use Rattle.json_values.specs.declared.fault.JsonFault.{JsonFault}
 use Rattle.json_values.specs.declared.fault.JsonFault.TheVariants.{WrongShape, FloatNumber, UnknownName, OutOfOrder, OutOfRange, SplitDepth}
 use Rattle.json_values.specs.Cell.{and_then, both, character, first_fault, in_characters, integer, integer_of, is_scalar_value, rank_of}

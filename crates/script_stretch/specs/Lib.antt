@@ -1,0 +1,4 @@
+pub mod Tiles
+pub mod Words
+pub mod Runs
+pub mod Copies

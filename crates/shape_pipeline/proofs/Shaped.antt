@@ -1,0 +1,121 @@
+-- Texts that were shaped.
+use Rattle.std.proofs.Common.{ℕ, ◌≡◌, ◌==◌, Bool, true, false, if◌then◌else◌, List, [], length, Ok, Err, refl, sym, ap, subst, ◌∙◌}
+use Rattle.std.specs.Prelude.{⊤, All, IfErr, IfOk, Option, Result, ◌≢◌}
+use Rattle.std.proofs.lemmas.List.{length-map}
+use Rattle.std.proofs.lemmas.List.Folds.{list_all-map}
+use Rattle.std.proofs.lemmas.List.Sums.{list_all-from_AllPass}
+use Rattle.text_buffers.specs.Wrappers.{IsCharacter}
+use Rattle.shape_text.specs.Properties.{are_characters, is_character}
+use lib.Utf8.{scalar}
+use Rattle.shaping_text.specs.ScriptTags.{wanted_language_tags}
+use Rattle.shaping_text.specs.declared.direction.Direction.{Direction}
+use Rattle.shaping_text.specs.declared.language.Language.{Language}
+use Rattle.shaping_text.specs.declared.script.Script.{Script}
+use Rattle.shaping_text.specs.declared.tag.Tag.{Tag}
+use Rattle.glyph_types.specs.declared.cause.ShapeCause.{ShapeCause}
+use Rattle.glyph_types.specs.declared.cause.ShapeCause.TheVariants.{OutOfMemory}
+use Rattle.glyph_types.specs.declared.info.hb_glyph_info_t.{hb_glyph_info_t}
+use Rattle.feature_text.specs.declared.feature.Feature.{Feature}
+use Rattle.font_face.specs.declared.parts.FaceParts.{FaceParts}
+use Rattle.unicode_tables.specs.Tables.{Tables}
+use Rattle.glyph_lists.specs.Items.{item_of, strip}
+use Rattle.glyph_lists.specs.Readings.{Follows, Reading, with_events}
+use Rattle.glyph_lists.specs.Steps.{follows_same}
+use Rattle.glyph_buffer.specs.Sides.{Sides, all_glyphs, items_of, run_of}
+use Rattle.layout_walks.specs.Settings.{TextSettings, text_settings}
+use Rattle.shape_plan.specs.declared.any_shaper.hb_ot_any_shaper_t.{hb_ot_any_shaper_t}
+use Rattle.shape_plan.specs.declared.plan.hb_ot_shape_plan_t.{hb_ot_shape_plan_t}
+use Rattle.shape_plan.specs.Plans.{IsPlanned}
+use Rattle.shape_plan.specs.Shapers.{traits_of}
+use Rattle.shape_shaper.specs.Rules.{Spans, plain_rules}
+use Rattle.shape_reading.specs.Reading.{reading}
+use Rattle.shape_reading.specs.Shaping.{Shaping}
+use Rattle.shape_pipeline.specs.declared.shape.ShapeFault.{ShapeFault}
+use Rattle.shape_pipeline.specs.Shaped.{by_plan, by_text, language_tags, text_reading}
+
+-- ---- a text without characters, and another
+
+same_follows : (p : Shaping) (s : Sides) → (length (all_glyphs s) == 0) ≡ true → Follows (text_reading p (run_of s)) (run_of s) (run_of s)
+unfolding text_reading
+same_follows p s empty =
+    let count : (length (items_of s) == 0) ≡ true = ap (λ n. n == 0) (length-map (all_glyphs s) item_of) ∙ empty in
+    let P : Bool → Type 0 = λ b. Follows (if b then Ok (with_events [] (run_of s).view) else reading p (run_of s)) (run_of s) (run_of s) in
+    subst P (sym count) (follows_same (run_of s))
+
+pub empty_follows : (p : Shaping) (s new : Sides) → new ≡ s → (length (all_glyphs s) == 0) ≡ true → Follows (text_reading p (run_of s)) (run_of s) (run_of new)
+empty_follows p s new same empty = let P : Sides → Type 0 = λ n. Follows (text_reading p (run_of s)) (run_of s) (run_of n) in subst P (sym same) (same_follows p s empty)
+
+text_is_read : (p : Shaping) (s : Sides) → (length (all_glyphs s) == 0) ≡ false → text_reading p (run_of s) ≡ reading p (run_of s)
+unfolding text_reading
+text_is_read p s some =
+    let count : (length (items_of s) == 0) ≡ false = ap (λ n. n == 0) (length-map (all_glyphs s) item_of) ∙ some in
+    ap (λ b. if b then Ok (with_events [] (run_of s).view) else reading p (run_of s)) count
+
+pub text_follows : (p : Shaping) (s shaped new : Sides) → new ≡ shaped → (length (all_glyphs s) == 0) ≡ false → Follows (reading p (run_of s)) (run_of s) (run_of shaped) → Follows (text_reading p (run_of s)) (run_of s) (run_of new)
+text_follows p s shaped new same some f =
+    let P : Reading → Type 0 = λ r. Follows r (run_of s) (run_of shaped) in
+    let Q : Sides → Type 0 = λ n. Follows (text_reading p (run_of s)) (run_of s) (run_of n) in
+    subst Q (sym same) (subst P (sym (text_is_read p s some)) f)
+
+pub text_refused : (p : Shaping) (s : Sides) (cause told : ShapeCause) → told ≡ cause → (length (all_glyphs s) == 0) ≡ false → reading p (run_of s) ≡ Err cause → text_reading p (run_of s) ≡ Err told
+text_refused p s cause told same some e = text_is_read p s some ∙ e ∙ ap Err (sym same)
+
+-- ---- a text's own plan
+
+-- what a text is shaped by does not depend on who made its plan
+pub planned_for : (font : FaceParts) (tables : Tables) (tags : List ℕ → List Tag) (spans : Spans) (features : List Feature) (s : Sides) (plan : hb_ot_shape_plan_t hb_ot_any_shaper_t ⊤) → IsPlanned font (language_tags tags s) s.direction s.script features plan
+    → by_plan (traits_of plan.shaper) plain_rules plan font tables spans (text_settings s) ≡ by_text font tables tags spans features s
+planned_for font tables tags spans features s plan is = rw (is.shaper, is.direction, is.script, is.map, is.choices, is.features) refl
+
+-- ---- a text's characters
+
+pub text_characters : (gs : List hb_glyph_info_t) → All IsCharacter gs → are_characters (strip gs) ≡ true
+text_characters gs are = list_all-map is_character item_of gs ∙ list_all-from_AllPass (λ (g : hb_glyph_info_t). scalar g.glyph_id) gs (λ k d lt. (are k d lt).scalar_value)
+
+pub same_characters : (s : Sides) → All IsCharacter (all_glyphs s) → are_characters (items_of s) ≡ true
+same_characters s are = text_characters (all_glyphs s) are
+
+-- ---- a text whose direction and script were guessed
+
+abbrev IsShaped : Result Sides ShapeFault → (TextSettings → Shaping) → Sides → Type 0
+IsShaped r q s = IfOk r (λ (glyphs : Sides). Follows (text_reading (q (text_settings s)) (run_of s)) (run_of s) (run_of glyphs))
+
+abbrev IsRefused : Result Sides ShapeFault → (TextSettings → Shaping) → Sides → Type 0
+IsRefused r q s = IfErr r (λ (e : ShapeFault). e.cause ≢ OutOfMemory → text_reading (q (text_settings s)) (run_of s) ≡ Err e.cause)
+
+pub shaped_as_guessed : (q : TextSettings → Shaping) (r : Result Sides ShapeFault) (s mid t : Sides) → s ≡ mid → mid ≡ t → IsShaped r q s → IsShaped r q t
+shaped_as_guessed q r s mid t same guess h = subst (IsShaped r q) (same ∙ guess) h
+
+pub refused_as_guessed : (q : TextSettings → Shaping) (r : Result Sides ShapeFault) (s mid t : Sides) → s ≡ mid → mid ≡ t → IsRefused r q s → IsRefused r q t
+refused_as_guessed q r s mid t same guess h = subst (IsRefused r q) (same ∙ guess) h
+
+-- ---- and whose plan is its own
+
+planned_here : (font : FaceParts) (tags : List ℕ → List Tag) (features : List Feature) (s : Sides) (d : Direction) (script : Option Script) (l : Option Language) (plan : hb_ot_shape_plan_t hb_ot_any_shaper_t ⊤)
+    → d ≡ s.direction → script ≡ s.script → l ≡ s.language → IsPlanned font (wanted_language_tags tags l) d script features plan → IsPlanned font (language_tags tags s) s.direction s.script features plan
+planned_here font tags features s d script l plan direction of language is =
+    let A : Direction → Type 0 = λ x. IsPlanned font (wanted_language_tags tags l) x script features plan in
+    let B : Option Script → Type 0 = λ x. IsPlanned font (wanted_language_tags tags l) s.direction x features plan in
+    let C : Option Language → Type 0 = λ x. IsPlanned font (wanted_language_tags tags x) s.direction s.script features plan in
+    subst C language (subst B of (subst A direction is))
+
+module _ (font : FaceParts) (tables : Tables) (tags : List ℕ → List Tag) (spans : Spans) (features : List Feature) (s mid t : Sides) (plan : hb_ot_shape_plan_t hb_ot_any_shaper_t ⊤) (d : Direction) (script : Option Script) (l : Option Language)
+    (same : s ≡ mid) (guess : mid ≡ t) (direction : d ≡ s.direction) (of : script ≡ s.script) (language : l ≡ s.language) (is : IsPlanned font (wanted_language_tags tags l) d script features plan) (r : Result Sides ShapeFault) where
+  abbrev IsShapedBy : Sides → Shaping → Type 0
+  IsShapedBy x p = IfOk r (λ (glyphs : Sides). Follows (text_reading p (run_of x)) (run_of x) (run_of glyphs))
+
+  abbrev IsRefusedBy : Sides → Shaping → Type 0
+  IsRefusedBy x p = IfErr r (λ (e : ShapeFault). e.cause ≢ OutOfMemory → text_reading p (run_of x) ≡ Err e.cause)
+
+  its_own : by_plan (traits_of plan.shaper) plain_rules plan font tables spans (text_settings s) ≡ by_text font tables tags spans features s
+  its_own = planned_for font tables tags spans features s plan (planned_here font tags features s d script l plan direction of language is)
+
+  pub shaped_by_its_own : IsShapedBy s (by_plan (traits_of plan.shaper) plain_rules plan font tables spans (text_settings s)) → IsShapedBy t (by_text font tables tags spans features t)
+  shaped_by_its_own h =
+      let P : Sides → Type 0 = λ x. IsShapedBy x (by_text font tables tags spans features x) in
+      subst P (same ∙ guess) (subst (IsShapedBy s) its_own h)
+
+  pub refused_by_its_own : IsRefusedBy s (by_plan (traits_of plan.shaper) plain_rules plan font tables spans (text_settings s)) → IsRefusedBy t (by_text font tables tags spans features t)
+  refused_by_its_own h =
+      let P : Sides → Type 0 = λ x. IsRefusedBy x (by_text font tables tags spans features x) in
+      subst P (same ∙ guess) (subst (IsRefusedBy s) its_own h)

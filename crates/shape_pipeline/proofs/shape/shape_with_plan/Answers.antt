@@ -1,0 +1,18 @@
+use Rattle.shape_pipeline.proofs.Shaped.{refused_as_guessed, same_characters, shaped_as_guessed}
+use Rattle.shape_pipeline.specs.Shaped.{by_plan}
+use Rattle.shape_pipeline.proofs.shape.shape_with_plan.Goals as goal
+
+pub shape_guessed-requires-clause-characters : goal.shape_guessed-requires-clause-characters
+shape_guessed-requires-clause-characters g c = same_characters c.into_buffer.result c.into_buffer.ensures.characters
+
+pub returns-clause-ok : goal.returns-clause-ok
+returns-clause-ok g c =
+    let plan = c.args.plan.now in
+    shaped_as_guessed (by_plan (g.S.PlannedShaper.traits plan.shaper) (g.S.hb_ot_shaper_t.rules plan.shaper plan.script_plan) plan c.args.face.now c.args.shape_data.tables.now (g.P.SyllableSpans.span_of c.args.shape_data.spans.now))
+    c.shape_guessed.result c.into_buffer.result c.guess_segment_properties.new.self _ c.into_buffer.ensures.same c.guess_segment_properties.ensures c.shape_guessed.ensures.ok
+
+pub returns-clause-refused : goal.returns-clause-refused
+returns-clause-refused g c =
+    let plan = c.args.plan.now in
+    refused_as_guessed (by_plan (g.S.PlannedShaper.traits plan.shaper) (g.S.hb_ot_shaper_t.rules plan.shaper plan.script_plan) plan c.args.face.now c.args.shape_data.tables.now (g.P.SyllableSpans.span_of c.args.shape_data.spans.now))
+    c.shape_guessed.result c.into_buffer.result c.guess_segment_properties.new.self _ c.into_buffer.ensures.same c.guess_segment_properties.ensures c.shape_guessed.ensures.refused

@@ -1,0 +1,7 @@
+// Shaping: a text and a font become placed glyphs.
+#![tactic(auto)]
+
+pub mod data;
+pub mod shape;
+
+pub use data::hb_shape_data_t;

@@ -1,0 +1,135 @@
+//! Shaping of a text, with a plan or without one.
+ghost use Rattle.std.specs.Prelude.{◌≡◌, ◌≢◌, Err, IfErr, IfOk, true, false};
+ghost use Rattle.glyph_lists.specs.Readings.{Follows};
+ghost use Rattle.glyph_buffer.specs.Segment.{guessed};
+ghost use Rattle.glyph_buffer.specs.Sides.{empty_buffer, items_of, run_of};
+ghost use Rattle.layout_walks.specs.Settings.{text_settings};
+ghost use Rattle.shape_text.specs.Properties.{are_characters};
+ghost use Rattle.shape_pipeline.specs.Shaped.{by_plan, by_text, text_reading};
+
+use crate::data::hb_shape_data_t;
+use feature_text::feature::Feature;
+use font_face::Face;
+use glyph_buffer::buffer::hb_buffer_t;
+use glyph_types::cause::ShapeCause;
+use ot_shape::context::{Shaped, hb_ot_shape_context_t};
+use script_syllables::SyllableSpans;
+use shape_plan::plan::hb_ot_shape_plan_t;
+use shape_shaper::hb_ot_shaper_t;
+use shaping_text::language_tags::LanguageTags;
+use std::alloc::Global;
+use text_buffers::glyphs::GlyphBuffer;
+use text_buffers::unicode_buffer::UnicodeBuffer;
+
+/// Why a text was not shaped, and the buffer for another text.
+#[derive(Drop)]
+pub struct ShapeFault {
+    pub cause: ShapeCause,
+    pub buffer: UnicodeBuffer,
+}
+
+fn fault(cause: ShapeCause, mut buffer: hb_buffer_t) -> ShapeFault
+    ensures cause { result.cause ≡ cause }
+    ensures cleared { result.buffer ≡ empty_buffer }
+{
+    buffer.clear();
+    ShapeFault {
+        cause,
+        buffer: UnicodeBuffer::from_buffer(buffer),
+    }
+}
+
+/// Shapes a text whose direction and script are known. A text without characters stays as it is.
+fn shape_guessed<'a, S: hb_ot_shaper_t, P: SyllableSpans>(
+    context: &hb_ot_shape_context_t<'a, S, P>,
+    mut buffer: hb_buffer_t,
+) -> Result<GlyphBuffer, ShapeFault>
+    requires closed { buffer.is_open ≡ false }
+    requires unrefused { buffer.has_refused ≡ false }
+    requires characters { are_characters (items_of buffer) ≡ true }
+    ensures ok { IfOk result (λ glyphs. Follows
+        (text_reading (⟦<hb_ot_shape_context_t<'a, S, P> as Shaped>⟧.shaping context.now (text_settings buffer)) (run_of buffer))
+        (run_of buffer) (run_of glyphs)) }
+    ensures refused { IfErr result (λ e. e.cause ≢ ShapeCause.OutOfMemory → text_reading
+        (⟦<hb_ot_shape_context_t<'a, S, P> as Shaped>⟧.shaping context.now (text_settings buffer)) (run_of buffer)
+        ≡ Err e.cause) }
+    ensures cleared { IfErr result (λ e. e.buffer ≡ empty_buffer) }
+{
+    if buffer.is_empty() {
+        return Ok(GlyphBuffer::from_buffer(buffer));
+    }
+    match context.shape_internal(&mut buffer) {
+        Ok(()) => Ok(GlyphBuffer::from_buffer(buffer)),
+        Err(cause) => Err(fault(cause, buffer)),
+    }
+}
+
+/// Shapes a text by a plan for this font, for the text's direction and script, which are guessed where they are not set. The
+/// glyphs, where they stand, and the clusters and flags that they come from are those of the text's reading. It refuses by
+/// the reading's own cause, or for want of memory, and then hands back the buffer, cleared.
+pub fn shape_with_plan<S: hb_ot_shaper_t, P: SyllableSpans, L: LanguageTags>(
+    alloc: Global,
+    face: &Face,
+    shape_data: hb_shape_data_t<'_, P, L>,
+    plan: &hb_ot_shape_plan_t<S>,
+    mut buffer: UnicodeBuffer,
+) -> Result<GlyphBuffer, ShapeFault>
+    ensures ok { IfOk result (λ glyphs. Follows
+        (text_reading (by_plan (S.traits plan.now.shaper) (S.rules plan.now.shaper plan.now.script_plan) plan.now face.now
+        shape_data.entry.tables.now (P.span_of shape_data.entry.spans.now) (text_settings (guessed buffer))) (run_of (guessed buffer)))
+        (run_of (guessed buffer)) (run_of glyphs)) }
+    ensures refused { IfErr result (λ e. e.cause ≢ ShapeCause.OutOfMemory → text_reading
+        (by_plan (S.traits plan.now.shaper) (S.rules plan.now.shaper plan.now.script_plan) plan.now face.now
+        shape_data.entry.tables.now (P.span_of shape_data.entry.spans.now) (text_settings (guessed buffer))) (run_of (guessed buffer)) ≡ Err e.cause) }
+    ensures cleared { IfErr result (λ e. e.buffer ≡ empty_buffer) }
+{
+    buffer.guess_segment_properties();
+    let context = hb_ot_shape_context_t {
+        plan,
+        face,
+        tables: shape_data.tables,
+        spans: shape_data.spans,
+        alloc,
+    };
+    shape_guessed(&context, buffer.into_buffer())
+}
+
+/// Shapes a text in a font, with the features that are asked for: by a plan that serves this text alone.
+pub fn shape<P: SyllableSpans, L: LanguageTags>(
+    alloc: Global,
+    face: &Face,
+    shape_data: hb_shape_data_t<'_, P, L>,
+    features: &[Feature],
+    mut buffer: UnicodeBuffer,
+) -> Result<GlyphBuffer, ShapeFault>
+    ensures ok { IfOk result (λ glyphs. Follows
+        (text_reading (by_text face.now shape_data.entry.tables.now (L.tags_of shape_data.entry.languages.now) (P.span_of shape_data.entry.spans.now) features.now
+        (guessed buffer)) (run_of (guessed buffer))) (run_of (guessed buffer)) (run_of glyphs)) }
+    ensures refused { IfErr result (λ e. e.cause ≢ ShapeCause.OutOfMemory → text_reading
+        (by_text face.now shape_data.entry.tables.now (L.tags_of shape_data.entry.languages.now) (P.span_of shape_data.entry.spans.now) features.now
+        (guessed buffer)) (run_of (guessed buffer)) ≡ Err e.cause) }
+    ensures cleared { IfErr result (λ e. e.buffer ≡ empty_buffer) }
+{
+    buffer.guess_segment_properties();
+    let buffer = buffer.into_buffer();
+    let plan = match hb_ot_shape_plan_t::new(
+        alloc,
+        face,
+        shape_data.languages,
+        buffer.direction(),
+        buffer.script(),
+        buffer.language(),
+        features,
+    ) {
+        Ok(plan) => plan,
+        Err(_) => return Err(fault(ShapeCause::OutOfMemory, buffer)),
+    };
+    let context = hb_ot_shape_context_t {
+        plan: &plan,
+        face,
+        tables: shape_data.tables,
+        spans: shape_data.spans,
+        alloc,
+    };
+    shape_guessed(&context, buffer)
+}
