@@ -1,6 +1,6 @@
 -- A plain text begun.
-use Rattle.std.proofs.Common.{ℕ, ◌≡◌, ◌≤◌, ◌*◌, ◌+◌, ◌&&◌, ◌==◌, Bool, true, false, if◌then◌else◌, List, [], ◌∷◌, Ok, map, length, max, refl, sym, ap, subst, ◌∙◌, arith}
-use Rattle.std.specs.Prelude.{bit_and, bit_or, nat_le, Option, Some, None, is_some, fold}
+use Rattle.std.proofs.Common.{ℕ, ◌≡◌, ◌≤◌, ◌*◌, ◌+◌, ◌&&◌, ◌==◌, Bool, true, false, if◌then◌else◌, List, [], ◌∷◌, map, length, max, refl, sym, ap, subst, ◌∙◌, arith}
+use Rattle.std.specs.Prelude.{bit_and, bit_or, nat_le, Option, Some, None, is_some}
 use Rattle.std.proofs.Math.Nat.{le-max_left}
 use Rattle.std.proofs.lemmas.Nat.{and_or_apart}
 use Rattle.shaping_text.specs.declared.constants.BufferFlags.{BufferFlags}
@@ -22,12 +22,11 @@ use Rattle.shape_text.specs.Properties.{met, prepared, prepared_item, told_by, w
 use Rattle.shape_text.specs.Circle.{DOTTED_CIRCLE, asks_circle, begins_with_mark, first_circle, with_circle}
 use Rattle.shape_text.specs.Clusters.{with_clusters}
 use Rattle.shape_direction.specs.NativeOrder.{is_number_text, is_turned, native_order, ordered, runs_against, script_direction, turned_text, with_numbers, without_continuation}
-use Rattle.shape_reading.specs.Chains.{in_order}
 use Rattle.shape_reading.specs.Characters.{text_begun}
 use Rattle.shape_reading.specs.Limits.{begun}
 use Rattle.shape_reading.specs.Shaping.{Shaping}
 use Rattle.plain_texts.specs.PlainTexts.{IsPlainShaping}
-use Rattle.plain_texts.proofs.Texts.{Are, IsPlain, Leads, Stands, always_leads, are_many, are_mapped, both_lead, last_leads, leads_as, rests}
+use Rattle.plain_texts.proofs.Texts.{Are, IsPlain, Leads, Stands, always_leads, are_many, are_mapped, both_lead, last_leads}
 use Rattle.normal_forms.specs.Characters.{is_mark_number}
 use Rattle.plain_texts.proofs.Words.{word_alone, word_mark}
 

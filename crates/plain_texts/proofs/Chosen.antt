@@ -1,10 +1,9 @@
 -- The characters of a plain text as the font wants them.
 use Rattle.std.proofs.Common.{ℕ, ◌≡◌, ◌≤◌, ◌++◌, ◌&&◌, ◌==◌, Bool, true, false, if◌then◌else◌, nat_le, List, [], ◌∷◌, Ok, map, length, refl, sym, ap, subst, ◌∙◌, arith}
-use Rattle.std.specs.Prelude.{bit_and, Option, Some, None, is_some, drop}
-use Rattle.std.specs.List.{list_any, list_all}
+use Rattle.std.specs.Prelude.{bit_and, Option, Some, None, is_some}
+use Rattle.std.specs.List.{list_any}
 use Rattle.std.proofs.lemmas.Bool.{and_parts, eqb-true}
 use Rattle.std.proofs.lemmas.Bool.Decides.{nat_tests}
-use Rattle.std.proofs.lemmas.List.{append-nil, length-map}
 use lib.Utf8.{scalar}
 use Rattle.shaping_text.specs.declared.direction.Direction.{Direction}
 use Rattle.shaping_text.specs.declared.direction.Direction.TheVariants.{LeftToRight}
@@ -14,15 +13,15 @@ use Rattle.unicode_tables.specs.Tables.{Tables}
 use Rattle.unicode_chars.specs.Character.{is_default_ignorable_character}
 use Rattle.font_face.specs.declared.parts.FaceParts.{FaceParts}
 use Rattle.font_face.specs.Glyphs.{nominal_glyph}
-use Rattle.glyph_properties.specs.Properties.{is_mark_character, properties_of}
+use Rattle.glyph_properties.specs.Properties.{properties_of}
 use Rattle.glyph_lists.specs.Items.{Item, Position}
-use Rattle.glyph_lists.specs.Readings.{Read, Stage, View, always, as_it_is, with_events}
+use Rattle.glyph_lists.specs.Readings.{Read, View, always, as_it_is, with_events}
 use Rattle.glyph_buffer.specs.Masks.{items_set}
 use Rattle.glyph_buffer.specs.Sides.{zero_positions}
 use Rattle.map_builder.specs.Compiled.{OtMapValue}
 use Rattle.normal_forms.specs.declared.mode.NormalizationMode.{NormalizationMode}
 use Rattle.normal_forms.specs.declared.mode.NormalizationMode.TheVariants as mode
-use Rattle.normal_forms.specs.Arranged.{Arranged, in_turn}
+use Rattle.normal_forms.specs.Arranged.{in_turn}
 use Rattle.normal_forms.specs.Characters.{is_mark, is_mark_number, shown, with_glyph}
 use Rattle.normal_forms.specs.Expanding.{expanded, expanded_groups, expanded_item, expanded_list, items_for, whole_item, with_found_glyph}
 use Rattle.normal_forms.specs.Normalizer.{Normalizer, has_character, reach_alone}
@@ -36,7 +35,7 @@ use Rattle.shape_masks.specs.Ranges.{bits_of, placed_value, with_all_ranges, wit
 use Rattle.shape_normalize.specs.Rounds.{normalization}
 use Rattle.shape_fractions.specs.Fractions.{with_fractions}
 use Rattle.shape_shaper.specs.Rules.{ShaperRules}
-use Rattle.shape_reading.specs.Chains.{in_order, only_if}
+use Rattle.shape_reading.specs.Chains.{only_if}
 use Rattle.shape_reading.specs.Characters.{characters_chosen, normalizer, turned_to_line}
 use Rattle.shape_reading.specs.Laws.{have_no_ranges}
 use Rattle.shape_reading.specs.Masks.{fraction_masks, masks_set, ranges_set}

@@ -1,5 +1,5 @@
 -- The glyphs of a plain text.
-use Rattle.std.proofs.Common.{ℕ, ◌≡◌, ◌&&◌, ◌||◌, ◌==◌, Bool, true, false, not, if◌then◌else◌, nat_le, List, [], ◌∷◌, Ok, map, refl, sym, ap, subst, ◌∙◌}
+use Rattle.std.proofs.Common.{ℕ, ◌≡◌, ◌&&◌, ◌||◌, ◌==◌, Bool, true, false, if◌then◌else◌, nat_le, List, [], ◌∷◌, Ok, map, refl, sym, ap, subst, ◌∙◌}
 use Rattle.std.specs.Prelude.{◌+◌, bit_and, Option, Some, None}
 use Rattle.std.specs.Option.{option_map_or}
 use Rattle.ucd_category.specs.declared.GeneralCategory.TheVariants.{NonspacingMark}
@@ -8,7 +8,6 @@ use Rattle.font_face.specs.declared.parts.FaceParts.{FaceParts}
 use Rattle.glyph_properties.specs.Properties.{properties_of}
 use Rattle.glyph_lists.specs.Items.{Item, Position}
 use Rattle.glyph_lists.specs.Readings.{Read, Stage, View, always, and_then, as_it_is, then_read, then_reading, with_events}
-use Rattle.layout_lookups.specs.declared.substitution.SubstLookup.{SubstLookup}
 use Rattle.layout_lookups.specs.declared.substitution.SubstitutionTable.{SubstitutionTable}
 use Rattle.map_features.specs.declared.lookup.lookup_map_t.{lookup_map_t}
 use Rattle.map_stages.specs.declared.stages.StageMap.{StageMap}
@@ -21,12 +20,12 @@ use Rattle.text_stages.specs.Categories.{is_nonspacing_mark}
 use Rattle.shape_fallback.specs.Classes.{fallback_class, recategorized, with_places}
 use Rattle.shape_glyphs.specs.Classes.{begun, with_font_classes}
 use Rattle.shape_glyphs.specs.Glyphs.{as_glyph, classified, glyph_or_missing, with_glyphs, with_synthesized_classes}
-use Rattle.shape_shaper.specs.Rules.{ShaperRules, plain_rules}
-use Rattle.shape_reading.specs.Chains.{in_order, only_if}
+use Rattle.shape_shaper.specs.Rules.{ShaperRules}
+use Rattle.shape_reading.specs.Chains.{only_if}
 use Rattle.shape_reading.specs.Glyphs.{glyphs_substituted, glyphs_taken}
 use Rattle.shape_reading.specs.Shaping.{Shaping, pauses_of}
 use Rattle.plain_texts.specs.PlainTexts.{IsPlainShaping, glyph_of}
-use Rattle.plain_texts.proofs.Texts.{Are, IsPlain, Leads, Stands, acted, always_leads, are_mapped, both_lead, either, its_number, last_leads}
+use Rattle.plain_texts.proofs.Texts.{IsPlain, Leads, acted, always_leads, are_mapped, both_lead, either, its_number, last_leads}
 use Rattle.plain_texts.proofs.Chosen.{Chosen, Placed}
 use Rattle.plain_texts.proofs.Words.{word_mark}
 

@@ -1,23 +1,20 @@
 -- The places of a plain text's glyphs.
-use Rattle.std.proofs.Common.{ℕ, suc, ◌≡◌, ◌&&◌, ◌==◌, Bool, true, false, not, if◌then◌else◌, nat_le, List, [], ◌∷◌, Ok, map, length, reverse, refl, sym, ap, subst, ◌∙◌}
-use Rattle.std.specs.Prelude.{pos, bit_and, filter, Option, Some, None, replicate}
+use Rattle.std.proofs.Common.{ℕ, ◌≡◌, ◌&&◌, ◌==◌, Bool, true, false, not, if◌then◌else◌, nat_le, List, [], ◌∷◌, map, length, reverse, refl, sym, ap, subst, ◌∙◌}
+use Rattle.std.specs.Prelude.{bit_and}
 use Rattle.std.proofs.lemmas.List.{length-map, length-replicate}
 use Rattle.std.specs.List.{list_any}
-use Rattle.shaping_text.specs.declared.constants.BufferFlags.{BufferFlags}
 use Rattle.shaping_text.specs.declared.direction.Direction.{Direction}
 use Rattle.shaping_text.specs.declared.direction.Direction.TheVariants.{LeftToRight}
-use Rattle.shaping_text.specs.Direction.{is_backward, is_horizontal}
+use Rattle.shaping_text.specs.Direction.{is_backward}
 use Rattle.ucd_category.specs.declared.GeneralCategory.TheVariants.{SpaceSeparator}
 use Rattle.unicode_chars.specs.Category.{category_number}
 use Rattle.font_face.specs.declared.parts.FaceParts.{FaceParts}
-use Rattle.font_face.specs.Glyphs.{width_of}
 use Rattle.glyph_properties.specs.Properties.{properties_of}
-use Rattle.glyph_lists.specs.Items.{Item, Position, item_masked}
+use Rattle.glyph_lists.specs.Items.{Item, Position}
 use Rattle.glyph_lists.specs.Events.{Reverse}
-use Rattle.glyph_lists.specs.Readings.{Read, Stage, View, always, as_it_is, with_events}
+use Rattle.glyph_lists.specs.Readings.{View, always, with_events}
 use Rattle.glyph_buffer.specs.Graphemes.{is_default_ignorable}
 use Rattle.glyph_buffer.specs.Sides.{zero_position, zero_positions}
-use Rattle.glyph_slices.specs.Facts.{items_kept, positions_kept}
 use Rattle.layout_links.specs.Finishing.{drawn_if, has_attachments, links_followed}
 use Rattle.layout_links.specs.Starting.{links_cleared, unattached}
 use Rattle.layout_match.specs.LigatureWords as ligatures
@@ -28,15 +25,15 @@ use Rattle.text_stages.specs.Places.{placed, placed_by}
 use Rattle.shape_fallback.specs.Spaces.{is_own_space, space_position, spaced, with_spaces}
 use Rattle.shape_fallback.specs.Zeroing.{mark_zeroed, zeroed}
 use Rattle.shape_glyphs.specs.Widths.{ignorable_position, keeps_widths, widthless, zero_widths}
-use Rattle.fallback_marks.specs.Marks.{components_direction, with_placed_marks}
+use Rattle.fallback_marks.specs.Marks.{components_direction}
 use Rattle.fallback_marks.specs.Lemmas.Unmarked.{unmarked_stay}
 use Rattle.shape_plan.specs.declared.any_shaper.TheConstants.{HB_OT_SHAPE_ZERO_WIDTH_MARKS_BY_GDEF_EARLY, HB_OT_SHAPE_ZERO_WIDTH_MARKS_BY_GDEF_LATE}
-use Rattle.shape_reading.specs.Chains.{in_order, only_if}
+use Rattle.shape_reading.specs.Chains.{only_if}
 use Rattle.shape_reading.specs.Places.{adjusts_marks, drawn_order, marks_placed, marks_zeroed, positions_adjusted, positions_begun, positions_ended, with_nothing, zeroes_marks}
 use Rattle.shape_reading.specs.Reading.{positioned}
 use Rattle.shape_reading.specs.Shaping.{Shaping, pauses_of}
 use Rattle.plain_texts.specs.PlainTexts.{IsPlainShaping, glyph_of, place_of}
-use Rattle.plain_texts.proofs.Texts.{Are, IsPlain, Leads, Stands, always_leads, are_many, both_lead, either, its_number, last_leads, leads_as, rests, skipped}
+use Rattle.plain_texts.proofs.Texts.{Are, IsPlain, Leads, always_leads, are_many, both_lead, either, its_number, last_leads, skipped}
 use Rattle.plain_texts.proofs.Chosen.{Placed}
 use Rattle.plain_texts.proofs.Glyphs.{Based}
 use Rattle.plain_texts.proofs.Words.{word_category, word_mark, word_shown}

@@ -1,15 +1,11 @@
 -- The whole reading of a plain text.
-use Rattle.std.proofs.Common.{ℕ, ◌≡◌, ◌≤◌, ◌&&◌, ◌==◌, Bool, true, false, not, if◌then◌else◌, List, [], ◌∷◌, Ok, map, length, refl, sym, ap, subst, ◌∙◌}
-use Rattle.std.specs.Prelude.{bit_and, filter, Option, Some, None}
+use Rattle.std.proofs.Common.{ℕ, ◌≡◌, ◌==◌, Bool, true, false, not, if◌then◌else◌, List, [], ◌∷◌, map, length, refl, sym, ap, subst, ◌∙◌}
+use Rattle.std.specs.Prelude.{bit_and, Option, Some, None}
 use Rattle.std.specs.List.{list_all}
-use Rattle.std.specs.Option.{option_or}
 use Rattle.std.proofs.lemmas.Bool.{and_parts}
-use Rattle.shaping_text.specs.declared.direction.Direction.{Direction}
-use Rattle.shaping_text.specs.declared.direction.Direction.TheVariants.{LeftToRight}
 use Rattle.font_face.specs.declared.parts.FaceParts.{FaceParts}
-use Rattle.glyph_properties.specs.Properties.{properties_of, without_bits}
 use Rattle.glyph_lists.specs.Items.{Item, Position, item_masked}
-use Rattle.glyph_lists.specs.Readings.{Read, Run, Stage, View, always, as_it_is, with_events}
+use Rattle.glyph_lists.specs.Readings.{View, always, as_it_is, with_events}
 use Rattle.glyph_buffer.specs.Graphemes.{is_default_ignorable}
 use Rattle.glyph_buffer.specs.Sides.{zero_positions}
 use Rattle.glyph_slices.specs.Facts.{items_kept, positions_kept}
@@ -19,7 +15,6 @@ use Rattle.shape_glyphs.specs.Ignorables.{hidden, hidden_by, hidden_item, invisi
 use Rattle.shape_glyphs.specs.Selectors.{is_marked_selector, selector_position, shown_selector, with_selectors}
 use Rattle.shape_glyphs.specs.Widths.{widthless}
 use Rattle.shape_shaper.specs.Rules.{ShaperRules}
-use Rattle.shape_reading.specs.Chains.{in_order}
 use Rattle.shape_reading.specs.Characters.{characters_chosen, text_begun}
 use Rattle.shape_reading.specs.Endings.{text_ended}
 use Rattle.shape_reading.specs.Glyphs.{glyphs_substituted, glyphs_taken}
@@ -27,8 +22,8 @@ use Rattle.shape_reading.specs.Limits.{ended}
 use Rattle.shape_reading.specs.Masks.{masks_set, ranges_set}
 use Rattle.shape_reading.specs.Reading.{after_ranges, before_ranges, clusters_after, positioned, reading, shaped}
 use Rattle.shape_reading.specs.Shaping.{Shaping, postprocessed}
-use Rattle.plain_texts.specs.PlainTexts.{IsPlainShaping, PlainTextsShowGlyphs, ShowsGlyphs, characters, glyph_of, is_plain, place_of}
-use Rattle.plain_texts.proofs.Texts.{Are, IsPlain, Leads, Stands, always_leads, are_same, both_lead, last_leads, leads_as, plain_facts, rests}
+use Rattle.plain_texts.specs.PlainTexts.{IsPlainShaping, PlainTextsShowGlyphs, characters, glyph_of, is_plain, place_of}
+use Rattle.plain_texts.proofs.Texts.{Are, Leads, Stands, always_leads, are_same, both_lead, last_leads, leads_as, plain_facts, rests}
 use Rattle.plain_texts.proofs.Begun.{Given, IsText, Ordered, begun_leads}
 use Rattle.plain_texts.proofs.Chosen.{Chosen, Placed, chosen_leads, masks_lead, ranges_lead}
 use Rattle.plain_texts.proofs.Glyphs.{Based, Shown, mapped_stand, substituted_leads, taken_leads}
