@@ -12,7 +12,7 @@ from common.notes import Notes, Progress
 from fontjson.cli import read_font
 from fontjson.keep import Kept
 from shaping.cache import cached, fingerprint, font_cache, user_folder
-from unicodejson.cli import DEBIAN, make_tables
+from unicodejson.cli import DEBIAN, MAKERS, make_tables
 
 NAME = "shape"
 PROGRAM = Path(__file__).parent.parent / "hb_shape"
@@ -21,11 +21,11 @@ USAGE = """usage: shape FONT TEXT [--index N] [options of hb_shape]
 Shapes a text in a font file (.ttf, .otf, or a collection with an index), and prints the glyphs as hb_shape does. The
 program is built first where it is not built yet. The font is converted by font_to_json once and kept beside the font,
 as FONT.N.kuspveli.json, or in ~/.cache/kuspveli where that folder can't be written. Needs fontTools: Debian's
-python3-fonttools, under /usr/bin/python3."""
+python3-fonttools, under /usr/bin/python3. Marks, splits and mirror images are known where Debian's unicode-data is there."""
 
-# What the program reads of a font and of tables so far; the whole formats are Kept() and list(unicodejson.cli.MAKERS).
-FONT_READ = Kept(("upem", "ascender", "cmap", "h", "gsub"), ("liga",), ("ligature",))
-TABLES_READ: list[str] = []
+# What is made of a font and, where Debian's unicode-data is there, of the Unicode Character Database.
+FONT_READ = Kept()
+TABLES_READ = list(MAKERS) if DEBIAN.is_dir() else []
 
 
 def main(words: list[str]) -> int:
