@@ -1,6 +1,6 @@
 -- Hooks that leave a text as it is, and those that read a text's requests.
 use Rattle.std.proofs.Common.{ℕ, ◌≡◌, ◌==◌, not, Bool, true, false, if◌then◌else◌, nat_le, List, [], length, Result, Ok, Err, OnOk, IfErr, ◌≢◌, refl, sym, ap, subst}
-use Rattle.std.specs.Prelude.{Option, bit_and, codes}
+use Rattle.std.specs.Prelude.{Option, codes}
 use Rattle.std.proofs.lemmas.Nat.{and_assoc}
 use Rattle.glyph_types.specs.declared.cause.ShapeCause.{ShapeCause}
 use Rattle.glyph_types.specs.declared.cause.ShapeCause.TheVariants.{OutOfMemory, TooLong}
