@@ -1,0 +1,7 @@
+// The shapers of scripts: which rule each has, at the places where the pipeline asks.
+#![tactic(auto)]
+
+pub mod characters;
+pub mod masks;
+pub mod pauses;
+pub mod text;
