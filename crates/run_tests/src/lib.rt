@@ -6,6 +6,8 @@ mod asked;
 #[cfg(test)]
 mod lines;
 #[cfg(test)]
+mod lookups;
+#[cfg(test)]
 mod memory;
 #[cfg(test)]
 mod positions;
