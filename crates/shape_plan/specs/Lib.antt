@@ -1,4 +1,3 @@
-pub mod Shapers
-pub mod Dispatch
 pub mod Requests
+pub mod Traits
 pub mod Plans
