@@ -1,3 +1,4 @@
 pub mod Requests
 pub mod Traits
 pub mod Plans
+pub mod Fits
