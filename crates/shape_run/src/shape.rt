@@ -9,7 +9,6 @@ ghost use Rattle.shape_run.specs.Answer.{IsUnshaped, shaping};
 ghost use Rattle.shape_run.specs.Run.{IsOfRun};
 ghost use Rattle.shape_run.specs.Tables.{tables_value};
 
-use crate::spans::OneGlyph;
 use crate::tables::TextTables;
 use feature_text::feature::Feature;
 use font_face::Face;
@@ -37,7 +36,7 @@ fn shape_text(
 {
     let shape_data = hb_shape_data_t {
         tables: &tables.characters,
-        spans: &OneGlyph,
+        spans: &tables.syllables,
         languages: &tables.languages,
     };
     match shape_pipeline::shape::shape(alloc, face, shape_data, features, text) {
