@@ -1,0 +1,4 @@
+pub mod Laying
+pub mod Copying
+pub mod Placing
+pub mod Stretch
