@@ -21,6 +21,12 @@ const ARABIC: &str = "{\"upem\":1000,\"cmap\":[[1575,10],[1576,20],[1611,30]],\
     \"lookups\":[{\"type\":\"single\",\"subtables\":[[[20,21]]]},{\"type\":\"single\",\"subtables\":[[[20,22]]]},\
     {\"type\":\"single\",\"subtables\":[[[10,13],[20,23]]]}]}}";
 
+/// A sign that becomes two tiles, of which the second repeats.
+const STRETCH: &str =
+    "{\"upem\":1000,\"cmap\":[[1569,40],[1576,20]],\"h\":[[20,1100],[41,100],[42,300]],\
+    \"gsub\":{\"scripts\":[[\"arab\",{\"features\":[0]},[]]],\"features\":[[\"stch\",[0]]],\
+    \"lookups\":[{\"type\":\"multiple\",\"subtables\":[[[40,[41,42]]]]}]}}";
+
 const BALINESE: &str = "{\"upem\":1000,\"cmap\":[[6917,1],[6965,2],[6966,3]],\
     \"h\":[[1,500],[2,200],[3,100]],\"gsub\":{\"scripts\":[[\"bali\",{\"features\":[]},[]]]}}";
 
@@ -44,7 +50,7 @@ type Row = (
     &'static str,
 );
 
-const ROWS: [Row; 8] = [
+const ROWS: [Row; 9] = [
     (
         MonotoneGraphemes,
         Direction::RightToLeft,
@@ -59,6 +65,14 @@ const ROWS: [Row; 8] = [
         ARABIC,
         "\u{628}\u{64B}\u{627}",
         "13=4+250|30=0+0|21=0+400\n",
+    ),
+    // A tile 300 wide is laid four times over a word of 1100, beside one of 100: each copy lies 66 over its neighbour.
+    (
+        MonotoneGraphemes,
+        Direction::Invalid,
+        STRETCH,
+        "\u{621}\u{628}",
+        "20=2+1100|42=0@-1102,0+0|42=0@-868,0+0|42=0@-634,0+0|42=0@-400,0+0|41=0@-100,0+0\n",
     ),
     // A character, and what it splits to.
     (

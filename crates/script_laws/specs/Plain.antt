@@ -22,6 +22,7 @@ use Rattle.script_pauses.specs.Categories.{categories_set}
 use Rattle.script_pauses.specs.Syllables.{khmer_order, myanmar_order, substitutions_forgotten, syllables_by, syllables_cleared, universal_order, universal_syllables_set}
 use Rattle.script_masks.specs.Masks.{letters_joined, universal_masks_set}
 use Rattle.script_stretch.specs.Tiles.{tiles_recorded}
+use Rattle.script_tiles.specs.Stretch.{tiles_laid}
 
 pub record TextsLeavePlain : Type 0 where
   pub thai : StaysPlain vowels_split
@@ -49,3 +50,4 @@ pub record MasksLeavePlain : Type 0 where
 
 pub record TilesLeavePlain : Type 0 where
   pub recorded : (has_stch : Bool) → StaysPlain (tiles_recorded has_stch)
+  pub laid : (font : FaceParts) → StaysPlain (tiles_laid font)

@@ -31,6 +31,7 @@ use Rattle.universal_syllables.specs.Features.{pref_recorded, rphf_recorded}
 use Rattle.script_pauses.specs.Categories.{categories_set, ot_category_of}
 use Rattle.script_pauses.specs.Syllables.{khmer_order, myanmar_order, substitutions_forgotten, syllables_by, syllables_cleared, universal_order, universal_syllables_set}
 use Rattle.script_stretch.specs.Tiles.{tiles_recorded}
+use Rattle.script_tiles.specs.Stretch.{tiles_laid}
 use Rattle.script_masks.specs.Masks.{form_masks, jamo_masks, khmer_masks, letters_joined, universal_masks_set}
 
 -- ---- the text
@@ -126,6 +127,11 @@ pauses_by shaper m s font spans settings n = pause_if shaper m s font spans sett
 
 -- ---- glyphs
 
--- what becomes of glyphs that stand as they are drawn; the stretch of Arabic is not there yet
-abbrev pub postprocessed_by : hb_ot_script_shaper_t → FaceParts → Stage
-postprocessed_by shaper font = as_it_is
+-- words are stretched where the font has the feature
+abbrev pub stretched_if : Bool → FaceParts → Stage
+stretched_if b font v = if b then tiles_laid font v else as_it_is v
+
+-- what becomes of glyphs that stand as they are drawn: tiles of Arabic are laid over their words
+abbrev pub postprocessed_by : hb_ot_script_shaper_t → OtMapValue → FaceParts → Stage
+postprocessed_by ARABIC_SHAPER m font = stretched_if (has_mask (codes "stch") m) font
+postprocessed_by _ m font = as_it_is

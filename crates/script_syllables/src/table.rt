@@ -37,7 +37,7 @@ impl SyllableTable {
     /// that the shaper does not know (`OutOfRange`), else a key that is not above the one before (`OutOfOrder`).
     /// Machines come in the order of the shapers' names, and the steps of a machine before its accepting states.
     pub fn new(machines: SyllableMachines) -> Result<SyllableTable, TablesFault>
-        ensures table { IfOk result (λ t. t ≡ machines) }
+        ensures table { IfOk result (λ t. t ≡ machines_in machines) }
         ensures sound { OnOk result (machines_fault (machines_in machines) ≡ None) }
         ensures refused { IfErr result (λ e. machines_fault (machines_in machines) ≡ Some e) }
     {
