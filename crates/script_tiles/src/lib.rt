@@ -2,6 +2,7 @@
 #![tactic(auto)]
 
 pub mod copying;
+pub mod laws;
 pub mod laying;
 pub mod placing;
 pub mod stretch;
