@@ -16,7 +16,7 @@ script_rules shaper plan = record {
   reorders = reorders_by shaper;
   sets_masks = λ font t settings. masks_set_by shaper plan.map plan.script t settings;
   pauses = λ font t spans settings. pauses_by shaper plan.map plan.script font spans settings;
-  postprocesses = λ font settings. postprocessed_by shaper plan.map font;
+  postprocesses = λ font settings. postprocessed_by shaper font;
 }
 
 -- the shaper of most scripts and that which does as little as can be leave a text as it is

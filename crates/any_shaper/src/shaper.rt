@@ -116,13 +116,13 @@ impl hb_ot_shaper_t for hb_ot_any_shaper_t {
     fn postprocess_glyphs(
         &self,
         alloc: Global,
-        plan: &hb_script_plan_t<()>,
+        _plan: &hb_script_plan_t<()>,
         face: &Face,
         buffer: &mut hb_buffer_t,
     ) -> Result<(), ShapeCause> {
         match *self {
             hb_ot_any_shaper_t::Script(shaper) => {
-                glyphs::postprocess_glyphs(shaper, alloc, plan, face, buffer)
+                glyphs::postprocess_glyphs(shaper, alloc, face, buffer)
             }
             _ => Ok(()),
         }

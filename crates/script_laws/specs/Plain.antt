@@ -22,7 +22,6 @@ use Rattle.script_pauses.specs.Categories.{categories_set}
 use Rattle.script_pauses.specs.Syllables.{khmer_order, myanmar_order, substitutions_forgotten, syllables_by, syllables_cleared, universal_order, universal_syllables_set}
 use Rattle.script_masks.specs.Masks.{letters_joined, universal_masks_set}
 use Rattle.script_stretch.specs.Tiles.{tiles_recorded}
-use Rattle.script_tiles.specs.Stretch.{tiles_laid}
 
 pub record TextsLeavePlain : Type 0 where
   pub thai : StaysPlain vowels_split
@@ -47,7 +46,4 @@ pub record MasksLeavePlain : Type 0 where
   pub places : (masks : JamoMasks) → StaysPlain (always (mapped (with_place_mask masks)))
   pub categories : (category_of : ℕ → ℕ) → StaysPlain (categories_set category_of)
   pub universal : (m : OtMapValue) (s : Option Script) (t : Tables) (pre post : List ℕ) → StaysPlain (universal_masks_set m s t pre post)
-
-pub record TilesLeavePlain : Type 0 where
-  pub recorded : (has_stch : Bool) → StaysPlain (tiles_recorded has_stch)
-  pub laid : (font : FaceParts) → StaysPlain (tiles_laid font)
+  pub tiles : (has_stch : Bool) → StaysPlain (tiles_recorded has_stch)

@@ -1,5 +1,5 @@
 //! No rule of a script puts glyphs in another order without a merge.
-ghost use Rattle.script_laws.specs.Plain.{MasksLeavePlain, OrdersLeavePlain, SyllablesLeavePlain, TextsLeavePlain, TilesLeavePlain};
+ghost use Rattle.script_laws.specs.Plain.{MasksLeavePlain, OrdersLeavePlain, SyllablesLeavePlain, TextsLeavePlain};
 
 /// The vowels of Thai and Lao, private forms of Thai, and the syllables of Hangul.
 #[tactic(auto, using(crate::specs::Lemmas::Texts::texts_leave_plain))]
@@ -19,14 +19,8 @@ pub fn law_orders_leave_plain()
     ensures { OrdersLeavePlain }
 {}
 
-/// The forms of letters, their places in syllables and the categories of characters.
+/// The forms of letters, their places in syllables, the categories of characters, and which glyphs are tiles.
 #[tactic(auto, using(crate::specs::Lemmas::Masks::masks_leave_plain))]
 pub fn law_masks_leave_plain()
     ensures { MasksLeavePlain }
-{}
-
-/// The tiles that a word is stretched over.
-#[tactic(auto, using(crate::specs::Lemmas::Masks::tiles_leave_plain))]
-pub fn law_tiles_leave_plain()
-    ensures { TilesLeavePlain }
 {}

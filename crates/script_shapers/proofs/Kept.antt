@@ -19,8 +19,7 @@ use Rattle.normal_rounds.specs.Rearranged.{Rearranges}
 use Rattle.text_stages.specs.Stages.{IsFollowed}
 use Rattle.script_hebrew_thai.specs.ThaiPrivate.{with_private}
 use Rattle.script_hangul.specs.Hangul.{events_behind, syllables_formed, text_behind, wants_circles}
-use Rattle.script_tiles.specs.Stretch.{tiles_laid}
-use Rattle.script_shapers.specs.Hooks.{Spans, pause_done, private_if, stretched_if}
+use Rattle.script_shapers.specs.Hooks.{Spans, pause_done, private_if}
 use Rattle.shaping_text.specs.declared.script.Script.{Script}
 use Rattle.map_builder.specs.Compiled.{OtMapValue}
 use Rattle.layout_walks.specs.Settings.{TextSettings}
@@ -50,19 +49,6 @@ private_followed b t font old new holds f = let P : Bool → Type 0 = λ c. IsFo
 
 pub no_private : (b : Bool) (t : Tables) (font : FaceParts) (s : Sides) → b ≡ false → IsReady s → IsFollowed (private_if b t font) s s
 no_private b t font s fails ready = let P : Bool → Type 0 = λ c. IsFollowed (private_if c t font) s s in subst P (sym fails) (unchanged_followed s ready)
-
--- ---- tiles where the font has them
-
-module _ {A : Type 0} (r : Result A ShapeCause) (b : Bool) (font : FaceParts) (old new : Sides) where
-  pub stretch_done : b ≡ true → OnOk r (IsDone (tiles_laid font) old new) → OnOk r (IsDone (stretched_if b font) old new)
-  stretch_done holds f = let P : Bool → Type 0 = λ c. OnOk r (IsDone (stretched_if c font) old new) in subst P (sym holds) f
-
-  pub stretch_refused : b ≡ true → IfErr r (λ (e : ShapeCause). e ≢ OutOfMemory → read_of (tiles_laid font) (run_of old) ≡ Err e)
-      → IfErr r (λ (e : ShapeCause). e ≢ OutOfMemory → read_of (stretched_if b font) (run_of old) ≡ Err e)
-  stretch_refused holds f = let P : Bool → Type 0 = λ c. IfErr r (λ (e : ShapeCause). e ≢ OutOfMemory → read_of (stretched_if c font) (run_of old) ≡ Err e) in subst P (sym holds) f
-
-pub no_stretch : (b : Bool) (font : FaceParts) (s : Sides) → b ≡ false → IsReady s → IsDone (stretched_if b font) s s
-no_stretch b font s fails ready = let P : Bool → Type 0 = λ c. IsDone (stretched_if c font) s s in subst P (sym fails) (unchanged_done s ready)
 
 -- ---- circles for tone marks, where they are asked for
 

@@ -127,11 +127,7 @@ pauses_by shaper m s font spans settings n = pause_if shaper m s font spans sett
 
 -- ---- glyphs
 
--- words are stretched where the font has the feature
-abbrev pub stretched_if : Bool → FaceParts → Stage
-stretched_if b font v = if b then tiles_laid font v else as_it_is v
-
 -- what becomes of glyphs that stand as they are drawn: tiles of Arabic are laid over their words
-abbrev pub postprocessed_by : hb_ot_script_shaper_t → OtMapValue → FaceParts → Stage
-postprocessed_by ARABIC_SHAPER m font = stretched_if (has_mask (codes "stch") m) font
-postprocessed_by _ m font = as_it_is
+abbrev pub postprocessed_by : hb_ot_script_shaper_t → FaceParts → Stage
+postprocessed_by ARABIC_SHAPER font = tiles_laid font
+postprocessed_by _ font = as_it_is

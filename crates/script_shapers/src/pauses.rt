@@ -12,7 +12,6 @@ ghost use Rattle.script_stretch.specs.Tiles.{tiles_recorded};
 ghost use Rattle.shape_plan.specs.Plans.{has_mask};
 ghost use Rattle.script_shapers.specs.Hooks.{pause_done, pauses_by, syllables_found_by};
 
-use crate::glyphs::has_stch;
 use feature_requests::pause::hb_script_pause_t;
 use font_face::Face;
 use glyph_buffer::buffer::hb_buffer_t;
@@ -24,6 +23,7 @@ use script_pauses::{bytes, clearing, khmer, myanmar, universal};
 use script_stretch::tiles;
 use script_syllables::SyllableSpans;
 use shape_plan::plan::hb_script_plan_t;
+use shaping_text::tag::Tag;
 use std::alloc::Global;
 
 fn setup_syllables<D, P: SyllableSpans>(
@@ -79,7 +79,8 @@ fn record_stch<D>(
     ensures told { result ≡ Ok false → BringsNoGlyph (items_of buffer.old) (items_of buffer.new) }
     ensures err { IfErr result (λ e. e ≡ ShapeCause.OutOfMemory) }
 {
-    tiles::record_stch(has_stch(&plan.map), buffer);
+    let has_stch = plan.map.get_1_mask(Tag::from_bytes(b"stch")) != 0;
+    tiles::record_stch(has_stch, buffer);
     Ok(false)
 }
 

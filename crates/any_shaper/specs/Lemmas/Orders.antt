@@ -23,9 +23,9 @@ use Rattle.script_hebrew_thai.specs.ThaiVowel.{vowels_split}
 use Rattle.script_mark_orders.specs.Lemmas.Counts.{orders_are_plain, orders_keep_count}
 use Rattle.script_pauses.specs.Categories.{ot_category_of}
 use Rattle.script_masks.specs.Masks.{form_masks, jamo_masks, khmer_masks}
-use Rattle.script_tiles.specs.Stretch.{tiles_laid}
+use Rattle.script_tiles.specs.Lemmas.Plain.{tiles_plain}
 use Rattle.script_laws.specs.Lemmas.Events.{then_plain}
-use Rattle.script_laws.specs.Lemmas.Masks.{either_plain, masks_leave_plain, tiles_leave_plain}
+use Rattle.script_laws.specs.Lemmas.Masks.{either_plain, masks_leave_plain}
 use Rattle.script_laws.specs.Lemmas.Orders.{orders_leave_plain}
 use Rattle.script_laws.specs.Lemmas.Syllables.{syllables_leave_plain}
 use Rattle.script_laws.specs.Lemmas.Texts.{texts_leave_plain}
@@ -102,7 +102,7 @@ found_plain MYANMAR_ZAWGYI_SHAPER m s spans = syllables_leave_plain.bytes spans 
 found_plain THAI_SHAPER m s spans = syllables_leave_plain.bytes spans THAI_SHAPER
 
 pause_plain : (shaper : hb_ot_script_shaper_t) (m : OtMapValue) (s : Option Script) (font : FaceParts) (spans : Spans) (settings : TextSettings) (pause : hb_script_pause_t) → StaysPlain (pause_done shaper m s font spans settings pause)
-pause_plain shaper m s font spans settings RecordStch = tiles_leave_plain.recorded (has_mask (codes "stch") m)
+pause_plain shaper m s font spans settings RecordStch = masks_leave_plain.tiles (has_mask (codes "stch") m)
 pause_plain shaper m s font spans settings SetupSyllables = found_plain shaper m s spans
 pause_plain shaper m s font spans settings ReorderKhmer = orders_leave_plain.khmer font settings.flags (khmer_masks m)
 pause_plain shaper m s font spans settings ReorderMyanmar = orders_leave_plain.myanmar font settings.flags
@@ -118,16 +118,16 @@ pauses_plain : (shaper : hb_ot_script_shaper_t) (m : OtMapValue) (s : Option Scr
 pauses_plain shaper m s font spans settings None = unchanged_plain
 pauses_plain shaper m s font spans settings (Some pause) = pause_plain shaper m s font spans settings pause
 
-glyphs_plain : (shaper : hb_ot_script_shaper_t) (m : OtMapValue) (font : FaceParts) → StaysPlain (postprocessed_by shaper m font)
-glyphs_plain ARABIC_SHAPER m font = either_plain (tiles_laid font) as_it_is (tiles_leave_plain.laid font) unchanged_plain (has_mask (codes "stch") m)
-glyphs_plain HANGUL_SHAPER m font = unchanged_plain
-glyphs_plain HEBREW_SHAPER m font = unchanged_plain
-glyphs_plain INDIC_SHAPER m font = unchanged_plain
-glyphs_plain KHMER_SHAPER m font = unchanged_plain
-glyphs_plain MYANMAR_SHAPER m font = unchanged_plain
-glyphs_plain MYANMAR_ZAWGYI_SHAPER m font = unchanged_plain
-glyphs_plain THAI_SHAPER m font = unchanged_plain
-glyphs_plain UNIVERSAL_SHAPER m font = unchanged_plain
+glyphs_plain : (shaper : hb_ot_script_shaper_t) (font : FaceParts) → StaysPlain (postprocessed_by shaper font)
+glyphs_plain ARABIC_SHAPER font = λ v r level monotone e. tiles_plain font v r level e
+glyphs_plain HANGUL_SHAPER font = unchanged_plain
+glyphs_plain HEBREW_SHAPER font = unchanged_plain
+glyphs_plain INDIC_SHAPER font = unchanged_plain
+glyphs_plain KHMER_SHAPER font = unchanged_plain
+glyphs_plain MYANMAR_SHAPER font = unchanged_plain
+glyphs_plain MYANMAR_ZAWGYI_SHAPER font = unchanged_plain
+glyphs_plain THAI_SHAPER font = unchanged_plain
+glyphs_plain UNIVERSAL_SHAPER font = unchanged_plain
 
 script_order : (shaper : hb_ot_script_shaper_t) (plan : hb_script_plan_t ⊤) → KeepsOrder (script_rules shaper plan)
 script_order shaper plan = record {
@@ -135,7 +135,7 @@ script_order shaper plan = record {
   reorders = marks_plain shaper;
   sets_masks = λ font t settings. masks_plain shaper plan.map plan.script t settings;
   pauses = λ font t spans settings n. pauses_plain shaper plan.map plan.script font spans settings (pause_of_number n);
-  postprocesses = λ font settings. glyphs_plain shaper plan.map font;
+  postprocesses = λ font settings. glyphs_plain shaper font;
 }
 
 pub rules_keep_order : (shaper : hb_ot_any_shaper_t) (plan : hb_script_plan_t ⊤) → keeps_order shaper ≡ true → KeepsOrder (rules_of shaper plan)
