@@ -6,7 +6,8 @@ use std::alloc::Global;
 use std::test::Fail;
 
 /// A machine of the universal shaper: bases with vowels are a syllable, and so are rephas alone, a broken one.
-const TABLES: &str = "{\"splits\":[[6918,6917,6965]],\"pairs\":[[6917,6965,6918]],\"mirrored\":[[40,41],[41,40]],\
+const TABLES: &str =
+    "{\"splits\":[[6918,6917,6965]],\"pairs\":[[6917,6965,6918]],\"mirrored\":[[40,41],[41,40]],\
     \"joining\":[[1575,\"R\"],[1576,\"D\"]],\
     \"universal\":[[6917,\"B\"],[6965,\"VPst\"],[6966,\"VAbv\"],[72001,\"R\"]],\
     \"syllables\":{\"universal\":{\"states\":3,\
@@ -38,8 +39,7 @@ const THAI: &str = "{\"upem\":1000,\"cmap\":[[3604,30],[3634,33],[3659,32],[3661
     \"h\":[[30,500],[33,400]],\"gsub\":{\"scripts\":[[\"thai\",{\"features\":[]},[]]]}}";
 
 /// A repha of Dives Akuru, and a circle.
-const REPHAS: &str =
-    "{\"upem\":1000,\"cmap\":[[9676,10],[72001,5]],\"h\":[[5,200],[10,600]]}";
+const REPHAS: &str = "{\"upem\":1000,\"cmap\":[[9676,10],[72001,5]],\"h\":[[5,200],[10,600]]}";
 
 /// Level, direction, font, text, line.
 type Row = (

@@ -10,11 +10,11 @@ ghost use Rattle.shape_run.specs.Run.{IsOfRun};
 ghost use Rattle.shape_run.specs.Tables.{tables_value};
 
 use crate::tables::TextTables;
+use any_shaper::script_waits;
 use feature_text::feature::Feature;
 use font_face::Face;
 use run_options::fault::RunFault;
 use shape_pipeline::hb_shape_data_t;
-use any_shaper::script_waits;
 use std::alloc::Global;
 use text_buffers::glyphs::GlyphBuffer;
 use text_buffers::unicode_buffer::UnicodeBuffer;
