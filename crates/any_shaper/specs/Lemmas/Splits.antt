@@ -29,15 +29,15 @@ khmer_more t zero u h = by_tests (u == LEFT_PART) (list_any (λ v. u == v) split
     by_tests true vowel = refl
     by_tests false true = left_ends t zero
     by_tests false false = none_more (ends_within (khmer_split t) zero) (split_of t u) h
-khmer_more t (suc depth) u h = by_tests (u == LEFT_PART) (list_any (λ v. u == v) split_vowels)
+khmer_more t (suc depth) u h = by_tests (khmer_more t depth) (u == LEFT_PART) (list_any (λ v. u == v) split_vowels)
   where
-    by_tests : (left vowel : Bool) → ends_by (ends_within (khmer_split t) (suc depth)) (if left then None else if vowel then Some (LEFT_PART, u) else split_of t u) ≡ true
-    by_tests true vowel = refl
-    by_tests false true = left_ends t (suc depth)
-    by_tests false false = by_more (ends_within (split_of t) depth) (ends_within (khmer_split t) (suc depth)) (khmer_more t depth) (split_of t u) h
+    by_tests : ((a : ℕ) → ends_within (split_of t) depth a ≡ true → ends_within (khmer_split t) (suc depth) a ≡ true) → (left vowel : Bool) → ends_by (ends_within (khmer_split t) (suc depth)) (if left then None else if vowel then Some (LEFT_PART, u) else split_of t u) ≡ true
+    by_tests more true vowel = refl
+    by_tests more false true = left_ends t (suc depth)
+    by_tests more false false = by_more (ends_within (split_of t) depth) (ends_within (khmer_split t) (suc depth)) more (split_of t u) h
 
 by_shaper : (shaper : hb_ot_script_shaper_t) (t : Tables) → EndWithin (split_of t) 8 → EndWithin (splits_by shaper t) 9
-by_shaper KHMER_SHAPER t e u = khmer_more t 8 u (e u)
+by_shaper KHMER_SHAPER t e = λ u. khmer_more t 8 u (e u)
 by_shaper ARABIC_SHAPER t e = nine_splits (split_of t) e
 by_shaper HANGUL_SHAPER t e = nine_splits (split_of t) e
 by_shaper HEBREW_SHAPER t e = nine_splits (split_of t) e
