@@ -17,13 +17,13 @@ use font_face::Face;
 use glyph_buffer::buffer::hb_buffer_t;
 use glyph_types::cause::ShapeCause;
 use script_constants::hb_ot_script_shaper_t;
+use script_masks::arabic::has_stch;
 use script_masks::khmer::khmer_masks;
 use script_masks::universal::{form_masks, rphf_mask};
 use script_pauses::{bytes, clearing, khmer, myanmar, universal};
 use script_stretch::tiles;
 use script_syllables::SyllableSpans;
 use shape_plan::plan::hb_script_plan_t;
-use shaping_text::tag::Tag;
 use std::alloc::Global;
 
 fn setup_syllables<D, P: SyllableSpans>(
@@ -70,17 +70,13 @@ fn reorder_khmer<D>(
 }
 
 /// Records the tiles of stretched words, where the font has any.
-fn record_stch<D>(
-    plan: &hb_script_plan_t<D>,
-    buffer: &mut hb_buffer_t,
-) -> Result<bool, ShapeCause>
+fn record_stch<D>(plan: &hb_script_plan_t<D>, buffer: &mut hb_buffer_t) -> Result<bool, ShapeCause>
     requires { IsReady buffer.old }
     ensures ok { OnOk result (IsDone (tiles_recorded (has_mask (codes "stch") plan.now.map)) buffer.old buffer.new) }
     ensures told { result ≡ Ok false → BringsNoGlyph (items_of buffer.old) (items_of buffer.new) }
     ensures err { IfErr result (λ e. e ≡ ShapeCause.OutOfMemory) }
 {
-    let has_stch = plan.map.get_1_mask(Tag::from_bytes(b"stch")) != 0;
-    tiles::record_stch(has_stch, buffer);
+    tiles::record_stch(has_stch(&plan.map), buffer);
     Ok(false)
 }
 
