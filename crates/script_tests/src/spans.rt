@@ -11,7 +11,7 @@ pub struct SingleGlyphs {
 
 impl SyllableSpans for SingleGlyphs {
     ghost use Rattle.std.specs.Prelude.{◌+◌};
-    ghost use Rattle.syllable_tests.specs.Single.{single_after, single_inside};
+    ghost use Rattle.script_tests.specs.Single.{single_after, single_inside};
 
     ghost span_of = { λ s shaper categories start. (start + 1, s.kind) };
 

@@ -1,11 +1,13 @@
 -- Buffers that stay ready.
-use Rattle.std.proofs.Common.{zero, suc, ℕ, ◌≡◌, ◌+◌, List, [], ◌∷◌, ◌++◌, length, refl, sym, ap, subst, ◌∙◌, arith}
+use Rattle.std.proofs.Common.{zero, suc, ℕ, ◌≡◌, ◌+◌, List, [], ◌∷◌, ◌++◌, length, set, refl, sym, ap, subst, ◌∙◌, arith}
 use Rattle.std.specs.Prelude.{slice_set}
-use Rattle.std.proofs.lemmas.List.{length-append}
+use Rattle.std.proofs.lemmas.List.{length-append, length-set}
 use Rattle.glyph_types.specs.declared.info.hb_glyph_info_t.{hb_glyph_info_t}
+use Rattle.glyph_lists.specs.Items.{Position}
 use Rattle.glyph_buffer.specs.Sides.{Sides, with_added, zero_position}
-use Rattle.glyph_buffer.specs.Lending.{with_glyph_ahead}
+use Rattle.glyph_buffer.specs.Lending.{with_glyph_ahead, with_positions_refilled}
 use Rattle.layout_rules.specs.Ready.{IsReady}
+use Rattle.text_stages.specs.Lemmas.Written.{refilled_whole}
 
 length_set : {X : Type 0} (xs : List X) (i : ℕ) (x : X) → length (slice_set xs i x) ≡ length xs
 length_set [] i x = refl
@@ -37,3 +39,15 @@ added_ready g s t ready is =
           omega (arith, one, two, three, four, placed);
       unrefused = ready.unrefused;
     })
+
+pub placed_ready : (i : ℕ) (p : Position) (ps : List Position) (s t : Sides) → IsReady s → ps ≡ s.positions → t ≡ with_positions_refilled (set ps i p) s → IsReady t
+placed_ready i p ps s t ready is e =
+    let P : List Position → Type 0 = λ qs. IsReady (with_positions_refilled (set qs i p) s) in
+    let whole = refilled_whole (set s.positions i p) s.positions (length-set s.positions i p) in
+    subst IsReady (sym e) (subst P (sym is) (record {
+      closed = ready.closed;
+      front = ready.front;
+      unread = ready.unread;
+      placed = ap (λ (qs : List Position). length qs) whole ∙ length-set s.positions i p ∙ ready.placed;
+      unrefused = ready.unrefused;
+    }))
