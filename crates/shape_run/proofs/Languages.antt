@@ -22,7 +22,7 @@ use Rattle.shape_plan.specs.Shapers.{traits_of}
 use Rattle.shape_shaper.specs.Rules.{Spans, plain_rules}
 use Rattle.shape_reading.specs.Shaping.{Shaping}
 use Rattle.shape_pipeline.specs.Shaped.{by_text}
-use Rattle.shape_run.specs.Tables.{language_of, language_tags}
+use Rattle.run_readers.specs.Tables.{language_of, language_tags}
 
 found_in : (text : List ℕ) (rows : List LanguageRow) → language_of (map language_in rows) text ≡ option_map language_in (row_of rows text)
 found_in text [] = refl

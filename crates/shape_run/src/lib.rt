@@ -7,6 +7,4 @@ mod read;
 pub mod run;
 mod shape;
 mod spans;
-mod tables;
-mod values;
 mod write;

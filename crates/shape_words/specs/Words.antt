@@ -1,5 +1,5 @@
 -- The command line of the program: hb_shape [options] TABLES FONT TEXT.
-use Rattle.std.specs.Prelude.{ℕ, Bool, true, false, List, [], ◌∷◌, codes, if◌then◌else◌, Option, Some, None, Result, Ok, Err, string_bytes, unwrap_or, ◌++◌, ◌==◌, ◌+◌, is_some, ⊤}
+use Rattle.std.specs.Prelude.{ℕ, Bool, true, false, List, [], ◌∷◌, codes, if◌then◌else◌, Option, Some, None, Result, Ok, Err, string_bytes, unwrap_or, ◌++◌, ◌==◌, ◌+◌}
 use Rattle.std.specs.List.{slice_split, flat_map}
 use Rattle.feature_text.specs.declared.feature.Feature.{Feature}
 use Rattle.feature_text.specs.FeatureText.{feature_of_text}
@@ -208,10 +208,6 @@ buffer_flags_in value = record {
       + flag_of (codes "safe-to-insert-tatweel") 128 value)))));
 }
 
--- an option whose stage is not there yet is refused: the language
-abbrev pub no_waiting : Lookup → Result ⊤ RunFault
-no_waiting value = if is_some (value (codes "language")) then Err Words else Ok tt
-
 -- what the first value of each id and all values of `features` ask for
 abbrev pub settings_of : Lookup → List (List ℕ) → Result Settings RunFault
 settings_of value features =
@@ -223,7 +219,6 @@ settings_of value features =
     and_then (language_in value) (λ language.
     and_then (features_in features) (λ requests.
     and_then (level_in value) (λ level.
-    and_then (no_waiting value) (λ _.
     Ok (record {
       tables = tables;
       font = font;
@@ -235,7 +230,7 @@ settings_of value features =
       cluster_level = level;
       buffer_flags = buffer_flags_in value;
       flags = flags_in value;
-    }))))))))))
+    })))))))))
 
 -- an error of the parse as a fault of the run
 abbrev pub refusal_of : ErrorKind → RunFault

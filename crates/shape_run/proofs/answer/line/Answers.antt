@@ -7,15 +7,15 @@ use Rattle.shape_plan.specs.Dispatch.{script_waits}
 use Rattle.shape_pipeline.specs.Shaped.{text_reading}
 use Rattle.shape_run.specs.Answer.{IsUnshaped, shaping}
 use Rattle.shape_run.specs.Asked.{text_buffer}
-use Rattle.shape_run.specs.Tables.{tables_value}
-use Rattle.shape_run.proofs.Faults.{passed_on}
+use Rattle.run_readers.specs.Tables.{tables_value}
+use Rattle.run_readers.proofs.Faults.{passed_on}
 use Rattle.shape_run.proofs.Guessed.{guessed_text}
 use Rattle.shape_run.proofs.Printing.{line_shaped, line_unshaped}
 use Rattle.shape_run.proofs.answer.line.Goals as goal
 
 pub returns-clause-ok : goal.returns-clause-ok
 returns-clause-ok c =
-    let options = c.args.options.now in
+    let options = c.args.options in
     let face = c.args.face.now in
     let t = tables_value c.args.tables.now in
     let s = c.in_ok-text.text in
@@ -27,7 +27,7 @@ returns-clause-ok c =
 
 pub returns-in_err-glyphs-clause-refused : goal.returns-in_err-glyphs-clause-refused
 returns-in_err-glyphs-clause-refused c =
-    let options = c.args.options.now in
+    let options = c.args.options in
     let face = c.args.face.now in
     let t = tables_value c.args.tables.now in
     let s = c.in_ok-text.text in

@@ -1,8 +1,8 @@
 use Rattle.std.proofs.Common.{Err, ap}
 use Rattle.json_values.specs.declared.fault.JsonFault.{JsonFault}
-use Rattle.shape_run.proofs.Faults.{passed_on}
-use Rattle.shape_run.proofs.Reading.{rest_refused, rows_refused, whole_read}
-use Rattle.shape_run.proofs.tables.read_all_tables.Goals as goal
+use Rattle.run_readers.proofs.Faults.{passed_on}
+use Rattle.run_readers.proofs.Reading.{rest_refused, rows_refused, whole_read}
+use Rattle.run_readers.proofs.tables.read_all_tables.Goals as goal
 
 pub returns-in_err-characters-clause-refused : goal.returns-in_err-characters-clause-refused
 returns-in_err-characters-clause-refused c =

@@ -2,8 +2,8 @@
 ghost use Rattle.std.specs.Prelude.{◌≡◌, ◌≢◌, Ok, Err, IfOk, IfErr, OnOk};
 ghost use Rattle.serde_json.specs.View.{view};
 ghost use Rattle.unicode_tables.specs.Lawful.{IsLawful};
-ghost use Rattle.shape_run.specs.Run.{IsOfRun};
-ghost use Rattle.shape_run.specs.Tables.{AreTables, IsValueOf, rest_of, tables_value};
+ghost use Rattle.run_readers.specs.Faults.{IsOfRun};
+ghost use Rattle.run_readers.specs.Tables.{AreTables, IsValueOf, rest_of, tables_value};
 ghost use Rattle.tables_json.specs.Languages.{languages_in};
 
 use crate::values::read_json;
@@ -17,7 +17,7 @@ use unicode_tables::UnicodeTables;
 
 /// What shaping goes by, beside the font.
 #[derive(Drop)]
-pub(crate) struct TextTables {
+pub struct TextTables {
     /// What is known of characters.
     pub characters: UnicodeTables,
     /// The languages with their tags.
@@ -49,7 +49,7 @@ fn read_all_tables(alloc: Global, value: &Value) -> Result<TextTables, JsonFault
 
 /// The tables of bytes.
 #[tactic(auto, using(crate::proofs::Reading::tables_read, crate::proofs::Reading::tables_refused, crate::proofs::Reading::value_refused))]
-pub(crate) fn tables_in(alloc: Global, bytes: &[u8]) -> Result<TextTables, RunFault>
+pub fn tables_in(alloc: Global, bytes: &[u8]) -> Result<TextTables, RunFault>
     ensures ok { IfOk result (λ t. AreTables bytes.now (Ok (tables_value t))) }
     ensures refused { IfErr result (λ e. e ≢ RunFault.OutOfMemory → AreTables bytes.now (Err e)) }
     ensures kind { IfErr result IsOfRun }
@@ -60,7 +60,7 @@ pub(crate) fn tables_in(alloc: Global, bytes: &[u8]) -> Result<TextTables, RunFa
 }
 
 /// Refuses tables that are not lawful.
-pub(crate) fn check_laws(tables: &UnicodeTables) -> Result<(), RunFault>
+pub fn check_laws(tables: &UnicodeTables) -> Result<(), RunFault>
     ensures lawful { OnOk result (IsLawful tables.now) }
     ensures unlawful { IfErr result (λ e. (e ≡ RunFault.Unlawful) × (¬ IsLawful tables.now)) }
 {

@@ -1,6 +1,6 @@
 //! The program over its words, its files and what it writes to.
 ghost use Rattle.std.specs.Prelude.{IfOk};
-ghost use Rattle.hb_shape.specs.Program.{Ends};
+ghost use Rattle.shape_program.specs.Program.{Ends};
 
 use crate::files::{Files, open_files};
 use crate::report::report;
@@ -14,7 +14,7 @@ use std::io::{Read, Write};
 /// Does what the words ask for, and gives the exit status: 0 where the line was written, else that of the fault, which
 /// is told on `err`.
 #[tactic(auto, using(crate::proofs::Ending::ends_well, crate::proofs::Ending::ends_with_fault))]
-pub(crate) fn shape<F: Read + Drop, O: Files<F>, W: Write, E: Write>(
+pub fn shape<F: Read + Drop, O: Files<F>, W: Write, E: Write>(
     alloc: Global,
     words: &[String],
     files: &mut O,
@@ -42,7 +42,7 @@ fn run_words<F: Read + Drop, O: Files<F>, W: Write>(
     let mut files = open_files(files, &line)?;
     run(
         alloc,
-        &line.options,
+        line.options,
         &mut files.tables,
         &mut files.font,
         &mut files.text,

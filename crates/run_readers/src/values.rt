@@ -3,8 +3,8 @@ ghost use Rattle.std.specs.Prelude.{◌≡◌, ◌≢◌, Ok, Err, IfOk, IfErr, 
 ghost use Rattle.std.specs.Str.{is_utf8};
 ghost use Rattle.serde_json.specs.View.{view};
 ghost use Rattle.serde_json.specs.Errors.{IsMemory};
-ghost use Rattle.shape_run.specs.Run.{IsOfRun};
-ghost use Rattle.shape_run.specs.Values.{json_of};
+ghost use Rattle.run_readers.specs.Faults.{IsOfRun};
+ghost use Rattle.run_readers.specs.Values.{json_of};
 
 use json_values::fault::JsonFault;
 use run_options::fault::RunFault;
@@ -13,14 +13,14 @@ use std::alloc::Global;
 
 /// The text of the bytes, where they are UTF-8.
 #[tactic(auto, using(crate::proofs::Bytes::is_text, crate::proofs::Bytes::is_no_text))]
-pub(crate) fn utf8(bytes: &[u8]) -> Option<&str>
+pub fn utf8(bytes: &[u8]) -> Option<&str>
     ensures { MatchOption result (is_utf8 bytes.now ≡ false)
         (λ s. (s.now ≡ bytes.now) × (is_utf8 bytes.now ≡ true)) }
 {
     str::from_utf8(bytes).ok()
 }
 
-pub(crate) fn read_json(alloc: Global, bytes: &[u8]) -> Result<Value, RunFault>
+pub fn read_json(alloc: Global, bytes: &[u8]) -> Result<Value, RunFault>
     ensures ok { IfOk result (λ v. json_of bytes.now ≡ Ok (view v)) }
     ensures refused { IfErr result (λ e. e ≢ RunFault.OutOfMemory → json_of bytes.now ≡ Err e) }
     ensures kind { IfErr result IsOfRun }

@@ -16,8 +16,8 @@ use Rattle.tables_json.specs.Unicode.{tables_of}
 use Rattle.unicode_tables.specs.Expansion.{EndWithin, HasDeepChain}
 use Rattle.unicode_tables.specs.Lawful.{IsLawful}
 use Rattle.unicode_tables.specs.Tables.{Tables, split_of}
-use Rattle.shape_run.specs.declared.tables.TextTables.{TextTables}
-use Rattle.shape_run.specs.Values.{json_of, of_json, then_answers}
+use Rattle.run_readers.specs.declared.tables.TextTables.{TextTables}
+use Rattle.run_readers.specs.Values.{json_of, of_json, then_answers}
 
 -- what shaping goes by, beside the font: the tables of characters, and the languages with their tags
 pub record RunTables : Type 0 where

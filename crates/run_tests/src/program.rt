@@ -1,5 +1,6 @@
-use crate::files::Files;
-use crate::program::shape;
+//! The program: statuses, what it writes and tells, the order of its files.
+use shape_program::files::Files;
+use shape_program::program::shape;
 use std::alloc::{AllocError, Global};
 use std::test::Fail;
 
@@ -55,6 +56,14 @@ fn statuses_lines_and_files(rt: HostRuntime) -> Result<(), Fail> {
             "gid2=1+600|gid1=0+500\n",
             "",
             "tables font text ",
+        ),
+        (
+            "hb_shape --language=ro tables local text",
+            "",
+            0,
+            "gid3=0+510|gid2=1+600\n",
+            "",
+            "tables local text ",
         ),
         ("hb_shape tables font", "", 2, "", "hb_shape: words\n", ""),
         ("hb_shape --help", "", 2, "", "hb_shape: words\n", ""),

@@ -1,6 +1,6 @@
 //! The files of a run, opened by their names.
 ghost use Rattle.std.specs.Prelude.{◌≡◌, ℕ, List, [], ◌∷◌, Option, None, OnOk, OnErr, IfErr, string_bytes, take};
-ghost use Rattle.hb_shape.specs.Program.{Asks};
+ghost use Rattle.shape_program.specs.Program.{Asks};
 
 use run_options::fault::RunFault;
 use shape_words::CommandLine;
@@ -8,7 +8,7 @@ use std::fs::File;
 use std::io::Read;
 
 /// Where files are opened by their names.
-pub(crate) trait Files<F: Read> {
+pub trait Files<F: Read> {
     // The names that were asked for, where that is known.
     ghost names: { Self → Option (List (List ℕ)) } = { λ _. None };
 
@@ -19,8 +19,8 @@ pub(crate) trait Files<F: Read> {
 
 /// The files of the system.
 #[derive(Drop)]
-pub(crate) struct SystemFiles<'a> {
-    pub(crate) rt: &'a HostRuntime,
+pub struct SystemFiles<'a> {
+    pub rt: &'a HostRuntime,
 }
 
 impl Files<File> for SystemFiles<'_> {
