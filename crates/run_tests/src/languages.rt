@@ -6,14 +6,16 @@ use shaping_text::language::Language;
 use std::alloc::Global;
 use std::test::Fail;
 
-const TABLES: &str = r#"{"languages":[["de",["DEU "]],["ro",["MOL ","ROM "]]]}"#;
+pub(crate) const TABLES: &str = r#"{"languages":[["de",["DEU "]],["ro",["MOL ","ROM "]]]}"#;
 
 // Its language system for Romanian has a localized form of `a`, and not the ligature feature of the default system.
-const FONT: &str = r#"{"cmap":[[97,1],[98,2]],"h":[[1,500],[2,600],[3,510],[4,610]],"gsub":{
+pub(crate) const FONT: &str =
+    r#"{"cmap":[[97,1],[98,2]],"h":[[1,500],[2,600],[3,510],[4,610]],"gsub":{
     "scripts":[["DFLT",{"features":[0]},[["ROM ",{"features":[1]}]]]],"features":[["liga",[0]],["locl",[1]]],
     "lookups":[{"type":"single","subtables":[[[2,4]]]},{"type":"single","subtables":[[[1,3]]]}]}}"#;
 
 const DEFAULT: &str = "1=0+500|4=1+610\n";
+
 const ROMANIAN: &str = "3=0+510|2=1+600\n";
 
 fn line_of(alloc: Global, language: Option<&str>) -> Result<Vec<u8>, Fail> {

@@ -1,4 +1,5 @@
 //! The program: statuses, what it writes and tells, the order of its files.
+use crate::languages;
 use shape_program::files::Files;
 use shape_program::program::shape;
 use std::alloc::{AllocError, Global};
@@ -24,6 +25,8 @@ impl Files<&'static [u8]> for MemoryFiles {
             "tables" => Some(b"{}".as_slice()),
             "font" => Some(FONT),
             "text" => Some(b"ab\n".as_slice()),
+            "languages" => Some(languages::TABLES.as_bytes()),
+            "local" => Some(languages::FONT.as_bytes()),
             "broken" => Some(b"\xFF".as_slice()),
             _ => None,
         }
@@ -58,12 +61,12 @@ fn statuses_lines_and_files(rt: HostRuntime) -> Result<(), Fail> {
             "tables font text ",
         ),
         (
-            "hb_shape --language=ro tables local text",
+            "hb_shape --language=ro languages local text",
             "",
             0,
             "gid3=0+510|gid2=1+600\n",
             "",
-            "tables local text ",
+            "languages local text ",
         ),
         ("hb_shape tables font", "", 2, "", "hb_shape: words\n", ""),
         ("hb_shape --help", "", 2, "", "hb_shape: words\n", ""),
