@@ -3,7 +3,6 @@ use Rattle.std.proofs.Common.{ℕ, ◌≡◌, ◌≢◌, true, false, List, Resu
 use Rattle.serde_json.specs.Data.{Data}
 use Rattle.json_values.specs.declared.fault.JsonFault.{JsonFault}
 use Rattle.json_values.specs.declared.fault.JsonFault.TheVariants.{NotJson, WrongShape, FloatNumber, UnknownName, OutOfOrder, OutOfRange, SplitDepth, OutOfMemory}
-use Rattle.json_values.specs.Cell.{and_then}
 use Rattle.run_options.specs.declared.fault.RunFault.{RunFault}
 use Rattle.run_options.specs.declared.fault.RunFault.TheVariants.{Unlawful}
 use Rattle.run_options.specs.Fault.{run_fault_of}
@@ -68,20 +67,27 @@ tables_refused bytes e json = rw json refl
 
 -- ---- tables and a font
 
+-- the font of lawful tables
+pub font_answers : (t : RunTables) (font r : Result FaceParts RunFault) → IsLawful t.characters → font ≡ r → IfLawful (λ _. font) t r
+font_answers t font r lawful same = inl (lawful, sym same)
+
+pub laws_refuse : (t : RunTables) (font : Result FaceParts RunFault) → ¬ IsLawful t.characters → IfLawful (λ _. font) t (Err Unlawful)
+laws_refuse t font not_lawful = inr (not_lawful, refl)
+
+both_then : (t : RunTables) (font r : Result FaceParts RunFault) → IfLawful (λ _. font) t r → IfLawful (with_font font) t (with_font r t)
+both_then t font r (inl p) = inl (p.0, ap (λ x. with_font x t) p.1)
+both_then t font r (inr p) = inr (p.0, ap (λ x. with_font x t) p.1)
+
 module _ (tables font : List ℕ) where
-  read_then : (t : RunTables) (face : Result FaceParts RunFault) → AreTables tables (Ok t) → IsLawful t.characters → font_in font ≡ face → IsInput tables font (with_font face t)
+  read_then : (t : RunTables) (r : Result FaceParts RunFault) → AreTables tables (Ok t) → IfLawful (λ _. font_in font) t r → IsInput tables font (with_font r t)
   unfolding IsInput
-  read_then t face read lawful same = (Ok t, read, inl (lawful, ap (λ r. with_font r t) (sym same)))
+  read_then t r read answers = (Ok t, read, both_then t (font_in font) r answers)
 
-  pub both_read : (t : RunTables) (face : FaceParts) → AreTables tables (Ok t) → IsLawful t.characters → font_in font ≡ Ok face → IsInput tables font (Ok (record { tables = t; font = face }))
-  both_read t face read lawful same = read_then t (Ok face) read lawful same
+  pub both_read : (t : RunTables) (face : FaceParts) → AreTables tables (Ok t) → IfLawful (λ _. font_in font) t (Ok face) → IsInput tables font (Ok (record { tables = t; font = face }))
+  both_read t face read answers = read_then t (Ok face) read answers
 
-  pub font_refused : (t : RunTables) (e : RunFault) → AreTables tables (Ok t) → IsLawful t.characters → font_in font ≡ Err e → IsInput tables font (Err e)
-  font_refused t e read lawful same = read_then t (Err e) read lawful same
-
-  pub unlawful : (t : RunTables) → AreTables tables (Ok t) → ¬ IsLawful t.characters → IsInput tables font (Err Unlawful)
-  unfolding IsInput
-  unlawful t read not_lawful = (Ok t, read, inr (not_lawful, refl))
+  pub font_refused : (t : RunTables) (e : RunFault) → AreTables tables (Ok t) → IfLawful (λ _. font_in font) t (Err e) → IsInput tables font (Err e)
+  font_refused t e read answers = read_then t (Err e) read answers
 
   pub refused : (e : RunFault) → AreTables tables (Err e) → IsInput tables font (Err e)
   unfolding IsInput

@@ -1,5 +1,5 @@
 -- What the bytes of tables and of a font are read as.
-use Rattle.std.specs.Prelude.{ℕ, ◌≡◌, List, Result, Ok, Err}
+use Rattle.std.specs.Prelude.{ℕ, List, Result, Ok}
 use Rattle.font_face.specs.declared.parts.FaceParts.{FaceParts}
 use Rattle.face_json.specs.Face.{face_of}
 use Rattle.run_options.specs.declared.fault.RunFault.{RunFault}
