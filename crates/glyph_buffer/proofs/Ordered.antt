@@ -1,14 +1,17 @@
 -- What is known of the order of clusters, after each call.
-use Rattle.std.proofs.Common.{take, Option, None, ℕ, ◌≡◌, ◌<◌, ◌+◌, true, false, List, [], ◌∷◌, ◌++◌, length, map, drop, reverse, get_or, set, refl, ap, sym, subst, ◌∙◌}
+use Rattle.std.proofs.Common.{take, Option, None, ℕ, ◌≡◌, ◌≤◌, ◌<◌, ◌+◌, ◌-◌, arith, true, false, List, [], ◌∷◌, ◌++◌, length, map, drop, reverse, get_or, set, refl, ap, sym, subst, ◌∙◌}
 use Rattle.std.proofs.lemmas.List.{map-append, drop-map, drop-drop, take-append-drop, drop_more, append_assoc, map-set, set-set, set-get_or, get_or-map}
 use Rattle.glyph_types.specs.declared.info.hb_glyph_info_t.{hb_glyph_info_t}
 use Rattle.glyph_lists.specs.Items.{clusters}
-use Rattle.glyph_lists.specs.Lemmas.Drawn.{IsDrawn, drawn_second, drawn_drop}
+use Rattle.glyph_lists.specs.Parts.{stretch}
+use Rattle.glyph_lists.specs.Order.{IsOrdered}
+use Rattle.glyph_lists.specs.Lemmas.Drawn.{IsDrawn, past, drawn_second, drawn_drop, drawn_take}
 use Rattle.glyph_lists.specs.Lemmas.Parts.{order_drawn}
 use Rattle.buffer_lists.specs.declared.order.KnownOrder.{KnownOrder}
 use Rattle.buffer_lists.specs.declared.order.KnownOrder.TheVariants.{Unknown, Rising, Falling}
 use Rattle.buffer_lists.specs.declared.order.Lent.{Lent}
-use Rattle.buffer_lists.specs.Known.{HasOrder, put_back_ahead, put_back_behind}
+use Rattle.buffer_lists.specs.Known.{HasOrder, is_known, put_back_ahead, put_back_behind}
+use Rattle.buffer_lists.proofs.Ordered.{known_ordered}
 use Rattle.buffer_lists.specs.Masks.{glyph_masked}
 use Rattle.glyph_buffer.proofs.Kept.{map-reverse}
 
@@ -85,3 +88,16 @@ order_put o out info new n g e h =
 -- where no glyph is lent
 pub none_lent : (o : KnownOrder) (l : Option Lent) (out info : List hb_glyph_info_t) (n : ℕ) → l ≡ None → HasOrder o (clusters out ++ drop n (clusters info)) → HasOrder o (put_back_behind l (clusters out) ++ drop n (put_back_ahead l (clusters info)))
 none_lent o l out info n e h = rw e h
+
+drawn_pass : (xs ys : List ℕ) → IsDrawn (xs ++ ys) ys
+drawn_pass [] ys = drawn_drop 0 ys
+drawn_pass (x ∷ xs) ys = past x (xs ++ ys) ys (drawn_pass xs ys)
+
+-- a stretch of what is left of the input stands in order
+pub range_ordered : (o : KnownOrder) (start end n : ℕ) (out info : List hb_glyph_info_t) → n ≤ start → is_known o ≡ true → HasOrder o (clusters out ++ drop n (clusters info)) → IsOrdered (stretch start end (clusters info))
+range_ordered o start end n out info le is h =
+    let ns = clusters info in
+    let left : HasOrder o (drop n ns) = order_drawn_known o (clusters out ++ drop n ns) (drop n ns) (drawn_pass (clusters out) (drop n ns)) h in
+    let there : n + (start - n) ≡ start = omega (arith, le) in
+    let from : HasOrder o (drop start ns) = subst (HasOrder o) (drop-drop (start - n) n ns ∙ ap (λ (k : ℕ). drop k ns) there) (order_drawn_known o (drop n ns) (drop (start - n) (drop n ns)) (drawn_drop (start - n) (drop n ns)) left) in
+    known_ordered o (stretch start end ns) is (order_drawn_known o (drop start ns) (take (end - start) (drop start ns)) (drawn_take (end - start) (drop start ns)) from)

@@ -20,7 +20,7 @@ mod output;
 mod replacement;
 mod reversal;
 mod room;
-mod segment;
+pub mod segment;
 mod settings;
 mod sorting;
 mod storage;

@@ -54,7 +54,7 @@ last_back : (R : ℕ → ℕ → Type 0) (x : ℕ) (xs back : List ℕ) → IsCh
 last_back R x [] back h = h
 last_back R x (y ∷ ys) back h = last_back R y ys back h.1
 
-by_range : {P : Type 0} (range : List ℕ) (first last : ℕ) → first_of range ≡ Some first → last_of range ≡ Some last → ((xs : List ℕ) → range ≡ first ∷ xs → last ≡ last_from first xs → P) → P
+pub by_range : {P : Type 0} (range : List ℕ) (first last : ℕ) → first_of range ≡ Some first → last_of range ≡ Some last → ((xs : List ℕ) → range ≡ first ∷ xs → last ≡ last_from first xs → P) → P
 by_range [] first last f l k = cc
 by_range (x ∷ xs) first last f l k =
     let is : x ≡ first = some_is f in

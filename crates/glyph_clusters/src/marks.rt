@@ -1,7 +1,8 @@
-ghost use Rattle.std.specs.Prelude.{◌≡◌, ◌==◌, ◌≤◌, ◌++◌, not, length, map};
+ghost use Rattle.std.specs.Prelude.{◌≡◌, ◌==◌, ◌≤◌, ◌++◌, true, false, not, length, map};
 ghost use Rattle.std.specs.List.{list_any};
 ghost use Rattle.glyph_lists.specs.Items.{clusters};
 ghost use Rattle.glyph_lists.specs.Parts.{stretch};
+ghost use Rattle.glyph_lists.specs.Order.{IsOrdered};
 ghost use Rattle.glyph_lists.specs.Merges.{least_number};
 ghost use Rattle.glyph_lists.specs.Glyphs.{flagged, glyphs_flagged, glyphs_marked, marked_outside, tells_apart};
 
@@ -9,24 +10,39 @@ use crate::merges::least_cluster;
 use glyph_types::info::{hb_glyph_info_t, hb_mask_t};
 
 /// Sets flags on the glyphs from `start` up to before `end` outside the least cluster among them; answers whether there
-/// are such.
+/// are such. Where their clusters are known to stand in order, glyphs of one cluster are not walked.
 #[tactic(auto, using(crate::proofs::Parts::marked_parts, crate::proofs::Parts::told_apart))]
 pub fn mark_within(
     glyphs: &mut [hb_glyph_info_t],
     start: usize,
     end: usize,
     flags: hb_mask_t,
+    in_order: bool,
 ) -> bool
     requires ordered { start ≤ end }
     requires within { end ≤ length glyphs.old }
+    requires known { in_order ≡ true → IsOrdered (stretch start end (clusters glyphs.old)) }
     ensures marked { glyphs.new ≡ glyphs_marked flags start end glyphs.old }
     ensures any { result ≡ tells_apart (stretch start end (clusters glyphs.old)) }
 {
+    if in_order && are_ends_alike(&glyphs[start..end]) {
+        return false;
+    }
     let range = &mut glyphs[start..end];
     let low = least_cluster(range);
     let any = has_other_cluster(range, low);
     mark_outside(range, low, flags);
     any
+}
+
+/// Whether the first and the last glyph are of one cluster, or there are none; in order, so are all between.
+fn are_ends_alike(glyphs: &[hb_glyph_info_t]) -> bool
+    ensures { IsOrdered (clusters glyphs.now) → result ≡ true → tells_apart (clusters glyphs.now) ≡ false }
+{
+    if glyphs.is_empty() {
+        return true;
+    }
+    glyphs[0].cluster == glyphs[glyphs.len() - 1].cluster
 }
 
 /// Sets flags on the glyphs of two lists outside the least cluster of both; answers whether there are such.

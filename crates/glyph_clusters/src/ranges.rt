@@ -48,7 +48,13 @@ pub fn merge_at(
 {
     match level {
         BufferClusterLevel::Characters => {
-            mark_within(glyphs, start, end, UNSAFE_TO_BREAK | UNSAFE_TO_CONCAT)
+            mark_within(
+                glyphs,
+                start,
+                end,
+                UNSAFE_TO_BREAK | UNSAFE_TO_CONCAT,
+                false,
+            )
         }
         BufferClusterLevel::MonotoneGraphemes | BufferClusterLevel::MonotoneCharacters => {
             merge_within(glyphs, start, end, in_order);

@@ -3,6 +3,7 @@
 
 pub mod any_shaper;
 mod dispatch;
+mod fits;
 pub mod plan;
 pub mod planned;
 pub mod planner;

@@ -6,10 +6,11 @@ ghost use Rattle.glyph_buffer.specs.Sides.{empty_buffer, all_glyphs, with_added,
 ghost use Rattle.glyph_buffer.specs.Settings.{with_counted, with_invisible, with_language, with_not_found_variation_selector, with_post_context, with_pre_context};
 ghost use Rattle.text_buffers.specs.Wrappers.{IsCharacter};
 ghost use Rattle.std.specs.List.{All};
-ghost use Rattle.glyph_buffer.specs.Segment.{guessed, with_segment};
+ghost use Rattle.glyph_buffer.specs.Segment.{guessed, guessed_direction, guessed_script, with_segment};
 ghost use Rattle.glyph_buffer.specs.Text.{added_glyph, added_text, fits_text};
 
 use glyph_buffer::buffer::hb_buffer_t;
+use glyph_buffer::buffer::segment::{first_script, guessed_direction};
 use glyph_types::level::BufferClusterLevel;
 use shaping_text::constants::BufferFlags;
 use shaping_text::direction::Direction;
@@ -186,6 +187,23 @@ impl UnicodeBuffer {
         ensures { self.new ≡ guessed self.old }
     {
         self.buffer.guess_segment_properties();
+    }
+
+    /// The script that guessing would leave: the one that was told, else that of the first character that tells it.
+    pub fn guessed_script(&self) -> Option<Script>
+        ensures { result ≡ guessed_script self.now }
+    {
+        match self.buffer.script() {
+            Some(script) => Some(script),
+            None => first_script(self.buffer.info_slice()),
+        }
+    }
+
+    /// The direction that guessing would leave: the one that was told, else that of the script, else left to right.
+    pub fn guessed_direction(&self) -> Direction
+        ensures { result ≡ guessed_direction self.now.direction (guessed_script self.now) }
+    {
+        guessed_direction(self.buffer.direction(), self.guessed_script())
     }
 
     /// Leaves what `new` makes.

@@ -87,7 +87,9 @@ impl hb_buffer_t {
         ensures marked { self.new
             ≡ with_marked flags (index_in_all start self.old) (index_in_all end self.old) self.old }
     {
-        let any = mark_within(&mut self.info, start, end, flags);
+        self.order.settle(&self.out_info, &self.info);
+        let in_order = self.order.known.is_known();
+        let any = mark_within(&mut self.info, start, end, flags, in_order);
         self.scratch_flags = telling_flags(any, self.scratch_flags);
     }
 

@@ -1,3 +1,4 @@
+//! Script and direction of a text that were not told.
 ghost use Rattle.std.specs.Prelude.{◌≡◌, if◌then◌else◌, Some, None, false};
 ghost use Rattle.unicode_chars.specs.Scripts.{script_of};
 ghost use Rattle.glyph_buffer.specs.Segment.{first_script, guessed, guessed_direction, is_shared, tells_script, with_segment};
@@ -44,7 +45,8 @@ impl hb_buffer_t {
     }
 }
 
-fn first_script(glyphs: &[hb_glyph_info_t]) -> Option<Script>
+/// The script of the first character that tells it.
+pub fn first_script(glyphs: &[hb_glyph_info_t]) -> Option<Script>
     ensures { result ≡ first_script glyphs.now }
 {
     for glyph in glyphs {
@@ -72,7 +74,8 @@ fn is_shared(script: Script) -> bool
     script == COMMON || script == INHERITED || script == UNKNOWN
 }
 
-fn guessed_direction(direction: Direction, script: Option<Script>) -> Direction
+/// The direction that was told, else that of the script, else left to right.
+pub fn guessed_direction(direction: Direction, script: Option<Script>) -> Direction
     ensures { result ≡ guessed_direction direction script }
 {
     if direction != Direction::Invalid {
