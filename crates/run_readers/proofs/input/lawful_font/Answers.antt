@@ -16,8 +16,8 @@ returns-in_err-check_laws-clause-refused c =
     (λ not_memory. subst (λ (e : RunFault). IfLawful (λ _. font) t (Err e)) (sym c.in_err-check_laws.ensures.unlawful.0) (laws_refuse t font c.in_err-check_laws.ensures.unlawful.1))
 
 pub returns-clause-ok : goal.returns-clause-ok
-returns-clause-ok c = IfOk-weaker c.font_in.result _ _ (λ face is. font_answers _ _ _ c.in_ok-check_laws.ensures.lawful is) c.font_in.ensures.ok
+returns-clause-ok c = IfOk-weaker c.font_in.result _ _ (λ face is. font_answers (tables_value c.args.tables.now) _ _ c.in_ok-check_laws.ensures.lawful is) c.font_in.ensures.ok
 
 pub returns-clause-refused : goal.returns-clause-refused
 returns-clause-refused c =
-    IfErr-weaker c.font_in.result _ _ (λ e is not_memory. font_answers _ _ _ c.in_ok-check_laws.ensures.lawful (is not_memory)) c.font_in.ensures.refused
+    IfErr-weaker c.font_in.result _ _ (λ e is not_memory. font_answers (tables_value c.args.tables.now) _ _ c.in_ok-check_laws.ensures.lawful (is not_memory)) c.font_in.ensures.refused
