@@ -18,7 +18,7 @@ use Rattle.unicode_tables.specs.Tables.{Tables}
 use Rattle.glyph_buffer.specs.Sides.{Sides}
 use Rattle.shape_shaper.specs.Rules.{Spans}
 use Rattle.shape_pipeline.specs.Shaped.{by_tags, by_text}
-use Rattle.shape_run.specs.Tables.{language_of, language_tags}
+use Rattle.run_readers.specs.Tables.{language_of, language_tags}
 
 found_in : (text : List ℕ) (rows : List LanguageRow) → language_of (map language_in rows) text ≡ option_map language_in (row_of rows text)
 found_in text [] = refl

@@ -5,7 +5,7 @@ use Rattle.font_face.specs.declared.parts.FaceParts.{FaceParts}
 use Rattle.any_shaper.specs.Dispatch.{script_waits}
 use Rattle.run_options.specs.declared.fault.RunFault.{RunFault}
 use Rattle.shape_run.specs.Answer.{IsAnswer, line_of}
-use Rattle.shape_run.specs.Tables.{RunTables}
+use Rattle.run_readers.specs.Tables.{RunTables}
 
 -- no glyphs and a line feed, where such a text does not wait
 abbrev pub EmptyTextGivesEmptyLine : Type 0

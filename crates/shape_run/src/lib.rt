@@ -6,6 +6,4 @@ pub mod laws;
 mod read;
 pub mod run;
 mod shape;
-mod tables;
-mod values;
 mod write;

@@ -6,14 +6,14 @@ ghost use Rattle.glyph_buffer.specs.Sides.{run_of};
 ghost use Rattle.any_shaper.specs.Dispatch.{script_waits};
 ghost use Rattle.shape_pipeline.specs.Shaped.{text_reading};
 ghost use Rattle.shape_run.specs.Answer.{IsUnshaped, shaping};
-ghost use Rattle.shape_run.specs.Run.{IsOfRun};
-ghost use Rattle.shape_run.specs.Tables.{tables_value};
+ghost use Rattle.run_readers.specs.Faults.{IsOfRun};
+ghost use Rattle.run_readers.specs.Tables.{tables_value};
 
-use crate::tables::TextTables;
 use any_shaper::script_waits;
 use feature_text::feature::Feature;
 use font_face::Face;
 use run_options::fault::RunFault;
+use run_readers::tables::TextTables;
 use shape_pipeline::hb_shape_data_t;
 use std::alloc::Global;
 use text_buffers::glyphs::GlyphBuffer;
