@@ -14,7 +14,7 @@ use Rattle.layout_common.specs.Rows.{value_of}
 use Rattle.font_face.specs.Glyphs.{name_of}
 use Rattle.font_face.specs.declared.parts.FaceParts.{FaceParts}
 use Rattle.face_json.specs.Face.{face_of}
-use Rattle.shape_plan.specs.Dispatch.{script_waits}
+use Rattle.any_shaper.specs.Dispatch.{script_waits}
 use Rattle.shape_reading.specs.Shaping.{Shaping}
 use Rattle.shape_pipeline.specs.Shaped.{by_text, text_reading}
 use Rattle.shape_run.specs.Asked.{text_buffer}

@@ -3,7 +3,7 @@ ghost use Rattle.std.specs.Prelude.{◌≡◌, ◌≢◌, false, IfOk, IfErr, On
 ghost use Rattle.glyph_lists.specs.Readings.{Follows};
 ghost use Rattle.glyph_buffer.specs.Segment.{guessed};
 ghost use Rattle.glyph_buffer.specs.Sides.{run_of};
-ghost use Rattle.shape_plan.specs.Dispatch.{script_waits};
+ghost use Rattle.any_shaper.specs.Dispatch.{script_waits};
 ghost use Rattle.shape_pipeline.specs.Shaped.{text_reading};
 ghost use Rattle.shape_run.specs.Answer.{IsUnshaped, shaping};
 ghost use Rattle.shape_run.specs.Run.{IsOfRun};
@@ -15,7 +15,7 @@ use feature_text::feature::Feature;
 use font_face::Face;
 use run_options::fault::RunFault;
 use shape_pipeline::hb_shape_data_t;
-use shape_plan::script_waits;
+use any_shaper::script_waits;
 use std::alloc::Global;
 use text_buffers::glyphs::GlyphBuffer;
 use text_buffers::unicode_buffer::UnicodeBuffer;

@@ -5,24 +5,14 @@ use Rattle.shaping_text.specs.declared.script.Script.{Script}
 use Rattle.shaping_text.specs.Tag.{tag_of}
 use Rattle.normal_forms.specs.declared.mode.NormalizationMode.{NormalizationMode}
 use Rattle.normal_forms.specs.declared.mode.NormalizationMode.TheVariants as mode
+use Rattle.shape_plan.specs.Traits.{ShaperTraits}
 use Rattle.script_constants.specs.declared.shaper.hb_ot_script_shaper_t.{hb_ot_script_shaper_t}
 use Rattle.script_constants.specs.declared.shaper.hb_ot_script_shaper_t.TheVariants.{ARABIC_SHAPER, HANGUL_SHAPER, HEBREW_SHAPER, INDIC_SHAPER, KHMER_SHAPER, MYANMAR_SHAPER, MYANMAR_ZAWGYI_SHAPER, THAI_SHAPER, UNIVERSAL_SHAPER}
 use Rattle.feature_requests.specs.declared.ask.Ask.{Ask}
 use Rattle.feature_requests.specs.Lists.{features_of, overrides_of}
-use Rattle.shape_plan.specs.declared.any_shaper.hb_ot_any_shaper_t.{hb_ot_any_shaper_t}
-use Rattle.shape_plan.specs.declared.any_shaper.hb_ot_any_shaper_t.TheVariants as any
-use Rattle.shape_plan.specs.declared.any_shaper.TheConstants.{HB_OT_SHAPE_ZERO_WIDTH_MARKS_NONE, HB_OT_SHAPE_ZERO_WIDTH_MARKS_BY_GDEF_EARLY, HB_OT_SHAPE_ZERO_WIDTH_MARKS_BY_GDEF_LATE}
-
--- what a shaper decides once for all texts
-pub record ShaperTraits : Type 0 where
-  -- how far characters are split and composed
-  pub normalization : NormalizationMode
-  -- the script of GPOS that the shaper is made for: under another the table is not used
-  pub gpos_tag : Option Tag
-  -- when marks lose their advances
-  pub zero_width_marks : ℕ
-  -- whether marks that the font does not place are placed by their boxes
-  pub fallback_position : Bool
+use Rattle.any_shaper.specs.declared.any_shaper.hb_ot_any_shaper_t.{hb_ot_any_shaper_t}
+use Rattle.any_shaper.specs.declared.any_shaper.hb_ot_any_shaper_t.TheVariants as any
+use Rattle.shape_plan.specs.declared.planned.TheConstants.{HB_OT_SHAPE_ZERO_WIDTH_MARKS_NONE, HB_OT_SHAPE_ZERO_WIDTH_MARKS_BY_GDEF_EARLY, HB_OT_SHAPE_ZERO_WIDTH_MARKS_BY_GDEF_LATE}
 
 abbrev pub simple_traits : ShaperTraits
 simple_traits = record { normalization = mode.Auto; gpos_tag = None; zero_width_marks = HB_OT_SHAPE_ZERO_WIDTH_MARKS_BY_GDEF_LATE; fallback_position = true }

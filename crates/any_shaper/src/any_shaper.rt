@@ -1,24 +1,17 @@
 //! The shapers, and what each decides once for all texts.
 ghost use Rattle.std.specs.Prelude.{◌≡◌};
-ghost use Rattle.shape_plan.specs.Shapers.{traits_of, keeps_order};
+ghost use Rattle.any_shaper.specs.Shapers.{traits_of, keeps_order};
 
 use normal_forms::NormalizationMode;
 use script_constants::hb_ot_script_shaper_t::{
     self, ARABIC_SHAPER, HANGUL_SHAPER, HEBREW_SHAPER, INDIC_SHAPER, KHMER_SHAPER, MYANMAR_SHAPER,
     MYANMAR_ZAWGYI_SHAPER, THAI_SHAPER, UNIVERSAL_SHAPER,
 };
+use shape_plan::planned::{
+    HB_OT_SHAPE_ZERO_WIDTH_MARKS_BY_GDEF_EARLY, HB_OT_SHAPE_ZERO_WIDTH_MARKS_BY_GDEF_LATE,
+    HB_OT_SHAPE_ZERO_WIDTH_MARKS_NONE, hb_ot_shape_zero_width_marks_type_t,
+};
 use shaping_text::tag::Tag;
-
-/// When marks lose their advances: one of the constants below.
-pub type hb_ot_shape_zero_width_marks_type_t = u32;
-
-pub const HB_OT_SHAPE_ZERO_WIDTH_MARKS_NONE: u32 = 0;
-
-/// Before positioning.
-pub const HB_OT_SHAPE_ZERO_WIDTH_MARKS_BY_GDEF_EARLY: u32 = 1;
-
-/// After positioning.
-pub const HB_OT_SHAPE_ZERO_WIDTH_MARKS_BY_GDEF_LATE: u32 = 2;
 
 /// A shaper: that of most scripts, one that does as little as can be, or one made for some scripts.
 #[derive(Clone, Copy, PartialEq, Eq, Debug)]

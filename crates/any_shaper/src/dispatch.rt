@@ -1,6 +1,6 @@
 //! Which shaper a script has.
 ghost use Rattle.std.specs.Prelude.{◌≡◌};
-ghost use Rattle.shape_plan.specs.Dispatch.{categorized, ends_in_three, indic_shaper, is_default_or_latin, joins, myanmar_shaper, own_shaper, script_waits, universal_shaper};
+ghost use Rattle.any_shaper.specs.Dispatch.{categorized, ends_in_three, indic_shaper, is_default_or_latin, joins, myanmar_shaper, own_shaper, script_waits, universal_shaper};
 
 use crate::any_shaper::{DEFAULT_SHAPER, hb_ot_any_shaper_t};
 use script_constants::hb_ot_script_shaper_t::{

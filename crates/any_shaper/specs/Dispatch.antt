@@ -7,8 +7,8 @@ use Rattle.shaping_text.specs.declared.script.TheConstants as script
 use Rattle.shaping_text.specs.declared.direction.Direction.{Direction}
 use Rattle.shaping_text.specs.Direction.{is_among, is_horizontal}
 use Rattle.script_constants.specs.declared.shaper.hb_ot_script_shaper_t.TheVariants.{ARABIC_SHAPER, HANGUL_SHAPER, HEBREW_SHAPER, INDIC_SHAPER, KHMER_SHAPER, MYANMAR_SHAPER, MYANMAR_ZAWGYI_SHAPER, THAI_SHAPER, UNIVERSAL_SHAPER}
-use Rattle.shape_plan.specs.declared.any_shaper.hb_ot_any_shaper_t.{hb_ot_any_shaper_t}
-use Rattle.shape_plan.specs.declared.any_shaper.hb_ot_any_shaper_t.TheVariants as any
+use Rattle.any_shaper.specs.declared.any_shaper.hb_ot_any_shaper_t.{hb_ot_any_shaper_t}
+use Rattle.any_shaper.specs.declared.any_shaper.hb_ot_any_shaper_t.TheVariants as any
 
 -- whether the font's script is of this tag
 abbrev pub is_tag : List ℕ → Option Tag → Bool

@@ -1,11 +1,11 @@
 //! The shapers of the stack.
-use crate::shaper::hb_ot_shaper_t;
+use crate::any_shaper::hb_ot_any_shaper_t;
 use font_face::Face;
 use glyph_buffer::buffer::hb_buffer_t;
 use glyph_types::cause::ShapeCause;
 use script_syllables::SyllableSpans;
-use shape_plan::hb_ot_any_shaper_t;
 use shape_plan::plan::hb_script_plan_t;
+use shape_shaper::hb_ot_shaper_t;
 use std::alloc::Global;
 use unicode_tables::UnicodeTables;
 
@@ -14,11 +14,11 @@ use unicode_tables::UnicodeTables;
 impl hb_ot_shaper_t for hb_ot_any_shaper_t {
     ghost use Rattle.std.specs.Prelude.{refl};
     ghost use Rattle.unicode_tables.specs.Tables.{split_of};
-    ghost use Rattle.shape_plan.specs.Shapers.{keeps_order};
-    ghost use Rattle.shape_shaper.specs.Rules.{plain_rules};
+    ghost use Rattle.any_shaper.specs.Shapers.{keeps_order};
+    ghost use Rattle.any_shaper.specs.Rules.{rules_of};
     ghost use Rattle.shape_shaper.specs.Lemmas.Unchanged.{nine_splits, plain_order};
 
-    ghost rules = { λ _ _. plain_rules };
+    ghost rules = { rules_of };
 
     ghost keeps_order = { keeps_order };
 
@@ -57,7 +57,7 @@ impl hb_ot_shaper_t for hb_ot_any_shaper_t {
         unicode_tables::compose(tables, a, b)
     }
 
-    #[tactic(auto, using(crate::specs::Lemmas::Unchanged::unchanged_run))]
+    #[tactic(auto, using(shape_shaper::specs::Lemmas::Unchanged::unchanged_run))]
     fn reorder_marks(
         &self,
         _plan: &hb_script_plan_t<()>,

@@ -1,0 +1,4 @@
+pub mod Shapers
+pub mod Dispatch
+pub mod Requests
+pub mod Rules
