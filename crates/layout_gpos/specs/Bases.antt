@@ -1,15 +1,29 @@
--- What is kept of a search for a base, for the next one of the same lookup.
+-- What is kept of a search for a base or a ligature, for the next one of the same lookup.
 use Rattle.std.specs.Prelude.{ℕ, ◌≡◌, ◌≤◌, ◌<◌, ◌+◌, List, [], length, reverse, take, Result, Ok, Err, IfOk, IfErr}
 use Rattle.glyph_lists.specs.Items.{Item}
 use Rattle.layout_match.specs.declared.search.match_t.{match_t}
 use Rattle.layout_match.specs.Applied.{Applied, own_search}
 use Rattle.layout_match.specs.Matches.{nearest_from}
-use Rattle.layout_gpos.specs.Marks.{base_item, without_marks}
+use Rattle.layout_match.specs.Searches.{Search}
+use Rattle.layout_rules.specs.Actions.{Cut}
+use Rattle.layout_gpos.specs.Marks.{any_item, base_item, without_marks}
 use Rattle.layout_gpos.specs.declared.bases.LastBase.{LastBase}
+use Rattle.layout_gpos.specs.declared.bases.LastBases.{LastBases}
+use Rattle.layout_gpos.specs.declared.bases.Sought.{Sought}
+use Rattle.layout_gpos.specs.declared.bases.Sought.TheVariants.{Base, Ligature}
 
--- what a lookup that isn't kept to syllables asks of the items before one where it seeks a base
-abbrev pub any_base : Applied → Item → match_t
-any_base a = base_item (own_search (without_marks a) [])
+-- what a search asks of an item that seeks a base, or a ligature
+abbrev pub asked : Sought → Search → Item → match_t
+asked Base s x = base_item s x
+asked Ligature s x = any_item s x
+
+-- what a lookup that isn't kept to syllables asks of the items before one where it seeks such
+abbrev pub any_sought : Sought → Applied → Item → match_t
+any_sought k a = asked k (own_search (without_marks a) [])
+
+-- the nearest such item before the cut, marks being passed over
+abbrev pub sought_before : Sought → Applied → Cut → Result ℕ ℕ
+sought_before k a c = nearest_from (asked k (own_search (without_marks a) c.rest)) 0 (reverse c.front)
 
 -- what was found so much farther back
 abbrev pub farther : ℕ → Result ℕ ℕ → Result ℕ ℕ
@@ -22,3 +36,8 @@ pub record IsKept (ask : Item → match_t) (xs : List Item) (l : LastBase) : Typ
   pub inside : IfOk l.found (λ at. at < l.before)
   pub read : IfErr l.found (λ end. end ≤ l.before)
   pub is : l.found ≡ nearest_from ask 0 (reverse (take l.before xs))
+
+-- so it is of both searches of a lookup
+pub record AreKept (a : Applied) (xs : List Item) (l : LastBases) : Type 0 where
+  pub base : IsKept (any_sought Base a) xs l.base
+  pub ligature : IsKept (any_sought Ligature a) xs l.ligature

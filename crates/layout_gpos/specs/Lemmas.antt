@@ -2,3 +2,4 @@ pub mod Read
 pub mod Nearest
 pub mod Placed
 pub mod Performed
+pub mod Left

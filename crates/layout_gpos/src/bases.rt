@@ -1,23 +1,48 @@
-//! The search for a base, which remembers the last one.
-ghost use Rattle.std.specs.Prelude.{◌≡◌, ◌<◌, ◌≤◌, ◌+◌, ◌^◌, false, IfErr, IfOk, length, List};
+//! The search for a base or a ligature, which remembers the last one.
+ghost use Rattle.std.specs.Prelude.{ℕ, ◌≡◌, ◌<◌, ◌≤◌, ◌+◌, ◌^◌, IfErr, IfOk, length, List};
 ghost use Rattle.glyph_buffer.specs.Sides.{items_of};
-ghost use Rattle.glyph_lists.specs.Items.{Item};
-ghost use Rattle.layout_match.specs.Applied.{applied_of};
+ghost use Rattle.glyph_lists.specs.Items.{Item, item_of, strip};
+ghost use Rattle.layout_match.specs.Applied.{Applied, applied_of, own_search};
+ghost use Rattle.layout_match.specs.Searches.{search_of};
 ghost use Rattle.layout_match.specs.declared.search.match_t.{match_t};
 ghost use Rattle.layout_rules.specs.Buffers.{cut_of};
-ghost use Rattle.layout_gpos.specs.Bases.{IsKept, any_base, farther};
-ghost use Rattle.layout_gpos.specs.Marks.{base_before};
+ghost use Rattle.layout_gpos.specs.Bases.{AreKept, IsKept, any_sought, asked, farther, sought_before};
+ghost use Rattle.layout_gpos.specs.Marks.{without_marks};
 
-use crate::search::{base_answer, glyph_before, is_later_component, search_base, without_marks};
+use crate::search::{base_answer, glyph_before, is_later_component, without_marks};
 use glyph_buffer::buffer::hb_buffer_t;
+use glyph_types::info::hb_glyph_info_t;
+use layout_match::search::GlyphSearch;
 use layout_match::{hb_ot_apply_context_t, match_t};
 
-/// What a search for a base found, kept for the next one of the same lookup on the same glyphs.
+/// What a mark is to hang on.
+#[derive(Clone, Copy, Debug)]
+pub enum Sought {
+    /// A glyph that is neither a mark nor a later component of a multiple substitution.
+    Base,
+    /// A glyph that is no mark.
+    Ligature,
+}
+
+impl Sought {
+    /// What the search says of a glyph.
+    fn answer(self, search: &GlyphSearch, info: &hb_glyph_info_t) -> match_t
+        ensures { result ≡ asked self (search_of search.now) (item_of info.now) }
+    {
+        let answer = search.match_(None, 0, info);
+        match self {
+            Sought::Base => base_answer(is_later_component(info), answer),
+            Sought::Ligature => answer,
+        }
+    }
+}
+
+/// What a search found, kept for the next one of the same lookup on the same glyphs.
 #[derive(Clone, Copy, Debug)]
 pub struct LastBase {
     /// Before how many glyphs it searched.
     before: usize,
-    /// How far back it found a base, the nearest glyph being 0; else how far it read.
+    /// How far back it found what it sought, the nearest glyph being 0; else how far it read.
     found: Result<usize, usize>,
 }
 
@@ -34,6 +59,27 @@ impl LastBase {
     }
 }
 
+/// The last bases and ligatures that a lookup's searches found, those of lookups nested in it included.
+#[derive(Clone, Copy, Debug)]
+pub struct LastBases {
+    /// Of marks on bases.
+    pub base: LastBase,
+    /// Of marks on ligatures.
+    pub ligature: LastBase,
+}
+
+impl LastBases {
+    /// What is found before the first glyph.
+    pub fn new() -> LastBases
+        ensures { (a : Applied) (xs : List Item) → AreKept a xs result }
+    {
+        LastBases {
+            base: LastBase::new(),
+            ligature: LastBase::new(),
+        }
+    }
+}
+
 /// What was found so much farther back.
 fn farther(found: Result<usize, usize>, by: usize) -> Result<usize, usize>
     requires inside { IfOk found (λ at. at + by < 2 ^ 64) }
@@ -46,27 +92,27 @@ fn farther(found: Result<usize, usize>, by: usize) -> Result<usize, usize>
     }
 }
 
-/// The base before the cursor, where the lookup isn't kept to syllables: the glyphs behind the last search are looked at,
-/// and what that one found is not sought again.
+/// What is sought before the cursor: the glyphs behind the last search are looked at, and what that one found is not sought
+/// again.
 #[tactic(auto, using(crate::specs::Lemmas::Nearest::taken_before, crate::specs::Lemmas::Nearest::refused_before, crate::specs::Lemmas::Nearest::passed_before, crate::proofs::Kept::went_on))]
-fn base_since(
+fn found_since(
+    sought: Sought,
     ctx: &hb_ot_apply_context_t,
     last: LastBase,
     buffer: &hb_buffer_t,
 ) -> Result<usize, usize>
     requires there { 0 < length buffer.now.ahead }
-    requires free { ctx.now.per_syllable ≡ false }
     requires since { last.before ≤ length buffer.now.behind }
-    requires kept { IsKept (any_base (applied_of ctx.now)) (items_of buffer.now) last }
-    ensures found { result ≡ base_before (applied_of ctx.now) (cut_of buffer.now) }
+    requires kept { IsKept (asked sought (own_search (without_marks (applied_of ctx.now)) (strip buffer.now.ahead)))
+        (items_of buffer.now) last }
+    ensures found { result ≡ sought_before sought (applied_of ctx.now) (cut_of buffer.now) }
     ensures inside { IfOk result (λ at. at < length buffer.now.behind) }
     ensures read { IfErr result (λ end. end ≤ length buffer.now.behind) }
 {
     let search = without_marks(ctx).own_search(buffer);
     let more = buffer.out_len() - last.before;
     for at in 0..more {
-        let info = glyph_before(buffer, at);
-        match base_answer(is_later_component(info), search.match_(None, 0, info)) {
+        match sought.answer(&search, glyph_before(buffer, at)) {
             match_t::MATCH => return Ok(at),
             match_t::NOT_MATCH => return Err(at + 1),
             match_t::SKIP => {}
@@ -75,26 +121,27 @@ fn base_since(
     farther(last.found, more)
 }
 
-/// The nearest glyph before the cursor that a mark may hang on, marks and later components being passed over; else how far
-/// the search read. It goes on from the last search.
-#[tactic(auto, using(crate::proofs::Kept::kept_now))]
-pub fn base_before(
+/// The nearest glyph before the cursor that a mark may hang on; else how far the search read. It goes on from the last
+/// search, but where the lookup is kept to syllables.
+#[tactic(auto, using(crate::proofs::Kept::kept_there, crate::proofs::Kept::kept_now))]
+pub fn found_before(
+    sought: Sought,
     ctx: &hb_ot_apply_context_t,
     last: &mut LastBase,
     buffer: &hb_buffer_t,
 ) -> Result<usize, usize>
     requires there { 0 < length buffer.now.ahead }
-    requires kept { IsKept (any_base (applied_of ctx.now)) (items_of buffer.now) last.old }
-    ensures found { result ≡ base_before (applied_of ctx.now) (cut_of buffer.now) }
+    requires kept { IsKept (any_sought sought (applied_of ctx.now)) (items_of buffer.now) last.old }
+    ensures found { result ≡ sought_before sought (applied_of ctx.now) (cut_of buffer.now) }
     ensures inside { IfOk result (λ at. at < length buffer.now.behind) }
     ensures read { IfErr result (λ end. end ≤ length buffer.now.behind) }
-    ensures kept { IsKept (any_base (applied_of ctx.now)) (items_of buffer.now) last.new }
+    ensures kept { IsKept (any_sought sought (applied_of ctx.now)) (items_of buffer.now) last.new }
 {
     let before = buffer.out_len();
     if ctx.per_syllable || before < last.before {
-        return search_base(ctx, buffer);
+        return found_since(sought, ctx, LastBase::new(), buffer);
     }
-    let found = base_since(ctx, *last, buffer);
+    let found = found_since(sought, ctx, *last, buffer);
     *last = LastBase { before, found };
     found
 }

@@ -6,12 +6,13 @@ ghost use Rattle.layout_match.specs.Applied.{applied_of};
 ghost use Rattle.layout_rules.specs.Buffers.{are_glyphs};
 ghost use Rattle.layout_rules.specs.Performing.{Performed, cut_with};
 ghost use Rattle.layout_gpos.specs.Anchors.{is_near, mark_hung, told_if};
-ghost use Rattle.layout_gpos.specs.Bases.{IsKept, any_base};
+ghost use Rattle.layout_gpos.specs.Bases.{IsKept, any_sought};
+ghost use Rattle.layout_gpos.specs.declared.bases.Sought.TheVariants.{Base};
 ghost use Rattle.layout_gpos.specs.Marks.{attach, attach_if, is_there, mark_to_base, on_base, with_found};
 
 use crate::anchor::{hang_mark, is_near};
 use crate::apply::Apply;
-use crate::bases::{LastBase, base_before};
+use crate::bases::{LastBase, Sought, found_before};
 use crate::marking::{mark_attempt, mark_match};
 use crate::placing::pass;
 use crate::search::glyph_before;
@@ -146,15 +147,15 @@ pub fn apply_mark_base_pos(
     requires there { 0 < length buffer.old.ahead }
     requires placed { length buffer.old.positions ≡ length (all_glyphs buffer.old) }
     requires number { are_glyphs (items_of buffer.old) ≡ true }
-    requires kept { IsKept (any_base (applied_of ctx.now)) (items_of buffer.old) last.old }
+    requires kept { IsKept (any_sought Base (applied_of ctx.now)) (items_of buffer.old) last.old }
     ensures performed { (random : ℕ) → Performed (mark_to_base (applied_of ctx.now) subtable.now (cut_with random
         buffer.old)) result random random buffer.old buffer.new }
-    ensures kept { IsKept (any_base (applied_of ctx.now)) (items_of buffer.new) last.new }
+    ensures kept { IsKept (any_sought Base (applied_of ctx.now)) (items_of buffer.new) last.new }
 {
     let Some(mark) = subtable.mark(buffer.cur(0).as_glyph().0) else {
         return false;
     };
-    let found = base_before(ctx, last, buffer);
+    let found = found_before(Sought::Base, ctx, last, buffer);
     attach_found(subtable, mark, found, buffer)
 }
 

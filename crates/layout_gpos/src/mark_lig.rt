@@ -6,12 +6,15 @@ ghost use Rattle.layout_positions.specs.Marks.{component_count};
 ghost use Rattle.layout_match.specs.Applied.{applied_of};
 ghost use Rattle.layout_rules.specs.Buffers.{are_glyphs};
 ghost use Rattle.layout_rules.specs.Performing.{Performed, cut_with};
+ghost use Rattle.layout_gpos.specs.Bases.{IsKept, any_sought};
+ghost use Rattle.layout_gpos.specs.declared.bases.Sought.TheVariants.{Ligature};
 ghost use Rattle.layout_gpos.specs.Marks.{component_in, component_of, mark_to_ligature, on_ligature, with_found};
 
 use crate::apply::Apply;
+use crate::bases::{LastBase, Sought, found_before};
 use crate::mark::attach_if;
 use crate::marking::mark_attempt;
-use crate::search::{glyph_before, item_before, without_marks};
+use crate::search::glyph_before;
 use glyph_buffer::buffer::hb_buffer_t;
 use glyph_types::info::hb_glyph_info_t;
 use layout_match::hb_ot_apply_context_t;
@@ -103,25 +106,29 @@ fn attach_ligature_found(
 
 /// Mark to ligature attachment (OpenType, GPOS lookup type 5): where the subtable covers the mark at the cursor, it hangs on
 /// the nearest glyph before it that is no mark: on the component of that ligature that it belongs to, or on the last, anchor
-/// on anchor. It tells whether it acted; where it didn't, it changed glyph flags alone.
+/// on anchor. It tells whether it acted; where it didn't, it changed glyph flags alone. The search for the ligature goes on
+/// from the last one of the same lookup on these glyphs.
 #[tactic(auto, using(layout_rules::specs::Lemmas::Glyphs::number_ahead, crate::proofs::MarkLig::no_ligature_mark))]
 pub fn apply_mark_lig_pos(
     subtable: &MarkLigPos,
     ctx: &hb_ot_apply_context_t,
+    last: &mut LastBase,
     buffer: &mut hb_buffer_t,
 ) -> bool
     requires closed { buffer.old.is_open ≡ false }
     requires there { 0 < length buffer.old.ahead }
     requires placed { length buffer.old.positions ≡ length (all_glyphs buffer.old) }
     requires number { are_glyphs (items_of buffer.old) ≡ true }
-    ensures { (random : ℕ) → Performed (mark_to_ligature (applied_of ctx.now) subtable.now (cut_with random
+    requires kept { IsKept (any_sought Ligature (applied_of ctx.now)) (items_of buffer.old) last.old }
+    ensures performed { (random : ℕ) → Performed (mark_to_ligature (applied_of ctx.now) subtable.now (cut_with random
         buffer.old)) result random random buffer.old buffer.new }
+    ensures kept { IsKept (any_sought Ligature (applied_of ctx.now)) (items_of buffer.new) last.new }
 {
     let info = *buffer.cur(0);
     let Some(mark) = subtable.mark(info.as_glyph().0) else {
         return false;
     };
-    let found = item_before(&without_marks(ctx), buffer);
+    let found = found_before(Sought::Ligature, ctx, last, buffer);
     attach_ligature_found(subtable, mark, &info, found, buffer)
 }
 
@@ -129,6 +136,6 @@ impl Apply for MarkLigPos {
     ghost action = { λ s d a. mark_to_ligature a s };
 
     fn apply(&self, ctx: &hb_ot_apply_context_t, buffer: &mut hb_buffer_t) -> bool {
-        apply_mark_lig_pos(self, ctx, buffer)
+        apply_mark_lig_pos(self, ctx, &mut LastBase::new(), buffer)
     }
 }

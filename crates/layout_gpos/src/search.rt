@@ -3,7 +3,7 @@ ghost use Rattle.std.specs.Prelude.{◌≡◌, ◌<◌, ◌≤◌, ◌+◌, IfEr
 ghost use Rattle.glyph_lists.specs.Items.{item_of};
 ghost use Rattle.layout_match.specs.Applied.{applied_of};
 ghost use Rattle.layout_rules.specs.Buffers.{cut_of};
-ghost use Rattle.layout_gpos.specs.Marks.{among_marks, base_answer, base_before, is_later_component, item_before, without_marks};
+ghost use Rattle.layout_gpos.specs.Marks.{among_marks, base_answer, is_later_component, item_before, without_marks};
 
 use glyph_buffer::buffer::hb_buffer_t;
 use glyph_types::info::hb_glyph_info_t;
@@ -67,26 +67,4 @@ pub(crate) fn base_answer(is_later: bool, answer: match_t) -> match_t
         match_t::MATCH if is_later => match_t::SKIP,
         answer => answer,
     }
-}
-
-/// The nearest glyph before the cursor that a mark may hang on, marks and later components being passed over; else how far
-/// the search read.
-#[tactic(auto, using(crate::specs::Lemmas::Nearest::taken_before, crate::specs::Lemmas::Nearest::refused_before, crate::specs::Lemmas::Nearest::passed_before, crate::specs::Lemmas::Nearest::ended_before))]
-pub fn search_base(ctx: &hb_ot_apply_context_t, buffer: &hb_buffer_t) -> Result<usize, usize>
-    requires { 0 < length buffer.now.ahead }
-    ensures found { result ≡ base_before (applied_of ctx.now) (cut_of buffer.now) }
-    ensures inside { IfOk result (λ at. at < length buffer.now.behind) }
-    ensures read { IfErr result (λ end. end ≤ length buffer.now.behind) }
-{
-    let search = without_marks(ctx).own_search(buffer);
-    let end = buffer.out_len();
-    for at in 0..end {
-        let info = glyph_before(buffer, at);
-        match base_answer(is_later_component(info), search.match_(None, 0, info)) {
-            match_t::MATCH => return Ok(at),
-            match_t::NOT_MATCH => return Err(at + 1),
-            match_t::SKIP => {}
-        }
-    }
-    Err(end)
 }

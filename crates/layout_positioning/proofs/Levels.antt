@@ -8,10 +8,6 @@ use Rattle.glyph_types.specs.declared.info.hb_glyph_info_t.{hb_glyph_info_t}
 use Rattle.glyph_lists.specs.Items.{item_of}
 use Rattle.glyph_buffer.specs.Sides.{Sides}
 use Rattle.layout_lookups.specs.declared.positioning.PositioningLookup.{PositioningLookup}
-use Rattle.layout_lookups.specs.declared.positioning.PositioningSubtables.{PositioningSubtables}
-use Rattle.layout_lookups.specs.declared.positioning.PositioningSubtables.TheVariants.{MarkToBase}
-use Rattle.layout_positions.specs.declared.mark.MarkBasePos.{MarkBasePos}
-use Rattle.layout_gpos.specs.Marks.{mark_to_base}
 use Rattle.layout_match.specs.Applied.{Applied}
 use Rattle.layout_contexts.specs.declared.context.SequenceLookupRecord.{SequenceLookupRecord}
 use Rattle.layout_chain.specs.Nested.{one_record}
@@ -20,7 +16,7 @@ use Rattle.layout_chain.specs.Records.{IsBegun}
 use Rattle.layout_chain.specs.Lemmas.Steps.{performs_nests}
 use Rattle.layout_chain.specs.Lemmas.Walks.{lookup_refused}
 use Rattle.layout_rules.specs.Lemmas.Frames.{still_direction}
-use Rattle.layout_rules.specs.Actions.{Action, Outcome, Refuses, first_rule}
+use Rattle.layout_rules.specs.Actions.{Action, Outcome, Refuses}
 use Rattle.layout_rules.specs.Performing.{cut_with, Performed, Performs}
 use Rattle.layout_rules.specs.Lemmas.Performed.{passes_nothing}
 use Rattle.layout_walks.specs.Trying.{meets}
@@ -66,10 +62,3 @@ pub lookup_tries : (table : List PositioningLookup) (d : Direction) (a : Applied
 lookup_tries table d a lookup r after result s new g at some w =
     let P : Outcome → Type 0 = λ o. Performs o result r after s new in
     subst P (sym (met a (first_subtable (nested table 64 d a) d a lookup.subtables) r s g at some)) w
-
--- of a lookup of mark to base attachment
-pub base_tries : (table : List PositioningLookup) (d : Direction) (a : Applied) (lookup : PositioningLookup) (subtables : List MarkBasePos) (r after : ℕ) (acted : Bool) (s new : Sides) (g : hb_glyph_info_t) → slice_get s.ahead 0 ≡ Some g → meets a (item_of g) ≡ true → lookup.subtables ≡ MarkToBase subtables
-    → Performed (first_rule (mark_to_base a) subtables (cut_with r s)) acted r after s new → Performed (lookup_action table d a lookup (cut_with r s)) acted r after s new
-base_tries table d a lookup subtables r after acted s new g at some is w =
-    let P : PositioningSubtables → Type 0 = λ t. Performed (first_subtable (nested table 64 d a) d a t (cut_with r s)) acted r after s new in
-    lookup_tries table d a lookup r after (Ok acted) s new g at some (subst P (sym is) w)

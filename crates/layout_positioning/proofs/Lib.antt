@@ -2,3 +2,5 @@ pub mod Passed
 pub mod Levels
 pub mod Over
 pub mod Ways
+pub mod Left
+pub mod Kept

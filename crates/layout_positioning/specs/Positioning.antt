@@ -1,7 +1,7 @@
 -- The lookups of positioning, stage after stage, each stage ended by its pause.
-use Rattle.std.specs.Prelude.{ℕ, ◌+◌, List, [], ◌∷◌, Option, slice_get}
+use Rattle.std.specs.Prelude.{ℕ, ◌≡◌, ◌+◌, IfOk, List, [], ◌∷◌, Option, slice_get}
 use Rattle.std.specs.Option.{option_map_or}
-use Rattle.glyph_lists.specs.Readings.{Stage, and_then, as_it_is}
+use Rattle.glyph_lists.specs.Readings.{View, Stage, and_then, as_it_is}
 use Rattle.font_face.specs.declared.parts.FaceParts.{FaceParts}
 use Rattle.layout_lookups.specs.declared.positioning.PositioningLookup.{PositioningLookup}
 use Rattle.map_features.specs.declared.lookup.lookup_map_t.{lookup_map_t}
@@ -31,3 +31,7 @@ positioning_lookups font = option_map_or (λ t. t.lookups) font.gpos []
 -- the stages of a map for positioning; nothing is drawn at random
 abbrev pub positioned_by : FaceParts → OtMapValue → Pauses → Stage
 positioned_by font m pauses v = table_stages font (positioning_lookups font) m.tables.gpos pauses 0 m.tables.gpos.stages v
+
+-- a stage that leaves the items as they are
+abbrev pub LeavesItems : Stage → Type 0
+LeavesItems stage = (v : View) → IfOk (stage v) (λ r. r.view.items ≡ v.items)

@@ -5,35 +5,35 @@ ghost use Rattle.layout_match.specs.Applied.{applied_of};
 ghost use Rattle.layout_rules.specs.Buffers.{are_glyphs};
 ghost use Rattle.layout_rules.specs.Ready.{IsDoneFrom, IsReady, run_with};
 ghost use Rattle.layout_walks.specs.Steps.{IsGivenUp, IsStep};
-ghost use Rattle.layout_gpos.specs.Bases.{IsKept, any_base};
+ghost use Rattle.layout_gpos.specs.Bases.{AreKept};
 ghost use Rattle.layout_positioning.specs.Lookups.{looked_over, lookup_action};
 
 use crate::lookup::apply_lookup;
 use glyph_buffer::buffer::hb_buffer_t;
 use glyph_types::cause::ShapeCause;
-use layout_gpos::bases::LastBase;
+use layout_gpos::bases::LastBases;
 use layout_gpos::placing::pass;
 use layout_lookups::positioning::{PositioningLookup, PositioningTable};
 use layout_match::hb_ot_apply_context_t;
 
 /// Tries a lookup at the cursor, and goes on over the glyph where it doesn't act; at the end it does nothing.
-#[tactic(auto, using(layout_walks::specs::Lemmas::Steps::step_ended, layout_walks::specs::Lemmas::Steps::given_up, layout_walks::specs::Lemmas::Steps::passed_there, crate::proofs::Passed::closed_there, crate::proofs::Passed::passed_kept))]
+#[tactic(auto, using(layout_walks::specs::Lemmas::Steps::step_ended, layout_walks::specs::Lemmas::Steps::given_up, layout_walks::specs::Lemmas::Steps::passed_there, crate::proofs::Passed::closed_there, crate::proofs::Kept::passed_kept))]
 fn apply_next(
     table: &PositioningTable,
     lookup: &PositioningLookup,
     ctx: &hb_ot_apply_context_t,
-    last: &mut LastBase,
+    last: &mut LastBases,
     buffer: &mut hb_buffer_t,
 ) -> Result<(), ShapeCause>
     requires closed { buffer.old.is_open ≡ false }
     requires unrefused { buffer.old.has_refused ≡ false }
     requires numbers { are_glyphs (items_of buffer.old) ≡ true }
-    requires kept { IsKept (any_base (applied_of ctx.now)) (items_of buffer.old) last.old }
+    requires kept { AreKept (applied_of ctx.now) (items_of buffer.old) last.old }
     ensures ok { OnOk result (IsStep (lookup_action table.now.lookups buffer.old.direction (applied_of ctx.now) lookup.now)
         ctx.now.random_state ctx.now.random_state buffer.old buffer.new) }
     ensures err { IfErr result (λ e. e ≢ ShapeCause.OutOfMemory → IsGivenUp (lookup_action table.now.lookups
         buffer.old.direction (applied_of ctx.now) lookup.now) ctx.now.random_state buffer.old e) }
-    ensures kept { OnOk result (IsKept (any_base (applied_of ctx.now)) (items_of buffer.new) last.new) }
+    ensures kept { OnOk result (AreKept (applied_of ctx.now) (items_of buffer.new) last.new) }
 {
     let count = buffer.len();
     if buffer.idx() == count {
@@ -61,7 +61,7 @@ pub fn apply_forward(
         buffer.old.direction (applied_of ctx.now) lookup.now)) (run_with ctx.now.random_state buffer.old) ≡ Err e) }
 {
     let count = buffer.len();
-    let mut last = LastBase::new();
+    let mut last = LastBases::new();
     for _ in 0..count {
         apply_next(table, lookup, ctx, &mut last, buffer)?;
     }

@@ -1,48 +1,50 @@
-ghost use Rattle.std.specs.Prelude.{◌≡◌, ◌<◌, true, false, length};
+ghost use Rattle.std.specs.Prelude.{◌≡◌, ◌<◌, true, false, OnOk, length};
 ghost use Rattle.glyph_buffer.specs.Sides.{items_of};
 ghost use Rattle.layout_match.specs.Applied.{applied_of};
 ghost use Rattle.layout_rules.specs.Buffers.{are_glyphs};
 ghost use Rattle.layout_rules.specs.Performing.{Performs, cut_with};
-ghost use Rattle.layout_gpos.specs.Bases.{IsKept, any_base};
+ghost use Rattle.layout_gpos.specs.Bases.{AreKept};
 ghost use Rattle.layout_positioning.specs.Lookups.{lookup_action};
 
 use crate::nested::apply_subtables;
-use crate::subtables::apply_first_base;
 use glyph_buffer::buffer::hb_buffer_t;
 use glyph_types::cause::ShapeCause;
 use layout_chain::MAX_NESTING_LEVEL;
-use layout_gpos::bases::LastBase;
-use layout_lookups::positioning::{PositioningLookup, PositioningSubtables, PositioningTable};
+use layout_gpos::bases::LastBases;
+use layout_lookups::positioning::{PositioningLookup, PositioningTable};
 use layout_match::hb_ot_apply_context_t;
 use layout_walks::lookup::meets;
 
 /// Does what a lookup does at the glyph at the cursor of a buffer without an output, where it meets it: what the first of
-/// its subtables does that acts. It tells whether one acted; where none did it changed glyph flags alone. The search for a
-/// base goes on from the last one of this lookup on these glyphs.
+/// its subtables does that acts. It tells whether one acted; where none did it changed glyph flags alone. Searches for
+/// bases and ligatures go on from the last ones of this lookup on these glyphs, those of nested lookups included.
 #[tactic(auto, using(crate::proofs::Levels::lookup_passes, crate::proofs::Levels::lookup_tries))]
 pub fn apply_lookup(
     table: &PositioningTable,
     lookup: &PositioningLookup,
     ctx: &hb_ot_apply_context_t,
-    last: &mut LastBase,
+    last: &mut LastBases,
     buffer: &mut hb_buffer_t,
 ) -> Result<bool, ShapeCause>
     requires closed { buffer.old.is_open ≡ false }
     requires unrefused { buffer.old.has_refused ≡ false }
     requires there { 0 < length buffer.old.ahead }
     requires number { are_glyphs (items_of buffer.old) ≡ true }
-    requires kept { IsKept (any_base (applied_of ctx.now)) (items_of buffer.old) last.old }
+    requires kept { AreKept (applied_of ctx.now) (items_of buffer.old) last.old }
     ensures performs { Performs (lookup_action table.now.lookups buffer.old.direction (applied_of ctx.now) lookup.now
         (cut_with ctx.now.random_state buffer.old)) result ctx.now.random_state ctx.now.random_state buffer.old
         buffer.new }
-    ensures kept { IsKept (any_base (applied_of ctx.now)) (items_of buffer.new) last.new }
+    ensures kept { OnOk result (AreKept (applied_of ctx.now) (items_of buffer.new) last.new) }
 {
     if !meets(ctx, buffer.cur(0)) {
         return Ok(false);
     }
-    if let PositioningSubtables::MarkToBase(subtables) = &lookup.subtables {
-        return Ok(apply_first_base(subtables.as_slice(), ctx, last, buffer));
-    }
-    *last = LastBase::new();
-    apply_subtables(table, MAX_NESTING_LEVEL, &lookup.subtables, ctx, buffer)
+    apply_subtables(
+        table,
+        MAX_NESTING_LEVEL,
+        &lookup.subtables,
+        ctx,
+        last,
+        buffer,
+    )
 }

@@ -1,5 +1,5 @@
 //! Lookups that are nested in others: a rule of a context applies them at the places of its match.
-ghost use Rattle.std.specs.Prelude.{◌≡◌, ◌≢◌, ◌≤◌, ◌<◌, ◌+◌, true, false, length, slice_get, IfOk, Some, None};
+ghost use Rattle.std.specs.Prelude.{◌≡◌, ◌≢◌, ◌≤◌, ◌<◌, ◌+◌, true, false, length, slice_get, IfOk, OnOk, Some, None};
 ghost use Rattle.glyph_buffer.specs.Sides.{items_of};
 ghost use Rattle.layout_chain.specs.Chains.{chain_rule, context_subtable};
 ghost use Rattle.layout_chain.specs.Fitting.{chain_of};
@@ -8,13 +8,16 @@ ghost use Rattle.layout_chain.specs.Nested.{each_nested, one_record};
 ghost use Rattle.layout_chain.specs.Nesting.{Walking};
 ghost use Rattle.layout_chain.specs.Places.{AreRising};
 ghost use Rattle.layout_chain.specs.Rules.{chains_of};
+ghost use Rattle.layout_gpos.specs.Bases.{AreKept};
 ghost use Rattle.layout_match.specs.Applied.{applied_of};
 ghost use Rattle.layout_rules.specs.Actions.{first_rule, whole};
 ghost use Rattle.layout_rules.specs.Buffers.{are_glyphs, cut_of};
 ghost use Rattle.layout_rules.specs.Performing.{Performs, cut_with};
 ghost use Rattle.layout_positioning.specs.Lookups.{first_subtable, nested, nested_act, nested_lookup, under_flag};
 
-use crate::subtables::{apply_first, apply_first_cursive, apply_first_mark};
+use crate::subtables::{
+    apply_first, apply_first_base, apply_first_cursive, apply_first_ligature, apply_first_mark,
+};
 use glyph_buffer::buffer::hb_buffer_t;
 use glyph_types::cause::ShapeCause;
 use layout_chain::{
@@ -22,6 +25,7 @@ use layout_chain::{
     settle_match,
 };
 use layout_contexts::context::{ContextSubtable, SequenceLookupRecord};
+use layout_gpos::bases::LastBases;
 use layout_lookups::positioning::{PositioningLookup, PositioningSubtables, PositioningTable};
 use layout_match::{MatchPositions, hb_ot_apply_context_t};
 
@@ -47,22 +51,25 @@ fn recurse(
     depth: u32,
     index: u16,
     ctx: &hb_ot_apply_context_t,
+    last: &mut LastBases,
     buffer: &mut hb_buffer_t,
 ) -> Result<bool, ShapeCause>
     requires closed { buffer.old.is_open ≡ false }
     requires unrefused { buffer.old.has_refused ≡ false }
     requires there { 0 < length buffer.old.ahead }
     requires number { are_glyphs (items_of buffer.old) ≡ true }
-    ensures { Performs (nested_lookup (nested table.now.lookups depth buffer.old.direction)
+    requires kept { AreKept (applied_of ctx.now) (items_of buffer.old) last.old }
+    ensures performs { Performs (nested_lookup (nested table.now.lookups depth buffer.old.direction)
         (slice_get table.now.lookups index) buffer.old.direction (applied_of ctx.now)
         (cut_with ctx.now.random_state buffer.old)) result ctx.now.random_state ctx.now.random_state buffer.old
         buffer.new }
+    ensures kept { OnOk result (AreKept (applied_of ctx.now) (items_of buffer.new) last.new) }
 {
     let Some(lookup) = table.get_lookup(index) else {
         return Ok(false);
     };
     let nested = under_flag(lookup, ctx);
-    apply_subtables(table, depth, &lookup.subtables, &nested, buffer)
+    apply_subtables(table, depth, &lookup.subtables, &nested, last, buffer)
 }
 
 /// Does what the first of the subtables does that acts, at the cursor.
@@ -72,16 +79,19 @@ pub(crate) fn apply_subtables(
     depth: u32,
     subtables: &PositioningSubtables,
     ctx: &hb_ot_apply_context_t,
+    last: &mut LastBases,
     buffer: &mut hb_buffer_t,
 ) -> Result<bool, ShapeCause>
     requires closed { buffer.old.is_open ≡ false }
     requires unrefused { buffer.old.has_refused ≡ false }
     requires there { 0 < length buffer.old.ahead }
     requires number { are_glyphs (items_of buffer.old) ≡ true }
-    ensures { Performs (first_subtable (nested table.now.lookups depth buffer.old.direction
+    requires kept { AreKept (applied_of ctx.now) (items_of buffer.old) last.old }
+    ensures performs { Performs (first_subtable (nested table.now.lookups depth buffer.old.direction
         (applied_of ctx.now)) buffer.old.direction (applied_of ctx.now) subtables.now
         (cut_with ctx.now.random_state buffer.old)) result ctx.now.random_state ctx.now.random_state buffer.old
         buffer.new }
+    ensures kept { OnOk result (AreKept (applied_of ctx.now) (items_of buffer.new) last.new) }
 {
     match subtables {
         PositioningSubtables::Single(subtables) => {
@@ -94,16 +104,16 @@ pub(crate) fn apply_subtables(
             Ok(apply_first_cursive(subtables.as_slice(), ctx, buffer))
         }
         PositioningSubtables::MarkToBase(subtables) => {
-            Ok(apply_first(subtables.as_slice(), ctx, buffer))
+            Ok(apply_first_base(subtables.as_slice(), ctx, last, buffer))
         }
         PositioningSubtables::MarkToLigature(subtables) => {
-            Ok(apply_first(subtables.as_slice(), ctx, buffer))
+            Ok(apply_first_ligature(subtables.as_slice(), ctx, last, buffer))
         }
         PositioningSubtables::MarkToMark(subtables) => {
             Ok(apply_first_mark(subtables.as_slice(), ctx, buffer))
         }
         PositioningSubtables::Context(subtables) | PositioningSubtables::ChainContext(subtables) =>
-            { apply_contexts(table, depth, subtables.as_slice(), ctx, buffer) }
+            { apply_contexts(table, depth, subtables.as_slice(), ctx, last, buffer) }
     }
 }
 
@@ -115,17 +125,20 @@ fn apply_contexts(
     depth: u32,
     subtables: &[ContextSubtable],
     ctx: &hb_ot_apply_context_t,
+    last: &mut LastBases,
     buffer: &mut hb_buffer_t,
 ) -> Result<bool, ShapeCause>
     requires closed { buffer.old.is_open ≡ false }
     requires unrefused { buffer.old.has_refused ≡ false }
     requires there { 0 < length buffer.old.ahead }
     requires number { are_glyphs (items_of buffer.old) ≡ true }
-    ensures { Performs (first_rule (context_subtable (nested table.now.lookups depth buffer.old.direction (applied_of ctx.now)) (applied_of ctx.now)) subtables.now (cut_with ctx.now.random_state buffer.old))
+    requires kept { AreKept (applied_of ctx.now) (items_of buffer.old) last.old }
+    ensures performs { Performs (first_rule (context_subtable (nested table.now.lookups depth buffer.old.direction (applied_of ctx.now)) (applied_of ctx.now)) subtables.now (cut_with ctx.now.random_state buffer.old))
         result ctx.now.random_state ctx.now.random_state buffer.old buffer.new }
+    ensures kept { OnOk result (AreKept (applied_of ctx.now) (items_of buffer.new) last.new) }
 {
     for subtable in subtables {
-        match apply_context(table, depth, subtable, ctx, buffer) {
+        match apply_context(table, depth, subtable, ctx, last, buffer) {
             Ok(false) => {}
             Ok(true) => return Ok(true),
             Err(cause) => return Err(cause),
@@ -141,19 +154,22 @@ fn apply_context(
     depth: u32,
     subtable: &ContextSubtable,
     ctx: &hb_ot_apply_context_t,
+    last: &mut LastBases,
     buffer: &mut hb_buffer_t,
 ) -> Result<bool, ShapeCause>
     requires closed { buffer.old.is_open ≡ false }
     requires unrefused { buffer.old.has_refused ≡ false }
     requires there { 0 < length buffer.old.ahead }
     requires number { are_glyphs (items_of buffer.old) ≡ true }
-    ensures { Performs (context_subtable (nested table.now.lookups depth buffer.old.direction (applied_of ctx.now)) (applied_of ctx.now) subtable.now (cut_with ctx.now.random_state buffer.old)) result
+    requires kept { AreKept (applied_of ctx.now) (items_of buffer.old) last.old }
+    ensures performs { Performs (context_subtable (nested table.now.lookups depth buffer.old.direction (applied_of ctx.now)) (applied_of ctx.now) subtable.now (cut_with ctx.now.random_state buffer.old)) result
         ctx.now.random_state ctx.now.random_state buffer.old buffer.new }
+    ensures kept { OnOk result (AreKept (applied_of ctx.now) (items_of buffer.new) last.new) }
 {
     if !is_tried_at(subtable, buffer.cur(0)) {
         return Ok(false);
     }
-    apply_rules(table, depth, subtable, ctx, buffer)
+    apply_rules(table, depth, subtable, ctx, last, buffer)
 }
 
 /// Does what the first of a context's rules does that matches at the cursor.
@@ -164,18 +180,21 @@ fn apply_rules(
     depth: u32,
     subtable: &ContextSubtable,
     ctx: &hb_ot_apply_context_t,
+    last: &mut LastBases,
     buffer: &mut hb_buffer_t,
 ) -> Result<bool, ShapeCause>
     requires closed { buffer.old.is_open ≡ false }
     requires unrefused { buffer.old.has_refused ≡ false }
     requires there { 0 < length buffer.old.ahead }
     requires number { are_glyphs (items_of buffer.old) ≡ true }
-    ensures { Performs (first_rule (chain_rule (nested table.now.lookups depth buffer.old.direction (applied_of ctx.now)) (applied_of ctx.now)) (chains_of subtable.now) (cut_with ctx.now.random_state buffer.old)) result
+    requires kept { AreKept (applied_of ctx.now) (items_of buffer.old) last.old }
+    ensures performs { Performs (first_rule (chain_rule (nested table.now.lookups depth buffer.old.direction (applied_of ctx.now)) (applied_of ctx.now)) (chains_of subtable.now) (cut_with ctx.now.random_state buffer.old)) result
         ctx.now.random_state ctx.now.random_state buffer.old buffer.new }
+    ensures kept { OnOk result (AreKept (applied_of ctx.now) (items_of buffer.new) last.new) }
 {
     for i in 0..rule_count(subtable) {
         let rule = rule_at(subtable, i);
-        match apply_rule(table, depth, &rule, ctx, buffer) {
+        match apply_rule(table, depth, &rule, ctx, last, buffer) {
             Ok(false) => {}
             Ok(true) => return Ok(true),
             Err(cause) => return Err(cause),
@@ -191,20 +210,32 @@ fn apply_rule(
     depth: u32,
     rule: &ChainRule,
     ctx: &hb_ot_apply_context_t,
+    last: &mut LastBases,
     buffer: &mut hb_buffer_t,
 ) -> Result<bool, ShapeCause>
     requires closed { buffer.old.is_open ≡ false }
     requires unrefused { buffer.old.has_refused ≡ false }
     requires there { 0 < length buffer.old.ahead }
     requires number { are_glyphs (items_of buffer.old) ≡ true }
-    ensures { Performs (chain_rule (nested table.now.lookups depth buffer.old.direction (applied_of ctx.now)) (applied_of ctx.now) (chain_of rule.now) (cut_with ctx.now.random_state buffer.old)) result
+    requires kept { AreKept (applied_of ctx.now) (items_of buffer.old) last.old }
+    ensures performs { Performs (chain_rule (nested table.now.lookups depth buffer.old.direction (applied_of ctx.now)) (applied_of ctx.now) (chain_of rule.now) (cut_with ctx.now.random_state buffer.old)) result
         ctx.now.random_state ctx.now.random_state buffer.old buffer.new }
+    ensures kept { OnOk result (AreKept (applied_of ctx.now) (items_of buffer.new) last.new) }
 {
     let mut places = MatchPositions::new();
     let Some(end) = match_chain(ctx, rule, buffer, &mut places) else {
         return Ok(false);
     };
-    match apply_records(table, depth, rule.records, end, &mut places, ctx, buffer) {
+    match apply_records(
+        table,
+        depth,
+        rule.records,
+        end,
+        &mut places,
+        ctx,
+        last,
+        buffer,
+    ) {
         Ok(at) => go_behind(at, buffer),
         Err(cause) => Err(cause),
     }
@@ -219,11 +250,13 @@ fn apply_records(
     end: usize,
     places: &mut MatchPositions,
     ctx: &hb_ot_apply_context_t,
+    last: &mut LastBases,
     buffer: &mut hb_buffer_t,
 ) -> Result<usize, ShapeCause>
     requires closed { buffer.old.is_open ≡ false }
     requires unrefused { buffer.old.has_refused ≡ false }
     requires number { are_glyphs (items_of buffer.old) ≡ true }
+    requires kept { AreKept (applied_of ctx.now) (items_of buffer.old) last.old }
     requires rising { AreRising 0 (length (whole (cut_of buffer.old)) + 1) places.old.items }
     requires within { end ≤ length (whole (cut_of buffer.old)) }
     ensures walks { Walking (each_nested (nested table.now.lookups depth buffer.old.direction (applied_of ctx.now)) records.now
@@ -231,13 +264,23 @@ fn apply_records(
         buffer.old buffer.new }
     ensures inside { IfOk result (λ at. StaysInside (length (whole (cut_of buffer.old)))
         (length (whole (cut_of buffer.new))) places.old.items places.new.items end at) }
+    ensures kept { OnOk result (AreKept (applied_of ctx.now) (items_of buffer.new) last.new) }
 {
     if depth == 0 {
         return Ok(end);
     }
     let mut at = end;
     for lookup_record in records {
-        match apply_record(table, depth - 1, lookup_record, at, places, ctx, buffer) {
+        match apply_record(
+            table,
+            depth - 1,
+            lookup_record,
+            at,
+            places,
+            ctx,
+            last,
+            buffer,
+        ) {
             Ok(settled) => at = settled,
             Err(cause) => return Err(cause),
         }
@@ -255,11 +298,13 @@ fn apply_record(
     end: usize,
     places: &mut MatchPositions,
     ctx: &hb_ot_apply_context_t,
+    last: &mut LastBases,
     buffer: &mut hb_buffer_t,
 ) -> Result<usize, ShapeCause>
     requires closed { buffer.old.is_open ≡ false }
     requires unrefused { buffer.old.has_refused ≡ false }
     requires number { are_glyphs (items_of buffer.old) ≡ true }
+    requires kept { AreKept (applied_of ctx.now) (items_of buffer.old) last.old }
     requires rising { AreRising 0 (length (whole (cut_of buffer.old)) + 1) places.old.items }
     requires within { end ≤ length (whole (cut_of buffer.old)) }
     ensures walks { Walking (one_record (nested_act table.now.lookups depth buffer.old.direction (applied_of ctx.now)) lookup_record.now
@@ -267,6 +312,7 @@ fn apply_record(
         buffer.old buffer.new }
     ensures inside { IfOk result (λ at. StaysInside (length (whole (cut_of buffer.old)))
         (length (whole (cut_of buffer.new))) places.old.items places.new.items end at) }
+    ensures kept { OnOk result (AreKept (applied_of ctx.now) (items_of buffer.new) last.new) }
 {
     let place = match begin_record(lookup_record, places, buffer) {
         Ok(Some(place)) => place,
@@ -274,7 +320,7 @@ fn apply_record(
         Err(cause) => return Err(cause),
     };
     let before = glyph_count(buffer);
-    match recurse(table, depth, lookup_record.lookup_index, ctx, buffer) {
+    match recurse(table, depth, lookup_record.lookup_index, ctx, last, buffer) {
         Ok(true) => Ok(settle_match(lookup_record, place, before, end, places, buffer)),
         Ok(false) => Ok(end),
         Err(cause) => Err(cause),

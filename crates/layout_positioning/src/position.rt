@@ -1,11 +1,11 @@
 //! Positioning, stage after stage.
-ghost use Rattle.std.specs.Prelude.{◌≡◌, ◌≢◌, true, Err, IfErr, OnOk};
+ghost use Rattle.std.specs.Prelude.{ℕ, ◌≡◌, ◌≢◌, true, Err, IfErr, OnOk};
 ghost use Rattle.glyph_lists.specs.Readings.{read_of};
 ghost use Rattle.glyph_buffer.specs.Sides.{items_of, run_of};
 ghost use Rattle.layout_rules.specs.Buffers.{are_glyphs};
 ghost use Rattle.layout_rules.specs.Ready.{IsDone, IsDoneFrom, IsReady, run_with};
 ghost use Rattle.layout_walks.specs.Settings.{text_settings};
-ghost use Rattle.layout_positioning.specs.Positioning.{lookups_stage, positioned_by, positioning_lookups, table_stages};
+ghost use Rattle.layout_positioning.specs.Positioning.{LeavesItems, lookups_stage, positioned_by, positioning_lookups, table_stages};
 
 use crate::apply::apply_lookups;
 use font_face::Face;
@@ -63,7 +63,7 @@ fn apply_layout_table<P: Pause>(
 /// each at all glyphs, and then the stage's pause. Glyphs that are attached keep links until `position_finish_offsets`;
 /// before it `position_start` clears those of an earlier run. It takes no memory but what a pause takes, and refuses by a
 /// pause's cause, or where a list has more glyphs than it may.
-#[tactic(auto, using(crate::proofs::Ways::done_from_one))]
+#[tactic(auto, using(crate::proofs::Ways::done_from_one, crate::proofs::Left::positioned_left))]
 pub fn position<P: Pause>(
     map: &hb_ot_map_t,
     face: &Face,
@@ -75,6 +75,8 @@ pub fn position<P: Pause>(
     ensures ok { OnOk result (IsDone (positioned_by face.now map.now (P.stage pause.now (text_settings buffer.old))) buffer.old buffer.new) }
     ensures err { IfErr result (λ e. e ≢ ShapeCause.OutOfMemory
         → read_of (positioned_by face.now map.now (P.stage pause.now (text_settings buffer.old))) (run_of buffer.old) ≡ Err e) }
+    ensures items { OnOk result (((i : ℕ) → LeavesItems (P.stage pause.now (text_settings buffer.old) i)) →
+        items_of buffer.new ≡ items_of buffer.old) }
 {
     apply_layout_table(map, face, buffer, pause)
 }

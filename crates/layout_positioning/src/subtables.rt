@@ -6,18 +6,19 @@ ghost use Rattle.layout_rules.specs.Actions.{first_rule};
 ghost use Rattle.layout_rules.specs.Buffers.{are_glyphs};
 ghost use Rattle.layout_rules.specs.Performing.{Performed, cut_with};
 ghost use Rattle.layout_cursive.specs.Joins.{cursive_subtable};
-ghost use Rattle.layout_gpos.specs.Bases.{IsKept, any_base};
-ghost use Rattle.layout_gpos.specs.Marks.{mark_to_base, mark_to_mark};
+ghost use Rattle.layout_gpos.specs.Bases.{AreKept};
+ghost use Rattle.layout_gpos.specs.Marks.{mark_to_base, mark_to_ligature, mark_to_mark};
 
 use glyph_buffer::buffer::hb_buffer_t;
 use layout_cursive::join::apply_cursive_pos;
 use layout_gpos::apply::Apply;
-use layout_gpos::bases::LastBase;
+use layout_gpos::bases::LastBases;
 use layout_gpos::mark::apply_mark_base_pos;
+use layout_gpos::mark_lig::apply_mark_lig_pos;
 use layout_gpos::mark_mark::apply_mark_mark_pos;
 use layout_match::hb_ot_apply_context_t;
 use layout_positions::cursive::CursivePos;
-use layout_positions::mark::MarkBasePos;
+use layout_positions::mark::{MarkBasePos, MarkLigPos};
 
 /// Does what the first of some subtables does that acts, and tells whether one acted.
 #[tactic(auto, using(layout_rules::specs::Lemmas::Performed::passed_first, crate::proofs::Passed::passed_closed, layout_rules::specs::Lemmas::Performed::passed_numbers, layout_rules::specs::Lemmas::Performed::passed_all))]
@@ -93,21 +94,47 @@ pub fn apply_first_mark(
 pub fn apply_first_base(
     subtables: &[MarkBasePos],
     ctx: &hb_ot_apply_context_t,
-    last: &mut LastBase,
+    last: &mut LastBases,
     buffer: &mut hb_buffer_t,
 ) -> bool
     requires closed { buffer.old.is_open ≡ false }
     requires there { 0 < length buffer.old.ahead }
     requires number { are_glyphs (items_of buffer.old) ≡ true }
-    requires kept { IsKept (any_base (applied_of ctx.now)) (items_of buffer.old) last.old }
+    requires kept { AreKept (applied_of ctx.now) (items_of buffer.old) last.old }
     ensures performed { Performed (first_rule (mark_to_base (applied_of ctx.now)) subtables.now
         (cut_with ctx.now.random_state buffer.old)) result ctx.now.random_state ctx.now.random_state buffer.old
         buffer.new }
-    ensures kept { IsKept (any_base (applied_of ctx.now)) (items_of buffer.new) last.new }
+    ensures kept { AreKept (applied_of ctx.now) (items_of buffer.new) last.new }
 {
     for subtable in subtables {
         let _placed = buffer.pos_slice();
-        if apply_mark_base_pos(subtable, ctx, last, buffer) {
+        if apply_mark_base_pos(subtable, ctx, &mut last.base, buffer) {
+            return true;
+        }
+    }
+    false
+}
+
+/// The same with subtables of mark to ligature attachment; the search for a ligature goes on from the last one.
+#[tactic(auto, using(layout_rules::specs::Lemmas::Performed::passed_first, crate::proofs::Passed::passed_closed, layout_rules::specs::Lemmas::Performed::passed_numbers))]
+pub fn apply_first_ligature(
+    subtables: &[MarkLigPos],
+    ctx: &hb_ot_apply_context_t,
+    last: &mut LastBases,
+    buffer: &mut hb_buffer_t,
+) -> bool
+    requires closed { buffer.old.is_open ≡ false }
+    requires there { 0 < length buffer.old.ahead }
+    requires number { are_glyphs (items_of buffer.old) ≡ true }
+    requires kept { AreKept (applied_of ctx.now) (items_of buffer.old) last.old }
+    ensures performed { Performed (first_rule (mark_to_ligature (applied_of ctx.now)) subtables.now
+        (cut_with ctx.now.random_state buffer.old)) result ctx.now.random_state ctx.now.random_state buffer.old
+        buffer.new }
+    ensures kept { AreKept (applied_of ctx.now) (items_of buffer.new) last.new }
+{
+    for subtable in subtables {
+        let _placed = buffer.pos_slice();
+        if apply_mark_lig_pos(subtable, ctx, &mut last.ligature, buffer) {
             return true;
         }
     }

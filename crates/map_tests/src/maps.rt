@@ -617,16 +617,33 @@ fn chooses_scripts(builder: &hb_ot_map_builder_t, case: &Case) -> bool {
         && is_script(builder.chosen_script(TableIndex::GPOS), &case.wanted_gpos)
 }
 
-fn is_mapped(alloc: Global, case: &Case) -> Result<bool, AllocError> {
-    let gsub = substitution_table(alloc, &case.gsub)?;
-    let gpos = positioning_table(alloc, &case.gpos)?;
-    let builder = asked_builder(alloc, case, gsub.as_ref(), gpos.as_ref())?;
+fn is_compiled(
+    alloc: Global,
+    case: &Case,
+    builder: &hb_ot_map_builder_t<'_>,
+) -> Result<bool, AllocError> {
     let map = builder.compile(alloc)?;
+    Ok(is_as_wanted(&map, case))
+}
+
+fn is_built(
+    alloc: Global,
+    case: &Case,
+    gsub: Option<&SubstitutionTable>,
+    gpos: Option<&PositioningTable>,
+) -> Result<bool, AllocError> {
+    let builder = asked_builder(alloc, case, gsub, gpos)?;
     Ok(
         chooses_scripts(&builder, case)
             && has_found(&builder, case.features)
-            && is_as_wanted(&map, case),
+            && is_compiled(alloc, case, &builder)?,
     )
+}
+
+fn is_mapped(alloc: Global, case: &Case) -> Result<bool, AllocError> {
+    let gsub = substitution_table(alloc, &case.gsub)?;
+    let gpos = positioning_table(alloc, &case.gpos)?;
+    is_built(alloc, case, gsub.as_ref(), gpos.as_ref())
 }
 
 #[test]

@@ -12,197 +12,143 @@ use shaping_text::tag::Tag;
 use std::alloc::{AllocError, Global};
 use std::test::Fail;
 
-/// Tag, flags, value, stage of substitution.
-type Asked = (&'static [u8; 4], u32, u32, usize);
+type Asked = (usize, &'static [u8; 4], u32, u32, usize);
 
-/// Tag, lowest bit, mask, mask of value 1, stage of substitution.
-type Kept = (&'static [u8; 4], u32, u32, u32, usize);
+type Kept = (usize, &'static [u8; 4], u32, u32, u32, usize);
 
-/// Requests, the fields that they get, and the mask of all glyphs.
-type Case = (&'static [Asked], &'static [Kept], u32);
-
-static CASES: [Case; 12] = [
-    (
-        &[(b"vert", 3, 256, 0)],
-        &[(b"vert", 4, 0xff0, 0x10, 0)],
-        0x80000000,
-    ),
-    (
-        &[(b"x   ", 65, 2, 0), (b"liga", 3, 0, 0), (b"x   ", 0, 1, 1)],
-        &[(b"x   ", 4, 0x30, 0x10, 0)],
-        0x80000020,
-    ),
-    (
-        &[(b"bbbb", 67, 1, 0), (b"bbbb", 0, 3, 1), (b"aaaa", 3, 1, 1)],
-        &[
-            (b"aaaa", 31, 0x80000000, 0x80000000, 1),
-            (b"bbbb", 4, 0x30, 0x10, 0),
-        ],
-        0x80000010,
-    ),
-    (
-        &[
-            (b"kern", 2, 2, 0),
-            (b"mark", 1, 1, 0),
-            (b"kern", 1, 255, 1),
-            (b"kern", 0, 0, 1),
-            (b"kern", 0, 1, 1),
-            (b"mark", 32, 2, 1),
-        ],
-        &[
-            (b"kern", 4, 0xff0, 0x10, 0),
-            (b"mark", 12, 0x3000, 0x1000, 0),
-        ],
-        0x80001ff0,
-    ),
-    (
-        &[
-            (b"vert", 1, 1, 0),
-            (b"kern", 2, 2, 0),
-            (b"kern", 81, 3, 1),
-            (b"vert", 0, 0, 1),
-            (b"vert", 16, 1, 1),
-            (b"vert", 18, 255, 1),
-        ],
-        &[(b"kern", 4, 0x30, 0x10, 0), (b"vert", 6, 0x3fc0, 0x40, 0)],
-        0x80000070,
-    ),
-    (
-        &[(b"vert", 0, 256, 0), (b"vert", 37, 3, 1)],
-        &[(b"vert", 4, 0x30, 0x10, 0)],
-        0x80000030,
-    ),
-    (
-        &[
-            (b"vert", 1, 0, 0),
-            (b"vert", 0, 3, 0),
-            (b"mark", 17, 255, 0),
-        ],
-        &[
-            (b"mark", 4, 0xff0, 0x10, 0),
-            (b"vert", 12, 0x3000, 0x1000, 0),
-        ],
-        0x80000ff0,
-    ),
-    (
-        &[
-            (b"liga", 0, 256, 0),
-            (b"liga", 9, u32::MAX, 0),
-            (b"liga", 8, u32::MAX, 0),
-        ],
-        &[(b"liga", 4, 0xff0, 0x10, 0)],
-        0x80000ff0,
-    ),
-    (
-        &[
-            (b"kern", 1, 5, 0),
-            (b"kern", 1, 3, 0),
-            (b"x   ", 49, 1, 1),
-            (b"aaaa", 0, 1, 1),
-        ],
-        &[
-            (b"aaaa", 4, 0x10, 0x10, 1),
-            (b"kern", 5, 0x60, 0x20, 0),
-            (b"x   ", 31, 0x80000000, 0x80000000, 1),
-        ],
-        0x80000060,
-    ),
-    (
-        &[
-            (b"vert", 3, 1, 0),
-            (b"kern", 51, 1, 0),
-            (b"vert", 3, 2, 0),
-            (b"vert", 33, 1, 0),
-            (b"vert", 20, 2, 0),
-            (b"kern", 0, 256, 1),
-        ],
-        &[
-            (b"kern", 4, 0xff0, 0x10, 0),
-            (b"vert", 12, 0x3000, 0x1000, 0),
-        ],
-        0x80001010,
-    ),
-    (
-        &[
-            (b"mark", 4, 1, 0),
-            (b"mark", 0, 0, 0),
-            (b"mark", 42, 1, 0),
-            (b"mark", 1, 5, 0),
-        ],
-        &[(b"mark", 4, 0x70, 0x10, 0)],
-        0x80000050,
-    ),
-    (
-        &[
-            (b"vert", 0, 1, 0),
-            (b"liga", 17, 0, 0),
-            (b"vert", 11, 3, 0),
-            (b"vert", 3, 1, 0),
-            (b"t000", 1, 127, 0),
-            (b"t001", 1, 255, 0),
-            (b"t002", 1, 127, 0),
-            (b"t003", 1, 255, 0),
-            (b"t000", 2, 1, 0),
-            (b"t001", 2, 1, 0),
-            (b"t002", 2, 1, 0),
-            (b"t003", 2, 1, 0),
-            (b"t004", 2, 1, 0),
-            (b"t005", 2, 1, 0),
-            (b"t006", 2, 1, 0),
-            (b"t007", 2, 1, 0),
-            (b"t008", 2, 1, 0),
-            (b"t009", 2, 1, 0),
-            (b"t010", 2, 1, 0),
-            (b"t011", 2, 1, 0),
-            (b"t012", 2, 1, 0),
-            (b"t013", 2, 1, 0),
-            (b"t014", 2, 1, 0),
-            (b"t015", 2, 1, 0),
-            (b"t016", 2, 1, 0),
-            (b"t017", 2, 1, 0),
-            (b"t018", 2, 1, 0),
-            (b"t019", 2, 1, 0),
-            (b"t020", 2, 1, 0),
-            (b"t021", 2, 1, 0),
-            (b"t022", 2, 1, 0),
-            (b"t023", 2, 1, 0),
-            (b"t024", 2, 1, 0),
-            (b"t025", 2, 1, 0),
-        ],
-        &[
-            (b"t000", 4, 0x7f0, 0x10, 0),
-            (b"t001", 11, 0x7f800, 0x800, 0),
-            (b"t002", 19, 0x3f80000, 0x80000, 0),
-            (b"t004", 26, 0x4000000, 0x4000000, 0),
-            (b"t005", 27, 0x8000000, 0x8000000, 0),
-            (b"t006", 28, 0x10000000, 0x10000000, 0),
-            (b"t007", 29, 0x20000000, 0x20000000, 0),
-            (b"vert", 31, 0x80000000, 0x80000000, 0),
-        ],
-        0x83fffff0,
-    ),
+/// The mask of all glyphs, by case.
+const GLOBAL_MASKS: [u32; 12] = [
+    0x80000000, 0x80000020, 0x80000010, 0x80001ff0, 0x80000070, 0x80000030, 0x80000ff0, 0x80000ff0,
+    0x80000060, 0x80001010, 0x80000050, 0x83fffff0,
 ];
 
-fn cases() -> &'static [Case] {
-    &CASES
-}
+/// Case, and one of its requests: tag, flags, value, stage of substitution.
+static ASKED: [Asked; 75] = [
+    (0, b"vert", 3, 256, 0),
+    (1, b"x   ", 65, 2, 0),
+    (1, b"liga", 3, 0, 0),
+    (1, b"x   ", 0, 1, 1),
+    (2, b"bbbb", 67, 1, 0),
+    (2, b"bbbb", 0, 3, 1),
+    (2, b"aaaa", 3, 1, 1),
+    (3, b"kern", 2, 2, 0),
+    (3, b"mark", 1, 1, 0),
+    (3, b"kern", 1, 255, 1),
+    (3, b"kern", 0, 0, 1),
+    (3, b"kern", 0, 1, 1),
+    (3, b"mark", 32, 2, 1),
+    (4, b"vert", 1, 1, 0),
+    (4, b"kern", 2, 2, 0),
+    (4, b"kern", 81, 3, 1),
+    (4, b"vert", 0, 0, 1),
+    (4, b"vert", 16, 1, 1),
+    (4, b"vert", 18, 255, 1),
+    (5, b"vert", 0, 256, 0),
+    (5, b"vert", 37, 3, 1),
+    (6, b"vert", 1, 0, 0),
+    (6, b"vert", 0, 3, 0),
+    (6, b"mark", 17, 255, 0),
+    (7, b"liga", 0, 256, 0),
+    (7, b"liga", 9, u32::MAX, 0),
+    (7, b"liga", 8, u32::MAX, 0),
+    (8, b"kern", 1, 5, 0),
+    (8, b"kern", 1, 3, 0),
+    (8, b"x   ", 49, 1, 1),
+    (8, b"aaaa", 0, 1, 1),
+    (9, b"vert", 3, 1, 0),
+    (9, b"kern", 51, 1, 0),
+    (9, b"vert", 3, 2, 0),
+    (9, b"vert", 33, 1, 0),
+    (9, b"vert", 20, 2, 0),
+    (9, b"kern", 0, 256, 1),
+    (10, b"mark", 4, 1, 0),
+    (10, b"mark", 0, 0, 0),
+    (10, b"mark", 42, 1, 0),
+    (10, b"mark", 1, 5, 0),
+    (11, b"vert", 0, 1, 0),
+    (11, b"liga", 17, 0, 0),
+    (11, b"vert", 11, 3, 0),
+    (11, b"vert", 3, 1, 0),
+    (11, b"t000", 1, 127, 0),
+    (11, b"t001", 1, 255, 0),
+    (11, b"t002", 1, 127, 0),
+    (11, b"t003", 1, 255, 0),
+    (11, b"t000", 2, 1, 0),
+    (11, b"t001", 2, 1, 0),
+    (11, b"t002", 2, 1, 0),
+    (11, b"t003", 2, 1, 0),
+    (11, b"t004", 2, 1, 0),
+    (11, b"t005", 2, 1, 0),
+    (11, b"t006", 2, 1, 0),
+    (11, b"t007", 2, 1, 0),
+    (11, b"t008", 2, 1, 0),
+    (11, b"t009", 2, 1, 0),
+    (11, b"t010", 2, 1, 0),
+    (11, b"t011", 2, 1, 0),
+    (11, b"t012", 2, 1, 0),
+    (11, b"t013", 2, 1, 0),
+    (11, b"t014", 2, 1, 0),
+    (11, b"t015", 2, 1, 0),
+    (11, b"t016", 2, 1, 0),
+    (11, b"t017", 2, 1, 0),
+    (11, b"t018", 2, 1, 0),
+    (11, b"t019", 2, 1, 0),
+    (11, b"t020", 2, 1, 0),
+    (11, b"t021", 2, 1, 0),
+    (11, b"t022", 2, 1, 0),
+    (11, b"t023", 2, 1, 0),
+    (11, b"t024", 2, 1, 0),
+    (11, b"t025", 2, 1, 0),
+];
 
-fn request(asked: &Asked) -> FeatureRequest {
+/// Case, and one of the fields that its requests get, by tag: lowest bit, mask, mask of value 1, stage of substitution.
+static KEPT: [Kept; 26] = [
+    (0, b"vert", 4, 0xff0, 0x10, 0),
+    (1, b"x   ", 4, 0x30, 0x10, 0),
+    (2, b"aaaa", 31, 0x80000000, 0x80000000, 1),
+    (2, b"bbbb", 4, 0x30, 0x10, 0),
+    (3, b"kern", 4, 0xff0, 0x10, 0),
+    (3, b"mark", 12, 0x3000, 0x1000, 0),
+    (4, b"kern", 4, 0x30, 0x10, 0),
+    (4, b"vert", 6, 0x3fc0, 0x40, 0),
+    (5, b"vert", 4, 0x30, 0x10, 0),
+    (6, b"mark", 4, 0xff0, 0x10, 0),
+    (6, b"vert", 12, 0x3000, 0x1000, 0),
+    (7, b"liga", 4, 0xff0, 0x10, 0),
+    (8, b"aaaa", 4, 0x10, 0x10, 1),
+    (8, b"kern", 5, 0x60, 0x20, 0),
+    (8, b"x   ", 31, 0x80000000, 0x80000000, 1),
+    (9, b"kern", 4, 0xff0, 0x10, 0),
+    (9, b"vert", 12, 0x3000, 0x1000, 0),
+    (10, b"mark", 4, 0x70, 0x10, 0),
+    (11, b"t000", 4, 0x7f0, 0x10, 0),
+    (11, b"t001", 11, 0x7f800, 0x800, 0),
+    (11, b"t002", 19, 0x3f80000, 0x80000, 0),
+    (11, b"t004", 26, 0x4000000, 0x4000000, 0),
+    (11, b"t005", 27, 0x8000000, 0x8000000, 0),
+    (11, b"t006", 28, 0x10000000, 0x10000000, 0),
+    (11, b"t007", 29, 0x20000000, 0x20000000, 0),
+    (11, b"vert", 31, 0x80000000, 0x80000000, 0),
+];
+
+fn request(tag: &[u8; 4], flags: u32, value: u32, stage: usize) -> FeatureRequest {
     FeatureRequest {
-        tag: Tag::from_bytes(asked.0),
-        flags: asked.1,
-        value: asked.2,
+        tag: Tag::from_bytes(tag),
+        flags,
+        value,
         stage: PerTable {
-            gsub: asked.3,
+            gsub: stage,
             gpos: 0,
         },
     }
 }
 
-fn requests(alloc: Global, asked: &[Asked]) -> Result<Vec<FeatureRequest>, AllocError> {
+fn requests(alloc: Global, case: usize) -> Result<Vec<FeatureRequest>, AllocError> {
     let mut requests = Vec::new(alloc);
-    for one in asked {
-        requests.push(request(one))?;
+    for (of_case, tag, flags, value, stage) in &ASKED {
+        if *of_case == case {
+            requests.push(request(tag, *flags, *value, *stage))?;
+        }
     }
     Ok(requests)
 }
@@ -214,21 +160,26 @@ fn kept_of(alloc: Global, requests: &[FeatureRequest]) -> Result<Vec<KeptField>,
 }
 
 fn is_kept(kept: &KeptField, wanted: &Kept) -> bool {
-    kept.request.tag == Tag::from_bytes(wanted.0)
-        && kept.field.shift == wanted.1
-        && kept.field.mask == wanted.2
-        && kept.field.one_mask == wanted.3
-        && kept.request.stage.gsub == wanted.4
+    let (_, tag, shift, mask, one_mask, stage) = *wanted;
+    kept.request.tag == Tag::from_bytes(tag)
+        && kept.field.shift == shift
+        && kept.field.mask == mask
+        && kept.field.one_mask == one_mask
+        && kept.request.stage.gsub == stage
 }
 
-fn are_kept(kept: &[KeptField], wanted: &[Kept]) -> bool {
-    for (i, wanted) in wanted.iter().enumerate() {
-        match kept.get(i) {
-            Some(kept) if is_kept(kept, wanted) => {}
-            _ => return false,
+/// Whether these are the fields of a case, and no more.
+fn are_kept(kept: &[KeptField], case: usize) -> bool {
+    let mut count = 0usize;
+    for wanted in &KEPT {
+        if wanted.0 == case {
+            match kept.get(count) {
+                Some(kept) if is_kept(kept, wanted) => count = count.saturating_add(1),
+                _ => return false,
+            }
         }
     }
-    kept.len() == wanted.len()
+    kept.len() == count
 }
 
 fn global_mask(kept: &[KeptField]) -> u32 {
@@ -239,16 +190,16 @@ fn global_mask(kept: &[KeptField]) -> u32 {
     mask
 }
 
-fn are_merged(alloc: Global, case: &Case) -> Result<bool, AllocError> {
-    let requests = requests(alloc, case.0)?;
+fn are_merged(alloc: Global, case: usize, mask: u32) -> Result<bool, AllocError> {
+    let requests = requests(alloc, case)?;
     let kept = kept_of(alloc, &requests)?;
-    Ok(are_kept(&kept, case.1) && global_mask(&kept) == case.2)
+    Ok(are_kept(&kept, case) && global_mask(&kept) == mask)
 }
 
 #[test]
 fn requests_are_merged_and_get_bits(rt: HostRuntime) -> Result<(), Fail> {
-    for (i, case) in cases().iter().enumerate() {
-        assert!(rt; are_merged(rt.alloc(), case)?, "case {i}");
+    for (case, mask) in GLOBAL_MASKS.iter().enumerate() {
+        assert!(rt; are_merged(rt.alloc(), case, *mask)?, "case {case}");
     }
     Ok(())
 }
@@ -266,13 +217,13 @@ fn are_flags_joined(request: &MergedRequest) -> bool {
 #[test]
 fn flags_are_those_of_the_first(rt: HostRuntime) -> Result<(), Fail> {
     let asked = [
-        request(&(b"liga", F_MANUAL_ZWNJ + F_RANDOM, 1, 0)),
-        request(&(
+        request(b"liga", F_MANUAL_ZWNJ + F_RANDOM, 1, 0),
+        request(
             b"liga",
             F_GLOBAL + F_HAS_FALLBACK + F_MANUAL_ZWJ + F_PER_SYLLABLE,
             1,
             1,
-        )),
+        ),
     ];
     match merged_requests(rt.alloc(), &asked)?.as_slice() {
         [request] => assert!(rt; are_flags_joined(request)),

@@ -1,6 +1,5 @@
 use Rattle.std.proofs.Common.{◌≡◌, false, length, ap, sym, arith, ◌∙◌}
 use Rattle.glyph_buffer.specs.Sides.{all_glyphs, items_of}
-use Rattle.layout_gpos.specs.Bases.{any_base}
 use Rattle.glyph_buffer.specs.Moving.{moved_to}
 use Rattle.layout_match.specs.Applied.{applied_of}
 use Rattle.layout_rules.specs.Lemmas.Frames.{still_open}
@@ -15,7 +14,7 @@ loop-init c =
     let there : length s.ahead ≡ c.len-count.result = omega (arith, c.len-count.ensures.input, c.requires.ready.unread) in
     record {
       underway = begun (lookup_action c.args.table.now.lookups s.direction (applied_of c.args.ctx.now) c.args.lookup.now) c.len-count.result c.args.ctx.now.random_state s there;
-      kept = c.new-last.ensures (any_base (applied_of c.args.ctx.now)) (items_of s);
+      kept = c.new-last.ensures (applied_of c.args.ctx.now) (items_of s);
     }
 
 pub loop-preserved : goal.loop-preserved

@@ -1,6 +1,6 @@
 use Rattle.std.proofs.Common.{◌-◌}
 use Rattle.glyph_buffer.specs.Sides.{items_of}
-use Rattle.layout_gpos.specs.Bases.{IsKept, any_base}
+use Rattle.layout_gpos.specs.Bases.{AreKept}
 use Rattle.layout_match.specs.Applied.{applied_of}
 use Rattle.layout_walks.specs.Lemmas.Passage.{IsUnderway}
 use Rattle.layout_positioning.specs.Lookups.{lookup_action}
@@ -10,5 +10,5 @@ use Rattle.layout_positioning.proofs.forward.apply_forward.Given as goal
 abbrev pub invariant-loop : goal.invariant-loop
 invariant-loop l = record {
   underway : IsUnderway (lookup_action l.table.lookups l.fn.buffer.direction (applied_of l.ctx) l.lookup) l.count (l.count - l.counter) l.ctx.random_state l.ctx.random_state l.fn.buffer l.buffer;
-  kept : IsKept (any_base (applied_of l.ctx)) (items_of l.buffer) l.last;
+  kept : AreKept (applied_of l.ctx) (items_of l.buffer) l.last;
 }

@@ -1,4 +1,6 @@
 use Rattle.std.proofs.Common.{◌+◌, ◌*◌, ◌-◌, drop, length}
+use Rattle.glyph_buffer.specs.Sides.{items_of}
+use Rattle.layout_gpos.specs.Bases.{AreKept}
 use Rattle.layout_match.specs.Applied.{applied_of}
 use Rattle.layout_rules.specs.Actions.{whole}
 use Rattle.layout_rules.specs.Buffers.{cut_of}
@@ -36,14 +38,21 @@ decreases-apply_records l = 8 * l.depth
 
 -- none so far acted
 abbrev pub invariant-apply_contexts-loop-subtable : goal.invariant-apply_contexts-loop-subtable
-invariant-apply_contexts-loop-subtable l = ArePassed (context_subtable (nested l.table.lookups l.depth l.fn.buffer.direction (applied_of l.ctx)) (applied_of l.ctx)) l.subtables (drop l.subtable-index l.subtables) l.ctx.random_state l.fn.buffer l.buffer
+invariant-apply_contexts-loop-subtable l = record {
+  passed : ArePassed (context_subtable (nested l.table.lookups l.depth l.fn.buffer.direction (applied_of l.ctx)) (applied_of l.ctx)) l.subtables (drop l.subtable-index l.subtables) l.ctx.random_state l.fn.buffer l.buffer;
+  kept : AreKept (applied_of l.ctx) (items_of l.buffer) l.last;
+}
 
 abbrev pub invariant-apply_rules-loop-i : goal.invariant-apply_rules-loop-i
-invariant-apply_rules-loop-i l = ArePassed (chain_rule (nested l.table.lookups l.depth l.fn.buffer.direction (applied_of l.ctx)) (applied_of l.ctx)) (chains_of l.subtable) (drop l.i (chains_of l.subtable)) l.ctx.random_state l.fn.buffer l.buffer
+invariant-apply_rules-loop-i l = record {
+  passed : ArePassed (chain_rule (nested l.table.lookups l.depth l.fn.buffer.direction (applied_of l.ctx)) (applied_of l.ctx)) (chains_of l.subtable) (drop l.i (chains_of l.subtable)) l.ctx.random_state l.fn.buffer l.buffer;
+  kept : AreKept (applied_of l.ctx) (items_of l.buffer) l.last;
+}
 
 -- the records so far were done
 abbrev pub invariant-apply_records-loop-lookup_record : goal.invariant-apply_records-loop-lookup_record
 invariant-apply_records-loop-lookup_record l = record {
   walked : AreWalked (nested_act l.table.lookups (l.depth - 1) l.fn.buffer.direction (applied_of l.ctx)) l.records (drop l.lookup_record-index l.records) l.ctx.random_state l.ctx.random_state l.fn.buffer l.buffer l.fn.places.items l.end l.places.items l.at;
   inside : StaysInside (length (whole (cut_of l.fn.buffer))) (length (whole (cut_of l.buffer))) l.fn.places.items l.places.items l.end l.at;
+  kept : AreKept (applied_of l.ctx) (items_of l.buffer) l.last;
 }

@@ -2,7 +2,7 @@ use Rattle.std.proofs.Common.{drop}
 use Rattle.glyph_buffer.specs.Sides.{items_of}
 use Rattle.layout_match.specs.Applied.{applied_of}
 use Rattle.layout_rules.specs.Lemmas.Performed.{ArePassed}
-use Rattle.layout_gpos.specs.Bases.{IsKept, any_base}
+use Rattle.layout_gpos.specs.Bases.{AreKept}
 use Rattle.layout_gpos.specs.Marks.{mark_to_base}
 use Rattle.layout_positioning.proofs.subtables.apply_first_base.Given as goal
 
@@ -10,5 +10,5 @@ use Rattle.layout_positioning.proofs.subtables.apply_first_base.Given as goal
 abbrev pub invariant-loop-subtable : goal.invariant-loop-subtable
 invariant-loop-subtable l = record {
   passed : ArePassed (mark_to_base (applied_of l.ctx)) l.subtables (drop l.subtable-index l.subtables) l.ctx.random_state l.fn.buffer l.buffer;
-  kept : IsKept (any_base (applied_of l.ctx)) (items_of l.buffer) l.last;
+  kept : AreKept (applied_of l.ctx) (items_of l.buffer) l.last;
 }

@@ -1,0 +1,8 @@
+use Rattle.glyph_buffer.specs.Sides.{items_of}
+use Rattle.layout_match.specs.Applied.{applied_of}
+use Rattle.layout_gpos.specs.Bases.{any_sought}
+use Rattle.layout_gpos.specs.declared.bases.Sought.TheVariants.{Ligature}
+use Rattle.layout_gpos.proofs.mark_lig.MarkLigPosApply.apply.Goals as goal
+
+pub apply_mark_lig_pos-requires-clause-kept : goal.apply_mark_lig_pos-requires-clause-kept
+apply_mark_lig_pos-requires-clause-kept c = c.new.ensures (any_sought Ligature (applied_of c.args.ctx.now)) (items_of c.args.buffer.now)

@@ -1,0 +1,10 @@
+pub mod Shared
+pub mod Wrapped
+pub mod Places
+pub mod Listed
+pub mod Copied
+pub mod Underway
+pub mod Laid
+pub mod Numbers
+pub mod Reach
+pub mod Untouched

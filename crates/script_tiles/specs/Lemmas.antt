@@ -1,0 +1,2 @@
+-- Lemmas for what stands above: the laying of tiles.
+pub mod Plain
