@@ -6,11 +6,10 @@ use map_builder::builder::hb_ot_map_builder_t;
 use map_builder::map::hb_ot_map_t;
 use normal_forms::NormalizationMode;
 use script_syllables::SyllableSpans;
-use shape_plan::any_shaper::{
-    HB_OT_SHAPE_ZERO_WIDTH_MARKS_BY_GDEF_LATE, hb_ot_shape_zero_width_marks_type_t,
-};
 use shape_plan::plan::hb_script_plan_t;
-use shape_plan::planned::PlannedShaper;
+use shape_plan::planned::{
+    HB_OT_SHAPE_ZERO_WIDTH_MARKS_BY_GDEF_LATE, PlannedShaper, hb_ot_shape_zero_width_marks_type_t,
+};
 use shape_shaper::hb_ot_shaper_t;
 use shaping_text::script::Script;
 use shaping_text::tag::Tag;

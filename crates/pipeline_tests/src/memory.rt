@@ -1,5 +1,6 @@
 //! Fonts, tables and texts of cases.
 use crate::decomposing::DecomposingShaper;
+use any_shaper::hb_ot_any_shaper_t;
 use face_json::read_face;
 use font_face::Face;
 use glyph_types::flags::SerializeFlags;
@@ -9,7 +10,6 @@ use script_syllables::SyllableTable;
 use serde_json::Value;
 use shape_pipeline::hb_shape_data_t;
 use shape_pipeline::shape::ShapeFault;
-use shape_plan::hb_ot_any_shaper_t;
 use shape_plan::plan::hb_ot_shape_plan_t;
 use shape_plan::planner::hb_ot_shape_planner_t;
 use shaping_text::language_tags::LanguageTags;

@@ -1,8 +1,8 @@
 //! Which texts a plan is for.
 use crate::memory::{face_of, languages, plan_of};
+use any_shaper::hb_ot_any_shaper_t;
 use font_face::Face;
 use language_tables::language_table::LanguageTable;
-use shape_plan::hb_ot_any_shaper_t;
 use shape_plan::plan::hb_ot_shape_plan_t;
 use shaping_text::direction::Direction;
 use shaping_text::script::{GREEK, LATIN, Script, UNKNOWN};

@@ -18,13 +18,14 @@ use Rattle.glyph_lists.specs.Origins.{Origin, numbers, origins}
 use Rattle.glyph_lists.specs.Readings.{Follows, Reading, Run, View, as_it_is, run_after, with_events}
 use Rattle.glyph_buffer.specs.Sides.{Sides, all_glyphs, asks_of, items_of, origins_of, run_of, view_of}
 use Rattle.layout_walks.specs.Settings.{TextSettings, text_settings}
-use Rattle.std.specs.Int.RustNames.{bit_and}
+use Rattle.shape_plan.specs.Plans.{planned_shaper, text_plan}
+use Rattle.any_shaper.specs.Requests.{any_kind}
 use Rattle.shape_reading.specs.Laws.{ReadingKeepsNumbers, ResultsAreEven, ResultsHaveNoConcat, RunsReadAlike, have_no_ranges}
 use Rattle.shape_reading.specs.Reading.{reading}
 use Rattle.shape_reading.specs.Shaping.{Shaping}
 use Rattle.shape_shaper.specs.Rules.{Spans}
 use Rattle.shape_pipeline.specs.Laws.{AreAlike}
-use Rattle.shape_pipeline.specs.Shaped.{by_text, language_tags, text_reading}
+use Rattle.shape_pipeline.specs.Shaped.{by_shaper, by_text, language_tags, text_reading}
 
 follows_one : (r : Reading) (text a b : Run) → Follows r text a → Follows r text b → a ≡ b
 follows_one (Ok r) text a b f g = f ∙ sym g
@@ -93,14 +94,11 @@ seen_alike law p a b unranged same =
 -- what a text is shaped by is the same
 by_alike : (font : FaceParts) (tables : Tables) (tags : List ℕ → List Tag) (spans : Spans) (features : List Feature) (a b : Sides) → AreAlike a b → by_text font tables tags spans features a ≡ by_text font tables tags spans features b
 by_alike font tables tags spans features a b alike =
-    let script : a.script ≡ b.script = ap (λ (x : TextSettings). x.script) alike.settings in
-    let pre : a.pre_context ≡ b.pre_context = ap (λ (x : TextSettings). x.pre_context) alike.settings in
-    let post : a.post_context ≡ b.post_context = ap (λ (x : TextSettings). x.post_context) alike.settings in
-    let invisible : a.invisible ≡ b.invisible = ap (λ (x : TextSettings). x.invisible) alike.settings in
-    let selector : a.not_found_variation_selector ≡ b.not_found_variation_selector = ap (λ (x : TextSettings). x.not_found_variation_selector) alike.settings in
-    let flags : bit_and a.flags.0 0x3F ≡ bit_and b.flags.0 0x3F = ap (λ (x : TextSettings). x.flags.0) alike.settings in
-    let direction : a.direction ≡ b.direction = ap (λ (v : View). v.direction) alike.views in
-    rw (script, pre, post, invisible, selector, flags, direction, alike.languages) refl
+    let by : Direction → Option Script → List Tag → TextSettings → Shaping = λ d script languages settings.
+    by_shaper (planned_shaper any_kind font languages d script) (text_plan any_kind font languages d script features) features font tables spans settings in
+    ap (λ (v : View). by v.direction a.script (language_tags tags a) (text_settings a)) alike.views
+    ∙ ap (λ (x : TextSettings). by b.direction x.script (language_tags tags a) x) alike.settings
+    ∙ ap (λ l. by b.direction b.script (wanted_language_tags tags l) (text_settings b)) alike.languages
 
 pub texts_read_alike : RunsReadAlike → (font : FaceParts) (tables : Tables) (tags : List ℕ → List Tag) (spans : Spans) (features : List Feature) (a b : Sides) → have_no_ranges features ≡ true → AreAlike a b
     → text_reading (by_text font tables tags spans features a) (run_of a) ≡ text_reading (by_text font tables tags spans features b) (run_of b)

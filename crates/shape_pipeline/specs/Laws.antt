@@ -10,11 +10,13 @@ use Rattle.glyph_lists.specs.Origins.{numbers}
 use Rattle.glyph_lists.specs.Readings.{Follows, Run, as_it_is}
 use Rattle.glyph_buffer.specs.Sides.{Sides, asks_of, origins_of, run_of, view_of}
 use Rattle.layout_walks.specs.Settings.{text_settings}
-use Rattle.shape_plan.specs.declared.any_shaper.hb_ot_any_shaper_t.{hb_ot_any_shaper_t}
 use Rattle.shape_plan.specs.declared.plan.hb_ot_shape_plan_t.{hb_ot_shape_plan_t}
 use Rattle.shape_plan.specs.Plans.{IsPlanned}
-use Rattle.shape_plan.specs.Shapers.{traits_of}
-use Rattle.shape_shaper.specs.Rules.{Spans, plain_rules}
+use Rattle.shape_shaper.specs.Rules.{Spans}
+use Rattle.any_shaper.specs.declared.any_shaper.hb_ot_any_shaper_t.{hb_ot_any_shaper_t}
+use Rattle.any_shaper.specs.Requests.{any_kind}
+use Rattle.any_shaper.specs.Rules.{rules_of}
+use Rattle.any_shaper.specs.Shapers.{traits_of}
 use Rattle.shape_reading.specs.Laws.{have_no_ranges}
 use Rattle.shape_reading.specs.Shaping.{Shaping}
 use Rattle.shape_pipeline.specs.Shaped.{by_plan, by_text, language_tags, text_reading}
@@ -22,8 +24,8 @@ use Rattle.shape_pipeline.specs.Shaped.{by_plan, by_text, language_tags, text_re
 -- a plan for a text's language, direction and script, made of the same font and features, shapes the text by what no plan shapes it by
 abbrev pub PlansShapeAlike : Type 0
 PlansShapeAlike = (font : FaceParts) (tables : Tables) (tags : List ℕ → List Tag) (spans : Spans) (features : List Feature) (text : Sides) (plan : hb_ot_shape_plan_t hb_ot_any_shaper_t ⊤)
-    → IsPlanned font (language_tags tags text) text.direction text.script features plan
-    → by_plan (traits_of plan.shaper) plain_rules plan font tables spans (text_settings text) ≡ by_text font tables tags spans features text
+    → IsPlanned any_kind font (language_tags tags text) text.direction text.script features plan
+    → by_plan (traits_of plan.shaper) (rules_of plan.shaper plan.script_plan) plan font tables spans (text_settings text) ≡ by_text font tables tags spans features text
 
 -- a text has one result, whatever was shaped before it
 abbrev pub ResultsAreOne : Type 0
