@@ -1,2 +1,2 @@
 mod Shaped
-mod Laws
+mod Texts

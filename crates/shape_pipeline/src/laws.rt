@@ -14,20 +14,20 @@ pub fn law_plans_shape_alike()
 {}
 
 /// A text has one result, however often its plan was used before.
-#[tactic(auto, using(crate::proofs::Laws::results_are_one))]
+#[tactic(auto, using(crate::proofs::Texts::results_are_one))]
 pub fn law_results_are_one()
     ensures { ResultsAreOne }
 {}
 
 /// A text without characters is not refused, and stays as it is.
-#[tactic(auto, using(crate::proofs::Laws::empty_texts_stay))]
+#[tactic(auto, using(crate::proofs::Texts::empty_texts_stay))]
 pub fn law_empty_texts_stay()
     ensures { EmptyTextsStay }
 {}
 
 /// Where no feature is asked for on a part of the text, two texts that differ in their clusters, their level and their
 /// requests for glyph flags alone are refused for one cause, or have the same glyphs at the same places.
-#[tactic(auto, using(crate::proofs::Laws::texts_read_alike))]
+#[tactic(auto, using(crate::proofs::Texts::texts_read_alike))]
 pub fn law_texts_read_alike()
     ensures { TextsReadAlike }
 {
@@ -35,7 +35,7 @@ pub fn law_texts_read_alike()
 }
 
 /// Each cluster number of a result is one of the text's, at every level and for every shaper.
-#[tactic(auto, using(crate::proofs::Laws::texts_keep_numbers))]
+#[tactic(auto, using(crate::proofs::Texts::texts_keep_numbers))]
 pub fn law_texts_keep_numbers()
     ensures { TextsKeepNumbers }
 {
@@ -43,7 +43,7 @@ pub fn law_texts_keep_numbers()
 }
 
 /// In a result neighbouring glyphs of one cluster have the same flags.
-#[tactic(auto, using(crate::proofs::Laws::texts_are_even))]
+#[tactic(auto, using(crate::proofs::Texts::texts_are_even))]
 pub fn law_texts_are_even()
     ensures { TextsAreEven }
 {
@@ -51,7 +51,7 @@ pub fn law_texts_are_even()
 }
 
 /// In a result none tells where texts may not be put together, but where that was asked for.
-#[tactic(auto, using(crate::proofs::Laws::texts_have_no_concat))]
+#[tactic(auto, using(crate::proofs::Texts::texts_have_no_concat))]
 pub fn law_texts_have_no_concat()
     ensures { TextsHaveNoConcat }
 {

@@ -1,6 +1,7 @@
 -- Laws of all texts that are shaped.
-use Rattle.std.proofs.Common.{ℕ, ◌≡◌, ◌==◌, Bool, true, false, if◌then◌else◌, List, [], ◌∷◌, length, Ok, refl, sym, ap, subst, ◌∙◌}
-use Rattle.std.specs.Prelude.{Option}
+use Rattle.std.proofs.Common.{ℕ, ◌≡◌, ◌==◌, Bool, true, false, if◌then◌else◌, List, [], ◌∷◌, length, Ok, Err, refl, sym, ap, subst, ◌∙◌}
+use Rattle.std.specs.Prelude.{IsTrue, Option}
+use Rattle.std.proofs.lemmas.Bool.{eqb-true}
 use Rattle.std.proofs.lemmas.List.{length-map, nil_from_length}
 use Rattle.shaping_text.specs.ScriptTags.{wanted_language_tags}
 use Rattle.shaping_text.specs.declared.direction.Direction.{Direction}
@@ -13,7 +14,7 @@ use Rattle.unicode_tables.specs.Tables.{Tables}
 use Rattle.glyph_types.specs.declared.info.hb_glyph_info_t.{hb_glyph_info_t}
 use Rattle.glyph_lists.specs.EventParts.{AreEvenRuns, HaveNoConcat}
 use Rattle.glyph_lists.specs.Items.{Item, item_of}
-use Rattle.glyph_lists.specs.Order.{BringsNone}
+use Rattle.glyph_lists.specs.Order.{BringsNone, has_number}
 use Rattle.glyph_lists.specs.Origins.{Origin, numbers, origins}
 use Rattle.glyph_lists.specs.Readings.{Follows, Reading, Run, View, as_it_is, run_after, with_events}
 use Rattle.glyph_buffer.specs.Sides.{Sides, all_glyphs, asks_of, items_of, origins_of, run_of, view_of}
@@ -44,26 +45,32 @@ empty_texts_stay p text none = read_if p text true (ap (λ xs. length xs == 0) n
 -- ---- a text without characters, and another
 
 no_glyphs : (gs : List hb_glyph_info_t) → (length gs == 0) ≡ true → gs ≡ []
-no_glyphs [] e = refl
-no_glyphs (g ∷ gs) e = cc
+no_glyphs gs e = nil_from_length gs (eqb-true (length gs) 0 e)
 
--- where all readings have something of their results, and the text itself has it where there is none, all texts have it
+by_count : (P : List Origin → Type 0) (p : Shaping) (text : Sides) (result : Run) → ((gs : List hb_glyph_info_t) → gs ≡ [] → P (origins gs)) → (Follows (reading p (run_of text)) (run_of text) result → P result.origins)
+    → Follows (text_reading p (run_of text)) (run_of text) result → (b : Bool) → (length (items_of text) == 0) ≡ b → P result.origins
+by_count P p text result empty read f true none =
+    let R : Reading → Type 0 = λ r. Follows r (run_of text) result in
+    let same : Follows (as_it_is (view_of text)) (run_of text) result = subst R (read_if p (run_of text) true none) f in
+    let bare : all_glyphs text ≡ [] = no_glyphs (all_glyphs text) (ap (λ n. n == 0) (sym (length-map (all_glyphs text) item_of)) ∙ none) in
+    let Q : Run → Type 0 = λ run. P run.origins in
+    subst Q (sym same) (empty (all_glyphs text) bare)
+by_count P p text result empty read f false some =
+    let R : Reading → Type 0 = λ r. Follows r (run_of text) result in
+    read (subst R (read_if p (run_of text) false some) f)
+
+-- where all readings have something of their results, and the text itself has it where it has no glyph, all texts have it
 of_texts : (P : List Origin → Type 0) (p : Shaping) (text : Sides) (result : Run) → ((gs : List hb_glyph_info_t) → gs ≡ [] → P (origins gs)) → (Follows (reading p (run_of text)) (run_of text) result → P result.origins)
     → Follows (text_reading p (run_of text)) (run_of text) result → P result.origins
-of_texts P p text result empty read f =
-    let count : (length (items_of text) == 0) ≡ (length (all_glyphs text) == 0) = ap (λ n. n == 0) (length-map (all_glyphs text) item_of) in
-    let By : Bool → Type 0 = λ b. (length (all_glyphs text) == 0) ≡ b → P result.origins in
-    let holds : (b : Bool) → By b = λ b. elim b [
-      | true ↦ λ none.
-          let same : Follows (as_it_is (view_of text)) (run_of text) result = subst (λ r. Follows r (run_of text) result) (read_if p (run_of text) true (count ∙ none)) f in
-          subst (λ (run : Run). P run.origins) (sym same) (empty (all_glyphs text) (no_glyphs (all_glyphs text) none))
-      | false ↦ λ some. read (subst (λ r. Follows r (run_of text) result) (read_if p (run_of text) false (count ∙ some)) f)
-    ] in
-    holds (length (all_glyphs text) == 0) refl
+of_texts P p text result empty read f = by_count P p text result empty read f (length (items_of text) == 0) refl
+
+brings_nothing : (ns : List ℕ) (n : ℕ) → IsTrue (has_number (numbers (origins [])) n) → IsTrue (has_number ns n)
+brings_nothing ns n h = cc
 
 none_brought : (ns : List ℕ) (gs : List hb_glyph_info_t) → gs ≡ [] → BringsNone ns (numbers (origins gs))
-none_brought ns [] e n h = elim h [ ]
-none_brought ns (g ∷ gs) e = cc
+none_brought ns gs e =
+    let P : List hb_glyph_info_t → Type 0 = λ xs. BringsNone ns (numbers (origins xs)) in
+    subst P (sym e) (brings_nothing ns)
 
 pub texts_keep_numbers : ReadingKeepsNumbers → (p : Shaping) (text : Sides) (result : Run) → Follows (text_reading p (run_of text)) (run_of text) result → BringsNone (numbers (origins_of text)) (numbers result.origins)
 texts_keep_numbers law p text result f = of_texts (λ os. BringsNone (numbers (origins_of text)) (numbers os)) p text result (none_brought (numbers (origins_of text))) (law p (run_of text) result) f
