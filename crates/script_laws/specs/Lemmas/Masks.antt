@@ -12,7 +12,7 @@ use Rattle.script_joining.specs.Lemmas.Plain.{joining_is_plain}
 use Rattle.script_hangul.specs.Masks.{with_place_mask}
 use Rattle.script_pauses.specs.Categories.{categories_set, universal_category_of, with_category}
 use Rattle.script_masks.specs.Masks.{arabic_masks, is_mongolian, joined_if, letters_join, letters_joined, universal_masks_set}
-use Rattle.script_stretch.specs.Tiles.{tile_recorded}
+use Rattle.script_stretch.specs.Tiles.{tile_recorded, tiles_recorded}
 use Rattle.script_laws.specs.Plain.{MasksLeavePlain}
 use Rattle.script_laws.specs.Lemmas.Events.{always_plain, same_plain, then_plain}
 
