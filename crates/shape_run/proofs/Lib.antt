@@ -1,3 +1,4 @@
+pub mod Answering
 pub mod Reading
 pub mod Printing
 pub mod Faults

@@ -2,7 +2,7 @@
 ghost use Rattle.std.specs.Prelude.{◌≡◌, ◌≢◌, Ok, Err, IfOk, IfErr, OnOk, true, false, string_bytes};
 ghost use Rattle.glyph_buffer.specs.Sides.{all_glyphs, empty_buffer};
 ghost use Rattle.glyph_buffer.specs.Text.{fits_text};
-ghost use Rattle.shape_run.specs.Answer.{IsAnswer, answer_by, line_in, line_of, printed_line, text_of, without_line_feed};
+ghost use Rattle.shape_run.specs.Answer.{IsAnswer, line_in, line_of, printed_line, text_of, without_line_feed};
 ghost use Rattle.run_readers.specs.Faults.{IsOfRun};
 ghost use Rattle.run_readers.specs.Tables.{tables_value};
 ghost use Rattle.shape_run.specs.Asked.{asked_buffer, text_buffer};
@@ -43,7 +43,7 @@ fn read_text(bytes: &[u8]) -> Result<&str, RunFault>
 /// A buffer as the options ask for it. The language moves into it.
 fn new_text(alloc: Global, options: &mut Options) -> UnicodeBuffer
     ensures text { result ≡ asked_buffer options.old }
-    ensures features { options.new.features ≡ options.old.features }
+    ensures features { options.new.features.items ≡ options.old.features.items }
     ensures flags { options.new.flags ≡ options.old.flags }
 {
     let mut text = UnicodeBuffer::new(alloc);
@@ -63,7 +63,7 @@ fn new_text(alloc: Global, options: &mut Options) -> UnicodeBuffer
 fn text_buffer(alloc: Global, options: &mut Options, text: &str) -> Result<UnicodeBuffer, RunFault>
     ensures fits { OnOk result (fits_text text.now empty_buffer ≡ true) }
     ensures text { IfOk result (λ b. b ≡ text_buffer options.old text.now) }
-    ensures features { options.new.features ≡ options.old.features }
+    ensures features { options.new.features.items ≡ options.old.features.items }
     ensures flags { options.new.flags ≡ options.old.flags }
     ensures refused { IfErr result (λ e. e ≢ RunFault.OutOfMemory
         → (e ≡ RunFault.Shape ShapeCause.TooLong) × (fits_text text.now empty_buffer ≡ false)) }
@@ -131,7 +131,6 @@ fn line_in(
 }
 
 /// The line for the bytes of tables, a font and a text, which are read in this order.
-#[tactic(auto, unfolding(crate::specs::Answer::answer_by))]
 pub(crate) fn answer(
     alloc: Global,
     options: Options,
