@@ -160,23 +160,9 @@ abbrev pub shaper_of : Option Script → Direction → Option Tag → hb_ot_any_
 shaper_of None direction chosen = any.Default
 shaper_of (Some s) direction chosen = categorized s direction chosen
 
--- ---- scripts whose shapers are not there yet
+-- ---- scripts whose shaper is not there yet
 
--- scripts with a shaper that they share with few
-abbrev pub other_scripts : List Script
-other_scripts =
-    script.ARABIC ∷
-    script.SYRIAC ∷
-    script.THAI ∷
-    script.LAO ∷
-    script.HANGUL ∷
-    script.HEBREW ∷
-    script.KHMER ∷
-    script.MYANMAR_ZAWGYI ∷
-    script.MYANMAR ∷
-    []
-
--- a script waits where a text of it may have another shaper than the default one
+-- a script waits where a text of it may have the Indic shaper
 abbrev pub script_waits : Option Script → Bool
 script_waits None = false
-script_waits (Some s) = is_among indic_scripts s || is_among universal_scripts s || is_among other_scripts s
+script_waits (Some s) = is_among indic_scripts s

@@ -103,27 +103,12 @@ const UNIVERSAL: [Script; 84] = [
     TULU_TIGALARI,
 ];
 
-/// Scripts with a shaper that they share with few.
-const OTHERS: [Script; 9] = [
-    ARABIC,
-    SYRIAC,
-    THAI,
-    LAO,
-    HANGUL,
-    HEBREW,
-    KHMER,
-    MYANMAR_ZAWGYI,
-    MYANMAR,
-];
-
-/// Whether a script waits for its shaper: whether a text of it may have another than the default shaper.
+/// Whether a script waits for its shaper: whether a text of it may have the Indic shaper.
 pub fn script_waits(script: Option<Script>) -> bool
     ensures { result ≡ script_waits script }
 {
     match script {
-        Some(script) => {
-            INDIC.contains(&script) || UNIVERSAL.contains(&script) || OTHERS.contains(&script)
-        }
+        Some(script) => INDIC.contains(&script),
         None => false,
     }
 }

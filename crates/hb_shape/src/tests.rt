@@ -109,7 +109,7 @@ fn statuses_lines_and_files(rt: HostRuntime) -> Result<(), Fail> {
             "tables font broken ",
         ),
         (
-            "hb_shape --script=hebr tables font text",
+            "hb_shape --script=deva tables font text",
             "",
             5,
             "",

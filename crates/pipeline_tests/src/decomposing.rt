@@ -154,6 +154,7 @@ impl hb_ot_shaper_t for DecomposingShaper {
 
     fn postprocess_glyphs(
         &self,
+        _alloc: Global,
         _plan: &hb_script_plan_t<()>,
         _face: &Face,
         _buffer: &mut hb_buffer_t,

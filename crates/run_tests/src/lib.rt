@@ -12,6 +12,8 @@ mod memory;
 #[cfg(test)]
 mod positions;
 #[cfg(test)]
+mod scripts;
+#[cfg(test)]
 mod streams;
 #[cfg(test)]
 mod substitutions;

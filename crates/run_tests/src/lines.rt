@@ -3,7 +3,7 @@ use crate::memory::{FONT, options, ran};
 use json_values::fault::JsonFault;
 use run_options::fault::RunFault;
 use shaping_text::direction::Direction;
-use shaping_text::script::{ARABIC, GREEK, HEBREW, LATIN, Script, THAANA};
+use shaping_text::script::{DEVANAGARI, GREEK, LATIN, Script, TELUGU, THAANA};
 use std::alloc::{AllocError, Global};
 use std::test::Fail;
 
@@ -224,10 +224,10 @@ const REFUSED_BYTES: [Refusal; 8] = [
     ),
 ];
 
-// Scripts whose shapers are not there yet.
+// Scripts whose shaper is not there yet.
 const REFUSED_TEXTS: [Refusal; 2] = [
     (
-        Some(ARABIC),
+        Some(DEVANAGARI),
         Direction::Invalid,
         &[],
         "{}",
@@ -236,7 +236,7 @@ const REFUSED_TEXTS: [Refusal; 2] = [
         RunFault::NotYet,
     ),
     (
-        Some(HEBREW),
+        Some(TELUGU),
         Direction::Invalid,
         &[],
         "{}",

@@ -4,9 +4,10 @@ ghost use Rattle.std.specs.Int.RustNames.{bit_and};
 ghost use Rattle.layout_rules.specs.Ready.{IsReady};
 
 use glyph_buffer::buffer::hb_buffer_t;
-use glyph_types::flags::UnicodeProps;
+use glyph_types::flags::{GlyphPropsFlags, UnicodeProps};
 use glyph_types::info::hb_glyph_info_t;
 use glyph_types::level::BufferClusterLevel;
+use glyph_types::position::GlyphPosition;
 use std::alloc::Global;
 use std::test::Fail;
 
@@ -37,6 +38,34 @@ impl Numbers {
 
     pub fn class(&mut self) -> u8 {
         u8::try_from(self.next()).unwrap_or(0)
+    }
+
+    /// A number with a sign: twice it, or for what is below 0 one less than twice its amount.
+    pub fn signed(&mut self) -> i32 {
+        let number = self.next();
+        let half = (number / 2) as i32;
+        if number % 2 == 0 { half } else { -half - 1 }
+    }
+
+    pub fn four(&mut self) -> [u32; 4] {
+        let first = self.next();
+        let second = self.next();
+        let third = self.next();
+        [first, second, third, self.next()]
+    }
+
+    pub fn six(&mut self) -> [u32; 6] {
+        let [first, second, third, fourth] = self.four();
+        let fifth = self.next();
+        [first, second, third, fourth, fifth, self.next()]
+    }
+
+    /// The syllable byte of a wanted glyph.
+    pub fn syllable(&mut self) -> u8 {
+        self.four();
+        let syllable = self.class();
+        self.four();
+        syllable
     }
 
     pub fn count(&mut self) -> usize {
@@ -79,6 +108,69 @@ impl Numbers {
         Ok(buffer)
     }
 
+    /// A buffer: its level, how many glyphs, the cluster of each, what else is known of each, and where each stands.
+    pub fn glyphs(&mut self, alloc: Global, max_len: usize) -> Result<hb_buffer_t, Fail>
+        ensures { IfOk result (λ b. IsReady b) }
+    {
+        let mut buffer = hb_buffer_t::new(alloc);
+        buffer.set_cluster_level(self.level());
+        let count = self.next();
+        for _ in 0..count {
+            self.add_glyph(&mut buffer)?;
+        }
+        self.write_glyphs(buffer.info_slice_mut());
+        settle(&mut buffer)?;
+        self.place(&mut buffer);
+        limit(max_len, &mut buffer);
+        Ok(buffer)
+    }
+
+    fn add_glyph(&mut self, buffer: &mut hb_buffer_t) -> Result<(), Fail>
+        requires { buffer.old.is_open ≡ false }
+        ensures { OnOk result (buffer.new.is_open ≡ false) }
+    {
+        let cluster = self.next();
+        if !buffer.add('a', cluster)? {
+            return Ok(());
+        }
+        Ok(())
+    }
+
+    fn write_glyphs(&mut self, glyphs: &mut [hb_glyph_info_t]) {
+        for glyph in glyphs.iter_mut() {
+            *glyph = self.glyph(*glyph);
+        }
+    }
+
+    fn glyph(&mut self, glyph: hb_glyph_info_t) -> hb_glyph_info_t {
+        hb_glyph_info_t {
+            glyph_id: self.next(),
+            mask: self.next(),
+            unicode_props: UnicodeProps(self.small()),
+            glyph_props: GlyphPropsFlags(self.small()),
+            syllable: self.class(),
+            category: self.class(),
+            auxiliary: self.class(),
+            lig_props: self.next(),
+            ..glyph
+        }
+    }
+
+    #[tactic(auto, using(crate::proofs::Ready::placed_ready))]
+    fn place(&mut self, buffer: &mut hb_buffer_t)
+        requires { IsReady buffer.old }
+        ensures { IsReady buffer.new }
+    {
+        self.write_places(buffer.pos_slice_mut());
+    }
+
+    fn write_places(&mut self, positions: &mut [GlyphPosition]) {
+        for position in positions.iter_mut() {
+            position.x_advance = self.signed();
+            position.x_offset = self.signed();
+        }
+    }
+
     fn level(&mut self) -> BufferClusterLevel {
         match self.next() {
             0 => BufferClusterLevel::MonotoneGraphemes,
@@ -118,4 +210,13 @@ fn settle(buffer: &mut hb_buffer_t) -> Result<(), Fail>
         buffer.clear();
     }
     Ok(())
+}
+
+fn limit(max_len: usize, buffer: &mut hb_buffer_t)
+    requires { IsReady buffer.old }
+    ensures { IsReady buffer.new }
+{
+    if buffer.len() <= max_len {
+        buffer.set_max_len(max_len);
+    }
 }

@@ -3,5 +3,6 @@
 
 pub mod boxes;
 pub mod classes;
+pub mod kerning;
 pub mod spaces;
 pub mod zeroing;

@@ -67,7 +67,7 @@ text_refused p s cause told same some e = text_is_read p s some ∙ e ∙ ap Err
 -- what a text is shaped by does not depend on who made its plan
 pub planned_for : (font : FaceParts) (tables : Tables) (tags : List ℕ → List Tag) (spans : Spans) (features : List Feature) (s : Sides) (plan : hb_ot_shape_plan_t hb_ot_any_shaper_t ⊤) → IsPlanned any_kind font (language_tags tags s) s.direction s.script features plan
     → by_plan (traits_of plan.shaper) (rules_of plan.shaper plan.script_plan) plan font tables spans (text_settings s) ≡ by_text font tables tags spans features s
-planned_for font tables tags spans features s plan is = 
+planned_for font tables tags spans features s plan is =
     ap (λ fs. by_shaper plan.shaper plan.script_plan fs font tables spans (text_settings s)) is.features
     ∙ ap (λ p. by_shaper plan.shaper p features font tables spans (text_settings s)) is.script_plan
     ∙ ap (λ sh. by_shaper sh (text_plan any_kind font (language_tags tags s) s.direction s.script features) features font tables spans (text_settings s)) is.shaper

@@ -8,26 +8,33 @@ use Rattle.run_options.specs.declared.fault.RunFault.{RunFault}
 use Rattle.run_options.specs.declared.fault.RunFault.TheVariants.{Unlawful}
 use Rattle.run_options.specs.declared.options.Options.{Options}
 use Rattle.run_options.specs.Fault.{run_fault_of}
-use Rattle.tables_json.specs.Languages.{Language}
+use Rattle.script_syllables.specs.Machines.{Machines}
+use Rattle.tables_json.specs.Languages.{Language, languages_of}
+use Rattle.tables_json.specs.Syllables.{syllables_of}
 use Rattle.tables_json.specs.Deep.{HasDeepSplits}
 use Rattle.tables_json.specs.Unicode.{tables_of}
 use Rattle.unicode_tables.specs.Expansion.{EndWithin}
 use Rattle.unicode_tables.specs.Lawful.{IsLawful}
 use Rattle.unicode_tables.specs.Tables.{Tables, split_of}
 use Rattle.shape_run.specs.Answer.{IsAnswer, answer_by}
-use Rattle.shape_run.specs.Tables.{AreTables, IfLawful, IfShallow, IsRunValueOf, IsValueOf, RunTables, rest_of, with_rest}
+use Rattle.shape_run.specs.Tables.{AreTables, IfLawful, IfShallow, IsRunValueOf, IsValueOf, RunTables, with_rest}
 use Rattle.shape_run.specs.Values.{json_of, of_json, then_answers}
 use Rattle.shape_run.specs.Laws.{AnswersAreOne}
 
 -- ---- values
 
-pub whole_read : (d : Data) (t : Tables) (languages : List Language) → tables_of d ≡ Ok t → EndWithin (split_of t) 8 → rest_of d ≡ Ok languages → IsValueOf d (Ok (record { characters = t; languages = languages }))
+pub whole_read : (d : Data) (t : Tables) (ms : Machines) (ls : List Language) → tables_of d ≡ Ok t → EndWithin (split_of t) 8 → syllables_of d ≡ Ok ms → languages_of d ≡ Ok ls
+    → IsValueOf d (Ok (record { characters = t; syllables = ms; languages = ls }))
 unfolding IsValueOf
-whole_read d t languages rows shallow rest = rw (rows, rest) (inl (shallow, refl))
+whole_read d t ms ls rows shallow syllables languages = rw (rows, syllables, languages) (inl (shallow, refl))
 
-pub rest_refused : (d : Data) (t : Tables) (e : JsonFault) → tables_of d ≡ Ok t → EndWithin (split_of t) 8 → rest_of d ≡ Err e → IsValueOf d (Err e)
+pub syllables_refused : (d : Data) (t : Tables) (e : JsonFault) → tables_of d ≡ Ok t → EndWithin (split_of t) 8 → syllables_of d ≡ Err e → IsValueOf d (Err e)
 unfolding IsValueOf
-rest_refused d t e rows shallow rest = rw (rows, rest) (inl (shallow, refl))
+syllables_refused d t e rows shallow syllables = rw (rows, syllables) (inl (shallow, refl))
+
+pub languages_refused : (d : Data) (t : Tables) (ms : Machines) (e : JsonFault) → tables_of d ≡ Ok t → EndWithin (split_of t) 8 → syllables_of d ≡ Ok ms → languages_of d ≡ Err e → IsValueOf d (Err e)
+unfolding IsValueOf
+languages_refused d t ms e rows shallow syllables languages = rw (rows, syllables, languages) (inl (shallow, refl))
 
 row_refused : (d : Data) (e : JsonFault) → tables_of d ≡ Err e → IsValueOf d (Err e)
 unfolding IsValueOf
@@ -39,7 +46,7 @@ deep_then (Err e) Answers deep = absurd deep
 
 deep_refused : (d : Data) → HasDeepSplits (tables_of d) → IsValueOf d (Err SplitDepth)
 unfolding IsValueOf
-deep_refused d deep = deep_then (tables_of d) (λ t whole. whole ≡ with_rest t (rest_of d)) deep
+deep_refused d deep = deep_then (tables_of d) (λ t whole. whole ≡ with_rest t d) deep
 
 -- a fault of the rows, or of their chains of splits
 pub rows_refused : (d : Data) (e : JsonFault) → (e ≢ SplitDepth → tables_of d ≡ Err e) → (e ≡ SplitDepth → HasDeepSplits (tables_of d)) → IsValueOf d (Err e)

@@ -25,7 +25,7 @@ use Rattle.glyph_lists.specs.Readings.{Reading, Run, run_after}
 use Rattle.glyph_text.specs.Printed.{printed_text}
 use Rattle.glyph_buffer.specs.Sides.{Sides, empty_buffer, run_of}
 use Rattle.glyph_buffer.specs.Text.{fits_text}
-use Rattle.shape_run.specs.OneGlyph.{one_glyph}
+use Rattle.script_syllables.specs.Fronts.{syllable_at}
 use Rattle.shape_run.specs.Output.{glyphs_of}
 
 -- ---- bytes
@@ -46,7 +46,7 @@ printed_line font flags gs ps = printed_text (λ glyph. name_of glyph font) (λ 
 
 -- what a text of a run is shaped by
 abbrev pub shaping : RunTables → FaceParts → List Feature → Sides → Shaping
-shaping t font features s = by_text font t.characters (language_tags t.languages) one_glyph features s
+shaping t font features s = by_text font t.characters (language_tags t.languages) (syllable_at t.syllables) features s
 
 -- the line of a run: its items with the clusters and the glyph flags of their origins
 abbrev pub line_of_run : FaceParts → SerializeFlags → Run → List ℕ

@@ -5,4 +5,3 @@ pub mod Tables
 pub mod Answer
 pub mod Run
 pub mod Laws
-pub mod OneGlyph

@@ -13,35 +13,37 @@ use Rattle.run_options.specs.declared.fault.RunFault.TheVariants.{Unlawful}
 use Rattle.tables_json.specs.Languages.{Language, languages_in, languages_of}
 use Rattle.tables_json.specs.Syllables.{syllables_of}
 use Rattle.tables_json.specs.Unicode.{tables_of}
+use Rattle.script_syllables.specs.Machines.{Machines}
 use Rattle.unicode_tables.specs.Expansion.{EndWithin, HasDeepChain}
 use Rattle.unicode_tables.specs.Lawful.{IsLawful}
 use Rattle.unicode_tables.specs.Tables.{Tables, split_of}
 use Rattle.shape_run.specs.declared.tables.TextTables.{TextTables}
 use Rattle.shape_run.specs.Values.{json_of, of_json, then_answers}
 
--- what shaping goes by, beside the font: the tables of characters, and the languages with their tags
+-- what shaping goes by, beside the font: the tables of characters, the machines of syllables, and the languages with their tags
 pub record RunTables : Type 0 where
   pub characters : Tables
+  pub syllables : Machines
   pub languages : List Language
 
 abbrev pub tables_value : TextTables → RunTables
-tables_value t = record { characters = t.characters; languages = languages_in t.languages }
+tables_value t = record { characters = t.characters; syllables = t.syllables; languages = languages_in t.languages }
 
 -- of rows without a fault, those are refused whose chains of first parts have more than eight splits
 abbrev pub IfShallow : {A : Type 0} → Tables → (Result A JsonFault → Type 0) → Result A JsonFault → Type 0
 IfShallow t Answers r = (EndWithin (split_of t) 8 × Answers r) ⊎ (HasDeepChain (split_of t) 8 × (r ≡ Err SplitDepth))
 
--- whether the machines of syllables are of their format, and then the languages
-abbrev pub rest_of : Data → Result (List Language) JsonFault
-rest_of d = and_then (syllables_of d) (λ _. languages_of d)
-
-abbrev pub with_rest : Tables → Result (List Language) JsonFault → Result RunTables JsonFault
-with_rest t rest = and_then rest (λ languages. Ok (record { characters = t; languages = languages }))
+-- the machines of syllables, and then the languages
+abbrev pub with_rest : Tables → Data → Result RunTables JsonFault
+with_rest t d =
+    and_then (syllables_of d) (λ syllables.
+    and_then (languages_of d) (λ languages.
+    Ok (record { characters = t; syllables = syllables; languages = languages })))
 
 -- what a JSON value of tables is read as: the rows from splits to Thai forms, then syllables and languages; the first
 -- fault ends it
 unfoldable pub IsValueOf : Data → Result RunTables JsonFault → Type 0
-IsValueOf d r = then_answers (tables_of d) (λ t. IfShallow t (λ whole. whole ≡ with_rest t (rest_of d))) r
+IsValueOf d r = then_answers (tables_of d) (λ t. IfShallow t (λ whole. whole ≡ with_rest t d)) r
 
 -- the same with the run's name of the fault
 abbrev pub IsRunValueOf : Data → Result RunTables RunFault → Type 0

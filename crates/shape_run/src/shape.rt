@@ -9,13 +9,12 @@ ghost use Rattle.shape_run.specs.Answer.{IsUnshaped, shaping};
 ghost use Rattle.shape_run.specs.Run.{IsOfRun};
 ghost use Rattle.shape_run.specs.Tables.{tables_value};
 
-use crate::spans::OneGlyph;
 use crate::tables::TextTables;
+use any_shaper::script_waits;
 use feature_text::feature::Feature;
 use font_face::Face;
 use run_options::fault::RunFault;
 use shape_pipeline::hb_shape_data_t;
-use any_shaper::script_waits;
 use std::alloc::Global;
 use text_buffers::glyphs::GlyphBuffer;
 use text_buffers::unicode_buffer::UnicodeBuffer;
@@ -37,7 +36,7 @@ fn shape_text(
 {
     let shape_data = hb_shape_data_t {
         tables: &tables.characters,
-        spans: &OneGlyph,
+        spans: &tables.syllables,
         languages: &tables.languages,
     };
     match shape_pipeline::shape::shape(alloc, face, shape_data, features, text) {

@@ -3,13 +3,13 @@ ghost use Rattle.std.specs.Prelude.{◌≡◌, ◌≢◌, Ok, Err, IfOk, IfErr, 
 ghost use Rattle.serde_json.specs.View.{view};
 ghost use Rattle.unicode_tables.specs.Lawful.{IsLawful};
 ghost use Rattle.shape_run.specs.Run.{IsOfRun};
-ghost use Rattle.shape_run.specs.Tables.{AreTables, IsValueOf, rest_of, tables_value};
-ghost use Rattle.tables_json.specs.Languages.{languages_in};
+ghost use Rattle.shape_run.specs.Tables.{AreTables, IsValueOf, tables_value};
 
 use crate::values::read_json;
 use json_values::fault::JsonFault;
 use language_tables::language_table::LanguageTable;
 use run_options::fault::RunFault;
+use script_syllables::SyllableTable;
 use serde_json::Value;
 use std::alloc::Global;
 use tables_json::{read_languages, read_syllables, read_tables};
@@ -20,29 +20,23 @@ use unicode_tables::UnicodeTables;
 pub(crate) struct TextTables {
     /// What is known of characters.
     pub characters: UnicodeTables,
+    /// Where syllables end.
+    pub syllables: SyllableTable,
     /// The languages with their tags.
     pub languages: LanguageTable,
 }
 
-/// Reads syllables, which no stage goes by yet, and languages.
-fn read_rest(alloc: Global, value: &Value) -> Result<LanguageTable, JsonFault>
-    ensures ok { IfOk result (λ t. rest_of (view value.now) ≡ Ok (languages_in t)) }
-    ensures refused { IfErr result (λ e. e ≢ JsonFault.OutOfMemory → rest_of (view value.now) ≡ Err e) }
-{
-    read_syllables(alloc, value)?;
-    let languages = read_languages(alloc, value)?;
-    Ok(languages)
-}
-
-/// Reads the tables of characters, then the rest.
+/// Reads the tables of characters, then the machines of syllables, then the languages.
 fn read_all_tables(alloc: Global, value: &Value) -> Result<TextTables, JsonFault>
     ensures ok { IfOk result (λ t. IsValueOf (view value.now) (Ok (tables_value t))) }
     ensures refused { IfErr result (λ e. e ≢ JsonFault.OutOfMemory → IsValueOf (view value.now) (Err e)) }
 {
     let characters = read_tables(alloc, value)?;
-    let languages = read_rest(alloc, value)?;
+    let syllables = read_syllables(alloc, value)?;
+    let languages = read_languages(alloc, value)?;
     Ok(TextTables {
         characters,
+        syllables,
         languages,
     })
 }

@@ -1,0 +1,108 @@
+//! The bytes of syllables: a machine and numbers.
+use crate::numbers::Numbers;
+use crate::spans::SingleGlyphs;
+use glyph_buffer::buffer::hb_buffer_t;
+use glyph_types::cause::ShapeCause;
+use script_circles::syllables::setup_syllables;
+use script_constants::hb_ot_script_shaper_t::UNIVERSAL_SHAPER;
+use script_syllables::{Accept, Step, SyllableMachine, SyllableMachines, SyllableTable};
+use std::alloc::Global;
+use std::test::Fail;
+use universal_syllables::spans::find_syllables;
+
+fn machine(alloc: Global, row: &str) -> Result<SyllableMachine, Fail> {
+    let mut numbers = Numbers::of(alloc, row)?;
+    let mut machine = SyllableMachine::new(alloc);
+    machine.states = numbers.next();
+    let count = numbers.next();
+    for _ in 0..count {
+        let step = Step {
+            state: numbers.next(),
+            category: numbers.class(),
+            next: numbers.next(),
+        };
+        machine.next.push(step)?;
+    }
+    let count = numbers.next();
+    for _ in 0..count {
+        let accept = Accept {
+            state: numbers.next(),
+            kind: numbers.class(),
+        };
+        machine.accept.push(accept)?;
+    }
+    Ok(machine)
+}
+
+fn table(alloc: Global, row: &str) -> Result<SyllableTable, Fail> {
+    let machines = SyllableMachines {
+        indic: SyllableMachine::new(alloc),
+        khmer: SyllableMachine::new(alloc),
+        myanmar: SyllableMachine::new(alloc),
+        universal: machine(alloc, row)?,
+    };
+    match SyllableTable::new(machines) {
+        Ok(table) => Ok(table),
+        Err(_) => Err("no machine")?,
+    }
+}
+
+fn check(alloc: Global, line: &str) -> Result<bool, Fail> {
+    let (steps, row) = line.split_once('|').ok_or("no machine")?;
+    let table = table(alloc, steps)?;
+    check_with(alloc, &table, row)
+}
+
+fn check_with(alloc: Global, table: &SyllableTable, row: &str) -> Result<bool, Fail> {
+    let mut numbers = Numbers::of(alloc, row)?;
+    let max_len = numbers.count();
+    numbers.six();
+    let mut buffer = numbers.glyphs(alloc, max_len)?;
+    find_syllables(alloc, table, &mut buffer)?;
+    numbers.next();
+    numbers.next();
+    for glyph in buffer.info_slice() {
+        if glyph.syllable != numbers.syllable() {
+            return Ok(false);
+        }
+    }
+    Ok(true)
+}
+
+#[test]
+fn tells_syllables_apart(rt: HostRuntime) -> Result<(), Fail> {
+    for line in ROWS.lines() {
+        let same = check(rt.alloc(), line)?;
+        assert_eq!(rt; (line, same), (line, true));
+    }
+    Ok(())
+}
+
+#[test]
+fn refuses_an_unknown_kind(rt: HostRuntime) -> Result<(), Fail> {
+    let mut buffer = Numbers::of(rt.alloc(), "0 1 97 0 7 0 0")?.buffer(rt.alloc())?;
+    let spans = SingleGlyphs { kind: 15 };
+    assert_eq!(rt;
+        setup_syllables(rt.alloc(), &spans, UNIVERSAL_SHAPER, &mut buffer),
+        Err(ShapeCause::UnknownSyllableKind)
+    );
+    Ok(())
+}
+
+const ROWS: &str = "\
+2 5 0 0 1 0 4 1 0 11 1 1 0 0 1 2 1 0|16384 0 0 0 0 0 0 0 1 0 1 0 7 0 0 2 0 0 0 0 0 1 1 0 0 0 25 2 0 0 0
+2 2 0 4 1 0 28 1 0|16384 0 0 0 0 0 0 0 2 0 1 1 0 108 0 0 4 0 0 2 0 108 0 0 4 0 0 0 0 0 0 0 2 1 0 0 0 0 4 0 0 0 2 1 0 0 0 4 0 0 0
+3 6 0 4 1 1 28 2 2 4 1 2 8 1 2 11 1 2 28 1 0|16384 0 0 0 0 0 0 0 1 0 1 0 108 0 0 4 0 0 0 0 0 1 1 0 0 0 0 4 0 0 0
+3 7 0 1 2 0 4 2 0 28 1 1 1 2 1 4 2 1 8 1 2 8 0 1 1 3|16384 0 0 0 0 0 0 0 1 0 1 0 7 0 0 1 0 0 0 0 0 1 1 0 0 0 25 1 0 0 0
+3 7 0 4 1 0 8 2 0 28 1 1 4 2 1 28 2 2 4 2 2 8 1 1 1 8|16384 0 0 0 0 0 0 0 1 0 1 0 12 0 0 28 0 0 0 0 0 1 1 0 0 0 24 28 0 0 0
+4 6 0 8 2 0 28 2 1 4 2 2 4 3 2 8 2 3 8 1 1 1 9|16384 0 0 0 0 0 0 0 2 0 1 1 0 108 0 0 4 0 0 2 0 12 0 0 28 0 0 0 0 0 0 0 2 1 0 0 0 0 4 0 0 0 2 1 0 0 25 28 0 0 0
+2 6 0 8 1 0 11 1 1 0 1 1 4 1 1 8 1 1 11 1 1 1 7|16384 0 0 0 0 0 0 0 3 0 1 2 1 0 7 0 0 2 0 0 2 0 7 0 0 2 0 0 3 0 108 0 0 4 0 0 0 0 0 0 0 0 0 3 1 0 0 0 25 2 0 0 0 2 1 0 0 41 2 0 0 0 3 2 0 0 41 4 0 0 0
+2 4 0 2 1 0 4 1 1 2 1 1 4 1 1 1 3|16384 0 0 0 0 0 0 0 4 0 1 2 3 1 0 7 0 0 2 0 0 2 0 108 0 0 4 0 0 3 0 108 0 0 4 0 0 4 0 108 0 0 4 0 0 0 0 0 0 0 0 0 0 0 4 1 0 0 0 19 2 0 0 0 2 1 0 0 19 4 0 0 0 3 2 0 0 19 4 0 0 0 4 3 0 0 19 4 0 0 0
+4 9 0 1 2 0 4 2 0 28 3 1 4 2 2 8 1 2 28 1 3 1 2 3 4 1 3 8 2 2 1 7 3 6|16384 0 0 0 0 0 0 0 2 0 1 1 0 7 0 0 1 0 0 2 0 7 0 0 1 0 0 0 0 0 0 0 2 1 0 0 0 25 1 0 0 0 2 1 0 0 41 1 0 0 0
+3 7 0 6 2 0 26 2 1 4 1 1 8 1 2 6 1 2 8 1 2 26 2 0|16384 0 0 0 0 0 0 0 4 0 1 2 3 1 0 12 0 0 6 0 0 2 0 545 0 0 8 0 0 3 0 108 0 0 4 0 0 4 0 12 0 0 6 0 0 0 0 0 0 0 0 0 0 0 4 1 0 0 0 25 6 0 0 0 2 1 0 0 25 8 0 0 0 3 2 0 0 25 4 0 0 0 4 3 0 0 41 6 0 0 0
+5 10 0 4 4 0 8 2 1 4 2 2 4 1 2 8 4 3 4 1 3 28 1 4 4 4 4 8 4 4 28 3 2 2 1 4 7|16384 0 0 0 0 0 0 0 2 0 1 1 0 12 0 0 28 0 0 2 0 12 0 0 28 0 0 0 0 0 0 0 2 1 0 0 0 25 28 0 0 0 2 1 0 0 41 28 0 0 0
+2 4 0 4 1 0 26 1 1 4 1 1 8 1 1 1 1|16384 0 0 0 0 0 0 0 5 0 1 2 3 4 1 0 545 0 0 8 0 0 2 0 545 0 0 8 0 0 3 0 545 0 0 8 0 0 4 0 108 0 0 4 0 0 5 0 108 0 0 4 0 0 0 0 0 0 0 0 0 0 0 0 0 5 1 0 0 0 25 8 0 0 0 2 1 0 0 41 8 0 0 0 3 2 0 0 57 8 0 0 0 4 3 0 0 57 4 0 0 0 5 4 0 0 57 4 0 0 0
+3 6 0 8 1 0 28 1 1 8 1 2 4 2 2 8 1 2 28 1 1 2 4|16384 0 0 0 0 0 0 0 5 0 1 2 3 4 1 0 12 0 0 28 0 0 2 0 545 0 0 8 0 0 3 0 108 0 0 4 0 0 4 0 12 0 0 28 0 0 5 0 12 0 0 28 0 0 0 0 0 0 0 0 0 0 0 0 0 5 1 0 0 0 25 28 0 0 0 2 1 0 0 25 8 0 0 0 3 2 0 0 25 4 0 0 0 4 3 0 0 41 28 0 0 0 5 4 0 0 57 28 0 0 0
+3 11 0 1 1 0 2 2 0 4 1 0 8 1 0 26 2 1 1 2 1 4 2 1 8 2 2 1 1 2 2 1 2 26 2 1 2 8|16384 0 0 0 0 0 0 0 4 0 1 2 3 1 0 12 0 0 26 0 0 2 0 545 0 0 8 0 0 3 0 7 0 0 1 0 0 4 0 7 0 0 2 0 0 0 0 0 0 0 0 0 0 0 4 1 0 0 0 24 26 0 0 0 2 1 0 0 40 8 0 0 0 3 2 0 0 40 1 0 0 0 4 3 0 0 56 2 0 0 0
+5 10 0 4 2 1 0 4 1 28 2 2 8 4 3 4 3 3 8 2 3 26 1 4 0 3 4 8 4 4 28 3 2 1 2 4 2|16384 0 0 0 0 0 0 0 5 0 1 2 3 4 1 0 7 0 0 0 0 0 2 0 12 0 0 26 0 0 3 0 545 0 0 8 0 0 4 0 12 0 0 28 0 0 5 0 12 0 0 28 0 0 0 0 0 0 0 0 0 0 0 0 0 5 1 0 0 0 25 0 0 0 0 2 1 0 0 41 26 0 0 0 3 2 0 0 41 8 0 0 0 4 3 0 0 57 28 0 0 0 5 4 0 0 73 28 0 0 0
+5 11 0 0 2 0 8 2 0 26 3 1 1 4 1 8 3 2 1 3 2 26 3 3 4 2 3 26 3 4 0 4 4 8 1 3 2 6 3 9 4 3|16384 0 0 0 0 0 0 0 5 0 1 2 3 4 1 0 7 0 0 1 0 0 2 0 7 0 0 1 0 0 3 0 7 0 0 0 0 0 4 0 7 0 0 1 0 0 5 0 12 0 0 26 0 0 0 0 0 0 0 0 0 0 0 0 0 5 1 0 0 0 25 1 0 0 0 2 1 0 0 41 1 0 0 0 3 2 0 0 57 0 0 0 0 4 3 0 0 57 1 0 0 0 5 4 0 0 57 26 0 0 0";
