@@ -119,20 +119,36 @@ fn swapped(alloc: Global, going: Going) -> Result<hb_buffer_t, AllocError>
     Ok(buffer)
 }
 
-/// Puts each two glyphs the right way round, and then turns round the order of such pairs.
-fn sort_and_turn(rt: &HostRuntime, name: &str, going: Going) -> io::Result<()> {
-    let mut buffer = swapped(rt.alloc(), going)?;
+/// Puts each two glyphs the right way round.
+fn sort(rt: &HostRuntime, name: &str, buffer: &mut hb_buffer_t) -> io::Result<()>
+    requires { buffer.old.is_open ≡ false }
+{
     let start = Instant::now(rt)?;
     let count = buffer.len();
     buffer.sort(rt.alloc(), 0, count, |glyph| glyph.glyph_id)?;
-    tell_of(rt, "sort", name, start, buffer.len())?;
-    let mut buffer = swapped(rt.alloc(), going)?;
+    tell_of(rt, "sort", name, start, buffer.len())
+}
+
+/// Turns round the order of pairs.
+fn turn(rt: &HostRuntime, name: &str, buffer: &mut hb_buffer_t) -> io::Result<()>
+    requires { buffer.old.is_open ≡ false }
+{
     let start = Instant::now(rt)?;
     buffer.reverse_groups(
         |before, after| before.glyph_id / 2 == after.glyph_id / 2,
         true,
     );
     tell_of(rt, "reverse_groups", name, start, buffer.len())
+}
+
+fn time_sort(rt: &HostRuntime, name: &str, going: Going) -> io::Result<()> {
+    let mut buffer = swapped(rt.alloc(), going)?;
+    sort(rt, name, &mut buffer)
+}
+
+fn time_turn(rt: &HostRuntime, name: &str, going: Going) -> io::Result<()> {
+    let mut buffer = swapped(rt.alloc(), going)?;
+    turn(rt, name, &mut buffer)
 }
 
 fn tell(rt: &HostRuntime, name: &str, start: Instant, left: usize) -> io::Result<()> {
@@ -153,21 +169,56 @@ fn tell_of(
     eprintln!(rt; "{call}, {name}: {nanoseconds} ns a glyph")
 }
 
+fn time_walk(rt: &HostRuntime, buffer: &mut hb_buffer_t) -> io::Result<()>
+    requires { buffer.old.is_open ≡ true }
+{
+    let start = Instant::now(rt)?;
+    walk(buffer)?;
+    tell(rt, "next_glyph", start, buffer.len())
+}
+
+fn time_ligatures(rt: &HostRuntime, buffer: &mut hb_buffer_t) -> io::Result<()>
+    requires { buffer.old.is_open ≡ true }
+{
+    let start = Instant::now(rt)?;
+    ligate(buffer)?;
+    tell(rt, "replace_glyphs", start, buffer.len())
+}
+
+fn time_merges(rt: &HostRuntime, buffer: &mut hb_buffer_t) -> io::Result<()>
+    requires { buffer.old.is_open ≡ true }
+{
+    let start = Instant::now(rt)?;
+    compose(buffer)?;
+    tell(rt, "prev_mut, merge_out_clusters", start, buffer.len())
+}
+
+/// What is done with a buffer that is filled anew.
+#[derive(Clone, Copy)]
+enum Task {
+    Walk,
+    Ligate,
+    Compose,
+}
+
+fn time(rt: &HostRuntime, task: Task) -> io::Result<()> {
+    let mut buffer = filled(rt.alloc())?;
+    match task {
+        Task::Walk => time_walk(rt, &mut buffer),
+        Task::Ligate => time_ligatures(rt, &mut buffer),
+        Task::Compose => time_merges(rt, &mut buffer),
+    }
+}
+
 fn run(rt: &HostRuntime) -> io::Result<()> {
-    let mut buffer = filled(rt.alloc())?;
-    let start = Instant::now(rt)?;
-    walk(&mut buffer)?;
-    tell(rt, "next_glyph", start, buffer.len())?;
-    let mut buffer = filled(rt.alloc())?;
-    let start = Instant::now(rt)?;
-    ligate(&mut buffer)?;
-    tell(rt, "replace_glyphs", start, buffer.len())?;
-    let mut buffer = filled(rt.alloc())?;
-    let start = Instant::now(rt)?;
-    compose(&mut buffer)?;
-    tell(rt, "prev_mut, merge_out_clusters", start, buffer.len())?;
-    sort_and_turn(rt, "rising", Going::Rising)?;
-    sort_and_turn(rt, "falling", Going::Falling)
+    for task in [Task::Walk, Task::Ligate, Task::Compose] {
+        time(rt, task)?;
+    }
+    for (name, going) in [("rising", Going::Rising), ("falling", Going::Falling)] {
+        time_sort(rt, name, going)?;
+        time_turn(rt, name, going)?;
+    }
+    Ok(())
 }
 
 fn main(rt: HostRuntime) -> io::Result<ExitCode> {

@@ -1,14 +1,8 @@
 // hb_shape [options] TABLES FONT TEXT: shapes a text in a font, and prints its glyphs with their positions.
 #![tactic(auto)]
 
-mod files;
-mod program;
-mod report;
-#[cfg(test)]
-mod tests;
-
-use crate::files::SystemFiles;
-use crate::program::shape;
+use shape_program::files::SystemFiles;
+use shape_program::program::shape;
 use std::process::ExitCode;
 use std::{env, io};
 

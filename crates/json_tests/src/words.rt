@@ -10,9 +10,9 @@ use shaping_text::tag::Tag;
 use std::alloc::{AllocError, Global};
 use std::test::Fail;
 
-// Words that are refused, with a bar between two; first the option whose stage is not there yet.
-const REFUSED: &str = "hb_shape|--language=en|a|b|c
-hb_shape|--language=|a|b|c
+// Words that are refused, with a bar between two.
+const REFUSED: &str = "hb_shape|--language=|a|b|c
+hb_shape|--language=en|--language=en|a|b|c
 hb_shape|--cluster-level=3|a|b|c
 hb_shape|--cluster-level=0|--cluster-level=0|a|b|c
 hb_shape|--eot|--eot|a|b|c
@@ -153,6 +153,21 @@ fn options_are_read(rt: HostRuntime) -> Result<(), Fail> {
             want,
             "{line}"
         );
+    }
+    Ok(())
+}
+
+// A language is any text but the empty one, in small letters.
+#[test]
+fn languages_are_read(rt: HostRuntime) -> Result<(), Fail> {
+    for (line, want) in [
+        ("hb_shape|a|b|c", None),
+        ("hb_shape|--language=en|a|b|c", Some("en")),
+        ("hb_shape|--language|de-CH|a|b|c", Some("de-ch")),
+        ("hb_shape|a|--language=X-HBOT|b|c", Some("x-hbot")),
+    ] {
+        let language = command_line(rt.alloc(), line)??.options.language;
+        assert_eq!(rt; language.as_ref().map(|it| it.as_str()), want, "{line}");
     }
     Ok(())
 }

@@ -19,7 +19,7 @@ use Rattle.shape_glyphs.specs.Ignorables.{hidden}
 use Rattle.shape_glyphs.specs.Selectors.{with_selectors}
 use Rattle.shape_glyphs.specs.Widths.{zero_widths}
 use Rattle.shape_normalize.specs.Rounds.{normalization}
-use Rattle.shape_plan.specs.declared.any_shaper.TheConstants.{HB_OT_SHAPE_ZERO_WIDTH_MARKS_BY_GDEF_EARLY, HB_OT_SHAPE_ZERO_WIDTH_MARKS_BY_GDEF_LATE}
+use Rattle.shape_plan.specs.declared.planned.TheConstants.{HB_OT_SHAPE_ZERO_WIDTH_MARKS_BY_GDEF_EARLY, HB_OT_SHAPE_ZERO_WIDTH_MARKS_BY_GDEF_LATE}
 use Rattle.shape_reading.specs.Chains.{only_if}
 use Rattle.shape_reading.specs.Limits.{ended}
 use Rattle.shape_reading.specs.Characters.{characters_chosen, normalizer, text_begun, turned_to_line}

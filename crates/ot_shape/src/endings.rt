@@ -53,7 +53,7 @@ impl<S: hb_ot_shaper_t, P: SyllableSpans> hb_ot_shape_context_t<'_, S, P> {
     {
         let plan = self.plan;
         plan.shaper
-            .postprocess_glyphs(&plan.script_plan, self.face, buffer)
+            .postprocess_glyphs(self.alloc, &plan.script_plan, self.face, buffer)
     }
 
     /// Ends with a text: selectors and ignorables, the shaper's own work, and one set of flags for a cluster.

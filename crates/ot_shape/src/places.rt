@@ -24,7 +24,7 @@ use script_syllables::SyllableSpans;
 use shape_fallback::spaces::_hb_ot_shape_fallback_spaces;
 use shape_fallback::zeroing::zero_mark_widths_by_gdef;
 use shape_glyphs::widths::zero_width_default_ignorables;
-use shape_plan::any_shaper::{
+use shape_plan::planned::{
     HB_OT_SHAPE_ZERO_WIDTH_MARKS_BY_GDEF_EARLY, HB_OT_SHAPE_ZERO_WIDTH_MARKS_BY_GDEF_LATE,
     hb_ot_shape_zero_width_marks_type_t,
 };

@@ -27,7 +27,7 @@ use Rattle.shape_fallback.specs.Zeroing.{mark_zeroed, zeroed}
 use Rattle.shape_glyphs.specs.Widths.{ignorable_position, keeps_widths, widthless, zero_widths}
 use Rattle.fallback_marks.specs.Marks.{components_direction}
 use Rattle.fallback_marks.specs.Lemmas.Unmarked.{unmarked_stay}
-use Rattle.shape_plan.specs.declared.any_shaper.TheConstants.{HB_OT_SHAPE_ZERO_WIDTH_MARKS_BY_GDEF_EARLY, HB_OT_SHAPE_ZERO_WIDTH_MARKS_BY_GDEF_LATE}
+use Rattle.shape_plan.specs.declared.planned.TheConstants.{HB_OT_SHAPE_ZERO_WIDTH_MARKS_BY_GDEF_EARLY, HB_OT_SHAPE_ZERO_WIDTH_MARKS_BY_GDEF_LATE}
 use Rattle.shape_reading.specs.Chains.{only_if}
 use Rattle.shape_reading.specs.Places.{adjusts_marks, drawn_order, marks_placed, marks_zeroed, positions_adjusted, positions_begun, positions_ended, with_nothing, zeroes_marks}
 use Rattle.shape_reading.specs.Reading.{positioned}

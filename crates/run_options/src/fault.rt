@@ -22,7 +22,7 @@ pub enum RunFault {
     Unlawful,
     /// The text is not UTF-8.
     NotUtf8,
-    /// The text has a character, a direction or a script that is not shaped yet.
+    /// The text is of a script that waits for its shaper: one of the nine of the Indic shaper.
     NotYet,
     /// The text can't be shaped.
     Shape(ShapeCause),

@@ -94,7 +94,7 @@ static CLUSTERS: [Line; 8] = [
     ),
 ];
 
-fn is_printed(alloc: Global, options: &Options, font: &str, text: &str, line: &str) -> bool {
+fn is_printed(alloc: Global, options: Options, font: &str, text: &str, line: &str) -> bool {
     let (answer, out) = ran(alloc, options, "{}", font, text.as_bytes());
     answer == Ok(()) && out.as_slice() == line.as_bytes()
 }
@@ -107,7 +107,7 @@ fn glyphs_are_printed_as_asked(rt: HostRuntime) -> Result<(), Fail> {
             ..options(rt.alloc(), None, Direction::Invalid, &[])?
         };
         assert!(rt;
-            is_printed(rt.alloc(), &options, NAMED, "ab", line),
+            is_printed(rt.alloc(), options, NAMED, "ab", line),
             "{line}"
         );
     }
@@ -124,7 +124,7 @@ fn clusters_are_kept_as_asked(rt: HostRuntime) -> Result<(), Fail> {
             ..options(rt.alloc(), None, *direction, &[])?
         };
         assert!(rt;
-            is_printed(rt.alloc(), &options, LIGATURES, text, line),
+            is_printed(rt.alloc(), options, LIGATURES, text, line),
             "{line}"
         );
     }

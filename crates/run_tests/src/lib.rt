@@ -4,6 +4,8 @@
 #[cfg(test)]
 mod asked;
 #[cfg(test)]
+mod languages;
+#[cfg(test)]
 mod lines;
 #[cfg(test)]
 mod lookups;
@@ -11,6 +13,10 @@ mod lookups;
 mod memory;
 #[cfg(test)]
 mod positions;
+#[cfg(test)]
+mod program;
+#[cfg(test)]
+mod scripts;
 #[cfg(test)]
 mod streams;
 #[cfg(test)]

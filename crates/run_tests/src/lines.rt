@@ -3,7 +3,7 @@ use crate::memory::{FONT, options, ran};
 use json_values::fault::JsonFault;
 use run_options::fault::RunFault;
 use shaping_text::direction::Direction;
-use shaping_text::script::{ARABIC, GREEK, HEBREW, LATIN, Script, THAANA};
+use shaping_text::script::{DEVANAGARI, GREEK, LATIN, Script, TELUGU, THAANA};
 use std::alloc::{AllocError, Global};
 use std::test::Fail;
 
@@ -224,10 +224,10 @@ const REFUSED_BYTES: [Refusal; 8] = [
     ),
 ];
 
-// Scripts whose shapers are not there yet.
+// Scripts whose shaper is not there yet.
 const REFUSED_TEXTS: [Refusal; 2] = [
     (
-        Some(ARABIC),
+        Some(DEVANAGARI),
         Direction::Invalid,
         &[],
         "{}",
@@ -236,7 +236,7 @@ const REFUSED_TEXTS: [Refusal; 2] = [
         RunFault::NotYet,
     ),
     (
-        Some(HEBREW),
+        Some(TELUGU),
         Direction::Invalid,
         &[],
         "{}",
@@ -309,9 +309,9 @@ const REFUSED_TABLES: [TablesRefusal; 11] = [
 ];
 
 fn are_refused_tables(alloc: Global, refusals: &[TablesRefusal]) -> Result<bool, Fail> {
-    let options = options(alloc, None, Direction::Invalid, &[])?;
     for (tables, fault) in refusals {
-        let (answer, out) = ran(alloc, &options, tables, "{", BROKEN);
+        let options = options(alloc, None, Direction::Invalid, &[])?;
+        let (answer, out) = ran(alloc, options, tables, "{", BROKEN);
         if answer != Err(*fault) || !out.is_empty() {
             return Ok(false);
         }
@@ -322,7 +322,7 @@ fn are_refused_tables(alloc: Global, refusals: &[TablesRefusal]) -> Result<bool,
 pub(crate) fn is_printed(alloc: Global, font: &str, line: &Line) -> Result<bool, Fail> {
     let (script, direction, features, text, line) = *line;
     let options = options(alloc, script, direction, features)?;
-    let (answer, out) = ran(alloc, &options, "{}", font, text.as_bytes());
+    let (answer, out) = ran(alloc, options, "{}", font, text.as_bytes());
     Ok(answer == Ok(()) && out.as_slice() == line.as_bytes())
 }
 
@@ -338,7 +338,7 @@ fn are_printed(alloc: Global, font: &str, lines: &[Line]) -> Result<bool, Fail> 
 fn is_refused(alloc: Global, refusal: &Refusal) -> Result<bool, Fail> {
     let (script, direction, features, tables, font, text, fault) = *refusal;
     let options = options(alloc, script, direction, features)?;
-    let (answer, out) = ran(alloc, &options, tables, font, text);
+    let (answer, out) = ran(alloc, options, tables, font, text);
     Ok(answer == Err(fault) && out.is_empty())
 }
 
@@ -388,7 +388,7 @@ fn long_text(alloc: Global, count: u32) -> Result<(String, String), AllocError> 
 fn long_texts_are_shaped(rt: HostRuntime) -> Result<(), Fail> {
     let options = options(rt.alloc(), None, Direction::Invalid, &[])?;
     let (text, line) = long_text(rt.alloc(), 25_000)?;
-    let (answer, out) = ran(rt.alloc(), &options, "{}", LIGATURES, text.as_bytes());
+    let (answer, out) = ran(rt.alloc(), options, "{}", LIGATURES, text.as_bytes());
     assert!(rt; answer == Ok(()) && out.as_slice() == line.as_bytes());
     Ok(())
 }

@@ -183,7 +183,7 @@ fn is_stacked(alloc: Global, stack: &Stack) -> Result<bool, Fail> {
     let font = font_of(alloc, lookups)?;
     let options = options(alloc, None, Direction::Invalid, &[])?;
     let text = stacked(alloc, base, count)?;
-    let (answer, out) = ran(alloc, &options, "{}", &font, text.as_bytes());
+    let (answer, out) = ran(alloc, options, "{}", &font, text.as_bytes());
     Ok(answer == Ok(()) && out.as_slice().ends_with(last.as_bytes()))
 }
 

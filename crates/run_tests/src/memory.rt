@@ -42,7 +42,7 @@ pub(crate) fn options(
 /// What a run writes of bytes over memory, and its answer.
 pub(crate) fn ran(
     alloc: Global,
-    options: &Options,
+    options: Options,
     tables: &str,
     font: &str,
     text: &[u8],

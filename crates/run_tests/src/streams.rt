@@ -78,7 +78,7 @@ fn ran_by_bytes(alloc: Global, room: usize) -> Result<(Result<(), RunFault>, Vec
         taken: Vec::new(alloc),
         room,
     };
-    let answer = run(alloc, &options, &mut tables, &mut font, &mut text, &mut out);
+    let answer = run(alloc, options, &mut tables, &mut font, &mut text, &mut out);
     if (tables.ends, font.ends, text.ends) != (1, 1, 1) {
         return Err("an end that is asked for twice, or not at all".into());
     }
@@ -101,12 +101,13 @@ fn lines_are_written_byte_by_byte(rt: HostRuntime) -> Result<(), Fail> {
 
 // The answers to a text, and to tables, that can't be read.
 fn failed_reads(alloc: Global) -> Result<[Result<(), RunFault>; 2], Fail> {
-    let options = options(alloc, None, Direction::Invalid, &[])?;
     let mut out = Vec::new(alloc);
+    let asked = options(alloc, None, Direction::Invalid, &[])?;
     let (mut tables, mut font, mut text) = (b"{".as_slice(), b"{".as_slice(), FailingReader);
-    let of_text = run(alloc, &options, &mut tables, &mut font, &mut text, &mut out);
+    let of_text = run(alloc, asked, &mut tables, &mut font, &mut text, &mut out);
+    let asked = options(alloc, None, Direction::Invalid, &[])?;
     let (mut tables, mut text) = (FailingReader, b"a".as_slice());
-    let of_tables = run(alloc, &options, &mut tables, &mut font, &mut text, &mut out);
+    let of_tables = run(alloc, asked, &mut tables, &mut font, &mut text, &mut out);
     Ok([of_text, of_tables])
 }
 

@@ -220,7 +220,7 @@ fn are_repeated(alloc: Global, row: &Repeated, count: u32) -> Result<bool, Fail>
     let (font, features, unit, glyphs) = *row;
     let options = options(alloc, None, Direction::Invalid, features)?;
     let (text, line) = repeated(alloc, unit, glyphs, count)?;
-    let (answer, out) = ran(alloc, &options, "{}", font, text.as_bytes());
+    let (answer, out) = ran(alloc, options, "{}", font, text.as_bytes());
     Ok(answer == Ok(()) && out.as_slice() == line.as_bytes())
 }
 
@@ -237,7 +237,7 @@ fn long_texts_are_substituted(rt: HostRuntime) -> Result<(), Fail> {
 #[test]
 fn texts_that_grow_too_long_are_refused(rt: HostRuntime) -> Result<(), Fail> {
     let options = options(rt.alloc(), None, Direction::Invalid, &[])?;
-    let (answer, out) = ran(rt.alloc(), &options, "{}", TOO_LONG, b"a");
+    let (answer, out) = ran(rt.alloc(), options, "{}", TOO_LONG, b"a");
     assert!(rt; answer == Err(RunFault::Shape(ShapeCause::TooLong)) && out.is_empty());
     Ok(())
 }

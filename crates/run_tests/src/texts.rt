@@ -106,7 +106,7 @@ fn is_printed(alloc: Global, row: &Row) -> Result<bool, Fail> {
     let (flags, direction, font, text, line) = *row;
     let mut options = options(alloc, None, direction, &[])?;
     options.buffer_flags = BufferFlags(flags);
-    let (answer, out) = ran(alloc, &options, TABLES, font, text.as_bytes());
+    let (answer, out) = ran(alloc, options, TABLES, font, text.as_bytes());
     Ok(answer == Ok(()) && out.as_slice() == line.as_bytes())
 }
 

@@ -2,4 +2,3 @@ pub mod Formed
 pub mod Marked
 pub mod Joined
 pub mod Reordered
-pub mod Plain

@@ -6,3 +6,4 @@ pub mod Flagged
 pub mod Marks
 pub mod Classed
 pub mod Laws
+pub mod Lemmas

@@ -6,7 +6,7 @@ pub fn law_joining_is_plain()
 {}
 
 /// So does the order of marks.
-#[tactic(auto, using(crate::proofs::Plain::marks_are_plain))]
+#[tactic(auto, using(crate::specs::Lemmas::Plain::marks_are_plain))]
 pub fn law_marks_are_plain()
     ensures { MarksArePlain }
 {}

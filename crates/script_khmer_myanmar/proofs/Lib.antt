@@ -4,3 +4,4 @@ pub mod KhmerWalk
 pub mod Placing
 pub mod Groups
 pub mod MyanmarSteps
+pub mod TurnedBack

@@ -1,6 +1,5 @@
 //! Myanmar: the glyphs of a syllable go to their places around its base.
-ghost use Rattle.std.specs.Prelude.{◌≡◌, ◌≤◌, ◌<◌, ◌++◌, ◌∷◌, false, [], ◌+◌, length, map, take, drop, slice_range, if◌then◌else◌, OnOk};
-ghost use Rattle.std.specs.List.{slice_rotate_right};
+ghost use Rattle.std.specs.Prelude.{◌≡◌, ◌≤◌, ◌++◌, ◌∷◌, [], false, ◌+◌, length, map, take, drop, reverse, slice_range, OnOk};
 ghost use Rattle.glyph_lists.specs.Items.{item_of, strip};
 ghost use Rattle.glyph_lists.specs.Readings.{always};
 ghost use Rattle.glyph_buffer.specs.Sides.{all_glyphs, items_of, origins_by, origins_of};
@@ -213,31 +212,29 @@ fn turn_within(glyphs: &mut [hb_glyph_info_t], start: usize, end: usize)
     turn_groups(&mut glyphs[start..end]);
 }
 
-/// Groups that begin with left matras, the last in front: a left matra goes to the front, and what stands behind it follows.
-#[tactic(auto, using(crate::proofs::Groups::none_turned, crate::proofs::Groups::turned_end))]
+/// Groups that begin with left matras, the last in front: all glyphs are turned round, and then each group is. It takes linear
+/// time.
+#[tactic(auto, using(crate::proofs::TurnedBack::none_turned_back, crate::proofs::TurnedBack::kept_back, crate::proofs::TurnedBack::group_back, crate::proofs::TurnedBack::all_back))]
 fn turn_groups(glyphs: &mut [hb_glyph_info_t])
     ensures { glyphs.new ≡ leading_turned (λ g. is_left_matra (item_of g)) glyphs.old [] [] }
 {
-    let mut group = 0;
-    for i in 0..glyphs.len() {
-        let at = place_in_front(&glyphs[i], group);
-        put_in_front(glyphs, at, i);
-        group = at + 1;
+    glyphs.reverse();
+    let count = glyphs.len();
+    let mut begin = 0;
+    for i in 0..count {
+        if is_left_matra(&glyphs[i]) {
+            turn_back(glyphs, begin, i + 1);
+            begin = i + 1;
+        }
     }
+    turn_back(glyphs, begin, count);
 }
 
-/// A left matra goes to the front, another glyph behind the group that stands there.
-fn place_in_front(glyph: &hb_glyph_info_t, group: usize) -> usize
-    ensures { result ≡ (if is_left_matra (item_of glyph.now) then 0 else group) }
+/// The glyphs from `start` up to before `end` are turned round.
+fn turn_back(glyphs: &mut [hb_glyph_info_t], start: usize, end: usize)
+    requires ordered { start ≤ end }
+    requires within { end ≤ length glyphs.old }
+    ensures { glyphs.new ≡ take start glyphs.old ++ reverse (slice_range glyphs.old start end) ++ drop end glyphs.old }
 {
-    if is_left_matra(glyph) { 0 } else { group }
-}
-
-fn put_in_front(glyphs: &mut [hb_glyph_info_t], at: usize, i: usize)
-    requires ordered { at ≤ i }
-    requires within { i < length glyphs.old }
-    ensures { glyphs.new ≡ take at glyphs.old ++ slice_rotate_right (slice_range glyphs.old at (i + 1)) 1
-        ++ drop (i + 1) glyphs.old }
-{
-    glyphs[at..i + 1].rotate_right(1);
+    glyphs[start..end].reverse();
 }

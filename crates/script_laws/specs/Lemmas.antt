@@ -3,3 +3,4 @@ pub mod Events
 pub mod Texts
 pub mod Syllables
 pub mod Orders
+pub mod Masks

@@ -1,39 +1,49 @@
 -- Stages that put no glyph in another order without a merge: so clusters in order stay so at the monotone levels.
-use Rattle.std.specs.Prelude.{ℕ, ◌≡◌, List, Option, Ok}
-use Rattle.glyph_types.specs.declared.level.BufferClusterLevel.{BufferClusterLevel}
+use Rattle.std.specs.Prelude.{ℕ, Bool, List, Option}
 use Rattle.shaping_text.specs.declared.constants.BufferFlags.{BufferFlags}
+use Rattle.shaping_text.specs.declared.script.Script.{Script}
+use Rattle.unicode_tables.specs.Tables.{Tables}
 use Rattle.font_face.specs.declared.parts.FaceParts.{FaceParts}
-use Rattle.glyph_lists.specs.Events.{IsPlain}
-use Rattle.glyph_lists.specs.Readings.{Read, Stage, View}
+use Rattle.glyph_lists.specs.Readings.{always}
+use Rattle.map_builder.specs.Compiled.{OtMapValue}
+use Rattle.text_stages.specs.Stages.{mapped}
+use Rattle.shape_shaper.specs.Rules.{Spans, StaysPlain}
 use Rattle.script_constants.specs.declared.shaper.hb_ot_script_shaper_t.{hb_ot_script_shaper_t}
+use Rattle.script_hebrew_thai.specs.ThaiPrivate.{with_private}
 use Rattle.script_hebrew_thai.specs.ThaiVowel.{vowels_split}
+use Rattle.script_hangul.specs.declared.masks.JamoMasks.{JamoMasks}
 use Rattle.script_hangul.specs.Hangul.{syllables_formed}
+use Rattle.script_hangul.specs.Masks.{with_place_mask}
 use Rattle.script_circles.specs.Bytes.{syllables_set}
 use Rattle.script_khmer_myanmar.specs.declared.khmer.KhmerMasks.{KhmerMasks}
 use Rattle.universal_syllables.specs.declared.forms.FormMasks.{FormMasks}
 use Rattle.universal_syllables.specs.Features.{pref_recorded, rphf_recorded}
+use Rattle.script_pauses.specs.Categories.{categories_set}
 use Rattle.script_pauses.specs.Syllables.{khmer_order, myanmar_order, substitutions_forgotten, syllables_by, syllables_cleared, universal_order, universal_syllables_set}
-
--- no event of a stage is a bare order
-abbrev pub LeavesPlain : Stage → Type 0
-LeavesPlain stage = (v : View) (r : Read) (level : BufferClusterLevel) → stage v ≡ Ok r → IsPlain (r.events level)
-
-abbrev pub Spans : Type 0
-Spans = hb_ot_script_shaper_t → List ℕ → ℕ → ℕ × ℕ
+use Rattle.script_masks.specs.Masks.{letters_joined, universal_masks_set}
+use Rattle.script_stretch.specs.Tiles.{tiles_recorded}
 
 pub record TextsLeavePlain : Type 0 where
-  pub thai : LeavesPlain vowels_split
-  pub hangul : (font : FaceParts) (flags : BufferFlags) → LeavesPlain (syllables_formed font flags)
+  pub thai : StaysPlain vowels_split
+  pub private_forms : (t : Tables) (font : FaceParts) → StaysPlain (always (with_private t font))
+  pub hangul : (font : FaceParts) (flags : BufferFlags) → StaysPlain (syllables_formed font flags)
 
 pub record SyllablesLeavePlain : Type 0 where
-  pub bytes : (span_of : Spans) (shaper : hb_ot_script_shaper_t) → LeavesPlain (syllables_set span_of shaper)
-  pub universal : (span_of : Spans) (rphf : ℕ) (forms : Option FormMasks) → LeavesPlain (universal_syllables_set span_of rphf forms)
-  pub rphf : (mask : ℕ) → LeavesPlain (syllables_by (rphf_recorded mask))
-  pub pref : LeavesPlain (syllables_by pref_recorded)
-  pub cleared : LeavesPlain syllables_cleared
-  pub forgotten : LeavesPlain substitutions_forgotten
+  pub bytes : (span_of : Spans) (shaper : hb_ot_script_shaper_t) → StaysPlain (syllables_set span_of shaper)
+  pub universal : (span_of : Spans) (rphf : ℕ) (forms : Option FormMasks) → StaysPlain (universal_syllables_set span_of rphf forms)
+  pub rphf : (mask : ℕ) → StaysPlain (syllables_by (rphf_recorded mask))
+  pub pref : StaysPlain (syllables_by pref_recorded)
+  pub cleared : StaysPlain syllables_cleared
+  pub forgotten : StaysPlain substitutions_forgotten
 
 pub record OrdersLeavePlain : Type 0 where
-  pub khmer : (font : FaceParts) (flags : BufferFlags) (masks : KhmerMasks) → LeavesPlain (khmer_order font flags masks)
-  pub myanmar : (font : FaceParts) (flags : BufferFlags) → LeavesPlain (myanmar_order font flags)
-  pub universal : (font : FaceParts) (flags : BufferFlags) → LeavesPlain (universal_order font flags)
+  pub khmer : (font : FaceParts) (flags : BufferFlags) (masks : KhmerMasks) → StaysPlain (khmer_order font flags masks)
+  pub myanmar : (font : FaceParts) (flags : BufferFlags) → StaysPlain (myanmar_order font flags)
+  pub universal : (font : FaceParts) (flags : BufferFlags) → StaysPlain (universal_order font flags)
+
+pub record MasksLeavePlain : Type 0 where
+  pub joined : (m : OtMapValue) (s : Option Script) (t : Tables) (pre post : List ℕ) → StaysPlain (letters_joined m s t pre post)
+  pub places : (masks : JamoMasks) → StaysPlain (always (mapped (with_place_mask masks)))
+  pub categories : (category_of : ℕ → ℕ) → StaysPlain (categories_set category_of)
+  pub universal : (m : OtMapValue) (s : Option Script) (t : Tables) (pre post : List ℕ) → StaysPlain (universal_masks_set m s t pre post)
+  pub tiles : (has_stch : Bool) → StaysPlain (tiles_recorded has_stch)

@@ -1,7 +1,7 @@
 //! No rule of a script puts glyphs in another order without a merge.
-ghost use Rattle.script_laws.specs.Plain.{OrdersLeavePlain, SyllablesLeavePlain, TextsLeavePlain};
+ghost use Rattle.script_laws.specs.Plain.{MasksLeavePlain, OrdersLeavePlain, SyllablesLeavePlain, TextsLeavePlain};
 
-/// The vowels of Thai and Lao, and the syllables of Hangul.
+/// The vowels of Thai and Lao, private forms of Thai, and the syllables of Hangul.
 #[tactic(auto, using(crate::specs::Lemmas::Texts::texts_leave_plain))]
 pub fn law_texts_leave_plain()
     ensures { TextsLeavePlain }
@@ -17,4 +17,10 @@ pub fn law_syllables_leave_plain()
 #[tactic(auto, using(crate::specs::Lemmas::Orders::orders_leave_plain))]
 pub fn law_orders_leave_plain()
     ensures { OrdersLeavePlain }
+{}
+
+/// The forms of letters, their places in syllables, the categories of characters, and which glyphs are tiles.
+#[tactic(auto, using(crate::specs::Lemmas::Masks::masks_leave_plain))]
+pub fn law_masks_leave_plain()
+    ensures { MasksLeavePlain }
 {}

@@ -13,7 +13,7 @@ use Rattle.layout_walks.specs.Pauses.{Pauses}
 use Rattle.layout_walks.specs.Settings.{TextSettings}
 use Rattle.normal_forms.specs.Arranged.{Arranged, kept}
 use Rattle.text_stages.specs.Stages.{mapped}
-use Rattle.shape_plan.specs.Plans.{mask_at_one}
+use Rattle.shape_plan.specs.Plans.{has_mask, mask_at_one}
 use Rattle.feature_requests.specs.declared.pause.hb_script_pause_t.{hb_script_pause_t}
 use Rattle.feature_requests.specs.declared.pause.hb_script_pause_t.TheVariants.{RecordStch, SetupSyllables, ReorderKhmer, ReorderMyanmar, ClearSyllables, ClearSubstitutionFlags, RecordRphf, RecordPref, ReorderUse, InitialReordering, FinalReordering}
 use Rattle.feature_requests.specs.Pauses.{pause_of_number}
@@ -30,6 +30,8 @@ use Rattle.script_circles.specs.Bytes.{syllables_set}
 use Rattle.universal_syllables.specs.Features.{pref_recorded, rphf_recorded}
 use Rattle.script_pauses.specs.Categories.{categories_set, ot_category_of}
 use Rattle.script_pauses.specs.Syllables.{khmer_order, myanmar_order, substitutions_forgotten, syllables_by, syllables_cleared, universal_order, universal_syllables_set}
+use Rattle.script_stretch.specs.Tiles.{tiles_recorded}
+use Rattle.script_tiles.specs.Stretch.{tiles_laid}
 use Rattle.script_masks.specs.Masks.{form_masks, jamo_masks, khmer_masks, letters_joined, universal_masks_set}
 
 -- ---- the text
@@ -101,9 +103,9 @@ abbrev pub syllables_found_by : hb_ot_script_shaper_t → OtMapValue → Option 
 syllables_found_by UNIVERSAL_SHAPER m s spans = universal_syllables_set spans (mask_at_one (codes "rphf") m) (form_masks m s)
 syllables_found_by shaper m s spans = syllables_set spans shaper
 
--- a pause; the stretch of Arabic and the orders of Indic syllables are not there yet
+-- a pause; the orders of Indic syllables are not there yet
 abbrev pub pause_done : hb_ot_script_shaper_t → OtMapValue → Option Script → FaceParts → Spans → TextSettings → hb_script_pause_t → Stage
-pause_done shaper m s font spans settings RecordStch = as_it_is
+pause_done shaper m s font spans settings RecordStch = tiles_recorded (has_mask (codes "stch") m)
 pause_done shaper m s font spans settings SetupSyllables = syllables_found_by shaper m s spans
 pause_done shaper m s font spans settings ReorderKhmer = khmer_order font settings.flags (khmer_masks m)
 pause_done shaper m s font spans settings ReorderMyanmar = myanmar_order font settings.flags
@@ -122,3 +124,10 @@ pause_if shaper m s font spans settings (Some pause) = pause_done shaper m s fon
 -- the pause of a number of a map
 abbrev pub pauses_by : hb_ot_script_shaper_t → OtMapValue → Option Script → FaceParts → Spans → TextSettings → Pauses
 pauses_by shaper m s font spans settings n = pause_if shaper m s font spans settings (pause_of_number n)
+
+-- ---- glyphs
+
+-- what becomes of glyphs that stand as they are drawn: tiles of Arabic are laid over their words
+abbrev pub postprocessed_by : hb_ot_script_shaper_t → FaceParts → Stage
+postprocessed_by ARABIC_SHAPER font = tiles_laid font
+postprocessed_by _ font = as_it_is

@@ -2,6 +2,7 @@
 #![tactic(auto)]
 
 pub mod characters;
+pub mod glyphs;
 pub mod masks;
 pub mod pauses;
 pub mod text;

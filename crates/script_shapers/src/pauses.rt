@@ -1,5 +1,5 @@
 //! What a shaper does between the stages of lookups.
-ghost use Rattle.std.specs.Prelude.{◌≡◌, ◌≢◌, true, false, Ok, Err, IfErr, OnOk};
+ghost use Rattle.std.specs.Prelude.{◌≡◌, ◌≢◌, true, false, Ok, Err, IfErr, OnOk, codes};
 ghost use Rattle.glyph_lists.specs.Readings.{read_of};
 ghost use Rattle.glyph_buffer.specs.Sides.{items_of, run_of};
 ghost use Rattle.layout_rules.specs.Buffers.{are_glyphs};
@@ -8,6 +8,8 @@ ghost use Rattle.layout_walks.specs.Pauses.{BringsNoGlyph};
 ghost use Rattle.layout_walks.specs.Settings.{text_settings};
 ghost use Rattle.script_pauses.specs.Syllables.{khmer_order, substitutions_forgotten, syllables_cleared};
 ghost use Rattle.script_masks.specs.Masks.{khmer_masks};
+ghost use Rattle.script_stretch.specs.Tiles.{tiles_recorded};
+ghost use Rattle.shape_plan.specs.Plans.{has_mask};
 ghost use Rattle.script_shapers.specs.Hooks.{pause_done, pauses_by, syllables_found_by};
 
 use feature_requests::pause::hb_script_pause_t;
@@ -15,9 +17,11 @@ use font_face::Face;
 use glyph_buffer::buffer::hb_buffer_t;
 use glyph_types::cause::ShapeCause;
 use script_constants::hb_ot_script_shaper_t;
+use script_masks::arabic::has_stch;
 use script_masks::khmer::khmer_masks;
 use script_masks::universal::{form_masks, rphf_mask};
 use script_pauses::{bytes, clearing, khmer, myanmar, universal};
+use script_stretch::tiles;
 use script_syllables::SyllableSpans;
 use shape_plan::plan::hb_script_plan_t;
 use std::alloc::Global;
@@ -63,6 +67,17 @@ fn reorder_khmer<D>(
 {
     let masks = khmer_masks(&plan.map);
     khmer::reorder_khmer(face, &masks, buffer)
+}
+
+/// Records the tiles of stretched words, where the font has any.
+fn record_stch<D>(plan: &hb_script_plan_t<D>, buffer: &mut hb_buffer_t) -> Result<bool, ShapeCause>
+    requires { IsReady buffer.old }
+    ensures ok { OnOk result (IsDone (tiles_recorded (has_mask (codes "stch") plan.now.map)) buffer.old buffer.new) }
+    ensures told { result ≡ Ok false → BringsNoGlyph (items_of buffer.old) (items_of buffer.new) }
+    ensures err { IfErr result (λ e. e ≡ ShapeCause.OutOfMemory) }
+{
+    tiles::record_stch(has_stch(&plan.map), buffer);
+    Ok(false)
 }
 
 fn clear_syllables(buffer: &mut hb_buffer_t) -> Result<bool, ShapeCause>
@@ -113,9 +128,8 @@ fn do_pause<D, P: SyllableSpans>(
         hb_script_pause_t::RecordPref => universal::record_pref(buffer),
         hb_script_pause_t::ClearSyllables => clear_syllables(buffer),
         hb_script_pause_t::ClearSubstitutionFlags => clear_substitutions(buffer),
-        hb_script_pause_t::RecordStch
-        | hb_script_pause_t::InitialReordering
-        | hb_script_pause_t::FinalReordering => Ok(false),
+        hb_script_pause_t::RecordStch => record_stch(plan, buffer),
+        hb_script_pause_t::InitialReordering | hb_script_pause_t::FinalReordering => Ok(false),
     }
 }
 

@@ -4,12 +4,10 @@ use Rattle.std.proofs.lemmas.Bool.{and_from, cond_both}
 use Rattle.std.specs.Option.{option_or}
 use Rattle.script_constants.specs.declared.shaper.hb_ot_script_shaper_t.{hb_ot_script_shaper_t}
 use Rattle.script_constants.specs.declared.shaper.hb_ot_script_shaper_t.TheVariants.{INDIC_SHAPER, KHMER_SHAPER, MYANMAR_SHAPER, UNIVERSAL_SHAPER}
-use Rattle.script_syllables.specs.Machines.{accepts_fault, is_accept_in_range, is_step_in_range, machine_fault, machines_fault, steps_fault}
+use Rattle.script_syllables.specs.Machines.{Machine, Machines, accepts_fault, is_accept_in_range, is_step_in_range, machine_fault, machines_fault, steps_fault}
 use Rattle.script_syllables.specs.Sound.{AreRising, IsRising}
 use Rattle.script_syllables.specs.declared.machine.Accept.{Accept}
 use Rattle.script_syllables.specs.declared.machine.Step.{Step}
-use Rattle.script_syllables.specs.declared.machine.SyllableMachine.{SyllableMachine}
-use Rattle.script_syllables.specs.declared.machine.SyllableMachines.{SyllableMachines}
 use Rattle.unicode_rows.specs.Keys.{follows, rises_after, row_fault}
 use Rattle.unicode_rows.specs.declared.fault.TablesFault.{TablesFault}
 
@@ -33,15 +31,15 @@ both_none : (a b : Option TablesFault) → option_or a b ≡ None → AreNone a 
 both_none None b e = record { first = refl; second = e }
 both_none (Some x) b e = cc
 
-rising : (shaper : hb_ot_script_shaper_t) (m : SyllableMachine) → machine_fault shaper m ≡ None → IsRising m
+rising : (shaper : hb_ot_script_shaper_t) (m : Machine) → machine_fault shaper m ≡ None → IsRising m
 rising shaper m e =
     let none = both_none (steps_fault m) (accepts_fault shaper m) e in
     record {
-      steps = rises_from (is_step_in_range m) (λ (step : Step). step.state) (λ (step : Step). step.category) None m.next.items none.first;
-      accepts = rises_from (is_accept_in_range shaper m) (λ _. 0) (λ (accept : Accept). accept.state) None m.accept.items none.second;
+      steps = rises_from (is_step_in_range m) (λ (step : Step). step.state) (λ (step : Step). step.category) None m.next none.first;
+      accepts = rises_from (is_accept_in_range shaper m) (λ _. 0) (λ (accept : Accept). accept.state) None m.accept none.second;
     }
 
-pub are_rising : (ms : SyllableMachines) → machines_fault ms ≡ None → AreRising ms
+pub are_rising : (ms : Machines) → machines_fault ms ≡ None → AreRising ms
 are_rising ms e =
     let indic = machine_fault INDIC_SHAPER ms.indic in
     let khmer = machine_fault KHMER_SHAPER ms.khmer in

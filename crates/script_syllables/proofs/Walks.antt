@@ -6,31 +6,31 @@ use Rattle.std.proofs.lemmas.List.{take_more}
 use Rattle.std.proofs.Math.Seq.{take-add}
 use Rattle.std.proofs.lemmas.List.Sums.{fold-append}
 use Rattle.script_syllables.specs.Fronts.{led, state_after, kind_of_front, front_or, longest_up_to, longest_front, IsLongest, IsLongestMatch, LongestIsLongest, LongestIsUnique}
-use Rattle.script_syllables.specs.declared.machine.SyllableMachine.{SyllableMachine}
 use Rattle.script_syllables.specs.declared.scan.Front.{Front}
+use Rattle.script_syllables.specs.Machines.{Machine}
 
 -- one category more
-pub led_on : (m : SyllableMachine) (cs : List ℕ) (i d s : ℕ) → i < length cs → Some s ≡ state_after m (take i cs)
+pub led_on : (m : Machine) (cs : List ℕ) (i d s : ℕ) → i < length cs → Some s ≡ state_after m (take i cs)
     → state_after m (take (i + 1) cs) ≡ led m (Some s) (get_or cs i d)
 led_on m cs i d s lt e =
     ap (state_after m) (take_more cs i d lt) ∙ fold-append (led m) (Some 0) (take i cs) (get_or cs i d ∷ [])
     ∙ ap (λ t. led m t (get_or cs i d)) (sym e)
 
-pub longer_front : (m : SyllableMachine) (cs : List ℕ) (i : ℕ)
+pub longer_front : (m : Machine) (cs : List ℕ) (i : ℕ)
     → longest_up_to m cs (i + 1) ≡ front_or (kind_of_front m (take (i + 1) cs)) (i + 1) (longest_up_to m cs i)
 longer_front m cs i = rw add-one refl
 
-lost : (m : SyllableMachine) (cs : List ℕ) → fold (led m) None cs ≡ None
+lost : (m : Machine) (cs : List ℕ) → fold (led m) None cs ≡ None
 lost m [] = refl
 lost m (c ∷ cs) = lost m cs
 
 -- categories that lead nowhere lead nowhere with more behind them
-lost_on : (m : SyllableMachine) (cs : List ℕ) (i k : ℕ) → state_after m (take i cs) ≡ None → state_after m (take (i + k) cs) ≡ None
+lost_on : (m : Machine) (cs : List ℕ) (i k : ℕ) → state_after m (take i cs) ≡ None → state_after m (take (i + k) cs) ≡ None
 lost_on m cs i k e =
     ap (state_after m) (take-add i k cs) ∙ fold-append (led m) (Some 0) (take i cs) (take k (drop i cs))
     ∙ ap (λ s. fold (led m) s (take k (drop i cs))) e ∙ lost m (take k (drop i cs))
 
-ended : (m : SyllableMachine) (cs : List ℕ) (i k : ℕ) → state_after m (take (i + 1) cs) ≡ None → longest_up_to m cs (i + k) ≡ longest_up_to m cs i
+ended : (m : Machine) (cs : List ℕ) (i k : ℕ) → state_after m (take (i + 1) cs) ≡ None → longest_up_to m cs (i + k) ≡ longest_up_to m cs i
 ended m cs i zero e = let n : i + 0 ≡ i = omega arith in rw n refl
 ended m cs i (suc k) e =
     let n : i + suc k ≡ suc (i + k) = omega arith in
@@ -39,20 +39,20 @@ ended m cs i (suc k) e =
     rw (n, none) (ended m cs i k e)
 
 -- where the next category leads nowhere, all is found
-pub ends_here : (m : SyllableMachine) (cs : List ℕ) (i : ℕ) → i < length cs → state_after m (take (i + 1) cs) ≡ None → longest_front m cs ≡ longest_up_to m cs i
+pub ends_here : (m : Machine) (cs : List ℕ) (i : ℕ) → i < length cs → state_after m (take (i + 1) cs) ≡ None → longest_front m cs ≡ longest_up_to m cs i
 ends_here m cs i lt e =
     let n : i + (length cs - i) ≡ length cs = omega arith in
     ap (longest_up_to m cs) (sym n) ∙ ended m cs i (length cs - i) e
 
 -- ---- it is the longest
 
-abbrev IsFoundIn : SyllableMachine → List ℕ → ℕ → Option Front → Type 0
+abbrev IsFoundIn : Machine → List ℕ → ℕ → Option Front → Type 0
 IsFoundIn m cs most (Some f) =
     (0 < f.length) × (f.length ≤ most) × (kind_of_front m (take f.length cs) ≡ Some f.kind)
     × ((n : ℕ) → f.length < n → n ≤ most → kind_of_front m (take n cs) ≡ None)
 IsFoundIn m cs most None = (n : ℕ) → 0 < n → n ≤ most → kind_of_front m (take n cs) ≡ None
 
-found_in : (m : SyllableMachine) (cs : List ℕ) (most : ℕ) → IsFoundIn m cs most (longest_up_to m cs most)
+found_in : (m : Machine) (cs : List ℕ) (most : ℕ) → IsFoundIn m cs most (longest_up_to m cs most)
 found_in m cs zero = λ n lt le. absurd (omega (arith, lt, le))
 found_in m cs (suc k) = by_kind (kind_of_front m (take (suc k) cs)) refl (longest_up_to m cs k) (found_in m cs k)
   where
@@ -69,7 +69,7 @@ found_in m cs (suc k) = by_kind (kind_of_front m (take (suc k) cs)) refl (longes
     by_kind None e (Some f) h = (h.0, omega (arith, h.1), h.2, no_more f.length h.3 e)
     by_kind None e None h = no_more 0 h e
 
-is_found : (m : SyllableMachine) (cs : List ℕ) (f : Option Front) → IsFoundIn m cs (length cs) f → IsLongestMatch m cs f
+is_found : (m : Machine) (cs : List ℕ) (f : Option Front) → IsFoundIn m cs (length cs) f → IsLongestMatch m cs f
 is_found m cs (Some f) h = record { nonempty = h.0; inside = h.1; accepted = h.2; longest = h.3 }
 is_found m cs None h = h
 
@@ -81,7 +81,7 @@ is_longest m cs = is_found m cs (longest_front m cs) (found_in m cs (length cs))
 abbrev front : ℕ → ℕ → Front
 front n kind = record { length = n; kind = kind }
 
-same_front : (m : SyllableMachine) (cs : List ℕ) (f g : Front) → IsLongest m cs f → IsLongest m cs g → f ≡ g
+same_front : (m : Machine) (cs : List ℕ) (f g : Front) → IsLongest m cs f → IsLongest m cs g → f ≡ g
 same_front m cs f g p q = by_order (nat_lt f.length g.length) refl (nat_lt g.length f.length) refl
   where
     by_order : (s : Bool) → nat_lt f.length g.length ≡ s → (t : Bool) → nat_lt g.length f.length ≡ t → f ≡ g

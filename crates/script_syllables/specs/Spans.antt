@@ -5,9 +5,7 @@ use Rattle.std.proofs.Common.{arith, sym, subst, length-drop}
 use Rattle.script_constants.specs.Shapers.{non_kind_of}
 use Rattle.script_constants.specs.declared.shaper.hb_ot_script_shaper_t.{hb_ot_script_shaper_t}
 use Rattle.script_syllables.specs.Fronts.{front_or, kind_of_front, longest_front, longest_up_to, span_at, syllable_at}
-use Rattle.script_syllables.specs.Machines.{machine_of}
-use Rattle.script_syllables.specs.declared.machine.SyllableMachine.{SyllableMachine}
-use Rattle.script_syllables.specs.declared.machine.SyllableMachines.{SyllableMachines}
+use Rattle.script_syllables.specs.Machines.{Machine, Machines, machine_of}
 use Rattle.script_syllables.specs.declared.scan.Front.{Front}
 
 -- a front is not empty, and of a length at most
@@ -18,17 +16,17 @@ front_within : (most n : ℕ) (kind : Option ℕ) (other : Option Front) → 0 <
 front_within most n (Some kind) other some le h = (some, le)
 front_within most n None other some le h = h
 
-up_to_within : (m : SyllableMachine) (cs : List ℕ) (most n : ℕ) → n ≤ most → IsWithin most (longest_up_to m cs n)
+up_to_within : (m : Machine) (cs : List ℕ) (most n : ℕ) → n ≤ most → IsWithin most (longest_up_to m cs n)
 up_to_within m cs most zero le = tt
 up_to_within m cs most (suc n) le =
     front_within most (suc n) (kind_of_front m (take (suc n) cs)) (longest_up_to m cs n) (omega arith) le (up_to_within m cs most n (omega arith))
 
-found_within : (cs : List ℕ) (o : Option SyllableMachine) → IsWithin (length cs) (option_and_then (λ m. longest_front m cs) o)
+found_within : (cs : List ℕ) (o : Option Machine) → IsWithin (length cs) (option_and_then (λ m. longest_front m cs) o)
 found_within cs None = tt
 found_within cs (Some m) = up_to_within m cs (length cs) (length cs) (omega arith)
 
 -- the longest front is not empty, and within the list
-pub longest_within : (m : SyllableMachine) (cs : List ℕ) (front : Option Front) → front ≡ longest_front m cs
+pub longest_within : (m : Machine) (cs : List ℕ) (front : Option Front) → front ≡ longest_front m cs
     → IfSome front (λ (f : Front). (0 < f.length) × (f.length ≤ length cs))
 longest_within m cs front e = subst (IsWithin (length cs)) (sym e) (up_to_within m cs (length cs) (length cs) (omega arith))
 
@@ -40,12 +38,12 @@ span_inside : (start other len : ℕ) (front : Option Front) → start < len →
 span_inside start other len None lt h = omega arith
 span_inside start other len (Some front) lt h = omega (arith, h.1)
 
-pub ends_after_start : (ms : SyllableMachines) (shaper : hb_ot_script_shaper_t) (categories : List ℕ) (start : ℕ)
+pub ends_after_start : (ms : Machines) (shaper : hb_ot_script_shaper_t) (categories : List ℕ) (start : ℕ)
     → start < length categories → start < (syllable_at ms shaper categories start).0
 ends_after_start ms shaper cs start lt =
     span_after start (non_kind_of shaper) (length (drop start cs)) _ (found_within (drop start cs) (machine_of ms shaper))
 
-pub ends_inside : (ms : SyllableMachines) (shaper : hb_ot_script_shaper_t) (categories : List ℕ) (start : ℕ)
+pub ends_inside : (ms : Machines) (shaper : hb_ot_script_shaper_t) (categories : List ℕ) (start : ℕ)
     → start < length categories → (syllable_at ms shaper categories start).0 ≤ length categories
 ends_inside ms shaper cs start lt =
     let front : Option Front = option_and_then (λ m. longest_front m (drop start cs)) (machine_of ms shaper) in

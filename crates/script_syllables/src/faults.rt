@@ -1,6 +1,6 @@
 //! The first fault of machines' rows.
 ghost use Rattle.std.specs.Prelude.{◌≡◌, ◌&&◌, nat_lt};
-ghost use Rattle.script_syllables.specs.Machines.{accepts_fault, is_accept_in_range, is_step_in_range, machine_fault, machines_fault, steps_fault};
+ghost use Rattle.script_syllables.specs.Machines.{accepts_fault, is_accept_in_range, is_step_in_range, machine_fault, machine_in, machines_fault, machines_in, steps_fault};
 
 use crate::machine::{Accept, Step, SyllableMachine, SyllableMachines};
 use script_constants::hb_ot_script_shaper_t::{
@@ -10,7 +10,7 @@ use unicode_rows::{TablesFault, follows};
 
 /// The first fault of all machines.
 pub(crate) fn machines_fault(machines: &SyllableMachines) -> Option<TablesFault>
-    ensures { result ≡ machines_fault machines.now }
+    ensures { result ≡ machines_fault (machines_in machines.now) }
 {
     machine_fault(INDIC_SHAPER, &machines.indic)
         .or(machine_fault(KHMER_SHAPER, &machines.khmer))
@@ -19,13 +19,13 @@ pub(crate) fn machines_fault(machines: &SyllableMachines) -> Option<TablesFault>
 }
 
 fn machine_fault(shaper: hb_ot_script_shaper_t, machine: &SyllableMachine) -> Option<TablesFault>
-    ensures { result ≡ machine_fault shaper machine.now }
+    ensures { result ≡ machine_fault shaper (machine_in machine.now) }
 {
     steps_fault(machine).or(accepts_fault(shaper, machine))
 }
 
 fn steps_fault(machine: &SyllableMachine) -> Option<TablesFault>
-    ensures { result ≡ steps_fault machine.now }
+    ensures { result ≡ steps_fault (machine_in machine.now) }
 {
     let mut before = None;
     for step in &machine.next {
@@ -41,7 +41,7 @@ fn steps_fault(machine: &SyllableMachine) -> Option<TablesFault>
 }
 
 fn accepts_fault(shaper: hb_ot_script_shaper_t, machine: &SyllableMachine) -> Option<TablesFault>
-    ensures { result ≡ accepts_fault shaper machine.now }
+    ensures { result ≡ accepts_fault shaper (machine_in machine.now) }
 {
     let mut before = None;
     for accept in &machine.accept {
@@ -57,7 +57,7 @@ fn accepts_fault(shaper: hb_ot_script_shaper_t, machine: &SyllableMachine) -> Op
 }
 
 fn is_step_in_range(machine: &SyllableMachine, step: Step) -> bool
-    ensures { result ≡ is_step_in_range machine.now step }
+    ensures { result ≡ is_step_in_range (machine_in machine.now) step }
 {
     step.state < machine.states && step.next < machine.states
 }
@@ -67,7 +67,7 @@ fn is_accept_in_range(
     machine: &SyllableMachine,
     accept: Accept,
 ) -> bool
-    ensures { result ≡ is_accept_in_range shaper machine.now accept }
+    ensures { result ≡ is_accept_in_range shaper (machine_in machine.now) accept }
 {
     accept.state < machine.states && shaper.has_kind(accept.kind)
 }

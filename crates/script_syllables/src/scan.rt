@@ -1,7 +1,7 @@
 //! The longest front of a list of categories that a machine accepts.
 ghost use Rattle.std.specs.Prelude.{◌≡◌, ◌<◌, ◌≤◌, IfSome, length};
 ghost use Rattle.script_syllables.specs.Fronts.{front_or, longest_front};
-ghost use Rattle.script_syllables.specs.Machines.{accepted_kind, next_state};
+ghost use Rattle.script_syllables.specs.Machines.{accepted_kind, machine_in, next_state};
 ghost use Rattle.script_syllables.specs.Sound.{IsRising};
 
 use crate::machine::SyllableMachine;
@@ -16,8 +16,8 @@ pub struct Front {
 
 /// The longest nonempty front whose categories lead from state 0 to an accepting state.
 pub fn longest_front(machine: &SyllableMachine, categories: &[u8]) -> Option<Front>
-    requires { IsRising machine.now }
-    ensures front { result ≡ longest_front machine.now categories.now }
+    requires { IsRising (machine_in machine.now) }
+    ensures front { result ≡ longest_front (machine_in machine.now) categories.now }
     ensures within { IfSome result (λ f. (0 < f.length) × (f.length ≤ length categories.now)) }
 {
     walk(machine, categories)
@@ -25,8 +25,8 @@ pub fn longest_front(machine: &SyllableMachine, categories: &[u8]) -> Option<Fro
 
 #[tactic(auto, using(crate::proofs::Walks::led_on, crate::proofs::Walks::longer_front, crate::proofs::Walks::ends_here))]
 fn walk(machine: &SyllableMachine, categories: &[u8]) -> Option<Front>
-    requires { IsRising machine.now }
-    ensures { result ≡ longest_front machine.now categories.now }
+    requires { IsRising (machine_in machine.now) }
+    ensures { result ≡ longest_front (machine_in machine.now) categories.now }
 {
     let mut front = None;
     let mut state = 0;
@@ -41,16 +41,16 @@ fn walk(machine: &SyllableMachine, categories: &[u8]) -> Option<Front>
 }
 
 fn next_state(machine: &SyllableMachine, state: u32, category: u8) -> Option<u32>
-    requires { IsRising machine.now }
-    ensures { result ≡ next_state machine.now state category }
+    requires { IsRising (machine_in machine.now) }
+    ensures { result ≡ next_state (machine_in machine.now) state category }
 {
     let step = find_row(&machine.next, state, category as u32)?;
     Some(step.next)
 }
 
 fn kind_of(machine: &SyllableMachine, state: u32) -> Option<u8>
-    requires { IsRising machine.now }
-    ensures { result ≡ accepted_kind machine.now state }
+    requires { IsRising (machine_in machine.now) }
+    ensures { result ≡ accepted_kind (machine_in machine.now) state }
 {
     let accept = find_row(&machine.accept, 0, state)?;
     Some(accept.kind)

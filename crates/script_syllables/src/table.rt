@@ -2,7 +2,7 @@
 ghost use Rattle.std.specs.Prelude.{◌≡◌, ◌<◌, ◌≤◌, IfOk, IfErr, IfSome, OnOk, None, Some, length};
 ghost use Rattle.std.specs.Option.{option_and_then};
 ghost use Rattle.script_syllables.specs.Fronts.{longest_front};
-ghost use Rattle.script_syllables.specs.Machines.{machine_of, machines_fault};
+ghost use Rattle.script_syllables.specs.Machines.{machine_of, machines_fault, machines_in};
 ghost use Rattle.script_syllables.specs.Sound.{AreRising};
 
 use crate::faults::machines_fault;
@@ -23,11 +23,11 @@ pub struct SyllableTable {
 
 impl Model for SyllableTable {
     ghost use Rattle.script_syllables.specs.Inside.{IsSound};
-    ghost use Rattle.script_syllables.specs.declared.machine.SyllableMachines.{SyllableMachines};
+    ghost use Rattle.script_syllables.specs.Machines.{Machines, machines_in};
 
-    ghost Value = { SyllableMachines };
+    ghost Value = { Machines };
 
-    ghost view = { λ t. t.machines };
+    ghost view = { λ t. machines_in t.machines };
 
     ghost invariant = { IsSound };
 }
@@ -37,9 +37,9 @@ impl SyllableTable {
     /// that the shaper does not know (`OutOfRange`), else a key that is not above the one before (`OutOfOrder`).
     /// Machines come in the order of the shapers' names, and the steps of a machine before its accepting states.
     pub fn new(machines: SyllableMachines) -> Result<SyllableTable, TablesFault>
-        ensures table { IfOk result (λ t. t ≡ machines) }
-        ensures sound { OnOk result (machines_fault machines ≡ None) }
-        ensures refused { IfErr result (λ e. machines_fault machines ≡ Some e) }
+        ensures table { IfOk result (λ t. t ≡ machines_in machines) }
+        ensures sound { OnOk result (machines_fault (machines_in machines) ≡ None) }
+        ensures refused { IfErr result (λ e. machines_fault (machines_in machines) ≡ Some e) }
     {
         match machines_fault(&machines) {
             None => Ok(SyllableTable { machines }),
@@ -49,8 +49,8 @@ impl SyllableTable {
 
     /// The table of machines whose rows rise by their keys; that states and kinds are known has been seen to.
     pub fn of_machines(machines: SyllableMachines) -> SyllableTable
-        requires { AreRising machines }
-        ensures { result ≡ machines }
+        requires { AreRising (machines_in machines) }
+        ensures { result ≡ machines_in machines }
     {
         SyllableTable { machines }
     }

@@ -1,1 +1,2 @@
 mod Shaped
+mod Texts

@@ -23,15 +23,17 @@ use Rattle.glyph_lists.specs.Readings.{Follows, Reading, with_events}
 use Rattle.glyph_lists.specs.Steps.{follows_same}
 use Rattle.glyph_buffer.specs.Sides.{Sides, all_glyphs, items_of, run_of}
 use Rattle.layout_walks.specs.Settings.{TextSettings, text_settings}
-use Rattle.shape_plan.specs.declared.any_shaper.hb_ot_any_shaper_t.{hb_ot_any_shaper_t}
+use Rattle.any_shaper.specs.declared.any_shaper.hb_ot_any_shaper_t.{hb_ot_any_shaper_t}
 use Rattle.shape_plan.specs.declared.plan.hb_ot_shape_plan_t.{hb_ot_shape_plan_t}
-use Rattle.shape_plan.specs.Plans.{IsPlanned}
-use Rattle.shape_plan.specs.Shapers.{traits_of}
-use Rattle.shape_shaper.specs.Rules.{Spans, plain_rules}
+use Rattle.shape_plan.specs.Plans.{IsPlanned, text_plan}
+use Rattle.any_shaper.specs.Requests.{any_kind}
+use Rattle.any_shaper.specs.Shapers.{traits_of}
+use Rattle.shape_shaper.specs.Rules.{Spans}
+use Rattle.any_shaper.specs.Rules.{rules_of}
 use Rattle.shape_reading.specs.Reading.{reading}
 use Rattle.shape_reading.specs.Shaping.{Shaping}
 use Rattle.shape_pipeline.specs.declared.shape.ShapeFault.{ShapeFault}
-use Rattle.shape_pipeline.specs.Shaped.{by_plan, by_text, language_tags, text_reading}
+use Rattle.shape_pipeline.specs.Shaped.{by_plan, by_shaper, by_text, language_tags, text_reading}
 
 -- ---- a text without characters, and another
 
@@ -63,9 +65,12 @@ text_refused p s cause told same some e = text_is_read p s some ∙ e ∙ ap Err
 -- ---- a text's own plan
 
 -- what a text is shaped by does not depend on who made its plan
-pub planned_for : (font : FaceParts) (tables : Tables) (tags : List ℕ → List Tag) (spans : Spans) (features : List Feature) (s : Sides) (plan : hb_ot_shape_plan_t hb_ot_any_shaper_t ⊤) → IsPlanned font (language_tags tags s) s.direction s.script features plan
-    → by_plan (traits_of plan.shaper) plain_rules plan font tables spans (text_settings s) ≡ by_text font tables tags spans features s
-planned_for font tables tags spans features s plan is = rw (is.shaper, is.direction, is.script, is.map, is.choices, is.features) refl
+pub planned_for : (font : FaceParts) (tables : Tables) (tags : List ℕ → List Tag) (spans : Spans) (features : List Feature) (s : Sides) (plan : hb_ot_shape_plan_t hb_ot_any_shaper_t ⊤) → IsPlanned any_kind font (language_tags tags s) s.direction s.script features plan
+    → by_plan (traits_of plan.shaper) (rules_of plan.shaper plan.script_plan) plan font tables spans (text_settings s) ≡ by_text font tables tags spans features s
+planned_for font tables tags spans features s plan is =
+    ap (λ fs. by_shaper plan.shaper plan.script_plan fs font tables spans (text_settings s)) is.features
+    ∙ ap (λ p. by_shaper plan.shaper p features font tables spans (text_settings s)) is.script_plan
+    ∙ ap (λ sh. by_shaper sh (text_plan any_kind font (language_tags tags s) s.direction s.script features) features font tables spans (text_settings s)) is.shaper
 
 -- ---- a text's characters
 
@@ -92,30 +97,30 @@ refused_as_guessed q r s mid t same guess h = subst (IsRefused r q) (same ∙ gu
 -- ---- and whose plan is its own
 
 planned_here : (font : FaceParts) (tags : List ℕ → List Tag) (features : List Feature) (s : Sides) (d : Direction) (script : Option Script) (l : Option Language) (plan : hb_ot_shape_plan_t hb_ot_any_shaper_t ⊤)
-    → d ≡ s.direction → script ≡ s.script → l ≡ s.language → IsPlanned font (wanted_language_tags tags l) d script features plan → IsPlanned font (language_tags tags s) s.direction s.script features plan
+    → d ≡ s.direction → script ≡ s.script → l ≡ s.language → IsPlanned any_kind font (wanted_language_tags tags l) d script features plan → IsPlanned any_kind font (language_tags tags s) s.direction s.script features plan
 planned_here font tags features s d script l plan direction of language is =
-    let A : Direction → Type 0 = λ x. IsPlanned font (wanted_language_tags tags l) x script features plan in
-    let B : Option Script → Type 0 = λ x. IsPlanned font (wanted_language_tags tags l) s.direction x features plan in
-    let C : Option Language → Type 0 = λ x. IsPlanned font (wanted_language_tags tags x) s.direction s.script features plan in
+    let A : Direction → Type 0 = λ x. IsPlanned any_kind font (wanted_language_tags tags l) x script features plan in
+    let B : Option Script → Type 0 = λ x. IsPlanned any_kind font (wanted_language_tags tags l) s.direction x features plan in
+    let C : Option Language → Type 0 = λ x. IsPlanned any_kind font (wanted_language_tags tags x) s.direction s.script features plan in
     subst C language (subst B of (subst A direction is))
 
 module _ (font : FaceParts) (tables : Tables) (tags : List ℕ → List Tag) (spans : Spans) (features : List Feature) (s mid t : Sides) (plan : hb_ot_shape_plan_t hb_ot_any_shaper_t ⊤) (d : Direction) (script : Option Script) (l : Option Language)
-    (same : s ≡ mid) (guess : mid ≡ t) (direction : d ≡ s.direction) (of : script ≡ s.script) (language : l ≡ s.language) (is : IsPlanned font (wanted_language_tags tags l) d script features plan) (r : Result Sides ShapeFault) where
+    (same : s ≡ mid) (guess : mid ≡ t) (direction : d ≡ s.direction) (of : script ≡ s.script) (language : l ≡ s.language) (is : IsPlanned any_kind font (wanted_language_tags tags l) d script features plan) (r : Result Sides ShapeFault) where
   abbrev IsShapedBy : Sides → Shaping → Type 0
   IsShapedBy x p = IfOk r (λ (glyphs : Sides). Follows (text_reading p (run_of x)) (run_of x) (run_of glyphs))
 
   abbrev IsRefusedBy : Sides → Shaping → Type 0
   IsRefusedBy x p = IfErr r (λ (e : ShapeFault). e.cause ≢ OutOfMemory → text_reading p (run_of x) ≡ Err e.cause)
 
-  its_own : by_plan (traits_of plan.shaper) plain_rules plan font tables spans (text_settings s) ≡ by_text font tables tags spans features s
+  its_own : by_plan (traits_of plan.shaper) (rules_of plan.shaper plan.script_plan) plan font tables spans (text_settings s) ≡ by_text font tables tags spans features s
   its_own = planned_for font tables tags spans features s plan (planned_here font tags features s d script l plan direction of language is)
 
-  pub shaped_by_its_own : IsShapedBy s (by_plan (traits_of plan.shaper) plain_rules plan font tables spans (text_settings s)) → IsShapedBy t (by_text font tables tags spans features t)
+  pub shaped_by_its_own : IsShapedBy s (by_plan (traits_of plan.shaper) (rules_of plan.shaper plan.script_plan) plan font tables spans (text_settings s)) → IsShapedBy t (by_text font tables tags spans features t)
   shaped_by_its_own h =
       let P : Sides → Type 0 = λ x. IsShapedBy x (by_text font tables tags spans features x) in
       subst P (same ∙ guess) (subst (IsShapedBy s) its_own h)
 
-  pub refused_by_its_own : IsRefusedBy s (by_plan (traits_of plan.shaper) plain_rules plan font tables spans (text_settings s)) → IsRefusedBy t (by_text font tables tags spans features t)
+  pub refused_by_its_own : IsRefusedBy s (by_plan (traits_of plan.shaper) (rules_of plan.shaper plan.script_plan) plan font tables spans (text_settings s)) → IsRefusedBy t (by_text font tables tags spans features t)
   refused_by_its_own h =
       let P : Sides → Type 0 = λ x. IsRefusedBy x (by_text font tables tags spans features x) in
       subst P (same ∙ guess) (subst (IsRefusedBy s) its_own h)

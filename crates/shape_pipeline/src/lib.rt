@@ -2,6 +2,7 @@
 #![tactic(auto)]
 
 pub mod data;
+pub mod laws;
 pub mod shape;
 
 pub use data::hb_shape_data_t;

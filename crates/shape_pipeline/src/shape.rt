@@ -8,6 +8,7 @@ ghost use Rattle.shape_text.specs.Properties.{are_characters};
 ghost use Rattle.shape_pipeline.specs.Shaped.{by_plan, by_text, text_reading};
 
 use crate::data::hb_shape_data_t;
+use any_shaper::hb_ot_any_shaper_t;
 use feature_text::feature::Feature;
 use font_face::Face;
 use glyph_buffer::buffer::hb_buffer_t;
@@ -112,7 +113,7 @@ pub fn shape<P: SyllableSpans, L: LanguageTags>(
 {
     buffer.guess_segment_properties();
     let buffer = buffer.into_buffer();
-    let plan = match hb_ot_shape_plan_t::new(
+    let plan = match hb_ot_shape_plan_t::<hb_ot_any_shaper_t>::new(
         alloc,
         face,
         shape_data.languages,

@@ -1,5 +1,4 @@
-pub mod Shapers
-pub mod Dispatch
 pub mod Requests
+pub mod Traits
 pub mod Plans
 pub mod Fits

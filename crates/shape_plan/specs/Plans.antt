@@ -1,5 +1,5 @@
 -- The plan for texts of one direction, script and language, and one font.
-use Rattle.std.specs.Prelude.{ℕ, ⊤, Bool, false, ◌≡◌, ◌==◌, ◌&&◌, ◌||◌, not, List, Option, Some, None, is_some, codes}
+use Rattle.std.specs.Prelude.{ℕ, Bool, false, ◌≡◌, ◌==◌, ◌&&◌, ◌||◌, not, List, Option, Some, None, is_some, codes}
 use Rattle.std.specs.Option.{option_map_or}
 use Rattle.shaping_text.specs.declared.tag.Tag.{Tag}
 use Rattle.shaping_text.specs.declared.script.Script.{Script}
@@ -10,13 +10,12 @@ use Rattle.feature_text.specs.declared.feature.Feature.{Feature}
 use Rattle.font_face.specs.declared.parts.FaceParts.{FaceParts}
 use Rattle.map_builder.specs.Compiled.{MapRequests, OtMapValue, compiled, feature_at, no_requests}
 use Rattle.map_stages.specs.Chosen.{script_tag}
-use Rattle.shape_plan.specs.declared.any_shaper.TheConstants.{HB_OT_SHAPE_ZERO_WIDTH_MARKS_NONE}
-use Rattle.shape_plan.specs.declared.any_shaper.hb_ot_any_shaper_t.{hb_ot_any_shaper_t}
+use Rattle.shape_plan.specs.declared.planned.TheConstants.{HB_OT_SHAPE_ZERO_WIDTH_MARKS_NONE}
 use Rattle.shape_plan.specs.declared.plan.PlanChoices.{PlanChoices}
 use Rattle.shape_plan.specs.declared.plan.hb_ot_shape_plan_t.{hb_ot_shape_plan_t}
-use Rattle.shape_plan.specs.Dispatch.{shaper_of}
-use Rattle.shape_plan.specs.Shapers.{ShaperTraits, traits_of}
-use Rattle.shape_plan.specs.Requests.{Asking, collected, overridden, with_requests}
+use Rattle.shape_plan.specs.declared.plan.hb_script_plan_t.{hb_script_plan_t}
+use Rattle.shape_plan.specs.Requests.{Asking, with_requests}
+use Rattle.shape_plan.specs.Traits.{ShaperKind, ShaperTraits}
 
 -- nothing is asked yet: the scripts and language systems of the font's tables are chosen
 abbrev pub nothing_asked : FaceParts → Option Script → List Tag → MapRequests
@@ -69,29 +68,29 @@ abbrev pub planned_map : Asking → FaceParts → List Tag → Direction → Opt
 planned_map asking font languages direction script features =
     compiled (with_requests asking direction script features (nothing_asked font script languages))
 
--- ---- plans of the stack's shapers
+-- ---- plans of shapers of a kind
 
 -- the shaper of a text, by its script
-unfoldable pub planned_shaper : FaceParts → List Tag → Direction → Option Script → hb_ot_any_shaper_t
-planned_shaper font languages direction script = shaper_of script direction (gsub_script font script languages)
-
-abbrev pub asking_of : hb_ot_any_shaper_t → Asking
-asking_of shaper = record { collects = collected shaper; overrides = overridden shaper }
+unfoldable pub planned_shaper : {S D : Type 0} → ShaperKind S D → FaceParts → List Tag → Direction → Option Script → S
+planned_shaper kind font languages direction script = kind.shaper_of script direction (gsub_script font script languages)
 
 -- the map of a text's plan, by its script
-unfoldable pub text_map : FaceParts → List Tag → Direction → Option Script → List Feature → OtMapValue
-text_map font languages direction script features =
-    planned_map (asking_of (planned_shaper font languages direction script)) font languages direction script features
+unfoldable pub text_map : {S D : Type 0} → ShaperKind S D → FaceParts → List Tag → Direction → Option Script → List Feature → OtMapValue
+text_map kind font languages direction script features =
+    planned_map (kind.asking (planned_shaper kind font languages direction script)) font languages direction script features
 
-unfoldable pub text_choices : FaceParts → List Tag → Direction → Option Script → List Feature → PlanChoices
-text_choices font languages direction script features =
-    choices (traits_of (planned_shaper font languages direction script)) font (text_map font languages direction script features)
+-- what a text's shaper reads of its plan
+unfoldable pub text_plan : {S D : Type 0} → ShaperKind S D → FaceParts → List Tag → Direction → Option Script → List Feature → hb_script_plan_t D
+text_plan kind font languages direction script features = record {
+  direction = direction;
+  script = script;
+  map = text_map kind font languages direction script features;
+  choices = choices (kind.traits (planned_shaper kind font languages direction script)) font (text_map kind font languages direction script features);
+  plan_data = kind.data_of (planned_shaper kind font languages direction script) (text_map kind font languages direction script features) script;
+}
 
--- the plan of a text: its shaper, its map, what it decided, and what was asked for
-pub record IsPlanned (font : FaceParts) (languages : List Tag) (d : Direction) (s : Option Script) (asked : List Feature) (plan : hb_ot_shape_plan_t hb_ot_any_shaper_t ⊤) : Type 0 where
-  pub shaper : plan.shaper ≡ planned_shaper font languages d s
-  pub direction : plan.script_plan.direction ≡ d
-  pub script : plan.script_plan.script ≡ s
-  pub map : plan.script_plan.map ≡ text_map font languages d s asked
-  pub choices : plan.script_plan.choices ≡ text_choices font languages d s asked
+-- the plan of a text: its shaper, what that reads of it, and what was asked for
+pub record IsPlanned {S D : Type 0} (kind : ShaperKind S D) (font : FaceParts) (languages : List Tag) (d : Direction) (s : Option Script) (asked : List Feature) (plan : hb_ot_shape_plan_t S D) : Type 0 where
+  pub shaper : plan.shaper ≡ planned_shaper kind font languages d s
+  pub script_plan : plan.script_plan ≡ text_plan kind font languages d s asked
   pub features : plan.user_features.items ≡ asked

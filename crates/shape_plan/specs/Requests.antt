@@ -1,27 +1,11 @@
 -- What is asked of a font for a text: by every text, by its shaper and by the user.
-use Rattle.std.specs.Prelude.{Bool, List, map, fold, Option, codes}
+use Rattle.std.specs.Prelude.{List, map, fold, Option}
 use Rattle.shaping_text.specs.declared.script.Script.{Script}
 use Rattle.shaping_text.specs.declared.direction.Direction.{Direction}
-use Rattle.shaping_text.specs.Tag.{tag_of}
 use Rattle.feature_text.specs.declared.feature.Feature.{Feature}
 use Rattle.map_builder.specs.Compiled.{MapRequests}
-use Rattle.map_builder.specs.Features.{in_any, system_features}
 use Rattle.feature_requests.specs.Asks.{with_ask}
 use Rattle.feature_requests.specs.Common.{asked_first, asked_behind, ask_of}
-use Rattle.shape_plan.specs.declared.any_shaper.hb_ot_any_shaper_t.{hb_ot_any_shaper_t}
-use Rattle.shape_plan.specs.Shapers.{shaper_features, shaper_overrides}
-
--- whether a language system of the font has the feature for required contexts
-abbrev pub has_rclt : MapRequests → Bool
-has_rclt b = in_any (system_features (tag_of (codes "rclt")) b.tables)
-
--- what a shaper asks beside what every text asks
-abbrev pub collected : hb_ot_any_shaper_t → Option Script → MapRequests → MapRequests
-collected shaper script b = fold with_ask b (shaper_features shaper script (has_rclt b))
-
--- what it asks whatever the user asked
-abbrev pub overridden : hb_ot_any_shaper_t → Option Script → MapRequests → MapRequests
-overridden shaper script b = fold with_ask b (shaper_overrides shaper)
 
 -- what a shaper asks, in two parts
 pub record Asking : Type 0 where

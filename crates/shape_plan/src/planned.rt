@@ -1,25 +1,30 @@
 //! What the planner asks of a shaper.
-ghost use Rattle.std.specs.Prelude.{◌≡◌, OnOk, fold};
-ghost use Rattle.std.specs.Option.{option_map_or};
-ghost use Rattle.feature_requests.specs.Asks.{with_ask};
-ghost use Rattle.shape_plan.specs.Requests.{collected, overridden, has_rclt};
-ghost use Rattle.shape_plan.specs.Shapers.{shaper_features, shaper_overrides, traits_of};
 
-use crate::any_shaper::{hb_ot_any_shaper_t, hb_ot_shape_zero_width_marks_type_t};
-use feature_requests::collecting;
 use map_builder::builder::hb_ot_map_builder_t;
 use map_builder::map::hb_ot_map_t;
 use normal_forms::NormalizationMode;
+use shaping_text::direction::Direction;
 use shaping_text::script::Script;
 use shaping_text::tag::Tag;
 use std::alloc::{AllocError, Global};
+
+/// When marks lose their advances: one of the constants below.
+pub type hb_ot_shape_zero_width_marks_type_t = u32;
+
+pub const HB_OT_SHAPE_ZERO_WIDTH_MARKS_NONE: u32 = 0;
+
+/// Before positioning.
+pub const HB_OT_SHAPE_ZERO_WIDTH_MARKS_BY_GDEF_EARLY: u32 = 1;
+
+/// After positioning.
+pub const HB_OT_SHAPE_ZERO_WIDTH_MARKS_BY_GDEF_LATE: u32 = 2;
 
 /// What a shaper decides once for all texts, and what it asks of a font's features.
 pub trait PlannedShaper: Drop {
     ghost use Rattle.std.specs.Prelude.{◌≡◌, IfOk, OnOk, Option};
     ghost use Rattle.map_builder.specs.Compiled.{MapRequests, OtMapValue};
     ghost use Rattle.shaping_text.specs.declared.script.Script.{Script};
-    ghost use Rattle.shape_plan.specs.Shapers.{ShaperTraits};
+    ghost use Rattle.shape_plan.specs.Traits.{ShaperTraits};
 
     /// What the shaper keeps for the texts of a plan.
     type PlanData: Drop;
@@ -74,63 +79,16 @@ pub trait PlannedShaper: Drop {
         ensures { IfOk result (λ kept. kept ≡ data_of self.now map.now script) };
 }
 
-impl PlannedShaper for hb_ot_any_shaper_t {
-    type PlanData = ();
+/// Shapers of a kind, of which each text has one by its script.
+pub trait CategorizedShaper: PlannedShaper {
+    ghost use Rattle.std.specs.Prelude.{◌≡◌, Option};
+    ghost use Rattle.shaping_text.specs.declared.direction.Direction.{Direction};
+    ghost use Rattle.shaping_text.specs.declared.script.Script.{Script};
+    ghost use Rattle.shaping_text.specs.declared.tag.Tag.{Tag};
 
-    ghost traits = { traits_of };
+    ghost shaper_of: { Option Script → Direction → Option Tag → Self };
 
-    ghost collects = { collected };
-
-    ghost overrides = { overridden };
-
-    ghost data_of = { λ _ _ _. tt };
-
-    fn normalization_preference(&self) -> NormalizationMode {
-        hb_ot_any_shaper_t::normalization_preference(*self)
-    }
-
-    fn gpos_tag(&self) -> Option<Tag> {
-        hb_ot_any_shaper_t::gpos_tag(*self)
-    }
-
-    fn zero_width_marks(&self) -> hb_ot_shape_zero_width_marks_type_t {
-        hb_ot_any_shaper_t::zero_width_marks(*self)
-    }
-
-    fn fallback_position(&self) -> bool {
-        hb_ot_any_shaper_t::fallback_position(*self)
-    }
-
-    fn collect_features(
-        &self,
-        builder: &mut hb_ot_map_builder_t,
-        script: Option<Script>,
-    ) -> Result<(), AllocError> {
-        match *self {
-            hb_ot_any_shaper_t::Script(shaper) => {
-                collecting::collect_features(shaper, builder, script)
-            }
-            _ => Ok(()),
-        }
-    }
-
-    fn override_features(
-        &self,
-        builder: &mut hb_ot_map_builder_t,
-        _script: Option<Script>,
-    ) -> Result<(), AllocError> {
-        match *self {
-            hb_ot_any_shaper_t::Script(shaper) => collecting::override_features(shaper, builder),
-            _ => Ok(()),
-        }
-    }
-
-    fn create_data(
-        &self,
-        _alloc: Global,
-        _map: &hb_ot_map_t,
-        _script: Option<Script>,
-    ) -> Result<(), AllocError> {
-        Ok(())
-    }
+    /// The shaper of a text by its script, its direction, and the script of GSUB that serves it.
+    fn categorize(script: Option<Script>, direction: Direction, gsub_script: Option<Tag>) -> Self
+        ensures { result ≡ shaper_of script direction gsub_script };
 }

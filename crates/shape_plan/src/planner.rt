@@ -2,16 +2,13 @@
 ghost use Rattle.std.specs.Prelude.{◌≡◌, ◌&&◌, not, codes, IfOk, is_some};
 ghost use Rattle.std.specs.Option.{option_copied};
 ghost use Rattle.shaping_text.specs.ScriptTags.{wanted_language_tags};
-ghost use Rattle.shape_plan.specs.Dispatch.{shaper_of};
 ghost use Rattle.shape_plan.specs.Plans.{IsPlanned, choices, disables_gpos, gsub_script, has_fractions, has_mask, nothing_asked, planned_map, uses_gpos};
 ghost use Rattle.shape_plan.specs.Requests.{with_requests, with_user};
 ghost use Rattle.map_builder.specs.Compiled.{compiled};
 ghost use Rattle.std.specs.Prelude.{OnOk};
 
-use crate::any_shaper::{DEFAULT_SHAPER, HB_OT_SHAPE_ZERO_WIDTH_MARKS_NONE, hb_ot_any_shaper_t};
-use crate::dispatch::hb_ot_shape_complex_categorize;
 use crate::plan::{PlanChoices, hb_ot_shape_plan_t, hb_script_plan_t};
-use crate::planned::PlannedShaper;
+use crate::planned::{CategorizedShaper, HB_OT_SHAPE_ZERO_WIDTH_MARKS_NONE, PlannedShaper};
 use feature_requests::{common, user};
 use feature_text::feature::Feature;
 use font_face::Face;
@@ -57,7 +54,7 @@ fn new_builder<'a, L: LanguageTags>(
     )
 }
 
-impl<'a> hb_ot_shape_planner_t<'a, hb_ot_any_shaper_t> {
+impl<'a, S: CategorizedShaper> hb_ot_shape_planner_t<'a, S> {
     /// A planner with the shaper that the script has for the font.
     pub fn new<L: LanguageTags>(
         alloc: Global,
@@ -66,24 +63,18 @@ impl<'a> hb_ot_shape_planner_t<'a, hb_ot_any_shaper_t> {
         direction: Direction,
         script: Option<Script>,
         language: Option<&Language>,
-    ) -> hb_ot_shape_planner_t<'a, hb_ot_any_shaper_t>
+    ) -> hb_ot_shape_planner_t<'a, S>
         ensures face { result.face.now ≡ face.now }
         ensures direction { result.direction ≡ direction }
         ensures script { result.script ≡ script }
-        ensures shaper { result.shaper ≡ shaper_of script direction (gsub_script face.now script
+        ensures shaper { result.shaper ≡ S.shaper_of script direction (gsub_script face.now script
             (wanted_language_tags (L.tags_of languages.now) (option_copied language.entry))) }
         ensures requests { result.ot_map
             ≡ nothing_asked face.now script (wanted_language_tags (L.tags_of languages.now) (option_copied language.entry)) }
     {
         let ot_map = new_builder(alloc, face, languages, script, language);
-        let shaper = match script {
-            Some(script) => hb_ot_shape_complex_categorize(
-                script,
-                direction,
-                ot_map.chosen_script(TableIndex::GSUB),
-            ),
-            None => DEFAULT_SHAPER,
-        };
+        let gsub_script = ot_map.chosen_script(TableIndex::GSUB);
+        let shaper = S::categorize(script, direction, gsub_script);
         hb_ot_shape_planner_t {
             face,
             direction,
@@ -171,7 +162,7 @@ impl<'a, S: PlannedShaper> hb_ot_shape_planner_t<'a, S> {
     }
 }
 
-impl hb_ot_shape_plan_t<hb_ot_any_shaper_t> {
+impl<S: CategorizedShaper> hb_ot_shape_plan_t<S> {
     /// The plan for texts of a direction, a script and a language in a font, with the shaper that the script has for the
     /// font and with the features that the user asks for. One plan serves all such texts. It takes memory for the map of
     /// features and for the stages of lookups.
@@ -183,8 +174,13 @@ impl hb_ot_shape_plan_t<hb_ot_any_shaper_t> {
         script: Option<Script>,
         language: Option<&Language>,
         features: &[Feature],
-    ) -> Result<hb_ot_shape_plan_t<hb_ot_any_shaper_t>, AllocError>
-        ensures { IfOk result (IsPlanned face.now (wanted_language_tags (L.tags_of languages.now) (option_copied language.entry))
+    ) -> Result<hb_ot_shape_plan_t<S>, AllocError>
+        ensures { IfOk result (IsPlanned (record {
+          shaper_of = S.shaper_of;
+          traits = S.traits;
+          asking = λ shaper. record { collects = S.collects shaper; overrides = S.overrides shaper };
+          data_of = S.data_of;
+        }) face.now (wanted_language_tags (L.tags_of languages.now) (option_copied language.entry))
             direction script features.now) }
     {
         let mut planner = hb_ot_shape_planner_t::new(

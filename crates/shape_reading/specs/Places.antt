@@ -13,7 +13,7 @@ use Rattle.shape_glyphs.specs.Widths.{zero_widths}
 use Rattle.shape_fallback.specs.Spaces.{with_spaces}
 use Rattle.shape_fallback.specs.Zeroing.{with_marks_zeroed}
 use Rattle.fallback_marks.specs.Marks.{components_direction, with_placed_marks}
-use Rattle.shape_plan.specs.declared.any_shaper.TheConstants.{HB_OT_SHAPE_ZERO_WIDTH_MARKS_BY_GDEF_EARLY, HB_OT_SHAPE_ZERO_WIDTH_MARKS_BY_GDEF_LATE}
+use Rattle.shape_plan.specs.declared.planned.TheConstants.{HB_OT_SHAPE_ZERO_WIDTH_MARKS_BY_GDEF_EARLY, HB_OT_SHAPE_ZERO_WIDTH_MARKS_BY_GDEF_LATE}
 use Rattle.shape_reading.specs.Chains.{in_order, only_if}
 use Rattle.shape_reading.specs.Shaping.{Shaping, pauses_of}
 

@@ -10,7 +10,7 @@ use Rattle.map_builder.specs.Compiled.{OtMapValue}
 use Rattle.layout_walks.specs.Settings.{TextSettings}
 use Rattle.layout_walks.specs.Pauses.{Pauses}
 use Rattle.shape_plan.specs.declared.plan.PlanChoices.{PlanChoices}
-use Rattle.shape_plan.specs.Shapers.{ShaperTraits}
+use Rattle.shape_plan.specs.Traits.{ShaperTraits}
 use Rattle.shape_shaper.specs.Rules.{ShaperRules, Spans}
 
 -- all that a text is shaped by: no cluster, no level and no request for flags of glyphs is in it

@@ -1,10 +1,15 @@
--- The answer to a font and a text, once the font is read.
-use Rattle.std.proofs.Common.{ℕ, ◌≡◌, List, Ok, refl}
-use Rattle.font_face.specs.declared.parts.FaceParts.{FaceParts}
+-- The answer to a text, once tables and a font were read.
+use Rattle.std.proofs.Common.{ℕ, ◌≡◌, List, Result, Ok, Err, refl, sym}
+use Rattle.run_options.specs.declared.fault.RunFault.{RunFault}
 use Rattle.run_options.specs.declared.options.Options.{Options}
-use Rattle.shape_run.specs.Answer.{answer_by, font_in, line_in}
-use Rattle.shape_run.specs.Tables.{RunTables}
+use Rattle.run_readers.specs.Input.{IsInput, RunParts}
+use Rattle.shape_run.specs.Answer.{IsAnswer, answer_by, line_in}
 
-pub answer_is : (options : Options) (t : RunTables) (font text : List ℕ) (face : FaceParts) → font_in font ≡ Ok face → answer_by options t font text ≡ line_in options t face text
-unfolding answer_by
-answer_is options t font text face read = rw read refl
+module _ (options : Options) (tables font text : List ℕ) where
+  pub answered : (input : RunParts) (r : Result (List ℕ) RunFault) → IsInput tables font (Ok input) → line_in options input.tables input.font text ≡ r → IsAnswer options tables font text r
+  unfolding IsAnswer answer_by
+  answered input r read same = (Ok input, read, sym same)
+
+  pub refused : (e : RunFault) → IsInput tables font (Err e) → IsAnswer options tables font text (Err e)
+  unfolding IsAnswer answer_by
+  refused e read = (Err e, read, refl)

@@ -5,14 +5,15 @@ use Rattle.run_options.specs.declared.fault.RunFault.{RunFault}
 use Rattle.run_options.specs.declared.fault.RunFault.TheVariants.{NotYet, OutOfMemory}
 use Rattle.shaping_text.specs.declared.script.Script.{Script}
 use Rattle.shaping_text.specs.declared.script.TheConstants.{UNKNOWN}
-use Rattle.shape_plan.specs.Dispatch.{script_waits}
+use Rattle.any_shaper.specs.Dispatch.{script_waits}
 use Rattle.run_options.specs.declared.options.Options.{Options}
 use Rattle.run_options.specs.Fault.{fault_of_cause}
 use Rattle.glyph_types.specs.declared.cause.ShapeCause.{ShapeCause}
 use Rattle.glyph_types.specs.declared.cause.ShapeCause.TheVariants.{OutOfMemory as NoMemory}
 use Rattle.glyph_lists.specs.Readings.{Reading}
 use Rattle.shape_run.specs.Answer.{IsAnswer, IsUnshaped}
-use Rattle.shape_run.specs.Run.{IsOfBytes, OnKnown}
+use Rattle.run_readers.specs.Faults.{IsOfBytes}
+use Rattle.shape_run.specs.Run.{OnKnown}
 
 not_memory : (e : RunFault) → IsOfBytes e → e ≢ OutOfMemory
 not_memory OutOfMemory h = absurd h
@@ -27,11 +28,6 @@ known_refused options (Some ts) (Some fs) (Some xs) a b c e p q r h k = rw (← 
 known_refused options (Some ts) (Some fs) None a b c e p q r h k = tt
 known_refused options (Some ts) None xs a b c e p q r h k = tt
 known_refused options None fs xs a b c e p q r h k = tt
-
--- a fault that `?` passes on
-pub passed_on : {A E : Type 0} (r : Result A E) (e : E) (P : E → Type 0) → IsErrAnd r (λ (f : E). f ≡ e) → P e → IfErr r P
-passed_on (Ok a) e P h p = tt
-passed_on (Err f) e P h p = subst P (sym h) p
 
 -- a text whose reading refuses
 pub refused_as : (r : Reading) (cause : ShapeCause) (e : RunFault) → e ≡ fault_of_cause cause → (cause ≢ NoMemory → r ≡ Err cause) → e ≢ OutOfMemory → IsUnshaped false r e

@@ -16,13 +16,9 @@ use Rattle.feature_text.specs.declared.feature.Feature.{Feature}
 use Rattle.font_face.specs.declared.parts.FaceParts.{FaceParts}
 use Rattle.unicode_tables.specs.Tables.{Tables}
 use Rattle.glyph_buffer.specs.Sides.{Sides}
-use Rattle.layout_walks.specs.Settings.{text_settings}
-use Rattle.shape_plan.specs.Plans.{planned_shaper, text_choices, text_map}
-use Rattle.shape_plan.specs.Shapers.{traits_of}
-use Rattle.shape_shaper.specs.Rules.{Spans, plain_rules}
-use Rattle.shape_reading.specs.Shaping.{Shaping}
-use Rattle.shape_pipeline.specs.Shaped.{by_text}
-use Rattle.shape_run.specs.Tables.{language_of, language_tags}
+use Rattle.shape_shaper.specs.Rules.{Spans}
+use Rattle.shape_pipeline.specs.Shaped.{by_tags, by_text}
+use Rattle.run_readers.specs.Tables.{language_of, language_tags}
 
 found_in : (text : List ℕ) (rows : List LanguageRow) → language_of (map language_in rows) text ≡ option_map language_in (row_of rows text)
 found_in text [] = refl
@@ -42,21 +38,6 @@ wanted_same : (table : LanguageTable) (l : Option Text.Language) → wanted_lang
 wanted_same table None = refl
 wanted_same table (Some l) = sym (same_tags table (language_text l))
 
-abbrev by_tags : FaceParts → Tables → Spans → List Feature → Sides → List Tag → Shaping
-by_tags font tables spans features s tags = record {
-  font = font;
-  tables = tables;
-  settings = text_settings s;
-  direction = s.direction;
-  script = s.script;
-  map = text_map font tags s.direction s.script features;
-  choices = text_choices font tags s.direction s.script features;
-  features = features;
-  traits = traits_of (planned_shaper font tags s.direction s.script);
-  rules = plain_rules;
-  spans = spans;
-}
-
 -- a text is shaped alike by a table of languages and by what it was read from
 pub same_shaping : (font : FaceParts) (tables : Tables) (table : LanguageTable) (spans : Spans) (features : List Feature) (s : Sides) → by_text font tables (tags_of_table table) spans features s ≡ by_text font tables (language_tags (languages_in table)) spans features s
-same_shaping font tables table spans features s = ap (by_tags font tables spans features s) (wanted_same table s.language)
+same_shaping font tables table spans features s = ap (λ of. by_tags font tables of spans features s) (wanted_same table s.language)

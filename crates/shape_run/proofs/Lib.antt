@@ -1,4 +1,3 @@
-pub mod Bytes
 pub mod Answering
 pub mod Reading
 pub mod Printing

@@ -9,10 +9,10 @@ use Rattle.glyph_lists.specs.Origins.{origin_of, origins}
 use Rattle.glyph_lists.specs.Readings.{Follows, Reading, Run}
 use Rattle.glyph_buffer.specs.Text.{fits_text}
 use Rattle.shape_run.specs.Output.{glyph_of, glyphs_of}
-use Rattle.shape_plan.specs.Dispatch.{script_waits}
+use Rattle.any_shaper.specs.Dispatch.{script_waits}
 use Rattle.shape_pipeline.specs.Shaped.{text_reading}
 use Rattle.shape_run.specs.Asked.{text_buffer}
-use Rattle.shape_run.specs.Tables.{RunTables}
+use Rattle.run_readers.specs.Tables.{RunTables}
 use Rattle.font_face.specs.declared.parts.FaceParts.{FaceParts}
 use Rattle.run_options.specs.declared.fault.RunFault.{RunFault}
 use Rattle.run_options.specs.declared.fault.RunFault.TheVariants.{NotYet}

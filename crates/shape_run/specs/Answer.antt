@@ -13,19 +13,19 @@ use Rattle.run_options.specs.Fault.{fault_of_cause}
 use Rattle.layout_common.specs.Rows.{value_of}
 use Rattle.font_face.specs.Glyphs.{name_of}
 use Rattle.font_face.specs.declared.parts.FaceParts.{FaceParts}
-use Rattle.face_json.specs.Face.{face_of}
-use Rattle.shape_plan.specs.Dispatch.{script_waits}
+use Rattle.any_shaper.specs.Dispatch.{script_waits}
 use Rattle.shape_reading.specs.Shaping.{Shaping}
 use Rattle.shape_pipeline.specs.Shaped.{by_text, text_reading}
 use Rattle.shape_run.specs.Asked.{text_buffer}
-use Rattle.shape_run.specs.Tables.{AreTables, IfLawful, RunTables, language_tags}
-use Rattle.shape_run.specs.Values.{json_of, of_json, then_answers, then_run}
+use Rattle.run_readers.specs.Input.{IsInput, RunParts}
+use Rattle.run_readers.specs.Tables.{RunTables, language_tags}
+use Rattle.run_readers.specs.Values.{then_run}
 use Rattle.glyph_lists.specs.Items.{Position}
 use Rattle.glyph_lists.specs.Readings.{Reading, Run, run_after}
 use Rattle.glyph_text.specs.Printed.{printed_text}
 use Rattle.glyph_buffer.specs.Sides.{Sides, empty_buffer, run_of}
 use Rattle.glyph_buffer.specs.Text.{fits_text}
-use Rattle.shape_run.specs.OneGlyph.{one_glyph}
+use Rattle.script_syllables.specs.Fronts.{syllable_at}
 use Rattle.shape_run.specs.Output.{glyphs_of}
 
 -- ---- bytes
@@ -46,7 +46,7 @@ printed_line font flags gs ps = printed_text (λ glyph. name_of glyph font) (λ 
 
 -- what a text of a run is shaped by
 abbrev pub shaping : RunTables → FaceParts → List Feature → Sides → Shaping
-shaping t font features s = by_text font t.characters (language_tags t.languages) one_glyph features s
+shaping t font features s = by_text font t.characters (language_tags t.languages) (syllable_at t.syllables) features s
 
 -- the line of a run: its items with the clusters and the glyph flags of their origins
 abbrev pub line_of_run : FaceParts → SerializeFlags → Run → List ℕ
@@ -73,19 +73,15 @@ line_of options t font text = if fits_text text empty_buffer then line_of_text o
 
 -- ---- all of it
 
--- the font of bytes
-unfoldable pub font_in : List ℕ → Result FaceParts RunFault
-font_in bytes = then_run (json_of bytes) (λ f. of_json (face_of f))
-
 -- the line of a text's bytes
 unfoldable pub line_in : Options → RunTables → FaceParts → List ℕ → Result (List ℕ) RunFault
 line_in options t font bytes = then_run (text_of bytes) (line_of options t font)
 
--- the line for a font and a text: faults of the font come before those of the text
-unfoldable pub answer_by : Options → RunTables → List ℕ → List ℕ → Result (List ℕ) RunFault
-answer_by options t font text = then_run (font_in font) (λ face. line_in options t face text)
+-- the line of a text's bytes, where tables and a font were read: their faults come before those of the text
+unfoldable pub answer_by : Options → Result RunParts RunFault → List ℕ → Result (List ℕ) RunFault
+answer_by options read text = then_run read (λ input. line_in options input.tables input.font text)
 
--- the answer to tables, a font and a text: tables that can't be read or are not lawful are refused first
+-- the answer to tables, a font and a text
 unfoldable pub IsAnswer : Options → List ℕ → List ℕ → List ℕ → Result (List ℕ) RunFault → Type 0
 IsAnswer options tables font text answer =
-    (read : Result RunTables RunFault) × AreTables tables read × then_answers read (IfLawful (λ t. answer_by options t font text)) answer
+    (read : Result RunParts RunFault) × IsInput tables font read × (answer ≡ answer_by options read text)

@@ -2,12 +2,13 @@
 use Rattle.std.specs.Prelude.{ℕ, List}
 use Rattle.glyph_buffer.specs.Sides.{Sides, with_added, with_flags, with_level, empty_buffer}
 use Rattle.glyph_buffer.specs.Segment.{guessed, with_segment}
+use Rattle.glyph_buffer.specs.Settings.{with_language}
 use Rattle.glyph_buffer.specs.Text.{added_text}
 use Rattle.run_options.specs.declared.options.Options.{Options}
 
 -- a buffer with what is asked for
 abbrev pub asked_buffer : Options → Sides
-asked_buffer options = with_segment options.direction options.script (with_flags options.buffer_flags (with_level options.cluster_level empty_buffer))
+asked_buffer options = with_language options.language (with_segment options.direction options.script (with_flags options.buffer_flags (with_level options.cluster_level empty_buffer)))
 
 -- the buffer of a text, with what was not asked for guessed
 abbrev pub text_buffer : Options → List ℕ → Sides

@@ -2,10 +2,10 @@
 use Rattle.std.specs.Prelude.{ℕ, ◌≡◌, false, List, [], ◌∷◌, Result, Ok}
 use Rattle.run_options.specs.declared.options.Options.{Options}
 use Rattle.font_face.specs.declared.parts.FaceParts.{FaceParts}
-use Rattle.shape_plan.specs.Dispatch.{script_waits}
+use Rattle.any_shaper.specs.Dispatch.{script_waits}
 use Rattle.run_options.specs.declared.fault.RunFault.{RunFault}
 use Rattle.shape_run.specs.Answer.{IsAnswer, line_of}
-use Rattle.shape_run.specs.Tables.{RunTables}
+use Rattle.run_readers.specs.Tables.{RunTables}
 
 -- no glyphs and a line feed, where such a text does not wait
 abbrev pub EmptyTextGivesEmptyLine : Type 0

@@ -2,24 +2,6 @@
 use Rattle.std.specs.Prelude.{ℕ, ⊤, List, Option, Some, None, Result, Ok, take}
 use Rattle.std.specs.Io.KnownBytes.{Appends}
 use Rattle.run_options.specs.declared.fault.RunFault.{RunFault}
-use Rattle.run_options.specs.declared.fault.RunFault.TheVariants.{Words, Read, ReadLimit, Write, OutOfMemory}
-
--- a fault of the bytes that were read, and not of reading, writing, memory or words
-abbrev pub IsOfBytes : RunFault → Type 0
-IsOfBytes Words = ⊥
-IsOfBytes Read = ⊥
-IsOfBytes ReadLimit = ⊥
-IsOfBytes Write = ⊥
-IsOfBytes OutOfMemory = ⊥
-IsOfBytes _ = ⊤
-
--- a fault of those bytes, or want of memory
-abbrev pub IsOfRun : RunFault → Type 0
-IsOfRun Words = ⊥
-IsOfRun Read = ⊥
-IsOfRun ReadLimit = ⊥
-IsOfRun Write = ⊥
-IsOfRun _ = ⊤
 
 -- a fact about the bytes that three readers have left, where those are known
 abbrev pub OnKnown : Option (List ℕ) → Option (List ℕ) → Option (List ℕ) → (List ℕ → List ℕ → List ℕ → Type 0) → Type 0

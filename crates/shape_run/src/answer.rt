@@ -1,24 +1,21 @@
 //! From the bytes of tables, a font and a text to the printed line.
 ghost use Rattle.std.specs.Prelude.{◌≡◌, ◌≢◌, Ok, Err, IfOk, IfErr, OnOk, true, false, string_bytes};
-ghost use Rattle.serde_json.specs.View.{view};
 ghost use Rattle.glyph_buffer.specs.Sides.{all_glyphs, empty_buffer};
 ghost use Rattle.glyph_buffer.specs.Text.{fits_text};
-ghost use Rattle.shape_run.specs.Answer.{IsAnswer, answer_by, font_in, line_in, line_of, printed_line, text_of, without_line_feed};
-ghost use Rattle.shape_run.specs.Run.{IsOfRun};
-ghost use Rattle.shape_run.specs.Tables.{tables_value};
+ghost use Rattle.shape_run.specs.Answer.{IsAnswer, line_in, line_of, printed_line, text_of, without_line_feed};
+ghost use Rattle.run_readers.specs.Faults.{IsOfRun};
+ghost use Rattle.run_readers.specs.Tables.{tables_value};
 ghost use Rattle.shape_run.specs.Asked.{asked_buffer, text_buffer};
 
 use crate::shape::shape;
-use crate::tables::{TextTables, check_laws, tables_in};
-use crate::values::{read_json, utf8};
-use face_json::read_face;
 use font_face::Face;
 use glyph_types::cause::ShapeCause;
 use glyph_types::flags::SerializeFlags;
-use json_values::fault::JsonFault;
 use run_options::fault::RunFault;
 use run_options::options::Options;
-use serde_json::Value;
+use run_readers::input::read_input;
+use run_readers::tables::TextTables;
+use run_readers::values::utf8;
 use std::alloc::{AllocError, Global};
 use text_buffers::glyphs::GlyphBuffer;
 use text_buffers::unicode_buffer::UnicodeBuffer;
@@ -43,8 +40,11 @@ fn read_text(bytes: &[u8]) -> Result<&str, RunFault>
     }
 }
 
-fn new_text(alloc: Global, options: &Options) -> UnicodeBuffer
-    ensures { result ≡ asked_buffer options.now }
+/// A buffer as the options ask for it. The language moves into it.
+fn new_text(alloc: Global, options: &mut Options) -> UnicodeBuffer
+    ensures text { result ≡ asked_buffer options.old }
+    ensures features { options.new.features.items ≡ options.old.features.items }
+    ensures flags { options.new.flags ≡ options.old.flags }
 {
     let mut text = UnicodeBuffer::new(alloc);
     text.set_cluster_level(options.cluster_level);
@@ -53,13 +53,18 @@ fn new_text(alloc: Global, options: &Options) -> UnicodeBuffer
     if let Some(script) = options.script {
         text.set_script(script);
     }
+    if let Some(language) = options.language.take() {
+        text.set_language(language);
+    }
     text
 }
 
 /// The characters of a text, with what was not asked for guessed.
-fn text_buffer(alloc: Global, options: &Options, text: &str) -> Result<UnicodeBuffer, RunFault>
+fn text_buffer(alloc: Global, options: &mut Options, text: &str) -> Result<UnicodeBuffer, RunFault>
     ensures fits { OnOk result (fits_text text.now empty_buffer ≡ true) }
-    ensures text { IfOk result (λ b. b ≡ text_buffer options.now text.now) }
+    ensures text { IfOk result (λ b. b ≡ text_buffer options.old text.now) }
+    ensures features { options.new.features.items ≡ options.old.features.items }
+    ensures flags { options.new.flags ≡ options.old.flags }
     ensures refused { IfErr result (λ e. e ≢ RunFault.OutOfMemory
         → (e ≡ RunFault.Shape ShapeCause.TooLong) × (fits_text text.now empty_buffer ≡ false)) }
     ensures kind { IfErr result IsOfRun }
@@ -90,87 +95,55 @@ fn print(
 /// The line of a text in a font.
 fn line(
     alloc: Global,
-    options: &Options,
+    mut options: Options,
     tables: &TextTables,
     face: &Face,
     text: &str,
 ) -> Result<String, RunFault>
     ensures ok { IfOk result (λ line.
-        line_of options.now (tables_value tables.now) face.now text.now ≡ Ok (string_bytes line)) }
+        line_of options (tables_value tables.now) face.now text.now ≡ Ok (string_bytes line)) }
     ensures refused { IfErr result (λ e. e ≢ RunFault.OutOfMemory
-        → line_of options.now (tables_value tables.now) face.now text.now ≡ Err e) }
+        → line_of options (tables_value tables.now) face.now text.now ≡ Err e) }
     ensures kind { IfErr result IsOfRun }
 {
-    let text = text_buffer(alloc, options, text)?;
+    let text = text_buffer(alloc, &mut options, text)?;
     let glyphs = shape(alloc, tables, face, &options.features, text)?;
     let line = print(alloc, face, options.flags, &glyphs)?;
     Ok(line)
 }
 
-#[tactic(auto, unfolding(crate::specs::Answer::font_in))]
-fn font_in(alloc: Global, bytes: &[u8]) -> Result<Face, RunFault>
-    ensures ok { IfOk result (λ face. font_in bytes.now ≡ Ok face) }
-    ensures refused { IfErr result (λ e. e ≢ RunFault.OutOfMemory → font_in bytes.now ≡ Err e) }
-    ensures kind { IfErr result IsOfRun }
-{
-    let font = read_json(alloc, bytes)?;
-    let face = read_face(alloc, &font)?;
-    Ok(face)
-}
-
 #[tactic(auto, unfolding(crate::specs::Answer::line_in))]
 fn line_in(
     alloc: Global,
-    options: &Options,
+    options: Options,
     tables: &TextTables,
     face: &Face,
     bytes: &[u8],
 ) -> Result<String, RunFault>
     ensures ok { IfOk result (λ line.
-        line_in options.now (tables_value tables.now) face.now bytes.now ≡ Ok (string_bytes line)) }
+        line_in options (tables_value tables.now) face.now bytes.now ≡ Ok (string_bytes line)) }
     ensures refused { IfErr result (λ e. e ≢ RunFault.OutOfMemory
-        → line_in options.now (tables_value tables.now) face.now bytes.now ≡ Err e) }
+        → line_in options (tables_value tables.now) face.now bytes.now ≡ Err e) }
     ensures kind { IfErr result IsOfRun }
 {
     let text = read_text(bytes)?;
     line(alloc, options, tables, face, text)
 }
 
-/// The line for the bytes of a font and a text.
-#[tactic(auto, unfolding(crate::specs::Answer::answer_by))]
-fn answer_by(
-    alloc: Global,
-    options: &Options,
-    tables: &TextTables,
-    font: &[u8],
-    text: &[u8],
-) -> Result<String, RunFault>
-    ensures ok { IfOk result (λ line.
-        answer_by options.now (tables_value tables.now) font.now text.now ≡ Ok (string_bytes line)) }
-    ensures refused { IfErr result (λ e. e ≢ RunFault.OutOfMemory
-        → answer_by options.now (tables_value tables.now) font.now text.now ≡ Err e) }
-    ensures kind { IfErr result IsOfRun }
-{
-    let face = font_in(alloc, font)?;
-    line_in(alloc, options, tables, &face, text)
-}
-
-/// The line for the bytes of tables, a font and a text. The tables are asked whether they are lawful before the font is
-/// read.
+/// The line for the bytes of tables, a font and a text, which are read in this order.
 pub(crate) fn answer(
     alloc: Global,
-    options: &Options,
+    options: Options,
     tables: &[u8],
     font: &[u8],
     text: &[u8],
 ) -> Result<String, RunFault>
     ensures ok { IfOk result (λ line.
-        IsAnswer options.now tables.now font.now text.now (Ok (string_bytes line))) }
+        IsAnswer options tables.now font.now text.now (Ok (string_bytes line))) }
     ensures refused { IfErr result (λ e. e ≢ RunFault.OutOfMemory
-        → IsAnswer options.now tables.now font.now text.now (Err e)) }
+        → IsAnswer options tables.now font.now text.now (Err e)) }
     ensures kind { IfErr result IsOfRun }
 {
-    let tables = tables_in(alloc, tables)?;
-    check_laws(&tables.characters)?;
-    answer_by(alloc, options, &tables, font, text)
+    let input = read_input(alloc, tables, font)?;
+    line_in(alloc, options, &input.tables, &input.face, text)
 }

@@ -6,7 +6,4 @@ pub mod laws;
 mod read;
 pub mod run;
 mod shape;
-mod spans;
-mod tables;
-mod values;
 mod write;

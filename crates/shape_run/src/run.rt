@@ -1,7 +1,8 @@
 ghost use Rattle.std.specs.Prelude.{◌≡◌, ◌≢◌, ◌⊎◌, ◌≤◌, ◌^◌, Ok, Err, length, IfOk, IfErr, OnOk, OnErr, IfSome};
 ghost use Rattle.std.specs.Io.KnownBytes.{Appends, IsAtEnd, Keeps};
 ghost use Rattle.shape_run.specs.Answer.{IsAnswer};
-ghost use Rattle.shape_run.specs.Run.{AppendsFront, IsOfBytes, OnKnown, SomeLine};
+ghost use Rattle.run_readers.specs.Faults.{IsOfBytes};
+ghost use Rattle.shape_run.specs.Run.{AppendsFront, OnKnown, SomeLine};
 
 use crate::answer::answer;
 use crate::read::read_all;
@@ -15,7 +16,7 @@ use std::io::{Read, Write};
 /// nothing else.
 pub fn run<T: Read, F: Read, X: Read, W: Write>(
     alloc: Global,
-    options: &Options,
+    options: Options,
     tables: &mut T,
     font: &mut F,
     text: &mut X,
@@ -24,7 +25,7 @@ pub fn run<T: Read, F: Read, X: Read, W: Write>(
     // Of readers whose bytes are known the line is written, and the readers are at their ends.
     ensures written { OnOk result
         (OnKnown (T.remaining tables.old) (F.remaining font.old) (X.remaining text.old)
-        (λ ts fs xs. SomeLine (IsAnswer options.now ts fs xs)
+        (λ ts fs xs. SomeLine (IsAnswer options ts fs xs)
         (Appends (W.contents out.old) (W.contents out.new)))) }
     ensures tables_ended { OnOk result (IfSome (T.remaining tables.old) (λ _. IsAtEnd (T.remaining tables.new))) }
     ensures font_ended { OnOk result (IfSome (F.remaining font.old) (λ _. IsAtEnd (F.remaining font.new))) }
@@ -33,7 +34,7 @@ pub fn run<T: Read, F: Read, X: Read, W: Write>(
     // A fault of the bytes is the first that is found in them, once all readers are at their ends.
     ensures refused { IfErr result (λ e. IsOfBytes e
         → OnKnown (T.remaining tables.old) (F.remaining font.old) (X.remaining text.old)
-        (λ ts fs xs. IsAnswer options.now ts fs xs (Err e))) }
+        (λ ts fs xs. IsAnswer options ts fs xs (Err e))) }
     ensures refused_tables { IfErr result (λ e. IsOfBytes e
         → IfSome (T.remaining tables.old) (λ _. IsAtEnd (T.remaining tables.new))) }
     ensures refused_font { IfErr result (λ e. IsOfBytes e
@@ -44,7 +45,7 @@ pub fn run<T: Read, F: Read, X: Read, W: Write>(
     // Writing comes last, and where it fails a front of the line was written.
     ensures write_last { result ≡ Err RunFault.Write
         → OnKnown (T.remaining tables.old) (F.remaining font.old) (X.remaining text.old)
-        (λ ts fs xs. SomeLine (IsAnswer options.now ts fs xs)
+        (λ ts fs xs. SomeLine (IsAnswer options ts fs xs)
         (AppendsFront (W.contents out.old) (W.contents out.new))) }
     ensures read_limit { result ≡ Err RunFault.ReadLimit
         → IfSome (T.remaining tables.old) (λ bs. 2 ^ 26 ≤ length bs)

@@ -116,6 +116,7 @@ pub trait hb_ot_shaper_t: PlannedShaper {
     /// Changes the glyphs, which stand as they are drawn, and their positions.
     fn postprocess_glyphs(
         &self,
+        alloc: Global,
         plan: &hb_script_plan_t<Self::PlanData>,
         face: &Face,
         buffer: &mut hb_buffer_t,

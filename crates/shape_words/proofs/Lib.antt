@@ -1,3 +1,4 @@
+pub mod Arguments
 pub mod Taken
 pub mod Refused
 pub mod FeatureValues

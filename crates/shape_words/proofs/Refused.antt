@@ -1,7 +1,7 @@
 -- What words ask for is refused by `Words` alone.
 use Rattle.std.proofs.Common.{◌≡◌, ℕ, Bool, true, false, List, [], ◌∷◌, Option, Some, None, Result, Ok, Err, ap, codes}
 use Rattle.std.specs.Option.{ok_or}
-use Rattle.std.specs.Prelude.{if◌then◌else◌, is_some, ⊤}
+use Rattle.std.specs.Prelude.{if◌then◌else◌}
 use Rattle.std.specs.Str.{bytes_eq}
 use Rattle.glyph_types.specs.declared.level.BufferClusterLevel.TheVariants.{MonotoneGraphemes, MonotoneCharacters, Characters}
 use Rattle.std.specs.List.{flat_map}
@@ -12,7 +12,7 @@ use Rattle.run_options.specs.declared.fault.RunFault.{RunFault}
 use Rattle.run_options.specs.declared.fault.RunFault.TheVariants.{Words}
 use Rattle.shaping_text.specs.declared.direction.Direction.TheVariants.{Invalid}
 use Rattle.shaping_text.specs.Direction.{direction_of_text}
-use Rattle.shape_words.specs.Words.{Lookup, and_then, asked, behind, features_in, features_of, parts_of, values_in, direction_in, file_in, hb_shape, options_of, or_words, read_or, script_in, settings_of, some_script, language_in, language_or_none, level_in, level_of_text, level_or_default, no_waiting}
+use Rattle.shape_words.specs.Words.{Lookup, and_then, asked, behind, features_in, features_of, parts_of, values_in, direction_in, file_in, hb_shape, options_of, or_words, read_or, script_in, settings_of, some_script, language_in, language_or_none, level_in, level_of_text, level_or_default}
 
 -- a result that is refused by Words alone
 abbrev RefusedByWords : {A : Type 0} → Result A RunFault → Type 0
@@ -68,9 +68,6 @@ level-refused : (o : Option (List ℕ)) → RefusedByWords (level_or_default o)
 level-refused None = ok-refused MonotoneGraphemes
 level-refused (Some text) = level-text-refused text
 
-waiting-refused : (value : Lookup) → RefusedByWords (no_waiting value)
-waiting-refused value = if-refused {A = ⊤} (is_some (value (codes "language"))) (Err Words) (Ok (tt {0})) words-refused (ok-refused {A = ⊤} (tt {0}))
-
 settings-refused : (value : Lookup) (features : List (List ℕ)) → RefusedByWords (settings_of value features)
 settings-refused value features =
     then_words (file_in (codes "tables") value) _ (file-refused (value (codes "tables"))) (λ tables.
@@ -80,8 +77,7 @@ settings-refused value features =
     then_words (script_in value) _ (read_or-refused None some_script (value (codes "script"))) (λ script.
     then_words (language_in value) _ (language-refused (value (codes "language"))) (λ language.
     then_words (features_in features) _ (features-refused (flat_map parts_of features)) (λ requests.
-    then_words (level_in value) _ (level-refused (value (codes "cluster-level"))) (λ level.
-    then_words (no_waiting value) _ (waiting-refused value) (λ waiting e same. let no : ⊥ = cc in absurd no)))))))))
+    then_words (level_in value) _ (level-refused (value (codes "cluster-level"))) (λ level e same. let no : ⊥ = cc in absurd no))))))))
 
 asked-refused : (faults : Kinds) (rows : List Row) → RefusedByWords (asked faults rows)
 asked-refused [] rows e same = settings-refused (λ id. first_of id rows) (values_in (all_of (codes "features") rows)) e same

@@ -1,5 +1,5 @@
 -- The command line of the program: hb_shape [options] TABLES FONT TEXT.
-use Rattle.std.specs.Prelude.{ℕ, Bool, true, false, List, [], ◌∷◌, codes, if◌then◌else◌, Option, Some, None, Result, Ok, Err, string_bytes, unwrap_or, ◌++◌, ◌==◌, ◌+◌, is_some, ⊤}
+use Rattle.std.specs.Prelude.{ℕ, Bool, true, false, List, [], ◌∷◌, codes, if◌then◌else◌, Option, Some, None, Result, Ok, Err, string_bytes, unwrap_or, ◌++◌, ◌==◌, ◌+◌}
 use Rattle.std.specs.List.{slice_split, flat_map}
 use Rattle.feature_text.specs.declared.feature.Feature.{Feature}
 use Rattle.feature_text.specs.FeatureText.{feature_of_text}
@@ -16,6 +16,8 @@ use Rattle.glyph_types.specs.declared.level.BufferClusterLevel.{BufferClusterLev
 use Rattle.glyph_types.specs.declared.level.BufferClusterLevel.TheVariants.{MonotoneGraphemes, MonotoneCharacters, Characters}
 use Rattle.run_options.specs.declared.fault.RunFault.{RunFault}
 use Rattle.run_options.specs.declared.fault.RunFault.TheVariants.{Words, OutOfMemory}
+use Rattle.shape_words.specs.declared.command.Kind.{Kind}
+use Rattle.shape_words.specs.declared.command.Kind.TheVariants.{Value, Values, Switch, File}
 use Rattle.shape_words.specs.declared.options.CommandLine.{CommandLine}
 use Rattle.shaping_text.specs.declared.constants.BufferFlags.{BufferFlags}
 use Rattle.shaping_text.specs.Language.{language_text}
@@ -44,34 +46,38 @@ list_rule id = record (new_rule id) { long = Some id; action = Some Append }
 abbrev pub switch_rule : List ℕ → Rule
 switch_rule id = record (new_rule id) { long = Some id; action = Some SetTrue }
 
--- options with values: of the text, and which features are on
-abbrev pub with_options : App → App
-with_options app =
-    with_rule (with_rule (with_rule (with_rule (with_rule app
-    (option_rule (codes "direction"))) (option_rule (codes "script"))) (option_rule (codes "language")))
-    (list_rule (codes "features"))) (option_rule (codes "cluster-level"))
+abbrev pub rule_by : Kind → List ℕ → Rule
+rule_by Value id = option_rule id
+rule_by Values id = list_rule id
+rule_by Switch id = switch_rule id
+rule_by File id = file_rule id
 
--- switches of the text
-abbrev pub with_text_switches : App → App
-with_text_switches app =
-    with_rule (with_rule (with_rule (with_rule (with_rule (with_rule (with_rule app
-    (switch_rule (codes "bot"))) (switch_rule (codes "eot"))) (switch_rule (codes "preserve-default-ignorables")))
-    (switch_rule (codes "remove-default-ignorables"))) (switch_rule (codes "no-dotted-circle")))
-    (switch_rule (codes "unsafe-to-concat"))) (switch_rule (codes "safe-to-insert-tatweel"))
+-- a command with an argument for each name
+abbrev pub with_all : (List ℕ → Rule) → List (List ℕ) → App → App
+with_all rule [] app = app
+with_all rule (id ∷ ids) app = with_all rule ids (with_rule app (rule id))
 
--- switches of what is printed
-abbrev pub with_print_switches : App → App
-with_print_switches app =
-    with_rule (with_rule (with_rule (with_rule (with_rule (with_rule app
-    (switch_rule (codes "no-clusters"))) (switch_rule (codes "no-positions"))) (switch_rule (codes "no-glyph-names")))
-    (switch_rule (codes "show-extents"))) (switch_rule (codes "show-flags"))) (switch_rule (codes "no-advances"))
+-- options with a value
+abbrev pub value_names : List (List ℕ)
+value_names = codes "direction" ∷ codes "script" ∷ codes "language" ∷ codes "cluster-level" ∷ []
+
+-- switches, of the text and then of what is printed
+abbrev pub switch_names : List (List ℕ)
+switch_names = codes "bot" ∷ codes "eot" ∷ codes "preserve-default-ignorables" ∷ codes "remove-default-ignorables" ∷ codes "no-dotted-circle"
+    ∷ codes "unsafe-to-concat" ∷ codes "safe-to-insert-tatweel"
+    ∷ codes "no-clusters" ∷ codes "no-positions" ∷ codes "no-glyph-names" ∷ codes "show-extents" ∷ codes "show-flags" ∷ codes "no-advances" ∷ []
 
 -- the names of the three files
-abbrev pub with_files : App → App
-with_files app = with_rule (with_rule (with_rule app (file_rule (codes "tables"))) (file_rule (codes "font"))) (file_rule (codes "text"))
+abbrev pub file_names : List (List ℕ)
+file_names = codes "tables" ∷ codes "font" ∷ codes "text" ∷ []
 
+-- the features are the one option that may be given several times
 abbrev pub hb_shape : App
-hb_shape = with_files (with_print_switches (with_text_switches (with_options (new_app (codes "hb_shape")))))
+hb_shape =
+    with_all file_rule file_names
+    (with_all switch_rule switch_names
+    (with_all list_rule (codes "features" ∷ [])
+    (with_all option_rule value_names (new_app (codes "hb_shape")))))
 
 -- ---- what it asks for
 
@@ -208,10 +214,6 @@ buffer_flags_in value = record {
       + flag_of (codes "safe-to-insert-tatweel") 128 value)))));
 }
 
--- an option whose stage is not there yet is refused: the language
-abbrev pub no_waiting : Lookup → Result ⊤ RunFault
-no_waiting value = if is_some (value (codes "language")) then Err Words else Ok tt
-
 -- what the first value of each id and all values of `features` ask for
 abbrev pub settings_of : Lookup → List (List ℕ) → Result Settings RunFault
 settings_of value features =
@@ -223,7 +225,6 @@ settings_of value features =
     and_then (language_in value) (λ language.
     and_then (features_in features) (λ requests.
     and_then (level_in value) (λ level.
-    and_then (no_waiting value) (λ _.
     Ok (record {
       tables = tables;
       font = font;
@@ -235,7 +236,7 @@ settings_of value features =
       cluster_level = level;
       buffer_flags = buffer_flags_in value;
       flags = flags_in value;
-    }))))))))))
+    })))))))))
 
 -- an error of the parse as a fault of the run
 abbrev pub refusal_of : ErrorKind → RunFault

@@ -1,89 +1,79 @@
-ghost use Rattle.std.specs.Prelude.{◌≡◌, IfOk, false};
+ghost use Rattle.std.specs.Prelude.{◌≡◌, IfOk, false, map};
 ghost use Rattle.clap.specs.Words.{app_of, rule_of};
-ghost use Rattle.shape_words.specs.Words.{hb_shape, file_rule, list_rule, option_rule, switch_rule, with_options, with_text_switches, with_print_switches, with_files};
+ghost use Rattle.shape_words.specs.Words.{hb_shape, rule_by, with_all};
 
 use clap::{Arg, ArgAction, Command};
 use std::alloc::{AllocError, Global};
+
+/// How an argument is given.
+#[derive(Clone, Copy)]
+pub(crate) enum Kind {
+    /// An option with a value.
+    Value,
+    /// An option with a value that may be given several times.
+    Values,
+    /// An option without a value.
+    Switch,
+    /// The name of a file, without an option.
+    File,
+}
+
+const VALUES: [&str; 4] = ["direction", "script", "language", "cluster-level"];
+
+const SWITCHES: [&str; 13] = [
+    "bot",
+    "eot",
+    "preserve-default-ignorables",
+    "remove-default-ignorables",
+    "no-dotted-circle",
+    "unsafe-to-concat",
+    "safe-to-insert-tatweel",
+    "no-clusters",
+    "no-positions",
+    "no-glyph-names",
+    "show-extents",
+    "show-flags",
+    "no-advances",
+];
+
+const FILES: [&str; 3] = ["tables", "font", "text"];
 
 /// The command line of the program.
 pub(crate) fn command<'a>(alloc: Global) -> Result<Command<'a>, AllocError>
     ensures { IfOk result (λ c. app_of c ≡ hb_shape) }
 {
-    let command = with_options(alloc, Command::new(alloc, "hb_shape"))?;
-    let command = with_text_switches(alloc, command)?;
-    let command = with_print_switches(alloc, command)?;
-    with_files(alloc, command)
+    let command = Command::new(alloc, "hb_shape");
+    let command = with_arguments(alloc, command, Kind::Value, &VALUES)?;
+    let command = with_arguments(alloc, command, Kind::Values, &["features"])?;
+    let command = with_arguments(alloc, command, Kind::Switch, &SWITCHES)?;
+    with_arguments(alloc, command, Kind::File, &FILES)
 }
 
-fn with_options<'a>(alloc: Global, command: Command<'a>) -> Result<Command<'a>, AllocError>
-    ensures { IfOk result (λ c. app_of c ≡ with_options (app_of command.entry)) }
+/// The command with an argument for each name.
+fn with_arguments<'a>(
+    alloc: Global,
+    command: Command<'a>,
+    kind: Kind,
+    ids: &[&'a str],
+) -> Result<Command<'a>, AllocError>
+    ensures { IfOk result (λ c. app_of c
+        ≡ with_all (rule_by kind) (map (λ t. t.now) ids.now) (app_of command.entry)) }
 {
-    command
-        .arg(option(alloc, "direction"))?
-        .arg(option(alloc, "script"))?
-        .arg(option(alloc, "language"))?
-        .arg(list(alloc, "features"))?
-        .arg(option(alloc, "cluster-level"))
+    let mut command = command;
+    for id in ids {
+        command = command.arg(argument(alloc, kind, id))?;
+    }
+    Ok(command)
 }
 
-fn with_text_switches<'a>(alloc: Global, command: Command<'a>) -> Result<Command<'a>, AllocError>
-    ensures { IfOk result (λ c. app_of c ≡ with_text_switches (app_of command.entry)) }
-{
-    command
-        .arg(switch(alloc, "bot"))?
-        .arg(switch(alloc, "eot"))?
-        .arg(switch(alloc, "preserve-default-ignorables"))?
-        .arg(switch(alloc, "remove-default-ignorables"))?
-        .arg(switch(alloc, "no-dotted-circle"))?
-        .arg(switch(alloc, "unsafe-to-concat"))?
-        .arg(switch(alloc, "safe-to-insert-tatweel"))
-}
-
-fn with_print_switches<'a>(alloc: Global, command: Command<'a>) -> Result<Command<'a>, AllocError>
-    ensures { IfOk result (λ c. app_of c ≡ with_print_switches (app_of command.entry)) }
-{
-    command
-        .arg(switch(alloc, "no-clusters"))?
-        .arg(switch(alloc, "no-positions"))?
-        .arg(switch(alloc, "no-glyph-names"))?
-        .arg(switch(alloc, "show-extents"))?
-        .arg(switch(alloc, "show-flags"))?
-        .arg(switch(alloc, "no-advances"))
-}
-
-fn with_files<'a>(alloc: Global, command: Command<'a>) -> Result<Command<'a>, AllocError>
-    ensures { IfOk result (λ c. app_of c ≡ with_files (app_of command.entry)) }
-{
-    command
-        .arg(file(alloc, "tables"))?
-        .arg(file(alloc, "font"))?
-        .arg(file(alloc, "text"))
-}
-
-fn option<'a>(alloc: Global, id: &'a str) -> Arg<'a>
-    ensures rule { rule_of result ≡ option_rule id.entry.now }
+fn argument<'a>(alloc: Global, kind: Kind, id: &'a str) -> Arg<'a>
+    ensures rule { rule_of result ≡ rule_by kind id.entry.now }
     ensures own { result.global ≡ false }
 {
-    Arg::new(alloc, id).long(id).action(ArgAction::Set)
-}
-
-fn list<'a>(alloc: Global, id: &'a str) -> Arg<'a>
-    ensures rule { rule_of result ≡ list_rule id.entry.now }
-    ensures own { result.global ≡ false }
-{
-    Arg::new(alloc, id).long(id).action(ArgAction::Append)
-}
-
-fn switch<'a>(alloc: Global, id: &'a str) -> Arg<'a>
-    ensures rule { rule_of result ≡ switch_rule id.entry.now }
-    ensures own { result.global ≡ false }
-{
-    Arg::new(alloc, id).long(id).action(ArgAction::SetTrue)
-}
-
-fn file<'a>(alloc: Global, id: &'a str) -> Arg<'a>
-    ensures rule { rule_of result ≡ file_rule id.entry.now }
-    ensures own { result.global ≡ false }
-{
-    Arg::new(alloc, id).required(true).action(ArgAction::Set)
+    match kind {
+        Kind::Value => Arg::new(alloc, id).long(id).action(ArgAction::Set),
+        Kind::Values => Arg::new(alloc, id).long(id).action(ArgAction::Append),
+        Kind::Switch => Arg::new(alloc, id).long(id).action(ArgAction::SetTrue),
+        Kind::File => Arg::new(alloc, id).required(true).action(ArgAction::Set),
+    }
 }

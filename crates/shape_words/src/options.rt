@@ -1,7 +1,7 @@
 ghost use Rattle.std.specs.Prelude.{◌≡◌, ◌≢◌, ◌≤◌, IfOk, IfErr, OnOk, Ok, Err, map, string_bytes};
 ghost use Rattle.feature_text.specs.FeatureText.{feature_of_text};
 ghost use Rattle.clap.specs.Words.{found_of, first_value};
-ghost use Rattle.shape_words.specs.Words.{options_of, refusal_of, settings_of, settings_in, file_in, direction_in, script_in, flag_of, flags_in, feature_values, features_in, features_of, parts_of, behind, or_words, language_in, language_of_text, level_in, level_of_text, buffer_flags_in, no_waiting};
+ghost use Rattle.shape_words.specs.Words.{options_of, refusal_of, settings_of, settings_in, file_in, direction_in, script_in, flag_of, flags_in, feature_values, features_in, features_of, parts_of, behind, or_words, language_in, language_of_text, level_in, level_of_text, buffer_flags_in};
 ghost use Rattle.std.specs.Option.{option_map};
 ghost use Rattle.shaping_text.specs.Language.{language_text};
 
@@ -38,8 +38,8 @@ pub struct CommandLine {
 /// `--language L`, `--cluster-level 0` to `2`; of the text `--bot`, `--eot`, `--preserve-default-ignorables`,
 /// `--remove-default-ignorables`, `--no-dotted-circle`, `--unsafe-to-concat` and `--safe-to-insert-tatweel`; of what is
 /// printed `--no-clusters`, `--no-positions`, `--no-glyph-names`, `--show-extents`, `--show-flags` and `--no-advances`.
-/// Only `--features F` may be repeated and then adds, and each F is features with commas between them. The language is
-/// refused until shaping acts on it. Words that are anything else, `--help` among them, are refused.
+/// Only `--features F` may be repeated and then adds, and each F is features with commas between them. Words that are
+/// anything else, `--help` among them, are refused.
 pub fn parse_options<'a, S: AsStr>(alloc: Global, words: &'a [S]) -> Result<CommandLine, RunFault>
     ensures ok { IfOk result (λ o. options_of (map S.text words.entry.now) ≡ Ok (settings_in o)) }
     ensures refused { IfErr result (λ e. e ≢ RunFault.OutOfMemory
@@ -68,7 +68,7 @@ fn read_options(alloc: Global, matches: &ArgMatches<'_>) -> Result<CommandLine, 
     ensures refused { IfErr result (λ e. e ≢ RunFault.OutOfMemory
         → settings_of (first_value (found_of matches.now)) (feature_values (found_of matches.now)) ≡ Err e) }
 {
-    let line = CommandLine {
+    Ok(CommandLine {
         tables: read_name(alloc, matches, "tables")?,
         font: read_name(alloc, matches, "font")?,
         text: read_name(alloc, matches, "text")?,
@@ -81,9 +81,7 @@ fn read_options(alloc: Global, matches: &ArgMatches<'_>) -> Result<CommandLine, 
             buffer_flags: read_buffer_flags(matches),
             flags: read_flags(matches),
         },
-    };
-    refuse_waiting(matches)?;
-    Ok(line)
+    })
 }
 
 fn read_name(alloc: Global, matches: &ArgMatches<'_>, id: &str) -> Result<String, RunFault>
@@ -162,16 +160,6 @@ fn level(text: &str) -> Result<BufferClusterLevel, RunFault>
     } else {
         Err(RunFault::Words)
     }
-}
-
-/// Refuses each option whose stage is not there yet.
-fn refuse_waiting(matches: &ArgMatches<'_>) -> Result<(), RunFault>
-    ensures { result ≡ no_waiting (first_value (found_of matches.now)) }
-{
-    if matches.get_str("language").is_some() {
-        return Err(RunFault::Words);
-    }
-    Ok(())
 }
 
 fn read_features(alloc: Global, matches: &ArgMatches<'_>) -> Result<Vec<Feature>, RunFault>

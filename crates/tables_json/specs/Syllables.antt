@@ -11,34 +11,8 @@ use Rattle.script_constants.specs.declared.shaper.hb_ot_script_shaper_t.{hb_ot_s
 use Rattle.script_constants.specs.declared.shaper.hb_ot_script_shaper_t.TheVariants.{INDIC_SHAPER, KHMER_SHAPER, MYANMAR_SHAPER, UNIVERSAL_SHAPER}
 use Rattle.script_syllables.specs.declared.machine.Accept.{Accept}
 use Rattle.script_syllables.specs.declared.machine.Step.{Step}
-use Rattle.script_syllables.specs.declared.machine.SyllableMachine.{SyllableMachine}
-use Rattle.script_syllables.specs.declared.machine.SyllableMachines.{SyllableMachines}
+use Rattle.script_syllables.specs.Machines.{Machine, Machines}
 use Rattle.rows_json.specs.Rows.{rows_at, named}
-
--- ---- machines as their rows, without what their lists keep of memory
-
-pub record Machine : Type 0 where
-  -- how many states there are
-  pub states : ℕ
-  pub next : List Step
-  pub accept : List Accept
-
-pub record Machines : Type 0 where
-  pub indic : Machine
-  pub khmer : Machine
-  pub myanmar : Machine
-  pub universal : Machine
-
-abbrev pub machine_in : SyllableMachine → Machine
-machine_in m = record { states = m.states; next = m.next.items; accept = m.accept.items }
-
-abbrev pub machines_in : SyllableMachines → Machines
-machines_in ms = record {
-  indic = machine_in ms.indic;
-  khmer = machine_in ms.khmer;
-  myanmar = machine_in ms.myanmar;
-  universal = machine_in ms.universal;
-}
 
 -- ---- rows of a machine with so many states
 

@@ -3,8 +3,9 @@ ghost use Rattle.std.specs.Prelude.{◌≡◌, ◌≢◌, IfOk, IfErr, Ok, Err};
 ghost use Rattle.serde_json.specs.Find.{get};
 ghost use Rattle.serde_json.specs.View.{view};
 ghost use Rattle.json_values.specs.Objects.{of_object};
+ghost use Rattle.script_syllables.specs.Machines.{machine_in, machines_in};
 ghost use Rattle.script_syllables.specs.Sound.{AreRising, IsRising};
-ghost use Rattle.tables_json.specs.Syllables.{step, accept, machine_in, machines_in, machine_keys, machine_at, machines_keys, syllables_key, syllables_of};
+ghost use Rattle.tables_json.specs.Syllables.{step, accept, machine_keys, machine_at, machines_keys, syllables_key, syllables_of};
 
 use json_values::cell::pair;
 use json_values::fault::JsonFault;
@@ -67,7 +68,7 @@ impl RowReader for Accepts {
 /// Reads the machines of the key `syllables`, in the order of their shapers' names. A state that its machine does not
 /// have is out of range, a category or a kind that the shaper does not have an unknown name.
 pub fn read_syllables(alloc: Global, value: &Value) -> Result<SyllableTable, JsonFault>
-    ensures ok { IfOk result (λ t. syllables_of (view value.now) ≡ Ok (machines_in t)) }
+    ensures ok { IfOk result (λ t. syllables_of (view value.now) ≡ Ok t) }
     ensures refused { IfErr result (λ e. e ≢ JsonFault.OutOfMemory → syllables_of (view value.now) ≡ Err e) }
 {
     if !value.is_object() {
@@ -78,7 +79,7 @@ pub fn read_syllables(alloc: Global, value: &Value) -> Result<SyllableTable, Jso
 
 fn read_machines(alloc: Global, value: &Value) -> Result<SyllableMachines, JsonFault>
     ensures ok { IfOk result (λ ms. syllables_key (view value.now) ≡ Ok (machines_in ms)) }
-    ensures rising { IfOk result AreRising }
+    ensures rising { IfOk result (λ ms. AreRising (machines_in ms)) }
     ensures refused { IfErr result (λ e. e ≢ JsonFault.OutOfMemory → syllables_key (view value.now) ≡ Err e) }
 {
     match value.get("syllables") {
@@ -94,7 +95,7 @@ fn read_machines(alloc: Global, value: &Value) -> Result<SyllableMachines, JsonF
 
 fn read_each_machine(alloc: Global, value: &Value) -> Result<SyllableMachines, JsonFault>
     ensures ok { IfOk result (λ ms. of_object machines_keys (view value.now) ≡ Ok (machines_in ms)) }
-    ensures rising { IfOk result AreRising }
+    ensures rising { IfOk result (λ ms. AreRising (machines_in ms)) }
     ensures refused { IfErr result (λ e. e ≢ JsonFault.OutOfMemory
         → of_object machines_keys (view value.now) ≡ Err e) }
 {
@@ -116,7 +117,7 @@ fn read_machine_at(
     shaper: hb_ot_script_shaper_t,
 ) -> Result<SyllableMachine, JsonFault>
     ensures ok { IfOk result (λ m. machine_at key.now shaper (view value.now) ≡ Ok (machine_in m)) }
-    ensures rising { IfOk result IsRising }
+    ensures rising { IfOk result (λ m. IsRising (machine_in m)) }
     ensures refused { IfErr result (λ e. e ≢ JsonFault.OutOfMemory
         → machine_at key.now shaper (view value.now) ≡ Err e) }
 {
@@ -132,7 +133,7 @@ fn read_machine(
     shaper: hb_ot_script_shaper_t,
 ) -> Result<SyllableMachine, JsonFault>
     ensures ok { IfOk result (λ m. of_object (machine_keys shaper) (view value.now) ≡ Ok (machine_in m)) }
-    ensures rising { IfOk result IsRising }
+    ensures rising { IfOk result (λ m. IsRising (machine_in m)) }
     ensures refused { IfErr result (λ e. e ≢ JsonFault.OutOfMemory
         → of_object (machine_keys shaper) (view value.now) ≡ Err e) }
 {

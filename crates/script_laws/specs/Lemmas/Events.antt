@@ -8,7 +8,7 @@ use Rattle.glyph_lists.specs.Readings.{Read, Reading, Stage, View, always, and_t
 use Rattle.script_walks.specs.Rewriting.{Rewritten, by_syllable, each_rewritten, in_syllables, shifted, then_rule, within}
 use Rattle.script_walks.specs.Buffers.{with_rule}
 use Rattle.script_pauses.specs.Syllables.{syllables_by}
-use Rattle.script_laws.specs.Plain.{LeavesPlain}
+use Rattle.shape_shaper.specs.Rules.{StaysPlain}
 
 pub both_plain : (es fs : List Event) → IsPlain es → IsPlain fs → IsPlain (es ++ fs)
 both_plain [] fs p q = q
@@ -67,23 +67,23 @@ read_or r (Err e) = r
 pub ok_plain : (s r : Read) (level : BufferClusterLevel) → IsPlain (s.events level) → ◌≡◌ {A = Reading} (Ok s) (Ok r) → IsPlain (r.events level)
 ok_plain s r level p e = subst (λ (q : Read). IsPlain (q.events level)) (ap (read_or s) e) p
 
-pub always_plain : (f : View → Read) → ((v : View) (level : BufferClusterLevel) → IsPlain ((f v).events level)) → LeavesPlain (always f)
-always_plain f p v r level e = ok_plain (f v) r level (p v level) e
+pub always_plain : (f : View → Read) → ((v : View) (level : BufferClusterLevel) → IsPlain ((f v).events level)) → StaysPlain (always f)
+always_plain f p v r level monotone e = ok_plain (f v) r level (p v level) e
 
-pub rule_plain : (rule : List Item → Rewritten) → ((ys : List Item) → IsPlainly (rule ys)) → LeavesPlain (always (with_rule rule))
+pub rule_plain : (rule : List Item → Rewritten) → ((ys : List Item) → IsPlainly (rule ys)) → StaysPlain (always (with_rule rule))
 rule_plain rule p = always_plain (with_rule rule) (λ v level. p v.items)
 
-pub syllables_plain : (rule : List Item → Rewritten) → ((ys : List Item) → IsPlainly (rule ys)) → LeavesPlain (syllables_by rule)
+pub syllables_plain : (rule : List Item → Rewritten) → ((ys : List Item) → IsPlainly (rule ys)) → StaysPlain (syllables_by rule)
 syllables_plain rule p = rule_plain (by_syllable rule) (λ ys. each_plainly rule p (in_syllables ys))
 
-pub same_plain : LeavesPlain as_it_is
-same_plain v r level e = ok_plain (record { view = v; events = λ l. [] }) r level tt e
+pub same_plain : StaysPlain as_it_is
+same_plain v r level monotone e = ok_plain (record { view = v; events = λ l. [] }) r level tt e
 
-pub then_plain : (s t : Stage) → LeavesPlain s → LeavesPlain t → LeavesPlain (λ v. and_then (s v) t)
-then_plain s t p q v r level e = by_first (s v) refl e
+pub then_plain : (s t : Stage) → StaysPlain s → StaysPlain t → StaysPlain (λ v. and_then (s v) t)
+then_plain s t p q v r level monotone e = by_first (s v) refl e
   where
     by_second : (a : Read) → s v ≡ Ok a → (b : Reading) → t a.view ≡ b → then_reading a b ≡ Ok r → IsPlain (r.events level)
-    by_second a f (Ok b) g h = ok_plain (record { view = b.view; events = λ l. a.events l ++ b.events l }) r level (both_plain (a.events level) (b.events level) (p v a level f) (q a.view b level g)) h
+    by_second a f (Ok b) g h = ok_plain (record { view = b.view; events = λ l. a.events l ++ b.events l }) r level (both_plain (a.events level) (b.events level) (p v a level monotone f) (q a.view b level monotone g)) h
     by_second a f (Err c) g h = cc
 
     by_first : (a : Reading) → s v ≡ a → and_then a t ≡ Ok r → IsPlain (r.events level)

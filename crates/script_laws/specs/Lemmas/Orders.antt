@@ -5,7 +5,7 @@ use Rattle.std.specs.List.{list_any}
 use Rattle.glyph_types.specs.declared.level.BufferClusterLevel.{BufferClusterLevel}
 use Rattle.glyph_lists.specs.Items.{Item}
 use Rattle.glyph_lists.specs.Events.{IsPlain}
-use Rattle.glyph_lists.specs.Readings.{Read, Reading, View, as_it_is}
+use Rattle.glyph_lists.specs.Readings.{IsMonotone, Read, Reading, View, as_it_is}
 use Rattle.glyph_slices.specs.Lemmas.OrderSpans.{order_stays}
 use Rattle.script_constants.specs.declared.ot_category_t.TheConstants as category
 use Rattle.script_constants.specs.declared.shaper.hb_ot_script_shaper_t.TheVariants.{KHMER_SHAPER, MYANMAR_SHAPER, UNIVERSAL_SHAPER}
@@ -19,7 +19,8 @@ use Rattle.script_khmer_myanmar.specs.Khmer as khmer
 use Rattle.script_khmer_myanmar.specs.Myanmar as myanmar
 use Rattle.script_universal.specs.Reordering as universal
 use Rattle.script_pauses.specs.Syllables.{khmer_circles, myanmar_circles, syllables_by, universal_circles}
-use Rattle.script_laws.specs.Plain.{LeavesPlain, OrdersLeavePlain}
+use Rattle.shape_shaper.specs.Rules.{StaysPlain}
+use Rattle.script_laws.specs.Plain.{OrdersLeavePlain}
 use Rattle.script_laws.specs.Lemmas.Events.{IsPlainly, same_plain, syllables_plain, then_plain, then_plainly, within_plainly}
 use Rattle.script_laws.specs.Lemmas.Texts.{limited_plain}
 
@@ -31,13 +32,13 @@ circle_events_plain at (There x ∷ ys) = circle_events_plain (at + 1) ys
 circle_events_plain at (Inserted zero c ∷ ys) = circle_events_plain (at + 1) ys
 circle_events_plain at (Inserted (suc n) c ∷ ys) = circle_events_plain (at + 1) ys
 
-circles_plain : (rule : Option CircleRule) → LeavesPlain (circles_by rule)
+circles_plain : (rule : Option CircleRule) → StaysPlain (circles_by rule)
 circles_plain None = same_plain
-circles_plain (Some r) = λ v s level e. by_test v s level (list_any (is_broken r) v.items) e
+circles_plain (Some r) = λ v s level monotone e. by_test v s level monotone (list_any (is_broken r) v.items) e
   where
-    by_test : (v : View) (s : Read) (level : BufferClusterLevel) (t : Bool) → ◌≡◌ {A = Reading} (if t then circles_put (with_circles r v.items) v else as_it_is v) (Ok s) → IsPlain (s.events level)
-    by_test v s level true e = limited_plain (nat_le (length (circled_items (with_circles r v.items))) v.max_len) _ s level (circle_events_plain 0 (with_circles r v.items)) e
-    by_test v s level false e = same_plain v s level e
+    by_test : (v : View) (s : Read) (level : BufferClusterLevel) → IsMonotone level → (t : Bool) → ◌≡◌ {A = Reading} (if t then circles_put (with_circles r v.items) v else as_it_is v) (Ok s) → IsPlain (s.events level)
+    by_test v s level monotone true e = limited_plain (nat_le (length (circled_items (with_circles r v.items))) v.max_len) _ s level (circle_events_plain 0 (with_circles r v.items)) e
+    by_test v s level monotone false e = same_plain v s level monotone e
 
 -- ---- moves
 

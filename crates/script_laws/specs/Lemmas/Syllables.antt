@@ -18,7 +18,8 @@ use Rattle.universal_syllables.specs.declared.forms.FormMasks.{FormMasks}
 use Rattle.universal_syllables.specs.Features.{pref_recorded, reph_size, rphf_masked, rphf_recorded, topography}
 use Rattle.universal_syllables.specs.Spans.{categories_counted, place_of, universal_set}
 use Rattle.script_pauses.specs.Syllables.{forms_set, syllables_by, then_syllables, universal_syllables_set, unsubstituted, without_syllable}
-use Rattle.script_laws.specs.Plain.{LeavesPlain, Spans, SyllablesLeavePlain}
+use Rattle.shape_shaper.specs.Rules.{Spans, StaysPlain}
+use Rattle.script_laws.specs.Plain.{SyllablesLeavePlain}
 use Rattle.script_laws.specs.Lemmas.Events.{IsPlainly, always_plain, ok_plain, rule_plain, same_plain, syllables_plain, then_plain, then_plainly, within_plainly}
 
 bytes_plainly : (at : ℕ → ℕ) (index : ℕ) (ss : List Syllable) (xs : List Item) → IsPlainly (bytes_set at index ss xs)
@@ -27,25 +28,25 @@ bytes_plainly at index (s ∷ ss) xs =
     let r = within (at s.start) (at s.end) (one_syllable (syllable_byte index s.kind)) xs in
     then_plainly r (bytes_set at (index + 1) ss) (within_plainly (one_syllable (syllable_byte index s.kind)) (at s.start) (at s.end) xs (λ ys. tt)) (bytes_plainly at (index + 1) ss r.items)
 
-bytes_of_plain : (shaper : hb_ot_script_shaper_t) (at : ℕ → ℕ) (ss : List Syllable) → LeavesPlain (bytes_of shaper at ss)
-bytes_of_plain shaper at ss v r level e = by_test (list_all (is_known shaper) ss) e
+bytes_of_plain : (shaper : hb_ot_script_shaper_t) (at : ℕ → ℕ) (ss : List Syllable) → StaysPlain (bytes_of shaper at ss)
+bytes_of_plain shaper at ss v r level monotone e = by_test (list_all (is_known shaper) ss) e
   where
     by_test : (t : Bool) → ◌≡◌ {A = Reading} (if t then always (with_rule (bytes_set at 0 ss)) v else Err UnknownSyllableKind) (Ok r) → IsPlain (r.events level)
     by_test true g = ok_plain (with_rule (bytes_set at 0 ss) v) r level (bytes_plainly at 0 ss v.items) g
     by_test false g = cc
 
-set_plain : (span_of : Spans) (shaper : hb_ot_script_shaper_t) → LeavesPlain (syllables_set span_of shaper)
-set_plain span_of shaper v r level e = bytes_of_plain shaper itself (text_syllables span_of shaper v.items) v r level e
+set_plain : (span_of : Spans) (shaper : hb_ot_script_shaper_t) → StaysPlain (syllables_set span_of shaper)
+set_plain span_of shaper v r level monotone e = bytes_of_plain shaper itself (text_syllables span_of shaper v.items) v r level monotone e
 
-universal_set_plain : (span_of : Spans) → LeavesPlain (universal_set span_of)
-universal_set_plain span_of v r level e =
-    bytes_of_plain UNIVERSAL_SHAPER (place_of v.items) (syllables (span_of UNIVERSAL_SHAPER (categories_counted v.items)) (length (categories_counted v.items))) v r level e
+universal_set_plain : (span_of : Spans) → StaysPlain (universal_set span_of)
+universal_set_plain span_of v r level monotone e =
+    bytes_of_plain UNIVERSAL_SHAPER (place_of v.items) (syllables (span_of UNIVERSAL_SHAPER (categories_counted v.items)) (length (categories_counted v.items))) v r level monotone e
 
-forms_plain : (forms : Option FormMasks) → LeavesPlain (forms_set forms)
+forms_plain : (forms : Option FormMasks) → StaysPlain (forms_set forms)
 forms_plain None = same_plain
 forms_plain (Some masks) = rule_plain (topography masks) (λ ys. tt)
 
-universal_plain : (span_of : Spans) (rphf : ℕ) (forms : Option FormMasks) → LeavesPlain (universal_syllables_set span_of rphf forms)
+universal_plain : (span_of : Spans) (rphf : ℕ) (forms : Option FormMasks) → StaysPlain (universal_syllables_set span_of rphf forms)
 universal_plain span_of rphf forms =
     then_plain (then_syllables (universal_set span_of) (rphf_masked rphf)) (forms_set forms)
     (then_plain (universal_set span_of) (syllables_by (rphf_masked rphf)) (universal_set_plain span_of) (syllables_plain (rphf_masked rphf) (λ ys. within_plainly (masked_all rphf) 0 (reph_size ys) ys (λ zs. tt))))

@@ -11,6 +11,7 @@ use Rattle.glyph_lists.specs.Levels.{InOutput}
 use Rattle.glyph_lists.specs.Events.{IsPlain, Merge, Move}
 use Rattle.glyph_lists.specs.Readings.{Read, Reading}
 use Rattle.script_moves.specs.Moves.{order_of_move}
+use Rattle.script_hebrew_thai.specs.ThaiPrivate.{with_private}
 use Rattle.script_hebrew_thai.specs.ThaiVowel as thai
 use Rattle.script_hangul.specs.declared.actions.Action.{Action}
 use Rattle.script_hangul.specs.declared.actions.Action.TheVariants.{Keep, Apart, Compose, Split}
@@ -18,8 +19,9 @@ use Rattle.script_hangul.specs.Jamo.{is_tone}
 use Rattle.script_hangul.specs.Actions.{action_on, has_character}
 use Rattle.script_hangul.specs.Steps.{DOTTED_CIRCLE, Step, before_syllable, grapheme_merged, has_no_width, kept, numbers_of, performed, toned, with_circle}
 use Rattle.script_hangul.specs.Hangul.{character_at, events_behind, step, step_by, syllables_formed, text_behind, wants_circles}
-use Rattle.script_laws.specs.Plain.{LeavesPlain, TextsLeavePlain}
-use Rattle.script_laws.specs.Lemmas.Events.{both_plain, ok_plain}
+use Rattle.shape_shaper.specs.Rules.{StaysPlain}
+use Rattle.script_laws.specs.Plain.{TextsLeavePlain}
+use Rattle.script_laws.specs.Lemmas.Events.{always_plain, both_plain, ok_plain}
 
 -- a read where a list does not pass the limit
 pub limited_plain : (t : Bool) (s r : Read) (level : BufferClusterLevel) → IsPlain (s.events level) → ◌≡◌ {A = Reading} (if t then Ok s else Err TooLong) (Ok r) → IsPlain (r.events level)
@@ -43,8 +45,8 @@ thai_plain : (level : BufferClusterLevel) (out xs : List Item) → IsPlain (thai
 thai_plain level out [] = tt
 thai_plain level out (x ∷ xs) = both_plain (thai.events_of_character level out x) (thai.events_behind level (thai.with_character out x) xs) (character_plain level out x) (thai_plain level (thai.with_character out x) xs)
 
-thai_leaves_plain : LeavesPlain thai.vowels_split
-thai_leaves_plain v r level e = limited_plain (nat_le (length (thai.split_behind [] v.items)) v.max_len) _ r level (thai_plain level [] v.items) e
+thai_leaves_plain : StaysPlain thai.vowels_split
+thai_leaves_plain v r level monotone e = limited_plain (nat_le (length (thai.split_behind [] v.items)) v.max_len) _ r level (thai_plain level [] v.items) e
 
 -- ---- Hangul
 
@@ -89,9 +91,9 @@ hangul_plain font circles level (suc steps) n out (x ∷ xs) =
     let s = step font circles n out (x ∷ xs) in
     both_plain (s.events level) (events_behind font circles level steps s.start s.out (drop (s.more + 1) (x ∷ xs))) (step_plain font circles n out (x ∷ xs) level) (hangul_plain font circles level steps s.start s.out (drop (s.more + 1) (x ∷ xs)))
 
-hangul_leaves_plain : (font : FaceParts) (flags : BufferFlags) → LeavesPlain (syllables_formed font flags)
-hangul_leaves_plain font flags v r level e =
+hangul_leaves_plain : (font : FaceParts) (flags : BufferFlags) → StaysPlain (syllables_formed font flags)
+hangul_leaves_plain font flags v r level monotone e =
     limited_plain (nat_le (length (text_behind font (wants_circles flags) (length v.items) 0 [] v.items)) v.max_len) _ r level (hangul_plain font (wants_circles flags) level (length v.items) 0 [] v.items) e
 
 pub texts_leave_plain : TextsLeavePlain
-texts_leave_plain = record { thai = thai_leaves_plain; hangul = hangul_leaves_plain }
+texts_leave_plain = record { thai = thai_leaves_plain; private_forms = λ t font. always_plain (with_private t font) (λ v level. tt); hangul = hangul_leaves_plain }

@@ -27,7 +27,7 @@ unchanged_run start end s ready front run rest e len upto = record { items = e; 
 pub brings_none : (s : Sides) → BringsNoGlyph (items_of s) (items_of s)
 brings_none s n h = h
 
-unchanged_plain : StaysPlain as_it_is
+pub unchanged_plain : StaysPlain as_it_is
 unchanged_plain v r level monotone e =
     let same : with_events [] v ≡ r = cc in
     subst (λ (q : Read). IsPlain (q.events level)) same tt
@@ -43,11 +43,11 @@ plain_order = record {
 
 -- ---- chains of first parts
 
-by_more : (e f : ℕ → Bool) → ((a : ℕ) → e a ≡ true → f a ≡ true) → (s : Option (ℕ × ℕ)) → ends_by e s ≡ true → ends_by f s ≡ true
+pub by_more : (e f : ℕ → Bool) → ((a : ℕ) → e a ≡ true → f a ≡ true) → (s : Option (ℕ × ℕ)) → ends_by e s ≡ true → ends_by f s ≡ true
 by_more e f more None h = refl
 by_more e f more (Some (a, b)) h = more a h
 
-none_more : (e : ℕ → Bool) (s : Option (ℕ × ℕ)) → is_none s ≡ true → ends_by e s ≡ true
+pub none_more : (e : ℕ → Bool) (s : Option (ℕ × ℕ)) → is_none s ≡ true → ends_by e s ≡ true
 none_more e None h = refl
 none_more e (Some (a, b)) h = cc
 

@@ -1,4 +1,4 @@
-use Rattle.script_joining.proofs.Plain.{joining_is_plain}
+use Rattle.script_joining.specs.Lemmas.Plain.{joining_is_plain}
 use Rattle.script_joining.proofs.laws.law_joining_is_plain.Goals as goal
 
 pub returns : goal.returns

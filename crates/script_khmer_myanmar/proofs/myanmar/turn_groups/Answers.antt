@@ -1,13 +1,16 @@
 use Rattle.std.proofs.Common.{arith}
-use Rattle.std.proofs.lemmas.Option.{slice_get-get_or}
 use Rattle.glyph_types.specs.declared.info.hb_glyph_info_t.{hb_glyph_info_t}
 use Rattle.glyph_lists.specs.Items.{item_of}
 use Rattle.script_khmer_myanmar.specs.Myanmar.{is_left_matra}
-use Rattle.script_khmer_myanmar.proofs.Groups.{turned_next}
+use Rattle.script_khmer_myanmar.proofs.TurnedBack.{all_back}
 use Rattle.script_khmer_myanmar.proofs.myanmar.turn_groups.Goals as goal
 
-pub loop-i-preserved : goal.loop-i-preserved
-loop-i-preserved c =
-    let count = c.loop-i.invariant.count in
-    turned_next (λ (g : hb_glyph_info_t). is_left_matra (item_of g)) c.loop-i.i c.loop-i.group c.place_in_front-at.result _ c.args.glyphs.now c.loop-i.glyphs c.put_in_front.new.glyphs (omega (arith, count))
-    (slice_get-get_or c.loop-i.glyphs c.loop-i.i _ (omega (arith, count))) c.loop-i.invariant c.place_in_front-at.ensures c.put_in_front.ensures
+pub returns : goal.returns
+returns c =
+    let h = c.loop-i.invariant in
+    let many = h.count in
+    let inside = h.inside in
+    let within = c.loop-i.auto.i-end in
+    let past = c.loop-i-test.false in
+    let same = c.reverse.ensures.len in
+    all_back (λ (g : hb_glyph_info_t). is_left_matra (item_of g)) c.loop-i.i c.loop-i.begin _ c.args.glyphs.now c.loop-i.glyphs c.turn_back-2.new.glyphs (omega (arith, many, past, same)) (omega (arith, many, same)) h (omega (arith, inside, within)) c.turn_back-2.ensures

@@ -1,5 +1,5 @@
 use Rattle.std.proofs.Common.{◌≡◌, drop}
-use Rattle.script_syllables.specs.Machines.{is_step_in_range, steps_fault}
+use Rattle.script_syllables.specs.Machines.{is_step_in_range, machine_in, steps_fault}
 use Rattle.unicode_rows.specs.Keys.{row_fault}
 use Rattle.script_syllables.specs.declared.machine.Step.{Step}
 use Rattle.script_syllables.proofs.faults.steps_fault.Given as goal
@@ -7,5 +7,5 @@ use Rattle.script_syllables.proofs.faults.steps_fault.Given as goal
 -- the first fault of the rows from here on is that of all
 abbrev pub invariant-loop-step : goal.invariant-loop-step
 invariant-loop-step l =
-    row_fault (is_step_in_range l.machine) (λ (step : Step). step.state) (λ (step : Step). step.category) l.before (drop l.step-index l.machine.next.items)
-    ≡ steps_fault l.machine
+    row_fault (is_step_in_range (machine_in l.machine)) (λ (step : Step). step.state) (λ (step : Step). step.category) l.before (drop l.step-index l.machine.next.items)
+    ≡ steps_fault (machine_in l.machine)

@@ -1,11 +1,12 @@
 use Rattle.std.proofs.Common.{ℕ, ◌≡◌, ◌+◌, take, get_or, Option, None, Some, sym, ap, ◌∙◌}
 use Rattle.script_syllables.specs.Fronts.{front_or, kind_in, kind_of_front, led}
+use Rattle.script_syllables.specs.Machines.{machine_in}
 use Rattle.script_syllables.proofs.Walks.{led_on, longer_front, ends_here}
 use Rattle.script_syllables.proofs.scan.walk.Goals as goal
 
 pub returns-in_default : goal.returns-in_default
 returns-in_default c =
-    let m = c.args.machine.now in
+    let m = machine_in c.args.machine.now in
     let cs = c.args.categories.now in
     let i = c.loop-i.i in
     let on = led_on m cs i 0 c.loop-i.state c.loop-i-test.true c.loop-i.invariant.state in
@@ -14,7 +15,7 @@ returns-in_default c =
 
 pub loop-i-preserved : goal.loop-i-preserved
 loop-i-preserved c =
-    let m = c.args.machine.now in
+    let m = machine_in c.args.machine.now in
     let cs = c.args.categories.now in
     let i = c.loop-i.i in
     let on = led_on m cs i 0 c.loop-i.state c.loop-i-test.true c.loop-i.invariant.state in

@@ -1,33 +1,35 @@
-use Rattle.std.proofs.Common.{◌≡◌, List, subst, sym, ◌∙◌, ap}
+use Rattle.std.proofs.Common.{◌≡◌, List, subst, sym, ◌∙◌, ap, string_bytes}
+use Rattle.glyph_types.specs.declared.flags.SerializeFlags.{SerializeFlags}
 use Rattle.feature_text.specs.declared.feature.Feature.{Feature}
 use Rattle.glyph_lists.specs.Readings.{Follows}
 use Rattle.glyph_buffer.specs.Segment.{guessed}
-use Rattle.glyph_buffer.specs.Sides.{Sides, run_of}
-use Rattle.shape_plan.specs.Dispatch.{script_waits}
+use Rattle.glyph_buffer.specs.Sides.{Sides, all_glyphs, run_of}
+use Rattle.any_shaper.specs.Dispatch.{script_waits}
 use Rattle.shape_pipeline.specs.Shaped.{text_reading}
-use Rattle.shape_run.specs.Answer.{IsUnshaped, shaping}
+use Rattle.shape_run.specs.Answer.{IsUnshaped, printed_line, shaping}
 use Rattle.shape_run.specs.Asked.{text_buffer}
-use Rattle.shape_run.specs.Tables.{tables_value}
-use Rattle.shape_run.proofs.Faults.{passed_on}
+use Rattle.run_readers.specs.Tables.{tables_value}
+use Rattle.run_readers.proofs.Faults.{passed_on}
 use Rattle.shape_run.proofs.Guessed.{guessed_text}
 use Rattle.shape_run.proofs.Printing.{line_shaped, line_unshaped}
 use Rattle.shape_run.proofs.answer.line.Goals as goal
 
 pub returns-clause-ok : goal.returns-clause-ok
 returns-clause-ok c =
-    let options = c.args.options.now in
+    let options = c.args.options in
     let face = c.args.face.now in
     let t = tables_value c.args.tables.now in
     let s = c.in_ok-text.text in
     let glyphs = c.in_ok-glyphs.glyphs in
     let same : guessed s ≡ s = guessed_text options c.args.text.now s c.in_ok-text.ensures.text in
     let F : List Feature → Sides → Type 0 = λ fs x. Follows (text_reading (shaping t face fs x) (run_of x)) (run_of x) (run_of glyphs) in
-    let follows = subst (F options.features.items) same (subst (λ (fs : List Feature). F fs (guessed s)) c.deref.ensures.value c.in_ok-glyphs.ensures.ok) in
-    line_shaped options t face c.args.text.now s glyphs _ c.in_ok-text.ensures.text c.in_ok-text.ensures.fits c.in_ok-glyphs.ensures.shaped follows c.in_ok-line.ensures
+    let follows = subst (F options.features.items) same (subst (λ (fs : List Feature). F fs (guessed s)) (c.deref.ensures.value ∙ c.in_ok-text.ensures.features) c.in_ok-glyphs.ensures.ok) in
+    let P : SerializeFlags → Type 0 = λ flags. string_bytes c.in_ok-line.line ≡ printed_line face flags (all_glyphs glyphs) glyphs.positions in
+    line_shaped options t face c.args.text.now s glyphs _ c.in_ok-text.ensures.text c.in_ok-text.ensures.fits c.in_ok-glyphs.ensures.shaped follows (subst P c.in_ok-text.ensures.flags c.in_ok-line.ensures)
 
 pub returns-in_err-glyphs-clause-refused : goal.returns-in_err-glyphs-clause-refused
 returns-in_err-glyphs-clause-refused c =
-    let options = c.args.options.now in
+    let options = c.args.options in
     let face = c.args.face.now in
     let t = tables_value c.args.tables.now in
     let s = c.in_ok-text.text in
@@ -37,4 +39,4 @@ returns-in_err-glyphs-clause-refused c =
     passed_on c.from_residual-in_err-glyphs.result fault _ c.from_residual-in_err-glyphs.ensures.1
     (λ not_memory.
     line_unshaped options t face c.args.text.now s fault c.in_ok-text.ensures.text c.in_ok-text.ensures.fits
-    (subst (U options.features.items) same (subst (λ (fs : List Feature). U fs (guessed s)) c.deref.ensures.value (c.in_err-glyphs.ensures.refused not_memory))))
+    (subst (U options.features.items) same (subst (λ (fs : List Feature). U fs (guessed s)) (c.deref.ensures.value ∙ c.in_ok-text.ensures.features) (c.in_err-glyphs.ensures.refused not_memory))))

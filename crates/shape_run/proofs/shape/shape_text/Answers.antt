@@ -4,7 +4,7 @@ use Rattle.glyph_buffer.specs.Segment.{guessed}
 use Rattle.glyph_buffer.specs.Sides.{run_of}
 use Rattle.shape_reading.specs.Shaping.{Shaping}
 use Rattle.shape_pipeline.specs.Shaped.{text_reading}
-use Rattle.shape_run.specs.OneGlyph.{one_glyph}
+use Rattle.script_syllables.specs.Fronts.{syllable_at}
 use Rattle.shape_run.proofs.Faults.{refused_as}
 use Rattle.shape_run.proofs.Languages.{same_shaping}
 use Rattle.shape_run.proofs.shape.shape_text.Goals as goal
@@ -14,7 +14,7 @@ returns-in-Ok-clause-ok c =
     let t = c.args.tables.now in
     let run = run_of (guessed c.args.text) in
     let P : Shaping → Type 0 = λ p. Follows (text_reading p run) run (run_of c.in-Ok.glyphs) in
-    subst P (same_shaping c.args.face.now t.characters t.languages one_glyph c.args.features.now (guessed c.args.text)) c.in-Ok.ensures.ok
+    subst P (same_shaping c.args.face.now t.characters t.languages (syllable_at t.syllables) c.args.features.now (guessed c.args.text)) c.in-Ok.ensures.ok
 
 pub returns-in-Err-clause-refused : goal.returns-in-Err-clause-refused
 returns-in-Err-clause-refused c =
@@ -22,4 +22,4 @@ returns-in-Err-clause-refused c =
     let run = run_of (guessed c.args.text) in
     let P : Shaping → Type 0 = λ p. text_reading p run ≡ Err c.in-Err.fault.cause in
     refused_as _ c.in-Err.fault.cause c.from.result c.from.ensures
-    (λ not_memory. subst P (same_shaping c.args.face.now t.characters t.languages one_glyph c.args.features.now (guessed c.args.text)) (c.in-Err.ensures.refused not_memory))
+    (λ not_memory. subst P (same_shaping c.args.face.now t.characters t.languages (syllable_at t.syllables) c.args.features.now (guessed c.args.text)) (c.in-Err.ensures.refused not_memory))

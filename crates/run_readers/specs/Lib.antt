@@ -1,0 +1,5 @@
+pub mod Faults
+pub mod Values
+pub mod Tables
+pub mod Input
+pub mod Laws

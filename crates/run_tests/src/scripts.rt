@@ -1,0 +1,138 @@
+//! Texts of scripts with a shaper of their own: letters that join, vowels and syllables, circles.
+use crate::memory::{options, ran};
+use glyph_types::level::BufferClusterLevel::{self, Characters, MonotoneGraphemes};
+use shaping_text::direction::Direction;
+use std::alloc::Global;
+use std::test::Fail;
+
+/// A machine of the universal shaper: bases with vowels are a syllable, and so are rephas alone, a broken one.
+const TABLES: &str =
+    "{\"splits\":[[6918,6917,6965]],\"pairs\":[[6917,6965,6918]],\"mirrored\":[[40,41],[41,40]],\
+    \"joining\":[[1575,\"R\"],[1576,\"D\"]],\
+    \"universal\":[[6917,\"B\"],[6965,\"VPst\"],[6966,\"VAbv\"],[72001,\"R\"]],\
+    \"syllables\":{\"universal\":{\"states\":3,\
+    \"next\":[[0,\"B\",1],[0,\"R\",2],[1,\"VAbv\",1],[1,\"VPst\",1],[2,\"R\",2]],\
+    \"accept\":[[1,\"standard\"],[2,\"broken\"]]}}}";
+
+/// The letters beh and alef and a mark, with forms by their neighbours.
+const ARABIC: &str = "{\"upem\":1000,\"cmap\":[[1575,10],[1576,20],[1611,30]],\
+    \"h\":[[10,200],[13,250],[20,400],[21,400],[22,400],[23,400],[30,100]],\
+    \"gsub\":{\"scripts\":[[\"arab\",{\"features\":[0,1,2]},[]]],\
+    \"features\":[[\"fina\",[2]],[\"init\",[0]],[\"medi\",[1]]],\
+    \"lookups\":[{\"type\":\"single\",\"subtables\":[[[20,21]]]},{\"type\":\"single\",\"subtables\":[[[20,22]]]},\
+    {\"type\":\"single\",\"subtables\":[[[10,13],[20,23]]]}]}}";
+
+/// A sign that becomes two tiles, of which the second repeats.
+const STRETCH: &str =
+    "{\"upem\":1000,\"cmap\":[[1569,40],[1576,20]],\"h\":[[20,1100],[41,100],[42,300]],\
+    \"gsub\":{\"scripts\":[[\"arab\",{\"features\":[0]},[]]],\"features\":[[\"stch\",[0]]],\
+    \"lookups\":[{\"type\":\"multiple\",\"subtables\":[[[40,[41,42]]]]}]}}";
+
+const BALINESE: &str = "{\"upem\":1000,\"cmap\":[[6917,1],[6965,2],[6966,3]],\
+    \"h\":[[1,500],[2,200],[3,100]],\"gsub\":{\"scripts\":[[\"bali\",{\"features\":[]},[]]]}}";
+
+const HANGUL: &str = "{\"upem\":1000,\"cmap\":[[44032,19]],\"h\":[[19,900]]}";
+
+const BRACKETS: &str = "{\"upem\":1000,\"cmap\":[[40,12],[41,13]],\"h\":[[12,300],[13,300]]}";
+
+const THAI: &str = "{\"upem\":1000,\"cmap\":[[3604,30],[3634,33],[3659,32],[3661,31]],\
+    \"h\":[[30,500],[33,400]],\"gsub\":{\"scripts\":[[\"thai\",{\"features\":[]},[]]]}}";
+
+/// A repha of Dives Akuru, and a circle.
+const REPHAS: &str = "{\"upem\":1000,\"cmap\":[[9676,10],[72001,5]],\"h\":[[5,200],[10,600]]}";
+
+/// Level, direction, font, text, line.
+type Row = (
+    BufferClusterLevel,
+    Direction,
+    &'static str,
+    &'static str,
+    &'static str,
+);
+
+const ROWS: [Row; 9] = [
+    (
+        MonotoneGraphemes,
+        Direction::RightToLeft,
+        ARABIC,
+        "\u{628}\u{628}\u{628}",
+        "23=4+400|22=2+400|21=0+400\n",
+    ),
+    // A mark is transparent: the letters on both sides of it join.
+    (
+        MonotoneGraphemes,
+        Direction::Invalid,
+        ARABIC,
+        "\u{628}\u{64B}\u{627}",
+        "13=4+250|30=0+0|21=0+400\n",
+    ),
+    // A tile 300 wide is laid four times over a word of 1100, beside one of 100: each copy lies 66 over its neighbour.
+    (
+        MonotoneGraphemes,
+        Direction::Invalid,
+        STRETCH,
+        "\u{621}\u{628}",
+        "20=2+1100|42=0@-1102,0+0|42=0@-868,0+0|42=0@-634,0+0|42=0@-400,0+0|41=0@-100,0+0\n",
+    ),
+    // A character, and what it splits to.
+    (
+        MonotoneGraphemes,
+        Direction::Invalid,
+        BALINESE,
+        "\u{1B06}\u{1B36}",
+        "1=0+500|2=0+200|3=0@-100,0+0\n",
+    ),
+    (
+        MonotoneGraphemes,
+        Direction::Invalid,
+        BALINESE,
+        "\u{1B05}\u{1B35}\u{1B36}",
+        "1=0+500|2=0+200|3=0@-100,0+0\n",
+    ),
+    (
+        MonotoneGraphemes,
+        Direction::Invalid,
+        HANGUL,
+        "\u{1100}\u{1161}",
+        "19=0+900\n",
+    ),
+    (
+        MonotoneGraphemes,
+        Direction::RightToLeft,
+        BRACKETS,
+        "(\u{5D0}",
+        "0=1+0|13=0+300\n",
+    ),
+    // The first part of the vowel goes before the tone mark.
+    (
+        MonotoneGraphemes,
+        Direction::Invalid,
+        THAI,
+        "\u{E14}\u{E4B}\u{E33}",
+        "30=0+500|31=0+0|32=0+0|33=0+400\n",
+    ),
+    // A circle stands behind two rephas with the second one's cluster, and then the first goes behind it.
+    (
+        Characters,
+        Direction::Invalid,
+        REPHAS,
+        "\u{11941}\u{11941}",
+        "5=4+200|10=4+600|5=0+200\n",
+    ),
+];
+
+fn is_printed(alloc: Global, row: &Row) -> Result<bool, Fail> {
+    let (level, direction, font, text, line) = *row;
+    let mut options = options(alloc, None, direction, &[])?;
+    options.cluster_level = level;
+    let (answer, out) = ran(alloc, &options, TABLES, font, text.as_bytes());
+    Ok(answer == Ok(()) && out.as_slice() == line.as_bytes())
+}
+
+#[test]
+fn scripts_are_shaped(rt: HostRuntime) -> Result<(), Fail> {
+    for row in &ROWS {
+        assert!(rt; is_printed(rt.alloc(), row)?, "{}", row.3);
+    }
+    Ok(())
+}

@@ -1,0 +1,59 @@
+//! Laws of all texts that are shaped.
+ghost use Rattle.shape_pipeline.specs.Laws.{EmptyTextsStay, PlansShapeAlike, ResultsAreOne, TextsAreEven, TextsHaveNoConcat, TextsKeepNumbers, TextsReadAlike};
+
+use shape_reading::laws::{
+    law_reading_keeps_numbers, law_results_are_even, law_results_have_no_concat,
+    law_runs_read_alike,
+};
+
+/// A plan that was made for a text's language, direction and script, of the same font and features, shapes the text by just
+/// what `shape` goes by. So `shape_with_plan` gives what `shape` gives, clusters and flags of glyphs included.
+#[tactic(auto, using(crate::proofs::Shaped::planned_for))]
+pub fn law_plans_shape_alike()
+    ensures { PlansShapeAlike }
+{}
+
+/// A text has one result, however often its plan was used before.
+#[tactic(auto, using(crate::proofs::Texts::results_are_one))]
+pub fn law_results_are_one()
+    ensures { ResultsAreOne }
+{}
+
+/// A text without characters is not refused, and stays as it is.
+#[tactic(auto, using(crate::proofs::Texts::empty_texts_stay))]
+pub fn law_empty_texts_stay()
+    ensures { EmptyTextsStay }
+{}
+
+/// Where no feature is asked for on a part of the text, two texts that differ in their clusters, their level and their
+/// requests for glyph flags alone are refused for one cause, or have the same glyphs at the same places.
+#[tactic(auto, using(crate::proofs::Texts::texts_read_alike))]
+pub fn law_texts_read_alike()
+    ensures { TextsReadAlike }
+{
+    law_runs_read_alike();
+}
+
+/// Each cluster number of a result is one of the text's, at every level and for every shaper.
+#[tactic(auto, using(crate::proofs::Texts::texts_keep_numbers))]
+pub fn law_texts_keep_numbers()
+    ensures { TextsKeepNumbers }
+{
+    law_reading_keeps_numbers();
+}
+
+/// In a result neighbouring glyphs of one cluster have the same flags.
+#[tactic(auto, using(crate::proofs::Texts::texts_are_even))]
+pub fn law_texts_are_even()
+    ensures { TextsAreEven }
+{
+    law_results_are_even();
+}
+
+/// In a result none tells where texts may not be put together, but where that was asked for.
+#[tactic(auto, using(crate::proofs::Texts::texts_have_no_concat))]
+pub fn law_texts_have_no_concat()
+    ensures { TextsHaveNoConcat }
+{
+    law_results_have_no_concat();
+}

@@ -1,0 +1,13 @@
+-- How the program ends.
+use Rattle.std.proofs.Common.{◌≡◌, ℕ, List, Option, Some, None, inl, inr, refl}
+use Rattle.std.specs.Io.KnownBytes.{Appends}
+use Rattle.run_options.specs.declared.fault.RunFault.{RunFault}
+use Rattle.run_options.specs.Fault.{status_of}
+use Rattle.shape_program.specs.Program.{Ends, line_of_fault}
+
+pub ends_well : (a : Option (List ℕ)) → Ends 0 a a
+ends_well None = inl (refl, tt)
+ends_well (Some x) = inl (refl, refl)
+
+pub ends_with_fault : (status : ℕ) (a b : Option (List ℕ)) (fault : RunFault) → status ≡ status_of fault → Appends a b (line_of_fault fault) → Ends status a b
+ends_with_fault status a b fault e p = inr (fault, e, p)

@@ -1,0 +1,7 @@
+// Tests of the stages around the lookups, each called alone.
+#![tactic(auto)]
+
+pub mod buffers;
+pub mod rows;
+#[cfg(test)]
+mod stages;
