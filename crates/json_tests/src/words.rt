@@ -157,6 +157,15 @@ fn options_are_read(rt: HostRuntime) -> Result<(), Fail> {
     Ok(())
 }
 
+fn has_language(alloc: Global, line: &str, want: Option<&str>) -> Result<bool, Fail> {
+    let command = command_line(alloc, line)??;
+    Ok(match (&command.options.language, want) {
+        (Some(language), Some(want)) => language.as_str() == want,
+        (None, None) => true,
+        _ => false,
+    })
+}
+
 // A language is any text but the empty one, in small letters.
 #[test]
 fn languages_are_read(rt: HostRuntime) -> Result<(), Fail> {
@@ -166,8 +175,7 @@ fn languages_are_read(rt: HostRuntime) -> Result<(), Fail> {
         ("hb_shape|--language|de-CH|a|b|c", Some("de-ch")),
         ("hb_shape|a|--language=X-HBOT|b|c", Some("x-hbot")),
     ] {
-        let language = command_line(rt.alloc(), line)??.options.language;
-        assert_eq!(rt; language.as_ref().map(|it| it.as_str()), want, "{line}");
+        assert!(rt; has_language(rt.alloc(), line, want)?, "{line}");
     }
     Ok(())
 }
