@@ -125,7 +125,7 @@ fn is_printed(alloc: Global, row: &Row) -> Result<bool, Fail> {
     let (level, direction, font, text, line) = *row;
     let mut options = options(alloc, None, direction, &[])?;
     options.cluster_level = level;
-    let (answer, out) = ran(alloc, &options, TABLES, font, text.as_bytes());
+    let (answer, out) = ran(alloc, options, TABLES, font, text.as_bytes());
     Ok(answer == Ok(()) && out.as_slice() == line.as_bytes())
 }
 
