@@ -98,8 +98,10 @@ walk_stretch (x ∷ zs) m b i pre front post at here h =
         → left_walk (length zs + m) (i + 1) b (pre ++ ((x ∷ front) ++ (zs ++ post))) ≡ rest_of (suc (length front)) (pre ++ ((x ∷ front) ++ (zs ++ post)))
         → left_walk (length zs + m) (i + 1) b (pre ++ ((front ++ x ∷ []) ++ (zs ++ post))) ≡ rest_of (length (front ++ x ∷ [])) (pre ++ ((front ++ x ∷ []) ++ (zs ++ post)))
         → then_rule (step_if t i b (pre ++ (front ++ (x ∷ (zs ++ post))))).rewritten (left_walk (length zs + m) (i + 1) (step_if t i b (pre ++ (front ++ (x ∷ (zs ++ post))))).behind)
-        ≡ then_rule (record { items = all_moved b (if t then record { passed = length front; taken = 1 } ∷ front_moves together is_left (length front + 1) zs else front_moves together is_left (length front + 1) zs) (pre ++ (front ++ (x ∷ (zs ++ post))));
-              events = move_events b (if t then record { passed = length front; taken = 1 } ∷ front_moves together is_left (length front + 1) zs else front_moves together is_left (length front + 1) zs) }) (left_walk m (i + suc (length zs)) b)
+        ≡ then_rule (record {
+          items = all_moved b (if t then record { passed = length front; taken = 1 } ∷ front_moves together is_left (length front + 1) zs else front_moves together is_left (length front + 1) zs) (pre ++ (front ++ (x ∷ (zs ++ post))));
+          events = move_events b (if t then record { passed = length front; taken = 1 } ∷ front_moves together is_left (length front + 1) zs else front_moves together is_left (length front + 1) zs);
+        }) (left_walk m (i + suc (length zs)) b)
     by_test true size first later =
         let xs = pre ++ (front ++ (x ∷ (zs ++ post))) in
         let n = length front in

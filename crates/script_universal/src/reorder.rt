@@ -218,6 +218,7 @@ impl FrontRule for LeftVowels {
     ghost use Rattle.script_universal.specs.Walked.{together, never_together};
 
     ghost pairs = { λ _. together };
+
     ghost ones = { λ _. is_left };
 
     fn comes_with(&self, _glyph: &hb_glyph_info_t, _next: &hb_glyph_info_t) -> bool {

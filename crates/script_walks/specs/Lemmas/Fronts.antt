@@ -1,11 +1,11 @@
 -- A part of a buffer whose glyphs came to the front.
-use Rattle.std.proofs.Common.{ℕ, ◌≡◌, ◌≤◌, ◌<◌, ◌+◌, ◌-◌, Bool, List, [], ◌∷◌, ◌++◌, length, map, take, drop, refl, sym, ap, subst, ◌∙◌, arith, append_assoc}
+use Rattle.std.proofs.Common.{ℕ, ◌≡◌, ◌≤◌, ◌+◌, ◌-◌, Bool, List, [], ◌∷◌, ◌++◌, length, map, take, drop, refl, sym, ap, ◌∙◌, arith, append_assoc}
 use Rattle.std.specs.Prelude.{slice_range}
 use Rattle.std.proofs.lemmas.List.{map-append, length-map, length-append, length-take-le, length-drop, take-append-drop, take-map, drop-map}
 use Rattle.glyph_types.specs.declared.info.hb_glyph_info_t.{hb_glyph_info_t}
 use Rattle.glyph_lists.specs.Items.{Item, item_of, strip}
 use Rattle.glyph_lists.specs.Levels.{InList, manner}
-use Rattle.glyph_lists.specs.Events.{Merge, origins_after}
+use Rattle.glyph_lists.specs.Events.{Merge}
 use Rattle.glyph_lists.specs.Origins.{merged_as, origin_of, origins}
 use Rattle.glyph_lists.specs.Readings.{View}
 use Rattle.glyph_buffer.specs.Sides.{Sides, all_glyphs, asks_of, items_of, origins_by, origins_of, view_of}
@@ -13,7 +13,7 @@ use Rattle.glyph_buffer.specs.Lending.{with_refilled}
 use Rattle.text_stages.specs.Stages.{Happens}
 use Rattle.text_stages.specs.Lemmas.Written.{written_all, written_ready}
 use Rattle.script_moves.specs.Moves.{FrontMove, all_moved, move_events, reach}
-use Rattle.script_moves.specs.Fronts.{fronts, front_moves, gathered_behind, one_seen, pair_seen, stayed}
+use Rattle.script_moves.specs.Fronts.{front_moves, gathered_behind, one_seen, pair_seen}
 use Rattle.script_moves.specs.Lemmas.Nested.{all_moved_seen, moves_merge_once}
 use Rattle.script_moves.specs.Lemmas.Fronted.{all_moved_fronts, behind_length, behind_seen, moves_grow, moves_seen}
 use Rattle.script_walks.specs.Rewriting.{shifted}
