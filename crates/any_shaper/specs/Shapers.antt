@@ -1,9 +1,7 @@
 -- The shapers, and what each decides once for all texts.
 use Rattle.std.specs.Prelude.{ℕ, Bool, true, false, List, [], Option, Some, None, codes}
-use Rattle.shaping_text.specs.declared.tag.Tag.{Tag}
 use Rattle.shaping_text.specs.declared.script.Script.{Script}
 use Rattle.shaping_text.specs.Tag.{tag_of}
-use Rattle.normal_forms.specs.declared.mode.NormalizationMode.{NormalizationMode}
 use Rattle.normal_forms.specs.declared.mode.NormalizationMode.TheVariants as mode
 use Rattle.shape_plan.specs.Traits.{ShaperTraits}
 use Rattle.script_constants.specs.declared.shaper.hb_ot_script_shaper_t.{hb_ot_script_shaper_t}

@@ -25,7 +25,7 @@ impl hb_ot_shaper_t for hb_ot_any_shaper_t {
 
     ghost keeps_count = { keeps_count };
 
-    ghost rules_keep_order = { rules_keep_order };
+    ghost rules_keep_order = { λ shaper plan _. rules_keep_order shaper plan };
 
     fn preprocess_text(
         &self,

@@ -21,6 +21,7 @@ use glyph_types::cause::ShapeCause;
 use layout_links::finish::{position_finish_offsets, position_start};
 use layout_positioning::position;
 use script_syllables::SyllableSpans;
+use shape_fallback::kerning::_hb_ot_shape_fallback_kern;
 use shape_fallback::spaces::_hb_ot_shape_fallback_spaces;
 use shape_fallback::zeroing::zero_mark_widths_by_gdef;
 use shape_glyphs::widths::zero_width_default_ignorables;
@@ -114,7 +115,7 @@ impl<S: hb_ot_shaper_t, P: SyllableSpans> hb_ot_shape_context_t<'_, S, P> {
 
     /// Does the font's lookups of positioning, if the plan uses them.
     #[tactic(auto, using(shape_reading::specs::Lemmas::Chains::acts_done, shape_reading::specs::Lemmas::Chains::rests_done, shape_reading::specs::Lemmas::Chains::acts_refused))]
-    fn position_by_plan(&self, buffer: &mut hb_buffer_t) -> Result<(), ShapeCause>
+    fn position_by_lookups(&self, buffer: &mut hb_buffer_t) -> Result<(), ShapeCause>
         requires ready { IsReady buffer.old }
         requires numbers { are_glyphs (items_of buffer.old) ≡ true }
         ensures ok { OnOk result (IsDone (only_if self.now.plan.now.script_plan.choices.apply_gpos
@@ -129,6 +130,32 @@ impl<S: hb_ot_shaper_t, P: SyllableSpans> hb_ot_shape_context_t<'_, S, P> {
             return Ok(());
         }
         position::position(&self.plan.script_plan.map, self.face, buffer, self)
+    }
+
+    /// Kerns as the shaper would by itself, if the plan wants it.
+    fn kern(&self, buffer: &mut hb_buffer_t)
+        ensures { buffer.new ≡ buffer.old }
+    {
+        if self.plan.script_plan.choices.apply_fallback_kern {
+            _hb_ot_shape_fallback_kern(buffer);
+        }
+    }
+
+    /// Moves glyphs by the font's lookups, and kerns without them, as the plan wants it.
+    fn position_by_plan(&self, buffer: &mut hb_buffer_t) -> Result<(), ShapeCause>
+        requires ready { IsReady buffer.old }
+        requires numbers { are_glyphs (items_of buffer.old) ≡ true }
+        ensures ok { OnOk result (IsDone (only_if self.now.plan.now.script_plan.choices.apply_gpos
+            (positioned_by self.now.face.now self.now.plan.now.script_plan.map
+            (pauses_of (⟦<Self as Shaped>⟧.shaping self.now (text_settings buffer.old))))) buffer.old buffer.new) }
+        ensures err { IfErr result (λ e. e ≢ ShapeCause.OutOfMemory → read_of
+            (only_if self.now.plan.now.script_plan.choices.apply_gpos
+            (positioned_by self.now.face.now self.now.plan.now.script_plan.map
+            (pauses_of (⟦<Self as Shaped>⟧.shaping self.now (text_settings buffer.old))))) (run_of buffer.old) ≡ Err e) }
+    {
+        self.position_by_lookups(buffer)?;
+        self.kern(buffer);
+        Ok(())
     }
 
     /// Moves glyphs by the font's lookups; marks lose their advances before or after them.

@@ -1,5 +1,5 @@
 -- Elements that come to the front of a list one after another, each in front of those that came before.
-use Rattle.std.specs.Prelude.{ℕ, ◌≡◌, ◌+◌, ◌&&◌, Bool, nat_lt, if◌then◌else◌, true, false, List, [], ◌∷◌, ◌++◌}
+use Rattle.std.specs.Prelude.{drop, take, ℕ, ◌≡◌, ◌+◌, ◌&&◌, Bool, nat_lt, if◌then◌else◌, true, false, List, [], ◌∷◌, ◌++◌}
 use Rattle.glyph_types.specs.declared.info.hb_glyph_info_t.{hb_glyph_info_t}
 use Rattle.glyph_lists.specs.Items.{Item, item_of}
 use Rattle.script_moves.specs.Moves.{FrontMove}
@@ -18,6 +18,10 @@ stayed pair one (x ∷ y ∷ zs) = if pair x y then stayed pair one zs else if o
 
 abbrev pub gathered : {X : Type 0} → (X → X → Bool) → (X → Bool) → List X → List X
 gathered pair one xs = fronts pair one xs ++ stayed pair one xs
+
+-- some elements that stand in front already, and behind them those of which others come to the front
+abbrev pub gathered_behind : {X : Type 0} → (X → X → Bool) → (X → Bool) → ℕ → List X → List X
+gathered_behind pair one n xs = fronts pair one (drop n xs) ++ (take n xs ++ stayed pair one (drop n xs))
 
 -- their moves, where so many elements stand before the list; the first of all need not move
 abbrev pub front_moves : {X : Type 0} → (X → X → Bool) → (X → Bool) → ℕ → List X → List FrontMove

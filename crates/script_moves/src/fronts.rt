@@ -1,7 +1,7 @@
 //! Glyphs that come to the front of a stretch, each in front of those that came before.
-ghost use Rattle.std.specs.Prelude.{◌≡◌, ◌≤◌, ◌<◌, ◌+◌, ◌++◌, Bool, drop, length, slice_range, take};
+ghost use Rattle.std.specs.Prelude.{◌≡◌, ◌≤◌, ◌<◌, ◌+◌, ◌-◌, ◌++◌, Bool, drop, length, slice_range, take};
 ghost use Rattle.glyph_lists.specs.Items.{Item, item_of};
-ghost use Rattle.script_moves.specs.Fronts.{StandApart, fronts, gathered, one_seen, pair_seen};
+ghost use Rattle.script_moves.specs.Fronts.{StandApart, fronts, gathered, gathered_behind, one_seen, pair_seen};
 ghost use Rattle.script_moves.specs.Lemmas.Fronted.{IsApart};
 
 use crate::moves::rotate;
@@ -50,6 +50,26 @@ pub fn gather<R: FrontRule>(
     let right = gather(rule, glyphs, middle, to);
     rotate(glyphs, from, middle, middle + right);
     left + right
+}
+
+/// The glyphs from `start` up to before `begin` stand in front already, and of those behind them up to before `end` some come
+/// before them, the last first. It takes no memory.
+pub fn gather_behind<R: FrontRule>(
+    rule: &R,
+    glyphs: &mut [hb_glyph_info_t],
+    start: usize,
+    begin: usize,
+    end: usize,
+)
+    requires begins { start ≤ begin }
+    requires ordered { begin ≤ end }
+    requires within { end ≤ length glyphs.old }
+    ensures { glyphs.new ≡ take start glyphs.old
+        ++ gathered_behind (pair_seen (R.pairs rule.now)) (one_seen (R.ones rule.now)) (begin - start) (slice_range glyphs.old start end)
+        ++ drop end glyphs.old }
+{
+    let count = gather(rule, glyphs, begin, end);
+    rotate(glyphs, start, begin, begin + count);
 }
 
 /// How many of one glyph or none come to the front.

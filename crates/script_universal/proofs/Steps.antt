@@ -1,6 +1,6 @@
 -- The steps of a syllable on a buffer.
-use Rattle.std.proofs.Common.{ℕ, zero, suc, ◌≡◌, ◌≤◌, ◌<◌, ◌+◌, ◌-◌, ◌&&◌, Bool, true, false, if◌then◌else◌, List, [], ◌∷◌, length, take, drop, get_or, Some, slice_get, refl, sym, ap, subst, ◌∙◌, arith}
-use Rattle.std.specs.Prelude.{bit_and, nat_lt, not, slice_range}
+use Rattle.std.proofs.Common.{ℕ, zero, suc, ◌≡◌, ◌≤◌, ◌<◌, ◌+◌, ◌-◌, Bool, true, false, if◌then◌else◌, List, [], ◌∷◌, length, take, drop, get_or, Some, slice_get, refl, sym, ap, subst, ◌∙◌, arith}
+use Rattle.std.specs.Prelude.{bit_and, not, slice_range}
 use Rattle.std.specs.List.{prefix_len}
 use Rattle.std.proofs.lemmas.Option.{slice_get-get_or}
 use Rattle.std.proofs.lemmas.List.{length-map, drop_all, drop-map, get_or-take, get_or-drop, take-map}
@@ -16,8 +16,8 @@ use Rattle.script_walks.specs.Parts.{first_to_back}
 use Rattle.script_walks.specs.Buffers.{IsRewritten}
 use Rattle.script_walks.specs.Lemmas.Rewritings.{counted, rewritten_count, rewritten_next, rewritten_same}
 use Rattle.script_walks.specs.Lemmas.Parts.{range_size, rewritten_part}
-use Rattle.script_universal.specs.Reordering.{Step, begins_with_reph, is_halant, is_left, left_at, left_met, left_walk, reph_end, reph_moved, stops_reph, universal_reordered, universal_syllable}
-use Rattle.script_universal.specs.Lemmas.Sizes.{left_size, reph_size}
+use Rattle.script_universal.specs.Reordering.{begins_with_reph, is_halant, left_walk, reph_end, reph_moved, stops_reph, universal_reordered, universal_syllable}
+use Rattle.script_universal.specs.Lemmas.Sizes.{reph_size}
 
 -- ---- items of a part
 
@@ -61,6 +61,30 @@ all_passed gs i n le ge f =
     let more : passed (strip (drop i gs)) ≡ 0 = ap (λ hs. passed (strip hs)) (drop_all i gs le) in
     omega (arith, more, f, le, ge)
 
+-- ---- what stands before a halant
+
+abbrev pub before_halant : List Item → ℕ
+before_halant xs = prefix_len (λ (y : Item). not (is_halant y)) xs
+
+abbrev pub halant_from : List hb_glyph_info_t → ℕ → ℕ
+halant_from gs i = i + before_halant (strip (drop i gs))
+
+halant_more : (gs : List hb_glyph_info_t) (i : ℕ) (g : hb_glyph_info_t) (t : Bool) → slice_get gs i ≡ Some g → is_halant (item_of g) ≡ t → before_halant (strip (drop i gs)) ≡ (if not t then 1 + before_halant (strip (drop (i + 1) gs)) else 0)
+halant_more gs i g t at e =
+    let rest = before_halant (strip (drop (i + 1) gs)) in
+    ap (λ hs. before_halant (strip hs)) (split_at gs i g at) ∙ ap (λ (b : Bool). if not b then 1 + rest else 0) e
+
+pub halant_next : (gs : List hb_glyph_info_t) (i n : ℕ) (g : hb_glyph_info_t) → slice_get gs i ≡ Some g → is_halant (item_of g) ≡ false → halant_from gs i ≡ n → halant_from gs (i + 1) ≡ n
+halant_next gs i n g at e f = let more = halant_more gs i g false at e in omega (arith, more, f)
+
+pub halant_last : (gs : List hb_glyph_info_t) (i n : ℕ) (g : hb_glyph_info_t) → slice_get gs i ≡ Some g → is_halant (item_of g) ≡ true → halant_from gs i ≡ n → i ≡ n
+halant_last gs i n g at e f = let more = halant_more gs i g true at e in omega (arith, more, f)
+
+pub no_halant : (gs : List hb_glyph_info_t) (i n : ℕ) → length gs ≤ i → i ≤ length gs → halant_from gs i ≡ n → length gs ≡ n
+no_halant gs i n le ge f =
+    let more : before_halant (strip (drop i gs)) ≡ 0 = ap (λ hs. before_halant (strip hs)) (drop_all i gs le) in
+    omega (arith, more, f, le, ge)
+
 -- ---- a reph
 
 abbrev reph_if : List Item → Bool → Rewritten
@@ -90,39 +114,6 @@ reph_some start end n gs a b le fits e few f count g =
     let h : IsRewritten (within 0 n (first_to_back 1) xs) start end a b = rewritten_part (first_to_back 1) start end 0 n start (start + n) a b (omega arith) refl (omega arith) inside (omega (arith, counted a, fits)) g in
     subst (λ r. IsRewritten r start end a b) (sym (ap (reph_if xs) yes_reph)) (subst (λ k. IsRewritten (within 0 k (first_to_back 1) xs) start end a b) at h)
 
--- ---- left vowels
-
-abbrev halant_if : Bool → Step → Step → Step
-halant_if t r s = if t then r else s
-
-pub halant_met : (start end i behind : ℕ) (x : Item) (a : Sides) → start ≤ end → IsReady a → is_halant x ≡ true → IsRewritten (left_met i behind (slice_range (items_of a) start end) x).rewritten start end a a
-halant_met start end i behind x a le ready e =
-    let xs = slice_range (items_of a) start end in
-    let other : Step = if is_left x && nat_lt behind i then record { rewritten = within behind (i + 1) (first_to_back (i - behind)) xs; behind = behind } else record { rewritten = kept xs; behind = behind } in
-    subst (λ t. IsRewritten (halant_if t (record { rewritten = kept xs; behind = i + 1 }) other).rewritten start end a a) (sym e) (rewritten_same start end a le ready)
-
-left_met_is : (i behind : ℕ) (xs : List Item) (x : Item) (t : Bool) → is_halant x ≡ false → (is_left x && nat_lt behind i) ≡ t
-    → left_met i behind xs x ≡ halant_if t (record { rewritten = within behind (i + 1) (first_to_back (i - behind)) xs; behind = behind }) (record { rewritten = kept xs; behind = behind })
-left_met_is i behind xs x t e f =
-    let moved : Step = record { rewritten = within behind (i + 1) (first_to_back (i - behind)) xs; behind = behind } in
-    let same : Step = record { rewritten = kept xs; behind = behind } in
-    ap (λ b. halant_if b (record { rewritten = kept xs; behind = i + 1 }) (halant_if (is_left x && nat_lt behind i) moved same)) e ∙ ap (λ b. halant_if b moved same) f
-
-pub other_met : (start end i behind : ℕ) (x : Item) (a : Sides) → start ≤ end → IsReady a → is_halant x ≡ false → (is_left x && nat_lt behind i) ≡ false
-    → IsRewritten (left_met i behind (slice_range (items_of a) start end) x).rewritten start end a a
-other_met start end i behind x a le ready e f =
-    subst (λ (s : Step). IsRewritten s.rewritten start end a a) (sym (left_met_is i behind (slice_range (items_of a) start end) x false e f)) (rewritten_same start end a le ready)
-
-pub left_met_does : (start end i behind : ℕ) (x : Item) (a b : Sides) → start + i < end → end ≤ length (all_glyphs a) → behind ≤ i → is_halant x ≡ false → (is_left x && nat_lt behind i) ≡ true
-    → IsRewritten (first_to_back (i - behind) (slice_range (items_of a) (start + behind) (start + (i + 1)))) (start + behind) (start + (i + 1)) a b
-    → IsRewritten (left_met i behind (slice_range (items_of a) start end) x).rewritten start end a b
-left_met_does start end i behind x a b lt fits le e f g =
-    subst (λ (s : Step). IsRewritten s.rewritten start end a b) (sym (left_met_is i behind (slice_range (items_of a) start end) x true e f))
-    (rewritten_part (first_to_back (i - behind)) start end behind (i + 1) (start + behind) (start + (i + 1)) a b refl refl (omega (arith, le)) (omega (arith, lt)) (omega (arith, counted a, fits)) g)
-
-pub met_is_there : (i behind : ℕ) (xs : List Item) (x : Item) → slice_get xs i ≡ Some x → left_at i behind xs ≡ left_met i behind xs x
-met_is_there i behind xs x e = rw e refl
-
 -- ---- the walk
 
 rewritten_even : (r : Rewritten) (from to : ℕ) (a b : Sides) → from ≤ to → to ≤ length (all_glyphs a) → length r.items ≡ length (slice_range (items_of a) from to) → IsRewritten r from to a b → length (all_glyphs b) ≡ length (all_glyphs a)
@@ -133,45 +124,6 @@ rewritten_even r from to a b le fits len f =
 
 pub reph_count : (start end : ℕ) (a b : Sides) → start ≤ end → end ≤ length (all_glyphs a) → IsRewritten (reph_moved (slice_range (items_of a) start end)) start end a b → length (all_glyphs b) ≡ length (all_glyphs a)
 reph_count start end a b le fits f = rewritten_even (reph_moved (slice_range (items_of a) start end)) start end a b le fits (reph_size (slice_range (items_of a) start end)) f
-
--- the indices of a syllable before one were walked: whatever the others leave, all leave
-pub record IsInside (start end i behind : ℕ) (old now : Sides) : Type 0 where
-  pub ready : IsReady now
-  pub size : length (all_glyphs now) ≡ length (all_glyphs old)
-  pub passed : behind ≤ i
-  pub does : (new : Sides) → IsRewritten (left_walk (end - start - i) i behind (slice_range (items_of now) start end)) start end now new
-      → IsRewritten (left_walk (end - start) 0 0 (slice_range (items_of old) start end)) start end old new
-
-pub entered : (start end : ℕ) (s : Sides) → IsReady s → IsInside start end 0 0 s s
-entered start end s ready = record { ready = ready; size = refl; passed = omega arith; does = λ new f. let none : end - start - 0 ≡ end - start = omega arith in subst (λ n. IsRewritten (left_walk n 0 0 (slice_range (items_of s) start end)) start end s new) none f }
-
-pub gone_on : (start end i behind next_behind : ℕ) (old now next : Sides) → start ≤ end → end ≤ length (all_glyphs old) → i < end - start → IsInside start end i behind old now
-    → next_behind ≡ (left_at i behind (slice_range (items_of now) start end)).behind → next_behind ≤ i + 1
-    → IsRewritten (left_at i behind (slice_range (items_of now) start end)).rewritten start end now next → IsInside start end (i + 1) next_behind old next
-gone_on start end i behind next_behind old now next le fits lt u e few f =
-    let xs = slice_range (items_of now) start end in
-    let s = left_at i behind xs in
-    let same = u.size in
-    let there_is : end ≤ length (all_glyphs now) = omega (arith, same, fits) in
-    let inside : end ≤ length (items_of now) = omega (arith, counted now, there_is) in
-    let left : end - start - i ≡ suc (end - start - (i + 1)) = omega (arith, lt) in
-    let size = left_size i behind xs in
-    record {
-      ready = f.ready;
-      size = rewritten_even s.rewritten start end now next le there_is size f ∙ same;
-      passed = few;
-      does = λ new g.
-          let P : ℕ → Type 0 = λ n. IsRewritten (left_walk n i behind xs) start end now new in
-          let Q : ℕ → Type 0 = λ n. IsRewritten (left_walk (end - start - (i + 1)) (i + 1) n (slice_range (items_of next) start end)) start end next new in
-          u.does new (subst P (sym left) (rewritten_next s.rewritten (left_walk (end - start - (i + 1)) (i + 1) s.behind) start end now next new le inside (size ∙ range_size start end (items_of now) le inside) f (subst Q e g)));
-    }
-
-pub all_walked : (start end i behind : ℕ) (old now : Sides) → start ≤ end → end ≤ length (all_glyphs old) → end - start ≤ i → IsInside start end i behind old now
-    → IsRewritten (left_walk (end - start) 0 0 (slice_range (items_of old) start end)) start end old now
-all_walked start end i behind old now le fits past u =
-    let none : end - start - i ≡ 0 = omega (arith, past) in
-    let P : ℕ → Type 0 = λ n. IsRewritten (left_walk n i behind (slice_range (items_of now) start end)) start end now now in
-    u.does now (subst P (sym none) (rewritten_same start end now le u.ready))
 
 pub reordered_does : (start end : ℕ) (a b c : Sides) → start ≤ end → end ≤ length (all_glyphs a) → IsRewritten (reph_moved (slice_range (items_of a) start end)) start end a b
     → IsRewritten (left_walk (end - start) 0 0 (slice_range (items_of b) start end)) start end b c → IsRewritten (universal_reordered (slice_range (items_of a) start end)) start end a c

@@ -1,2 +1,3 @@
 pub mod Reordering
+pub mod Walked
 pub mod Lemmas

@@ -8,13 +8,19 @@ ghost use Rattle.layout_rules.specs.Ready.{IsReady};
 ghost use Rattle.text_stages.specs.Stages.{IsFollowed};
 ghost use Rattle.script_walks.specs.Rewriting.{by_syllable};
 ghost use Rattle.script_walks.specs.Buffers.{IsRewritten, with_rule};
-ghost use Rattle.script_universal.specs.Reordering.{begins_with_reph, is_left, left_at, left_met, left_walk, reph_end, reph_moved, stops_reph, universal_reordered, universal_syllable};
+ghost use Rattle.script_moves.specs.Moves.{reach};
+ghost use Rattle.script_moves.specs.Fronts.{front_moves};
+ghost use Rattle.script_walks.specs.Parts.{fronts_moved};
+ghost use Rattle.script_universal.specs.Walked.{IsWalked, together};
+ghost use Rattle.script_universal.specs.Reordering.{begins_with_reph, is_halant, is_left, left_walk, reph_end, reph_moved, stops_reph, universal_reordered, universal_syllable};
 
 use crate::categories::{is_halant, is_left, stops_reph};
 use glyph_buffer::buffer::hb_buffer_t;
 use glyph_types::info::hb_glyph_info_t;
 use script_constants::category::R;
 use script_constants::hb_ot_script_shaper_t::UNIVERSAL_SHAPER;
+use script_moves::fronts::FrontRule;
+use script_walks::fronts::move_fronts;
 use script_walks::parts::first_to_back;
 use script_walks::walk::{SyllableRule, each_syllable};
 use std::alloc::AllocError;
@@ -120,7 +126,8 @@ fn passed_by_reph(glyphs: &[hb_glyph_info_t]) -> usize
     glyphs.len()
 }
 
-#[tactic(auto, using(crate::proofs::Steps::entered))]
+/// Each left vowel goes behind the last halant before it, else to the start.
+#[tactic(auto, using(crate::proofs::Stretches::none_walked))]
 fn move_left(buffer: &mut hb_buffer_t, start: usize, end: usize)
     requires ready { IsReady buffer.old }
     requires ordered { start ≤ end }
@@ -128,64 +135,99 @@ fn move_left(buffer: &mut hb_buffer_t, start: usize, end: usize)
     ensures { IsRewritten (left_walk (end - start) 0 0 (slice_range (items_of buffer.old) start end)) start end buffer.old
         buffer.new }
 {
-    let mut behind = 0;
     let mut i = 0;
     while i < end - start {
-        behind = move_left_at(buffer, start, end, i, behind);
-        i += 1;
+        i = move_left_from(buffer, start, end, i);
     }
 }
 
-fn move_left_at(
-    buffer: &mut hb_buffer_t,
-    start: usize,
-    end: usize,
-    i: usize,
-    behind: usize,
-) -> usize
+/// Moves the left vowels from an index up to the next halant; tells the index behind that, or the end.
+fn move_left_from(buffer: &mut hb_buffer_t, start: usize, end: usize, i: usize) -> usize
     requires ready { IsReady buffer.old }
     requires there { start + i < end }
     requires within { end ≤ length (all_glyphs buffer.old) }
-    requires passed { behind ≤ i }
-    ensures rewritten { IsRewritten (left_at i behind (slice_range (items_of buffer.old) start end)).rewritten start end
-        buffer.old buffer.new }
-    ensures behind { result ≡ (left_at i behind (slice_range (items_of buffer.old) start end)).behind }
-    ensures passed { result ≤ i + 1 }
+    ensures walked { IsWalked start end i result buffer.old buffer.new }
+    ensures onward { i < result }
+    ensures inside { result ≤ end - start }
 {
-    let glyph = glyph_at(buffer, start, end, i);
-    move_met(buffer, start, end, i, behind, glyph)
+    let from = start + i;
+    let count = before_halant(&buffer.info_slice()[from..end]);
+    move_stretch(buffer, from, from + count);
+    if from + count == end {
+        return end - start;
+    }
+    i + count + 1
 }
 
-fn move_met(
-    buffer: &mut hb_buffer_t,
-    start: usize,
-    end: usize,
-    i: usize,
-    behind: usize,
-    glyph: hb_glyph_info_t,
-) -> usize
+/// How many glyphs in front are no halants.
+#[tactic(auto, using(crate::proofs::Steps::halant_next, crate::proofs::Steps::halant_last, crate::proofs::Steps::no_halant))]
+fn before_halant(glyphs: &[hb_glyph_info_t]) -> usize
+    ensures count { result ≡ prefix_len (λ y. not (is_halant y)) (strip glyphs.now) }
+    ensures within { result ≤ length glyphs.now }
+{
+    for (i, glyph) in glyphs.iter().enumerate() {
+        if is_halant(glyph) {
+            return i;
+        }
+    }
+    glyphs.len()
+}
+
+/// The left vowels of a stretch without halants go to its start, and merge with what they pass.
+fn move_stretch(buffer: &mut hb_buffer_t, start: usize, end: usize)
     requires ready { IsReady buffer.old }
-    requires there { start + i < end }
+    requires ordered { start ≤ end }
     requires within { end ≤ length (all_glyphs buffer.old) }
-    requires passed { behind ≤ i }
-    ensures rewritten { IsRewritten
-        (left_met i behind (slice_range (items_of buffer.old) start end) (item_of glyph)).rewritten start end
-        buffer.old buffer.new }
-    ensures behind { result ≡ (left_met i behind (slice_range (items_of buffer.old) start end) (item_of glyph)).behind }
-    ensures passed { result ≤ i + 1 }
+    ensures { IsRewritten (fronts_moved together is_left 0 (slice_range (items_of buffer.old) start end)) start end buffer.old
+        buffer.new }
 {
-    if is_halant(&glyph) {
-        return i + 1;
+    let merged = end_of_left(&buffer.info_slice()[start..end]);
+    if merged < 2 {
+        return;
     }
-    if !moves(&glyph, i, behind) {
-        return behind;
-    }
-    first_to_back(buffer, start + behind, start + (i + 1), i - behind);
-    behind
+    move_fronts(&LeftVowels, buffer, start, end, 0, merged);
 }
 
-fn moves(glyph: &hb_glyph_info_t, i: usize, behind: usize) -> bool
-    ensures { result ≡ (is_left (item_of glyph.now) && nat_lt behind i) }
+/// How many glyphs there are up to the last left vowel that moves, or 1.
+#[tactic(auto, using(crate::proofs::Stretches::left_next, crate::proofs::Stretches::other_next, crate::proofs::Stretches::left_all, crate::proofs::Stretches::left_fits))]
+fn end_of_left(glyphs: &[hb_glyph_info_t]) -> usize
+    ensures reach { result ≡ reach 1 (front_moves together is_left 0 (strip glyphs.now)) }
+    ensures within { 1 < result → result ≤ length glyphs.now }
 {
-    is_left(glyph) && behind < i
+    let mut end = 1;
+    for (i, glyph) in glyphs.iter().enumerate() {
+        if moves(glyph, i) {
+            end = i + 1;
+        }
+    }
+    end
+}
+
+/// Whether a glyph at an index of a stretch moves: what stands in front stays there.
+fn moves(glyph: &hb_glyph_info_t, i: usize) -> bool
+    ensures { result ≡ (is_left (item_of glyph.now) && nat_lt 0 i) }
+{
+    is_left(glyph) && 0 < i
+}
+
+/// Left vowels come to the front one by one.
+struct LeftVowels;
+
+impl FrontRule for LeftVowels {
+    ghost use Rattle.script_universal.specs.Reordering.{is_left};
+    ghost use Rattle.script_universal.specs.Walked.{together, never_together};
+
+    ghost pairs = { λ _. together };
+
+    ghost ones = { λ _. is_left };
+
+    fn comes_with(&self, _glyph: &hb_glyph_info_t, _next: &hb_glyph_info_t) -> bool {
+        false
+    }
+
+    fn comes(&self, glyph: &hb_glyph_info_t) -> bool {
+        is_left(glyph)
+    }
+
+    ghost apart = { λ _. never_together };
 }

@@ -6,3 +6,4 @@ pub mod Permuted
 pub mod Cuts
 pub mod Syllables
 pub mod Numbers
+pub mod Fronts

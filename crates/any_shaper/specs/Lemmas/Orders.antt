@@ -1,5 +1,5 @@
 -- Runs of marks keep how many they are, and no rule of a shaper puts glyphs in another order without a merge.
-use Rattle.std.proofs.Common.{ℕ, ◌≡◌, Bool, true, false, if◌then◌else◌, List, length, Option, None, Some, refl}
+use Rattle.std.proofs.Common.{◌≡◌, List, length, Option, None, Some, refl}
 use Rattle.std.specs.Prelude.{⊤, codes}
 use Rattle.shaping_text.specs.declared.script.Script.{Script}
 use Rattle.unicode_tables.specs.Tables.{Tables}
@@ -29,11 +29,10 @@ use Rattle.script_laws.specs.Lemmas.Masks.{either_plain, masks_leave_plain}
 use Rattle.script_laws.specs.Lemmas.Orders.{orders_leave_plain}
 use Rattle.script_laws.specs.Lemmas.Syllables.{syllables_leave_plain}
 use Rattle.script_laws.specs.Lemmas.Texts.{texts_leave_plain}
-use Rattle.script_shapers.specs.Hooks.{has_private_forms, masks_set_by, pause_done, pause_if, pauses_by, postprocessed_by, preprocessed_by, private_if, reorders_by, syllables_found_by}
+use Rattle.script_shapers.specs.Hooks.{has_private_forms, masks_set_by, pause_done, pause_if, postprocessed_by, preprocessed_by, private_if, reorders_by, syllables_found_by}
 use Rattle.any_shaper.specs.declared.any_shaper.hb_ot_any_shaper_t.{hb_ot_any_shaper_t}
 use Rattle.any_shaper.specs.declared.any_shaper.hb_ot_any_shaper_t.TheVariants as any
 use Rattle.any_shaper.specs.Rules.{rules_of, script_rules}
-use Rattle.any_shaper.specs.Shapers.{keeps_order}
 
 -- ---- how many marks
 
@@ -138,7 +137,7 @@ script_order shaper plan = record {
   postprocesses = λ font settings. glyphs_plain shaper font;
 }
 
-pub rules_keep_order : (shaper : hb_ot_any_shaper_t) (plan : hb_script_plan_t ⊤) → keeps_order shaper ≡ true → KeepsOrder (rules_of shaper plan)
-rules_keep_order any.Default plan keeps = plain_order
-rules_keep_order any.Dumber plan keeps = plain_order
-rules_keep_order (any.Script shaper) plan keeps = script_order shaper plan
+pub rules_keep_order : (shaper : hb_ot_any_shaper_t) (plan : hb_script_plan_t ⊤) → KeepsOrder (rules_of shaper plan)
+rules_keep_order any.Default plan = plain_order
+rules_keep_order any.Dumber plan = plain_order
+rules_keep_order (any.Script shaper) plan = script_order shaper plan

@@ -1,6 +1,6 @@
 -- Chains of first parts end, as each shaper splits characters.
-use Rattle.std.proofs.Common.{ℕ, zero, suc, ◌≡◌, ◌==◌, Bool, true, false, if◌then◌else◌, Option, None, Some, refl}
-use Rattle.std.specs.Prelude.{⊤, is_none}
+use Rattle.std.proofs.Common.{ℕ, zero, suc, ◌≡◌, ◌==◌, Bool, true, false, if◌then◌else◌, None, Some, refl}
+use Rattle.std.specs.Prelude.{⊤}
 use Rattle.std.specs.List.{list_any}
 use Rattle.unicode_tables.specs.Expansion.{EndWithin, ends_by, ends_within}
 use Rattle.unicode_tables.specs.Tables.{Tables, split_of}

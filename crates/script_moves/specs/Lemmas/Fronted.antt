@@ -3,9 +3,9 @@ use Rattle.std.proofs.Common.{ℕ, zero, suc, ◌≡◌, ◌≤◌, ◌<◌, ◌
 use Rattle.std.specs.Prelude.{slice_range}
 use Rattle.std.proofs.Math.Seq.{take-append_seam, drop-append_seam}
 use Rattle.std.proofs.lemmas.Bool.Decides.{nat_tests}
-use Rattle.std.proofs.lemmas.List.{append-nil, map-append, length-append, length-drop, length-take-le, drop-drop}
+use Rattle.std.proofs.lemmas.List.{append-nil, map-append, length-append, length-drop, length-take-le, drop-drop, drop-map, take-append-drop, take-map}
 use Rattle.script_moves.specs.Moves.{IsGrowing, all_moved, moved, reach}
-use Rattle.script_moves.specs.Fronts.{fronts, front_moves, gathered, stayed}
+use Rattle.script_moves.specs.Fronts.{fronts, front_moves, gathered, gathered_behind, stayed}
 use Rattle.script_moves.specs.Lemmas.Moved.{take_both}
 use Rattle.script_moves.specs.Lemmas.Nested.{moved_middle}
 
@@ -165,12 +165,53 @@ halves_gathered {X = X} pair one from middle to k old first second new le last f
     joined : (ws bs cs ds : List X) → (ws ++ bs) ++ (cs ++ ds) ≡ ws ++ ((bs ++ cs) ++ ds)
     joined ws bs cs ds = simp append_assoc
 
+-- ---- behind others
+
+pub behind_gathered : {X : Type 0} (pair : X → X → Bool) (one : X → Bool) (start begin end k m : ℕ) (old first new : List X) → start ≤ begin → begin ≤ end → end ≤ length old
+    → first ≡ take begin old ++ gathered pair one (slice_range old begin end) ++ drop end old → k ≡ length (fronts pair one (slice_range old begin end)) → m ≡ k
+    → new ≡ moved start (begin - start) m first → new ≡ take start old ++ gathered_behind pair one (begin - start) (slice_range old start end) ++ drop end old
+behind_gathered {X = X} pair one start begin end k m old first new le last fits e count same is =
+    let n = begin - start in
+    let pre = take start old in
+    let ms = slice_range old start begin in
+    let zs = slice_range old begin end in
+    let fs = fronts pair one zs in
+    let ss = stayed pair one zs in
+    let post = drop end old in
+    let xs = slice_range old start end in
+    let at : start + n ≡ begin = omega (arith, le) in
+    let total : end - start ≡ n + (end - begin) = omega (arith, le, last) in
+    let parts = range_parts start begin end old le last in
+    let size_m : length ms ≡ n = length-take-le n (drop start old) (omega (arith, le, last, fits, length-drop start old)) in
+    let a : length pre ≡ start = length-take-le start old (omega (arith, le, last, fits)) in
+    let front : take begin old ≡ pre ++ ms = ap (λ i. take i old) (sym at) ∙ take_both start n old in
+    let shape : first ≡ pre ++ ((ms ++ (fs ++ ss)) ++ post) = e ∙ ap (λ ys. ys ++ (fs ++ ss) ++ post) front ∙ regrouped pre ms (fs ++ ss) post in
+    let turned : moved start n m first ≡ pre ++ ((fs ++ (ms ++ ss)) ++ post) =
+    ap (moved start n m) shape
+    ∙ ap (λ i. moved i n m (pre ++ ((ms ++ (fs ++ ss)) ++ post))) (sym a)
+    ∙ ap (λ i. moved (length pre) i m (pre ++ ((ms ++ (fs ++ ss)) ++ post))) (sym size_m)
+    ∙ ap (λ i. moved (length pre) (length ms) i (pre ++ ((ms ++ (fs ++ ss)) ++ post))) (same ∙ count)
+    ∙ moved_middle pre ms fs ss post in
+    let front_is : take n xs ≡ ms = ap (take n) parts ∙ ap (λ i. take i (ms ++ zs)) (sym size_m) ∙ take-append_seam ms zs in
+    let back_is : drop n xs ≡ zs = ap (drop n) parts ∙ ap (λ i. drop i (ms ++ zs)) (sym size_m) ∙ drop-append_seam ms zs in
+    let whole : gathered_behind pair one n xs ≡ fs ++ (ms ++ ss) = ap (λ ys. fronts pair one ys ++ (take n xs ++ stayed pair one ys)) back_is ∙ ap (λ ys. fs ++ (ys ++ ss)) front_is in
+    is ∙ turned ∙ sym (append_assoc pre (fs ++ (ms ++ ss)) post) ∙ ap (λ ys. pre ++ ys ++ post) (sym whole)
+  where
+    regrouped : (ws bs cs ds : List X) → (ws ++ bs) ++ cs ++ ds ≡ ws ++ ((bs ++ cs) ++ ds)
+    regrouped ws bs cs ds = simp append_assoc
+
+pub behind_length : {X : Type 0} (pair : X → X → Bool) (one : X → Bool) (n : ℕ) (xs : List X) → length (gathered_behind pair one n xs) ≡ length xs
+behind_length pair one n xs =
+    let ys = drop n xs in
+    let whole = ap length (take-append-drop n xs) in
+    omega (arith, gathered_size pair one ys, whole, length-append (take n xs) ys, length-append (fronts pair one ys) (take n xs ++ stayed pair one ys), length-append (take n xs) (stayed pair one ys))
+
 -- ---- by moves
 
-moved_one : {X : Type 0} (pre front : List X) (x : X) (rest : List X) → moved (length pre) (length front) 1 (pre ++ (front ++ x ∷ rest)) ≡ pre ++ ((x ∷ front) ++ rest)
+pub moved_one : {X : Type 0} (pre front : List X) (x : X) (rest : List X) → moved (length pre) (length front) 1 (pre ++ (front ++ x ∷ rest)) ≡ pre ++ ((x ∷ front) ++ rest)
 moved_one pre front x rest = ap (λ ys. moved (length pre) (length front) 1 (pre ++ ys)) (sym (append_assoc front (x ∷ []) rest) ∙ ap (λ ys. (front ++ ys) ++ rest) (sym (append-nil (x ∷ [])))) ∙ moved_middle pre front (x ∷ []) [] rest ∙ ap (λ ys. pre ++ ((x ∷ ys) ++ rest)) (append-nil front)
 
-moved_two : {X : Type 0} (pre front : List X) (x y : X) (rest : List X) → moved (length pre) (length front) 2 (pre ++ (front ++ x ∷ y ∷ rest)) ≡ pre ++ ((x ∷ y ∷ front) ++ rest)
+pub moved_two : {X : Type 0} (pre front : List X) (x y : X) (rest : List X) → moved (length pre) (length front) 2 (pre ++ (front ++ x ∷ y ∷ rest)) ≡ pre ++ ((x ∷ y ∷ front) ++ rest)
 moved_two pre front x y rest = ap (λ ys. moved (length pre) (length front) 2 (pre ++ ys)) (sym (append_assoc front (x ∷ y ∷ []) rest) ∙ ap (λ ys. (front ++ ys) ++ rest) (sym (append-nil (x ∷ y ∷ [])))) ∙ moved_middle pre front (x ∷ y ∷ []) [] rest ∙ ap (λ ys. pre ++ ((x ∷ y ∷ ys) ++ rest)) (append-nil front)
 
 -- elements between a front and a rest: their moves gather them
@@ -304,6 +345,16 @@ gathered_seen f pair one xs =
     map-append f (fronts (λ a b. pair (f a) (f b)) (λ a. one (f a)) xs) (stayed (λ a b. pair (f a) (f b)) (λ a. one (f a)) xs)
     ∙ ap (λ ys. ys ++ map f (stayed (λ a b. pair (f a) (f b)) (λ a. one (f a)) xs)) (fronts_seen f pair one xs) ∙ ap (λ ys. fronts pair one (map f xs) ++ ys) (stayed_seen f pair one xs)
 
+pub behind_seen : {X Y : Type 0} (f : X → Y) (pair : Y → Y → Bool) (one : Y → Bool) (n : ℕ) (xs : List X) → map f (gathered_behind (λ a b. pair (f a) (f b)) (λ a. one (f a)) n xs) ≡ gathered_behind pair one n (map f xs)
+behind_seen {X = X} f pair one n xs =
+    let p : X → X → Bool = λ a b. pair (f a) (f b) in
+    let o : X → Bool = λ a. one (f a) in
+    let ys = drop n xs in
+    let fs : map f (fronts p o ys) ≡ fronts pair one (drop n (map f xs)) = fronts_seen f pair one ys ∙ ap (fronts pair one) (sym (drop-map f n xs)) in
+    let ss : map f (stayed p o ys) ≡ stayed pair one (drop n (map f xs)) = stayed_seen f pair one ys ∙ ap (stayed pair one) (sym (drop-map f n xs)) in
+    map-append f (fronts p o ys) (take n xs ++ stayed p o ys) ∙ ap (λ zs. map f (fronts p o ys) ++ zs) (map-append f (take n xs) (stayed p o ys))
+    ∙ ap (λ zs. zs ++ (map f (take n xs) ++ map f (stayed p o ys))) fs ∙ ap (λ zs. fronts pair one (drop n (map f xs)) ++ (zs ++ map f (stayed p o ys))) (sym (take-map f n xs)) ∙ ap (λ zs. fronts pair one (drop n (map f xs)) ++ (take n (map f xs) ++ zs)) ss
+
 pub moves_seen : {X Y : Type 0} (f : X → Y) (pair : Y → Y → Bool) (one : Y → Bool) (i : ℕ) (xs : List X) → front_moves (λ a b. pair (f a) (f b)) (λ a. one (f a)) i xs ≡ front_moves pair one i (map f xs)
 moves_seen f pair one i [] = refl
 moves_seen f pair one i (x ∷ []) = refl
@@ -340,6 +391,10 @@ one_in_front pair one (x ∷ y ∷ zs) d t e h = absurd (omega (arith, e))
 
 abbrev pub no_pair : {X : Type 0} → X → X → Bool
 no_pair x y = false
+
+pub fronts_alone : {X : Type 0} (one : X → Bool) (x : X) (zs : List X) → fronts no_pair one (x ∷ zs) ≡ (if one x then fronts no_pair one zs ++ (x ∷ []) else fronts no_pair one zs)
+fronts_alone one x [] = refl
+fronts_alone one x (y ∷ zs) = refl
 
 pub moves_alone : {X : Type 0} (one : X → Bool) (i : ℕ) (x : X) (zs : List X)
     → front_moves no_pair one i (x ∷ zs) ≡ (if one x && nat_lt 0 i then record { passed = i; taken = 1 } ∷ front_moves no_pair one (i + 1) zs else front_moves no_pair one (i + 1) zs)

@@ -107,7 +107,7 @@ moved_size n xs = both_parts n xs
 -- ---- a move
 
 -- a move of a stretch is one of its part of the list
-moved_range : {X : Type 0} (start end n : ℕ) (xs : List X) → start + n ≤ end → end ≤ length xs
+pub moved_range : {X : Type 0} (start end n : ℕ) (xs : List X) → start + n ≤ end → end ≤ length xs
     → moved start n (end - start - n) xs ≡ take start xs ++ (drop n (slice_range xs start end) ++ take n (slice_range xs start end)) ++ drop end xs
 moved_range start end n xs le fits =
     let last : start + (n + (end - start - n)) ≡ end = omega (arith, le) in

@@ -1,0 +1,22 @@
+-- A syllable whose indices up to one were walked.
+use Rattle.std.specs.Prelude.{ℕ, ◌≡◌, ◌-◌, Bool, false, length, slice_range}
+use Rattle.glyph_lists.specs.Items.{Item}
+use Rattle.glyph_buffer.specs.Sides.{Sides, all_glyphs, items_of}
+use Rattle.layout_rules.specs.Ready.{IsReady}
+use Rattle.script_moves.specs.Fronts.{StandApart}
+use Rattle.script_walks.specs.Buffers.{IsRewritten}
+use Rattle.script_universal.specs.Reordering.{left_walk}
+
+-- two items never come to the front together
+abbrev pub together : Item → Item → Bool
+together x y = false
+
+pub never_together : StandApart together
+never_together x y z e = λ i. false
+
+-- the stretches from one index up to another were walked: whatever the walk of the others leaves then, the walk from the first index on leaves
+pub record IsWalked (start end i j : ℕ) (old now : Sides) : Type 0 where
+  pub ready : IsReady now
+  pub size : length (all_glyphs now) ≡ length (all_glyphs old)
+  pub does : (new : Sides) → IsRewritten (left_walk (end - start - j) j j (slice_range (items_of now) start end)) start end now new
+      → IsRewritten (left_walk (end - start - i) i i (slice_range (items_of old) start end)) start end old new
