@@ -5,5 +5,3 @@ pub mod finish;
 pub mod laws;
 pub mod links;
 pub mod sums;
-#[cfg(test)]
-mod tests;

@@ -2,6 +2,8 @@
 #![tactic(auto)]
 
 pub mod buffers;
+#[cfg(test)]
+mod positions;
 pub mod rows;
 #[cfg(test)]
 mod stages;

@@ -1,6 +1,6 @@
 //! Positions before and after their links are followed.
-use crate::links::finish_offsets;
 use glyph_types::position::GlyphPosition;
+use layout_links::links::finish_offsets;
 use shaping_text::direction::Direction;
 use std::test::Fail;
 
