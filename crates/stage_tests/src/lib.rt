@@ -1,7 +1,9 @@
 // Tests of the stages around the lookups, each called alone.
 #![tactic(auto)]
 
-pub mod buffers;
-pub mod rows;
+#[cfg(test)]
+mod buffers;
+#[cfg(test)]
+mod rows;
 #[cfg(test)]
 mod stages;
