@@ -45,4 +45,12 @@ impl<R: Keyed> SortedRows<R> {
     {
         &self.rows
     }
+
+    /// The records, whose keys rise strictly, for a search by a part of their key.
+    pub fn rising_rows(&self) -> &[R]
+        ensures same { result.now ≡ self.now }
+        ensures rising { is_rising R.Key.cmp R.key_of None result.now ≡ true }
+    {
+        &self.rows
+    }
 }
