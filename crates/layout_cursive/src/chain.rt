@@ -8,8 +8,8 @@ ghost use Rattle.layout_cursive.specs.Cursive.{cursive_hung, first_ends, freed, 
 use glyph_types::position::GlyphPosition;
 use layout_gpos::anchor::{is_near, link_to};
 use layout_links::links::linked;
+use layout_links::sums::{minus, plus};
 use layout_positions::value::Anchor;
-use position_sums::sums::{minus, plus};
 use shaping_text::direction::Direction;
 
 /// What a glyph hangs on.

@@ -23,8 +23,7 @@ use Rattle.default_positions.specs.Advances.{default_position, on_line, with_def
 use Rattle.normal_forms.specs.Characters.{is_mark, is_mark_number, is_space}
 use Rattle.text_stages.specs.Places.{placed, placed_by}
 use Rattle.shape_fallback.specs.Spaces.{is_own_space, space_position, spaced, with_spaces}
-use Rattle.position_sums.specs.Zeroing.{zeroed}
-use Rattle.shape_fallback.specs.Zeroing.{mark_zeroed}
+use Rattle.shape_fallback.specs.Zeroing.{mark_zeroed, zeroed}
 use Rattle.shape_glyphs.specs.Widths.{ignorable_position, keeps_widths, widthless, zero_widths}
 use Rattle.fallback_marks.specs.Marks.{components_direction}
 use Rattle.fallback_marks.specs.Lemmas.Unmarked.{unmarked_stay}

@@ -14,7 +14,8 @@ use run_options::fault::RunFault;
 use script_syllables::SyllableTable;
 use serde_json::Value;
 use std::alloc::Global;
-use tables_json::{read_languages, read_syllables, read_tables};
+use syllables_json::read_syllables;
+use tables_json::{read_languages, read_tables};
 use unicode_tables::UnicodeTables;
 
 /// What shaping goes by, beside the font.

@@ -3,7 +3,7 @@ use Rattle.std.specs.Prelude.{Bool, if◌then◌else◌}
 use Rattle.glyph_lists.specs.Items.{Item, Position}
 use Rattle.glyph_lists.specs.Readings.{View, Read}
 use Rattle.layout_match.specs.LigatureWords.{is_mark}
-use Rattle.position_sums.specs.Zeroing.{zeroed}
+pub use Rattle.position_sums.specs.Zeroing.{zeroed}
 use Rattle.text_stages.specs.Places.{placed}
 
 -- glyphs of the class of marks
