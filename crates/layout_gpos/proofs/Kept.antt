@@ -13,10 +13,10 @@ use Rattle.layout_match.specs.Searches.{Search}
 use Rattle.layout_rules.specs.Actions.{Action}
 use Rattle.layout_rules.specs.Buffers.{cut_of}
 use Rattle.layout_rules.specs.Performing.{Performed, cut_with}
-use Rattle.layout_gpos.specs.declared.bases.LastBase.{LastBase}
+use Rattle.layout_gpos.specs.declared.bases.LastSearch.{LastSearch}
 use Rattle.layout_gpos.specs.declared.bases.Sought.{Sought}
-use Rattle.layout_gpos.specs.Bases.{IsKept, any_sought, asked, farther, sought_before}
-use Rattle.layout_gpos.specs.Marks.{without_marks}
+use Rattle.layout_gpos.specs.Bases.{IsKept, any_sought, asked, farther}
+use Rattle.layout_gpos.specs.Marks.{nearest_before, without_marks}
 use Rattle.layout_gpos.specs.Moving.{KeepsItems}
 use Rattle.layout_gpos.specs.Lemmas.Left.{performed_left}
 
@@ -46,7 +46,7 @@ same_asks : (k : Sought) (a : Applied) (rest : List Item) → a.per_syllable ≡
 same_asks k a rest free = rw free refl
 
 -- so what is kept serves everywhere
-pub kept_there : (k : Sought) (a : Applied) (rest xs : List Item) (l : LastBase) → a.per_syllable ≡ false → IsKept (any_sought k a) xs l → IsKept (asked k (own_search (without_marks a) rest)) xs l
+pub kept_there : (k : Sought) (a : Applied) (rest xs : List Item) (l : LastSearch) → a.per_syllable ≡ false → IsKept (any_sought k a) xs l → IsKept (asked k (own_search (without_marks a) rest)) xs l
 kept_there k a rest xs l free h = subst (λ (q : Item → match_t). IsKept q xs l) (sym (same_asks k a rest free)) h
 
 before_is : (b : ℕ) (s : Sides) → b ≤ length s.behind → take b (items_of s) ≡ take b (strip s.behind)
@@ -55,8 +55,8 @@ before_is b s le =
     ap (take b) (map-append item_of s.behind s.ahead) ∙ take-append-le b (strip s.behind) (strip s.ahead) (omega (arith, long, le))
 
 -- the glyphs behind the last search were passed over
-pub went_on : (k : Sought) (a : Applied) (search : Search) (l : LastBase) (more at : ℕ) (found : Result ℕ ℕ) (s : Sides) → l.before ≤ length s.behind → IsKept (asked k (own_search (without_marks a) (strip s.ahead))) (items_of s) l → more ≡ length s.behind - l.before → more ≤ at → at ≤ more
-    → search ≡ own_search (without_marks a) (strip s.ahead) → nearest_from (asked k search) at (reverse (strip s.behind)) ≡ nearest_from (asked k search) 0 (reverse (strip s.behind)) → found ≡ farther more l.found → found ≡ sought_before k a (cut_of s)
+pub went_on : (k : Sought) (a : Applied) (search : Search) (l : LastSearch) (more at : ℕ) (found : Result ℕ ℕ) (s : Sides) → l.before ≤ length s.behind → IsKept (asked k (own_search (without_marks a) (strip s.ahead))) (items_of s) l → more ≡ length s.behind - l.before → more ≤ at → at ≤ more
+    → search ≡ own_search (without_marks a) (strip s.ahead) → nearest_from (asked k search) at (reverse (strip s.behind)) ≡ nearest_from (asked k search) 0 (reverse (strip s.behind)) → found ≡ farther more l.found → found ≡ nearest_before (asked k) (without_marks a) (cut_of s)
 went_on k a search l more at found s since kept e from to is passed f =
     let ask = asked k (own_search (without_marks a) (strip s.ahead)) in
     let xs = strip s.behind in
@@ -72,7 +72,7 @@ went_on k a search l more at found s since kept e from to is passed f =
     f ∙ ap (λ n. farther n l.found) (sym same) ∙ ap (farther at) kept_is ∙ sym behind ∙ all
 
 -- what was found is kept
-pub kept_now : (k : Sought) (a : Applied) (n : ℕ) (found : Result ℕ ℕ) (s : Sides) → a.per_syllable ≡ false → n ≡ length s.behind → found ≡ sought_before k a (cut_of s) → IfOk found (λ at. at < length s.behind) → IfErr found (λ end. end ≤ length s.behind) → IsKept (any_sought k a) (items_of s) (record { before = n; found = found })
+pub kept_now : (k : Sought) (a : Applied) (n : ℕ) (found : Result ℕ ℕ) (s : Sides) → a.per_syllable ≡ false → n ≡ length s.behind → found ≡ nearest_before (asked k) (without_marks a) (cut_of s) → IfOk found (λ at. at < length s.behind) → IfErr found (λ end. end ≤ length s.behind) → IsKept (any_sought k a) (items_of s) (record { before = n; found = found })
 kept_now k a n found s free count is inside read =
     let xs = strip s.behind in
     let long : length xs ≡ length s.behind = length-map s.behind item_of in
@@ -91,6 +91,6 @@ kept_now k a n found s free count is inside read =
 -- ---- no item changes where a mark is hung
 
 -- what was kept is kept on
-pub kept_on : (ask : Item → match_t) (act : Action) (acted : Bool) (l : LastBase) (s new : Sides) → IsKept ask (items_of s) l → KeepsItems act → ((r : ℕ) → Performed (act (cut_with r s)) acted r r s new) → IsKept ask (items_of new) l
+pub kept_on : (ask : Item → match_t) (act : Action) (acted : Bool) (l : LastSearch) (s new : Sides) → IsKept ask (items_of s) l → KeepsItems act → ((r : ℕ) → Performed (act (cut_with r s)) acted r r s new) → IsKept ask (items_of new) l
 kept_on ask act acted l s new kept leaves done =
     subst (λ (xs : List Item). IsKept ask xs l) (sym (performed_left (act (cut_with 1 s)) acted 1 1 s new (leaves (cut_with 1 s)) (done 1))) kept

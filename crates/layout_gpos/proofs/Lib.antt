@@ -3,3 +3,4 @@ pub mod Attached
 pub mod MarkMark
 pub mod MarkLig
 pub mod Kept
+pub mod Begun

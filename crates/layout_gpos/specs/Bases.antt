@@ -5,10 +5,9 @@ use Rattle.layout_match.specs.declared.search.match_t.{match_t}
 use Rattle.layout_match.specs.Applied.{Applied, own_search}
 use Rattle.layout_match.specs.Matches.{nearest_from}
 use Rattle.layout_match.specs.Searches.{Search}
-use Rattle.layout_rules.specs.Actions.{Cut}
 use Rattle.layout_gpos.specs.Marks.{any_item, base_item, without_marks}
-use Rattle.layout_gpos.specs.declared.bases.LastBase.{LastBase}
-use Rattle.layout_gpos.specs.declared.bases.LastBases.{LastBases}
+use Rattle.layout_gpos.specs.declared.bases.LastSearch.{LastSearch}
+use Rattle.layout_gpos.specs.declared.bases.LastSearches.{LastSearches}
 use Rattle.layout_gpos.specs.declared.bases.Sought.{Sought}
 use Rattle.layout_gpos.specs.declared.bases.Sought.TheVariants.{Base, Ligature}
 
@@ -21,23 +20,19 @@ asked Ligature s x = any_item s x
 abbrev pub any_sought : Sought → Applied → Item → match_t
 any_sought k a = asked k (own_search (without_marks a) [])
 
--- the nearest such item before the cut, marks being passed over
-abbrev pub sought_before : Sought → Applied → Cut → Result ℕ ℕ
-sought_before k a c = nearest_from (asked k (own_search (without_marks a) c.rest)) 0 (reverse c.front)
-
 -- what was found so much farther back
 abbrev pub farther : ℕ → Result ℕ ℕ → Result ℕ ℕ
 farther k (Ok at) = Ok (at + k)
 farther k (Err end) = Err (end + k)
 
 -- what is kept is what such a search finds before so many of a list's items
-pub record IsKept (ask : Item → match_t) (xs : List Item) (l : LastBase) : Type 0 where
+pub record IsKept (ask : Item → match_t) (xs : List Item) (l : LastSearch) : Type 0 where
   pub within : l.before ≤ length xs
   pub inside : IfOk l.found (λ at. at < l.before)
   pub read : IfErr l.found (λ end. end ≤ l.before)
   pub is : l.found ≡ nearest_from ask 0 (reverse (take l.before xs))
 
 -- so it is of both searches of a lookup
-pub record AreKept (a : Applied) (xs : List Item) (l : LastBases) : Type 0 where
+pub record AreKept (a : Applied) (xs : List Item) (l : LastSearches) : Type 0 where
   pub base : IsKept (any_sought Base a) xs l.base
   pub ligature : IsKept (any_sought Ligature a) xs l.ligature

@@ -27,8 +27,12 @@ use Rattle.layout_gpos.specs.Moving.{break_around, placed_past}
 abbrev pub any_item : Search → Item → match_t
 any_item s = answer s (λ x. not (is_skippable s x))
 
+-- the nearest item before the cut that a search takes, by what it asks of an item
+abbrev pub nearest_before : (Search → Item → match_t) → Applied → Cut → Result ℕ ℕ
+nearest_before ask a c = nearest_from (ask (own_search a c.rest)) 0 (reverse c.front)
+
 abbrev pub item_before : Applied → Cut → Result ℕ ℕ
-item_before a c = nearest_from (any_item (own_search a c.rest)) 0 (reverse c.front)
+item_before a c = nearest_before any_item a c
 
 -- a lookup with marks passed over in place of its flag
 abbrev pub without_marks : Applied → Applied
@@ -53,7 +57,7 @@ abbrev pub base_item : Search → Item → match_t
 base_item s x = base_answer (is_later_component x) (any_item s x)
 
 abbrev pub base_before : Applied → Cut → Result ℕ ℕ
-base_before a c = nearest_from (base_item (own_search (without_marks a) c.rest)) 0 (reverse c.front)
+base_before a c = nearest_before base_item (without_marks a) c
 
 -- ---- attached
 

@@ -6,8 +6,8 @@ ghost use Rattle.layout_match.specs.Applied.{Applied, applied_of, own_search};
 ghost use Rattle.layout_match.specs.Searches.{search_of};
 ghost use Rattle.layout_match.specs.declared.search.match_t.{match_t};
 ghost use Rattle.layout_rules.specs.Buffers.{cut_of};
-ghost use Rattle.layout_gpos.specs.Bases.{AreKept, IsKept, any_sought, asked, farther, sought_before};
-ghost use Rattle.layout_gpos.specs.Marks.{without_marks};
+ghost use Rattle.layout_gpos.specs.Bases.{AreKept, IsKept, any_sought, asked, farther};
+ghost use Rattle.layout_gpos.specs.Marks.{nearest_before, without_marks};
 
 use crate::search::{base_answer, glyph_before, is_later_component, without_marks};
 use glyph_buffer::buffer::hb_buffer_t;
@@ -39,43 +39,43 @@ impl Sought {
 
 /// What a search found, kept for the next one of the same lookup on the same glyphs.
 #[derive(Clone, Copy, Debug)]
-pub struct LastBase {
+pub struct LastSearch {
     /// Before how many glyphs it searched.
     before: usize,
     /// How far back it found what it sought, the nearest glyph being 0; else how far it read.
     found: Result<usize, usize>,
 }
 
-impl LastBase {
+impl LastSearch {
     /// What is found before the first glyph.
     #[tactic(auto, using(crate::proofs::Kept::kept_first))]
-    pub fn new() -> LastBase
+    pub fn new() -> LastSearch
         ensures { (ask : Item → match_t) (xs : List Item) → IsKept ask xs result }
     {
-        LastBase {
+        LastSearch {
             before: 0,
             found: Err(0),
         }
     }
 }
 
-/// The last bases and ligatures that a lookup's searches found, those of lookups nested in it included.
+/// The last searches of a lookup for bases and for ligatures, those of lookups nested in it included.
 #[derive(Clone, Copy, Debug)]
-pub struct LastBases {
-    /// Of marks on bases.
-    pub base: LastBase,
-    /// Of marks on ligatures.
-    pub ligature: LastBase,
+pub struct LastSearches {
+    /// For a base.
+    pub base: LastSearch,
+    /// For a ligature.
+    pub ligature: LastSearch,
 }
 
-impl LastBases {
+impl LastSearches {
     /// What is found before the first glyph.
-    pub fn new() -> LastBases
+    pub fn new() -> LastSearches
         ensures { (a : Applied) (xs : List Item) → AreKept a xs result }
     {
-        LastBases {
-            base: LastBase::new(),
-            ligature: LastBase::new(),
+        LastSearches {
+            base: LastSearch::new(),
+            ligature: LastSearch::new(),
         }
     }
 }
@@ -98,14 +98,14 @@ fn farther(found: Result<usize, usize>, by: usize) -> Result<usize, usize>
 fn found_since(
     sought: Sought,
     ctx: &hb_ot_apply_context_t,
-    last: LastBase,
+    last: LastSearch,
     buffer: &hb_buffer_t,
 ) -> Result<usize, usize>
     requires there { 0 < length buffer.now.ahead }
     requires since { last.before ≤ length buffer.now.behind }
     requires kept { IsKept (asked sought (own_search (without_marks (applied_of ctx.now)) (strip buffer.now.ahead)))
         (items_of buffer.now) last }
-    ensures found { result ≡ sought_before sought (applied_of ctx.now) (cut_of buffer.now) }
+    ensures found { result ≡ nearest_before (asked sought) (without_marks (applied_of ctx.now)) (cut_of buffer.now) }
     ensures inside { IfOk result (λ at. at < length buffer.now.behind) }
     ensures read { IfErr result (λ end. end ≤ length buffer.now.behind) }
 {
@@ -127,21 +127,21 @@ fn found_since(
 pub fn found_before(
     sought: Sought,
     ctx: &hb_ot_apply_context_t,
-    last: &mut LastBase,
+    last: &mut LastSearch,
     buffer: &hb_buffer_t,
 ) -> Result<usize, usize>
     requires there { 0 < length buffer.now.ahead }
     requires kept { IsKept (any_sought sought (applied_of ctx.now)) (items_of buffer.now) last.old }
-    ensures found { result ≡ sought_before sought (applied_of ctx.now) (cut_of buffer.now) }
+    ensures found { result ≡ nearest_before (asked sought) (without_marks (applied_of ctx.now)) (cut_of buffer.now) }
     ensures inside { IfOk result (λ at. at < length buffer.now.behind) }
     ensures read { IfErr result (λ end. end ≤ length buffer.now.behind) }
     ensures kept { IsKept (any_sought sought (applied_of ctx.now)) (items_of buffer.now) last.new }
 {
     let before = buffer.out_len();
     if ctx.per_syllable || before < last.before {
-        return found_since(sought, ctx, LastBase::new(), buffer);
+        return found_since(sought, ctx, LastSearch::new(), buffer);
     }
     let found = found_since(sought, ctx, *last, buffer);
-    *last = LastBase { before, found };
+    *last = LastSearch { before, found };
     found
 }

@@ -12,7 +12,7 @@ ghost use Rattle.layout_gpos.specs.Marks.{attach, attach_if, is_there, mark_to_b
 
 use crate::anchor::{hang_mark, is_near};
 use crate::apply::Apply;
-use crate::bases::{LastBase, Sought, found_before};
+use crate::bases::{LastSearch, Sought, found_before};
 use crate::marking::{mark_attempt, mark_match};
 use crate::placing::pass;
 use crate::search::glyph_before;
@@ -140,7 +140,7 @@ pub fn attach_to_base(
 pub fn apply_mark_base_pos(
     subtable: &MarkBasePos,
     ctx: &hb_ot_apply_context_t,
-    last: &mut LastBase,
+    last: &mut LastSearch,
     buffer: &mut hb_buffer_t,
 ) -> bool
     requires closed { buffer.old.is_open ≡ false }
@@ -190,6 +190,6 @@ impl Apply for MarkBasePos {
     ghost action = { λ s d a. mark_to_base a s };
 
     fn apply(&self, ctx: &hb_ot_apply_context_t, buffer: &mut hb_buffer_t) -> bool {
-        apply_mark_base_pos(self, ctx, &mut LastBase::new(), buffer)
+        apply_mark_base_pos(self, ctx, &mut LastSearch::new(), buffer)
     }
 }

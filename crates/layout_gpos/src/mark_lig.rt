@@ -11,7 +11,7 @@ ghost use Rattle.layout_gpos.specs.declared.bases.Sought.TheVariants.{Ligature};
 ghost use Rattle.layout_gpos.specs.Marks.{component_in, component_of, mark_to_ligature, on_ligature, with_found};
 
 use crate::apply::Apply;
-use crate::bases::{LastBase, Sought, found_before};
+use crate::bases::{LastSearch, Sought, found_before};
 use crate::mark::attach_if;
 use crate::marking::mark_attempt;
 use crate::search::glyph_before;
@@ -112,7 +112,7 @@ fn attach_ligature_found(
 pub fn apply_mark_lig_pos(
     subtable: &MarkLigPos,
     ctx: &hb_ot_apply_context_t,
-    last: &mut LastBase,
+    last: &mut LastSearch,
     buffer: &mut hb_buffer_t,
 ) -> bool
     requires closed { buffer.old.is_open ≡ false }
@@ -136,6 +136,6 @@ impl Apply for MarkLigPos {
     ghost action = { λ s d a. mark_to_ligature a s };
 
     fn apply(&self, ctx: &hb_ot_apply_context_t, buffer: &mut hb_buffer_t) -> bool {
-        apply_mark_lig_pos(self, ctx, &mut LastBase::new(), buffer)
+        apply_mark_lig_pos(self, ctx, &mut LastSearch::new(), buffer)
     }
 }

@@ -17,18 +17,22 @@ use glyph_buffer::buffer::hb_buffer_t;
 use layout_match::{hb_ot_apply_context_t, skipping_iterator_t};
 use layout_positions::pair::{PairPos, PairRow, PairValues};
 use layout_positions::value::ValueRecord;
+use sorted_rows::SortedRows;
 
-fn has_first(rows: &[PairRow], first: u16) -> bool
-    ensures { result ≡ list_any (λ r. r.first == first) rows.now }
+/// Whether there are pairs with a first glyph, in logarithmic time: the first row from which on no first glyph is below it.
+fn has_first(pairs: &SortedRows<PairRow>, first: u16) -> bool
+    ensures { result ≡ list_any (λ r. r.first == first) pairs.now }
 {
-    rows.iter().any(|row| row.first == first)
+    let rows = pairs.rising_rows();
+    let index = rows.partition_point(|row| row.first < first);
+    index < rows.len() && rows[index].first == first
 }
 
 fn begins_pair(subtable: &PairPos, first: u16) -> bool
     ensures { result ≡ begins_pair subtable.now first }
 {
     match subtable {
-        PairPos::Glyphs(pairs) => has_first(pairs.rows.as_slice(), first),
+        PairPos::Glyphs(pairs) => has_first(&pairs.rows, first),
         PairPos::Classes(pairs) => pairs.coverage.contains(first),
     }
 }

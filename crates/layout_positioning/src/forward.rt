@@ -11,7 +11,7 @@ ghost use Rattle.layout_positioning.specs.Lookups.{looked_over, lookup_action};
 use crate::lookup::apply_lookup;
 use glyph_buffer::buffer::hb_buffer_t;
 use glyph_types::cause::ShapeCause;
-use layout_gpos::bases::LastBases;
+use layout_gpos::bases::LastSearches;
 use layout_gpos::placing::pass;
 use layout_lookups::positioning::{PositioningLookup, PositioningTable};
 use layout_match::hb_ot_apply_context_t;
@@ -22,7 +22,7 @@ fn apply_next(
     table: &PositioningTable,
     lookup: &PositioningLookup,
     ctx: &hb_ot_apply_context_t,
-    last: &mut LastBases,
+    last: &mut LastSearches,
     buffer: &mut hb_buffer_t,
 ) -> Result<(), ShapeCause>
     requires closed { buffer.old.is_open ≡ false }
@@ -61,7 +61,7 @@ pub fn apply_forward(
         buffer.old.direction (applied_of ctx.now) lookup.now)) (run_with ctx.now.random_state buffer.old) ≡ Err e) }
 {
     let count = buffer.len();
-    let mut last = LastBases::new();
+    let mut last = LastSearches::new();
     for _ in 0..count {
         apply_next(table, lookup, ctx, &mut last, buffer)?;
     }

@@ -10,7 +10,7 @@ use crate::nested::apply_subtables;
 use glyph_buffer::buffer::hb_buffer_t;
 use glyph_types::cause::ShapeCause;
 use layout_chain::MAX_NESTING_LEVEL;
-use layout_gpos::bases::LastBases;
+use layout_gpos::bases::LastSearches;
 use layout_lookups::positioning::{PositioningLookup, PositioningTable};
 use layout_match::hb_ot_apply_context_t;
 use layout_walks::lookup::meets;
@@ -23,7 +23,7 @@ pub fn apply_lookup(
     table: &PositioningTable,
     lookup: &PositioningLookup,
     ctx: &hb_ot_apply_context_t,
-    last: &mut LastBases,
+    last: &mut LastSearches,
     buffer: &mut hb_buffer_t,
 ) -> Result<bool, ShapeCause>
     requires closed { buffer.old.is_open ≡ false }

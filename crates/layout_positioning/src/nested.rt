@@ -25,7 +25,7 @@ use layout_chain::{
     settle_match,
 };
 use layout_contexts::context::{ContextSubtable, SequenceLookupRecord};
-use layout_gpos::bases::LastBases;
+use layout_gpos::bases::LastSearches;
 use layout_lookups::positioning::{PositioningLookup, PositioningSubtables, PositioningTable};
 use layout_match::{MatchPositions, hb_ot_apply_context_t};
 
@@ -51,7 +51,7 @@ fn recurse(
     depth: u32,
     index: u16,
     ctx: &hb_ot_apply_context_t,
-    last: &mut LastBases,
+    last: &mut LastSearches,
     buffer: &mut hb_buffer_t,
 ) -> Result<bool, ShapeCause>
     requires closed { buffer.old.is_open ≡ false }
@@ -79,7 +79,7 @@ pub(crate) fn apply_subtables(
     depth: u32,
     subtables: &PositioningSubtables,
     ctx: &hb_ot_apply_context_t,
-    last: &mut LastBases,
+    last: &mut LastSearches,
     buffer: &mut hb_buffer_t,
 ) -> Result<bool, ShapeCause>
     requires closed { buffer.old.is_open ≡ false }
@@ -125,7 +125,7 @@ fn apply_contexts(
     depth: u32,
     subtables: &[ContextSubtable],
     ctx: &hb_ot_apply_context_t,
-    last: &mut LastBases,
+    last: &mut LastSearches,
     buffer: &mut hb_buffer_t,
 ) -> Result<bool, ShapeCause>
     requires closed { buffer.old.is_open ≡ false }
@@ -154,7 +154,7 @@ fn apply_context(
     depth: u32,
     subtable: &ContextSubtable,
     ctx: &hb_ot_apply_context_t,
-    last: &mut LastBases,
+    last: &mut LastSearches,
     buffer: &mut hb_buffer_t,
 ) -> Result<bool, ShapeCause>
     requires closed { buffer.old.is_open ≡ false }
@@ -180,7 +180,7 @@ fn apply_rules(
     depth: u32,
     subtable: &ContextSubtable,
     ctx: &hb_ot_apply_context_t,
-    last: &mut LastBases,
+    last: &mut LastSearches,
     buffer: &mut hb_buffer_t,
 ) -> Result<bool, ShapeCause>
     requires closed { buffer.old.is_open ≡ false }
@@ -210,7 +210,7 @@ fn apply_rule(
     depth: u32,
     rule: &ChainRule,
     ctx: &hb_ot_apply_context_t,
-    last: &mut LastBases,
+    last: &mut LastSearches,
     buffer: &mut hb_buffer_t,
 ) -> Result<bool, ShapeCause>
     requires closed { buffer.old.is_open ≡ false }
@@ -250,7 +250,7 @@ fn apply_records(
     end: usize,
     places: &mut MatchPositions,
     ctx: &hb_ot_apply_context_t,
-    last: &mut LastBases,
+    last: &mut LastSearches,
     buffer: &mut hb_buffer_t,
 ) -> Result<usize, ShapeCause>
     requires closed { buffer.old.is_open ≡ false }
@@ -298,7 +298,7 @@ fn apply_record(
     end: usize,
     places: &mut MatchPositions,
     ctx: &hb_ot_apply_context_t,
-    last: &mut LastBases,
+    last: &mut LastSearches,
     buffer: &mut hb_buffer_t,
 ) -> Result<usize, ShapeCause>
     requires closed { buffer.old.is_open ≡ false }

@@ -12,7 +12,7 @@ ghost use Rattle.layout_gpos.specs.Marks.{mark_to_base, mark_to_ligature, mark_t
 use glyph_buffer::buffer::hb_buffer_t;
 use layout_cursive::join::apply_cursive_pos;
 use layout_gpos::apply::Apply;
-use layout_gpos::bases::LastBases;
+use layout_gpos::bases::LastSearches;
 use layout_gpos::mark::apply_mark_base_pos;
 use layout_gpos::mark_lig::apply_mark_lig_pos;
 use layout_gpos::mark_mark::apply_mark_mark_pos;
@@ -94,7 +94,7 @@ pub fn apply_first_mark(
 pub fn apply_first_base(
     subtables: &[MarkBasePos],
     ctx: &hb_ot_apply_context_t,
-    last: &mut LastBases,
+    last: &mut LastSearches,
     buffer: &mut hb_buffer_t,
 ) -> bool
     requires closed { buffer.old.is_open ≡ false }
@@ -120,7 +120,7 @@ pub fn apply_first_base(
 pub fn apply_first_ligature(
     subtables: &[MarkLigPos],
     ctx: &hb_ot_apply_context_t,
-    last: &mut LastBases,
+    last: &mut LastSearches,
     buffer: &mut hb_buffer_t,
 ) -> bool
     requires closed { buffer.old.is_open ≡ false }

@@ -1,4 +1,4 @@
+pub mod Halves
 pub mod Moved
-pub mod Alone
 pub mod Put
 pub mod Front

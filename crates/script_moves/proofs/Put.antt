@@ -10,7 +10,7 @@ use Rattle.glyph_lists.specs.Origins.{Origin, origin_of, origins, InList, manner
 use Rattle.glyph_lists.specs.Events.{Replace}
 use Rattle.glyph_buffer.specs.Sides.{Sides, origins_of}
 use Rattle.glyph_buffer.specs.Merging.{with_put, with_skipped}
-use Rattle.script_moves.proofs.Alone.{merged_alone}
+use Rattle.script_moves.specs.Lemmas.Alone.{merged_alone}
 use Rattle.script_moves.specs.Walks.{Walked}
 
 origins_same : (o : Origin) (front back : List Origin) (n : ℕ) → replaced_among (length front) 1 n (front ++ o ∷ back) ≡ front ++ replicate n o ++ back
