@@ -7,7 +7,7 @@ use Rattle.font_face.specs.declared.parts.FaceParts.{FaceParts}
 use Rattle.font_face.specs.Glyphs.{width_of, height_of, origin_of}
 use Rattle.glyph_lists.specs.Items.{Item, Position}
 use Rattle.glyph_lists.specs.Readings.{View, Read}
-use Rattle.layout_links.specs.Links.{minus}
+use Rattle.position_sums.specs.Sums.{minus}
 use Rattle.text_stages.specs.Places.{placed}
 
 -- a horizontal line goes on by the glyph's width

@@ -9,7 +9,7 @@ use font_face::Face;
 use glyph_buffer::buffer::hb_buffer_t;
 use glyph_types::info::hb_glyph_info_t;
 use glyph_types::position::GlyphPosition;
-use layout_links::sums::minus;
+use position_sums::sums::minus;
 use shaping_text::direction::Direction;
 use text_stages::positions::map_positions;
 

@@ -6,9 +6,9 @@ use Rattle.shaping_text.specs.Direction.{is_forward}
 use Rattle.layout_common.specs.Rows.{value_of}
 use Rattle.font_face.specs.declared.parts.FaceParts.{FaceParts}
 use Rattle.glyph_lists.specs.Items.{Item, Position}
-use Rattle.layout_links.specs.Links.{minus, plus}
+use Rattle.position_sums.specs.Sums.{minus, plus}
 use Rattle.shape_fallback.specs.Boxes.{marked}
-use Rattle.shape_fallback.specs.Zeroing.{without_advances}
+use Rattle.position_sums.specs.Zeroing.{without_advances}
 use Rattle.shape_fallback.specs.declared.boxes.Marked.{Marked}
 use Rattle.fallback_marks.specs.declared.bases.Base.{Base}
 use Rattle.fallback_marks.specs.declared.around.Around.{Around}

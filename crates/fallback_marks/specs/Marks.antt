@@ -13,7 +13,7 @@ use Rattle.layout_match.specs.LigatureWords.{component_bound}
 use Rattle.normal_forms.specs.Characters.{is_mark}
 use Rattle.text_stages.specs.Categories.{is_nonspacing_mark}
 use Rattle.shape_fallback.specs.Boxes.{Box}
-use Rattle.shape_fallback.specs.Zeroing.{zeroed}
+use Rattle.position_sums.specs.Zeroing.{zeroed}
 use Rattle.fallback_marks.specs.declared.around.Placed.{Placed}
 use Rattle.fallback_marks.specs.declared.around.Placing.{Placing}
 use Rattle.fallback_marks.specs.declared.marks.Before.{Before}

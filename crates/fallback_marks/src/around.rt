@@ -10,9 +10,9 @@ use font_face::Face;
 use glyph_types::info::hb_glyph_info_t;
 use glyph_types::names::hb_glyph_extents_t;
 use glyph_types::position::GlyphPosition;
-use layout_links::sums::{minus, plus};
+use position_sums::sums::{minus, plus};
+use position_sums::zeroing::without_advances;
 use shape_fallback::boxes::{Marked, position_mark};
-use shape_fallback::zeroing::without_advances;
 use shaping_text::direction::Direction;
 
 /// What the marks of a text are placed by, beside the font.

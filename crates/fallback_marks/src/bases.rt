@@ -9,10 +9,10 @@ use font_face::Face;
 use glyph_types::info::hb_glyph_info_t;
 use glyph_types::names::hb_glyph_extents_t;
 use glyph_types::position::GlyphPosition;
-use layout_links::sums::plus;
 use layout_match::ligature_words::{
     _hb_glyph_info_get_lig_comp, _hb_glyph_info_get_lig_id, _hb_glyph_info_get_lig_num_comps,
 };
+use position_sums::sums::plus;
 
 /// A base, as marks are put around it.
 #[derive(Clone, Copy, PartialEq, Eq, Debug)]

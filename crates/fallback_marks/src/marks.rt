@@ -17,7 +17,7 @@ use font_face::Face;
 use glyph_buffer::buffer::hb_buffer_t;
 use glyph_types::info::hb_glyph_info_t;
 use glyph_types::position::GlyphPosition;
-use shape_fallback::zeroing::zeroed;
+use position_sums::zeroing::zeroed;
 use shaping_text::direction::Direction;
 use shaping_text::script::Script;
 use text_stages::categories::{is_mark, is_nonspacing_mark};

@@ -6,13 +6,7 @@ use Rattle.glyph_lists.specs.Items.{Position}
 use Rattle.shaping_text.specs.declared.direction.Direction.{Direction}
 use Rattle.shaping_text.specs.Direction.{is_forward, is_horizontal}
 use Rattle.glyph_buffer.specs.Sides.{zero_position}
-
--- sums and differences modulo 2^32
-abbrev pub plus : ℤ → ℤ → ℤ
-plus a b = int_wrap w32 (a +ℤ b)
-
-abbrev pub minus : ℤ → ℤ → ℤ
-minus a b = int_wrap w32 (a -ℤ b)
+pub use Rattle.position_sums.specs.Sums.{minus, plus}
 
 -- the position with a number
 abbrev pub position_at : ℕ → List Position → Position

@@ -6,8 +6,9 @@ ghost use Rattle.layout_links.specs.Links.{linked, hung, unlinked, position_at, 
 ghost use Rattle.layout_links.specs.Sums.{drawn_by_sums, mark_by_sums, pen_before, back_by, on_by};
 ghost use Rattle.layout_links.specs.Walks.{IsComing, Stops, Goes, CameFrom, GoesBack, are_shut, is_open, opened, shut};
 
-use crate::sums::{PEN_DOWN, Pen, minus, pen_of, pen_way, plus, sum_up, take_apart};
+use crate::sums::{PEN_DOWN, Pen, pen_of, pen_way, sum_up, take_apart};
 use glyph_types::position::GlyphPosition;
+use position_sums::sums::{minus, plus};
 use shaping_text::direction::Direction;
 
 /// Where a link of a position leads to, among so many: none where it is 0 or leads outside.

@@ -1,9 +1,10 @@
 //! Advances as sums, so that the way between two glyphs is a difference.
 ghost use Rattle.std.specs.Prelude.{◌≡◌};
-ghost use Rattle.layout_links.specs.Links.{plus, minus, kinds_tested, kind_tested, has_kind};
+ghost use Rattle.layout_links.specs.Links.{kinds_tested, kind_tested, has_kind};
 ghost use Rattle.layout_links.specs.Sums.{AllFit, Fits, pen_down, pen_behind, pen_of, pen_way, with_pen, summed, taken_apart};
 
 use glyph_types::position::GlyphPosition;
+pub use position_sums::sums::{minus, plus};
 
 /// Where the pen stands, in font units from the beginning of the line, modulo 2^32.
 #[derive(Clone, Copy, PartialEq, Eq, Debug)]
@@ -13,20 +14,6 @@ pub(crate) struct Pen {
 }
 
 pub(crate) const PEN_DOWN: Pen = Pen { x: 0, y: 0 };
-
-/// A sum modulo 2^32.
-pub fn plus(a: i32, b: i32) -> i32
-    ensures { result ≡ plus a b }
-{
-    a.wrapping_add(b)
-}
-
-/// A difference modulo 2^32.
-pub fn minus(a: i32, b: i32) -> i32
-    ensures { result ≡ minus a b }
-{
-    a.wrapping_sub(b)
-}
 
 pub(crate) fn pen_of(place: GlyphPosition) -> Pen
     ensures { result ≡ pen_of place }

@@ -3,5 +3,7 @@
 
 #[cfg(test)]
 mod lists;
-pub mod rows;
-pub mod texts;
+#[cfg(test)]
+mod rows;
+#[cfg(test)]
+mod texts;

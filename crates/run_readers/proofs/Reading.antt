@@ -8,7 +8,7 @@ use Rattle.run_options.specs.declared.fault.RunFault.TheVariants.{Unlawful}
 use Rattle.run_options.specs.Fault.{run_fault_of}
 use Rattle.script_syllables.specs.Machines.{Machines}
 use Rattle.tables_json.specs.Languages.{Language, languages_of}
-use Rattle.tables_json.specs.Syllables.{syllables_of}
+use Rattle.syllables_json.specs.Syllables.{syllables_of}
 use Rattle.tables_json.specs.Deep.{HasDeepSplits}
 use Rattle.tables_json.specs.Unicode.{tables_of}
 use Rattle.unicode_tables.specs.Expansion.{EndWithin}
@@ -22,18 +22,10 @@ use Rattle.run_readers.specs.Laws.{InputsAreOne}
 
 -- ---- values
 
-pub whole_read : (d : Data) (t : Tables) (ms : Machines) (ls : List Language) → tables_of d ≡ Ok t → EndWithin (split_of t) 8 → syllables_of d ≡ Ok ms → languages_of d ≡ Ok ls
-    → IsValueOf d (Ok (record { characters = t; syllables = ms; languages = ls }))
+-- tables without a fault of a row are what the rest is read as
+pub rest_read : (d : Data) (t : Tables) (r : Result RunTables JsonFault) → tables_of d ≡ Ok t → EndWithin (split_of t) 8 → with_rest t d ≡ r → IsValueOf d r
 unfolding IsValueOf
-whole_read d t ms ls rows shallow syllables languages = rw (rows, syllables, languages) (inl (shallow, refl))
-
-pub syllables_refused : (d : Data) (t : Tables) (e : JsonFault) → tables_of d ≡ Ok t → EndWithin (split_of t) 8 → syllables_of d ≡ Err e → IsValueOf d (Err e)
-unfolding IsValueOf
-syllables_refused d t e rows shallow syllables = rw (rows, syllables) (inl (shallow, refl))
-
-pub languages_refused : (d : Data) (t : Tables) (ms : Machines) (e : JsonFault) → tables_of d ≡ Ok t → EndWithin (split_of t) 8 → syllables_of d ≡ Ok ms → languages_of d ≡ Err e → IsValueOf d (Err e)
-unfolding IsValueOf
-languages_refused d t ms e rows shallow syllables languages = rw (rows, syllables, languages) (inl (shallow, refl))
+rest_read d t r rows shallow rest = rw rows (inl (shallow, sym rest))
 
 row_refused : (d : Data) (e : JsonFault) → tables_of d ≡ Err e → IsValueOf d (Err e)
 unfolding IsValueOf

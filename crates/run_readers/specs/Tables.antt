@@ -11,7 +11,7 @@ use Rattle.json_values.specs.Cell.{and_then}
 use Rattle.run_options.specs.declared.fault.RunFault.{RunFault}
 use Rattle.run_options.specs.declared.fault.RunFault.TheVariants.{Unlawful}
 use Rattle.tables_json.specs.Languages.{Language, languages_in, languages_of}
-use Rattle.tables_json.specs.Syllables.{syllables_of}
+use Rattle.syllables_json.specs.Syllables.{syllables_of}
 use Rattle.tables_json.specs.Unicode.{tables_of}
 use Rattle.script_syllables.specs.Machines.{Machines}
 use Rattle.unicode_tables.specs.Expansion.{EndWithin, HasDeepChain}

@@ -1,9 +1,11 @@
 //! The tables of a run.
 ghost use Rattle.std.specs.Prelude.{◌≡◌, ◌≢◌, Ok, Err, IfOk, IfErr, OnOk};
 ghost use Rattle.serde_json.specs.View.{view};
+ghost use Rattle.tables_json.specs.Languages.{languages_in};
 ghost use Rattle.unicode_tables.specs.Lawful.{IsLawful};
+ghost use Rattle.unicode_tables.specs.Tables.{Tables};
 ghost use Rattle.run_readers.specs.Faults.{IsOfRun};
-ghost use Rattle.run_readers.specs.Tables.{AreTables, IsValueOf, tables_value};
+ghost use Rattle.run_readers.specs.Tables.{AreTables, IsValueOf, tables_value, with_rest};
 
 use crate::values::read_json;
 use json_values::fault::JsonFault;
@@ -12,7 +14,8 @@ use run_options::fault::RunFault;
 use script_syllables::SyllableTable;
 use serde_json::Value;
 use std::alloc::Global;
-use tables_json::{read_languages, read_syllables, read_tables};
+use syllables_json::read_syllables;
+use tables_json::{read_languages, read_tables};
 use unicode_tables::UnicodeTables;
 
 /// What shaping goes by, beside the font.
@@ -26,18 +29,39 @@ pub struct TextTables {
     pub languages: LanguageTable,
 }
 
-/// Reads the tables of characters, then the machines of syllables, then the languages.
+/// What is known of a text beside its characters.
+#[derive(Drop)]
+struct OtherTables {
+    syllables: SyllableTable,
+    languages: LanguageTable,
+}
+
+/// Reads the machines of syllables, then the languages.
+fn read_other_tables(alloc: Global, value: &Value) -> Result<OtherTables, JsonFault>
+    ensures ok { IfOk result (λ o. (t : Tables) → with_rest t (view value.now)
+        ≡ Ok (record { characters = t; syllables = o.syllables; languages = languages_in o.languages })) }
+    ensures refused { IfErr result (λ e. e ≢ JsonFault.OutOfMemory
+        → (t : Tables) → with_rest t (view value.now) ≡ Err e) }
+{
+    let syllables = read_syllables(alloc, value)?;
+    let languages = read_languages(alloc, value)?;
+    Ok(OtherTables {
+        syllables,
+        languages,
+    })
+}
+
+/// Reads the tables of characters, then the others.
 fn read_all_tables(alloc: Global, value: &Value) -> Result<TextTables, JsonFault>
     ensures ok { IfOk result (λ t. IsValueOf (view value.now) (Ok (tables_value t))) }
     ensures refused { IfErr result (λ e. e ≢ JsonFault.OutOfMemory → IsValueOf (view value.now) (Err e)) }
 {
     let characters = read_tables(alloc, value)?;
-    let syllables = read_syllables(alloc, value)?;
-    let languages = read_languages(alloc, value)?;
+    let others = read_other_tables(alloc, value)?;
     Ok(TextTables {
         characters,
-        syllables,
-        languages,
+        syllables: others.syllables,
+        languages: others.languages,
     })
 }
 

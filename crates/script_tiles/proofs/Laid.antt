@@ -12,9 +12,9 @@ use Rattle.layout_rules.specs.Buffers.{are_glyphs}
 use Rattle.layout_rules.specs.Ready.{IsDone, IsReady}
 use Rattle.text_stages.specs.Lemmas.Written.{refilled_whole}
 use Rattle.text_stages.specs.Stages.{IsFollowed}
-use Rattle.script_tiles.specs.declared.laying.Tile.{Tile}
+use Rattle.tile_places.specs.declared.tile.Tile.{Tile}
 use Rattle.script_tiles.specs.Copying.{copied, copies_in, events_from, tiles_copied}
-use Rattle.script_tiles.specs.Placing.{begin, copies_placed, laid, placed}
+use Rattle.tile_places.specs.Placing.{begin, copies_placed, laid, placed}
 use Rattle.script_tiles.specs.Stretch.{laid_over}
 
 copies_long : (p : Position) (t : Tile) (x : ℤ) (n : ℕ) → length (copies_placed p t x n) ≡ n + 1

@@ -9,7 +9,7 @@ use Rattle.glyph_lists.specs.Items.{Item, Position, item_of, strip}
 use Rattle.script_stretch.specs.declared.runs.Run.{Run}
 use Rattle.script_stretch.specs.declared.runs.Before.{Before}
 use Rattle.script_stretch.specs.Runs.{next_before, runs}
-use Rattle.script_tiles.specs.declared.laying.Tile.{Tile}
+use Rattle.tile_places.specs.declared.tile.Tile.{Tile}
 use Rattle.script_tiles.specs.Laying.{is_in_range, tile_of, tiles}
 
 -- the tiles of so many glyphs

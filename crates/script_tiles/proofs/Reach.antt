@@ -13,9 +13,9 @@ use Rattle.script_stretch.specs.declared.runs.Before.TheVariants.{Tiles, Word}
 use Rattle.script_stretch.specs.Copies.{copies, left_of_word, natural}
 use Rattle.script_stretch.specs.Runs.{next_before, run_behind, runs, tile_run, width, with_tile, with_tiles, word_behind}
 use Rattle.script_stretch.specs.Tiles.{is_fixed, is_repeating, is_tile}
-use Rattle.script_tiles.specs.declared.laying.Tile.{Tile}
+use Rattle.tile_places.specs.declared.tile.Tile.{Tile}
 use Rattle.script_tiles.specs.Laying.{copies_of, overlap, tile_in_run, tile_of, tiles}
-use Rattle.script_tiles.specs.Placing.{begin, begins_at, copies_placed, copy_begin, laid, tile_at}
+use Rattle.tile_places.specs.Placing.{begin, begins_at, copies_placed, copy_begin, laid, tile_at}
 use Rattle.script_tiles.specs.Laws.{LeftmostIsThere, TilesReach, begins_otherwise}
 use Rattle.script_tiles.proofs.Numbers.{between, copies_begin, fixed_grown, grown}
 use Rattle.script_tiles.proofs.Shared.{are_enough, repeats_some}

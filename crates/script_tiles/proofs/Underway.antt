@@ -14,7 +14,7 @@ use Rattle.layout_rules.specs.Ready.{IsReady}
 use Rattle.text_stages.specs.Stages.{IsFollowed}
 use Rattle.script_moves.specs.Walks.{Exceeds, Walked}
 use Rattle.script_moves.specs.Lemmas.Walked.{both_walked, nothing_walked, walked_followed}
-use Rattle.script_tiles.specs.declared.laying.Tile.{Tile}
+use Rattle.tile_places.specs.declared.tile.Tile.{Tile}
 use Rattle.script_tiles.specs.Copying.{copied, copies_in, copy_events, events_from, tiles_copied}
 
 -- the glyphs before a place are behind with their copies

@@ -15,10 +15,10 @@ use Rattle.layout_rules.specs.Ready.{IsDone, IsReady}
 use Rattle.script_stretch.specs.declared.runs.Before.TheVariants.{Tiles, Word}
 use Rattle.script_stretch.specs.Runs.{next_before, run_here, runs, tile_run, word_behind}
 use Rattle.script_stretch.specs.Tiles.{is_tile}
-use Rattle.script_tiles.specs.declared.laying.Tile.{Tile}
+use Rattle.tile_places.specs.declared.tile.Tile.{Tile}
 use Rattle.script_tiles.specs.Laying.{is_in_range, tiles}
 use Rattle.script_tiles.specs.Copying.{copied, events_from}
-use Rattle.script_tiles.specs.Placing.{laid}
+use Rattle.tile_places.specs.Placing.{laid}
 use Rattle.script_tiles.specs.Stretch.{laid_over, text_runs, tiles_laid}
 
 pub any_seen : (gs : List hb_glyph_info_t) → list_any (λ (g : hb_glyph_info_t). is_tile (item_of g)) gs ≡ list_any is_tile (strip gs)

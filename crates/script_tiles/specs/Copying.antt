@@ -4,7 +4,7 @@ use Rattle.glyph_types.specs.declared.cause.ShapeCause.TheVariants.{TooLong}
 use Rattle.glyph_lists.specs.Events.{Event, Replace}
 use Rattle.glyph_lists.specs.Readings.{Stage, with_events}
 use Rattle.glyph_buffer.specs.Sides.{zero_positions}
-use Rattle.script_tiles.specs.declared.laying.Tile.{Tile}
+use Rattle.tile_places.specs.declared.tile.Tile.{Tile}
 
 -- what is no tile has no copies
 abbrev pub copies_in : Option Tile → ℕ

@@ -11,9 +11,9 @@ use Rattle.script_stretch.specs.declared.runs.Before.TheVariants.{Word}
 use Rattle.script_stretch.specs.Copies.{copies}
 use Rattle.script_stretch.specs.Runs.{run_behind, runs, with_tiles}
 use Rattle.script_stretch.specs.Tiles.{is_tile}
-use Rattle.script_tiles.specs.declared.laying.Tile.{Tile}
+use Rattle.tile_places.specs.declared.tile.Tile.{Tile}
 use Rattle.script_tiles.specs.Laying.{tiles}
-use Rattle.script_tiles.specs.Placing.{begin, laid, tile_at}
+use Rattle.tile_places.specs.Placing.{begin, laid, tile_at}
 use Rattle.script_tiles.specs.Stretch.{tiles_laid}
 
 -- nothing, or what is no tile

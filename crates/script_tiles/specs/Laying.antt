@@ -6,7 +6,7 @@ use Rattle.script_stretch.specs.declared.runs.Run.{Run}
 use Rattle.script_stretch.specs.Tiles.{is_repeating}
 use Rattle.script_stretch.specs.Runs.{width}
 use Rattle.script_stretch.specs.Copies.{copies, left_of_word}
-use Rattle.script_tiles.specs.declared.laying.Tile.{Tile}
+use Rattle.tile_places.specs.declared.tile.Tile.{Tile}
 
 -- a number of 32 bits
 abbrev pub fits : ℤ → Bool

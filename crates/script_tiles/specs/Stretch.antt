@@ -7,10 +7,10 @@ use Rattle.glyph_lists.specs.Readings.{Stage, View, with_events}
 use Rattle.script_stretch.specs.declared.runs.Run.{Run}
 use Rattle.script_stretch.specs.declared.runs.Before.TheVariants.{Word}
 use Rattle.script_stretch.specs.Runs.{runs}
-use Rattle.script_tiles.specs.declared.laying.Tile.{Tile}
+use Rattle.tile_places.specs.declared.tile.Tile.{Tile}
 use Rattle.script_tiles.specs.Laying.{is_in_range, tiles}
 use Rattle.script_tiles.specs.Copying.{copied, events_from}
-use Rattle.script_tiles.specs.Placing.{laid}
+use Rattle.tile_places.specs.Placing.{laid}
 
 -- such tiles with their copies, where the list does not grow past the limit
 abbrev pub laid_over : List (Option Tile) → Stage

@@ -9,10 +9,10 @@ ghost use Rattle.script_moves.specs.Walks.{Exceeds, Walked};
 ghost use Rattle.text_stages.specs.Stages.{IsFollowed};
 ghost use Rattle.script_tiles.specs.Copying.{copies_in, copy_events, tiles_copied};
 
-use crate::laying::Tile;
 use glyph_buffer::buffer::hb_buffer_t;
 use glyph_types::cause::ShapeCause;
 use script_moves::walks::{advance, finish};
+use tile_places::tile::Tile;
 
 /// Puts the copies of each tile beside it.
 ///

@@ -13,17 +13,7 @@ use script_stretch::copies::{copies, left_of_word};
 use script_stretch::runs::Run;
 use script_stretch::words::is_repeating;
 use std::alloc::{AllocFailed, Global};
-
-/// A tile as it is laid, in font units.
-#[derive(Clone, Copy, PartialEq, Eq, Debug)]
-pub struct Tile {
-    /// How many copies of it stand beside it.
-    pub copies: u32,
-    /// Its width in the font.
-    pub width: i32,
-    /// How far each copy lies over its neighbour.
-    pub overlap: i32,
-}
+use tile_places::tile::Tile;
 
 /// Whether the widths of each run are numbers of 32 bits.
 pub fn are_in_range(runs: &[Option<Run>]) -> bool

@@ -4,5 +4,4 @@
 pub mod copying;
 pub mod laws;
 pub mod laying;
-pub mod placing;
 pub mod stretch;

@@ -9,8 +9,7 @@ ghost use Rattle.script_stretch.specs.Tiles.{is_tile};
 ghost use Rattle.script_tiles.specs.Stretch.{laid_over, tiles_laid};
 
 use crate::copying::copy_tiles;
-use crate::laying::{Tile, are_in_range, tiles_of};
-use crate::placing::places_of;
+use crate::laying::{are_in_range, tiles_of};
 use font_face::Face;
 use glyph_buffer::buffer::hb_buffer_t;
 use glyph_types::cause::ShapeCause;
@@ -19,6 +18,8 @@ use glyph_types::position::GlyphPosition;
 use script_stretch::runs::runs_of;
 use script_stretch::words::is_tile;
 use std::alloc::Global;
+use tile_places::placing::places_of;
+use tile_places::tile::Tile;
 
 /// Lays the tiles of each run over the word in front of it: repeating tiles get copies until they reach as far as the word.
 /// Glyphs stand as they are drawn. It takes linear time in the glyphs that there are then, and memory for them; a text without

@@ -5,7 +5,7 @@ use Rattle.shaping_text.specs.declared.direction.Direction.{Direction}
 use Rattle.shaping_text.specs.Direction.{is_forward, is_horizontal}
 use Rattle.glyph_types.specs.declared.names.hb_glyph_extents_t.{hb_glyph_extents_t}
 use Rattle.glyph_lists.specs.Items.{Position}
-use Rattle.layout_links.specs.Links.{plus, minus}
+use Rattle.position_sums.specs.Sums.{plus, minus}
 use Rattle.shape_fallback.specs.Classes.{is_one_of}
 use Rattle.shape_fallback.specs.declared.boxes.Stacked.{Stacked}
 use Rattle.shape_fallback.specs.declared.boxes.Marked.{Marked}

@@ -4,7 +4,7 @@ ghost use Rattle.shape_fallback.specs.Boxes.{above, below, double_x, half_up, he
 
 use glyph_types::names::hb_glyph_extents_t;
 use glyph_types::position::GlyphPosition;
-use layout_links::sums::{minus, plus};
+use position_sums::sums::{minus, plus};
 use shaping_text::direction::Direction;
 
 /// How far up a mark is moved, in font units, and the box that it leaves for the next one.

@@ -1,4 +1,3 @@
 pub mod Unicode
 pub mod Deep
-pub mod Syllables
 pub mod Languages

@@ -4,7 +4,8 @@ use serde_json::Value;
 use std::alloc::Global;
 use std::process::Abort;
 use std::test::Fail;
-use tables_json::{read_languages, read_syllables, read_tables};
+use syllables_json::read_syllables;
+use tables_json::{read_languages, read_tables};
 use unicode_tables::LawFault;
 
 // Each key, its row's parts one by one; then several faults: keys come before rows, rows before the parts of one row, and

@@ -7,7 +7,8 @@ use shaping_text::language_tags::LanguageTags;
 use shaping_text::tag::Tag;
 use std::alloc::Global;
 use std::test::Fail;
-use tables_json::{read_languages, read_syllables};
+use syllables_json::read_syllables;
+use tables_json::read_languages;
 
 const MACHINE: &str = r#"{"syllables":{"khmer":{"states":3,
     "next":[[0,"C",1],[1,"H",2],[2,"C",1]],"accept":[[1,"consonant"]]}}}"#;

@@ -5,10 +5,10 @@ use Rattle.glyph_types.specs.declared.cause.ShapeCause.TheVariants.{StretchRange
 use Rattle.glyph_types.specs.declared.level.BufferClusterLevel.{BufferClusterLevel}
 use Rattle.glyph_lists.specs.Events.{Event, IsPlain}
 use Rattle.glyph_lists.specs.Readings.{Read, Reading, View, with_events}
-use Rattle.script_tiles.specs.declared.laying.Tile.{Tile}
+use Rattle.tile_places.specs.declared.tile.Tile.{Tile}
 use Rattle.script_tiles.specs.Laying.{is_in_range, tiles}
 use Rattle.script_tiles.specs.Copying.{copied, copies_in, copy_events, events_from}
-use Rattle.script_tiles.specs.Placing.{laid}
+use Rattle.tile_places.specs.Placing.{laid}
 use Rattle.script_tiles.specs.Stretch.{laid_over, text_runs}
 use Rattle.script_tiles.specs.Laws.{TilesLeavePlain}
 

@@ -1,10 +1,10 @@
 use Rattle.std.proofs.Common.{◌≡◌, ◌+◌, ◌++◌, ap, ◌∙◌, arith}
 use Rattle.std.specs.Prelude.{reverse}
 use Rattle.std.specs.Int.{int_wrap, w32}
-use Rattle.script_tiles.specs.Placing.{copies_placed, copy_begin}
-use Rattle.script_tiles.proofs.Places.{next_place}
-use Rattle.script_tiles.proofs.Wrapped.{back}
-use Rattle.script_tiles.proofs.placing.place_tile.Goals as goal
+use Rattle.tile_places.specs.Placing.{copies_placed, copy_begin}
+use Rattle.tile_places.proofs.Places.{next_place}
+use Rattle.tile_places.proofs.Wrapped.{back}
+use Rattle.tile_places.proofs.placing.place_tile.Goals as goal
 
 pub loop-preserved : goal.loop-preserved
 loop-preserved c = λ at e.

@@ -4,8 +4,8 @@ use Rattle.std.specs.Prelude.{reverse}
 use Rattle.std.specs.Int.{int_wrap, w32}
 use Rattle.std.proofs.lemmas.List.{drop_more, reverse-append}
 use Rattle.glyph_lists.specs.Items.{Position}
-use Rattle.script_tiles.specs.declared.laying.Tile.{Tile}
-use Rattle.script_tiles.specs.Placing.{begin, begins_at, copies_placed, copy_begin, laid, placed, tile_at}
+use Rattle.tile_places.specs.declared.tile.Tile.{Tile}
+use Rattle.tile_places.specs.Placing.{begin, begins_at, copies_placed, copy_begin, laid, placed, tile_at}
 
 pub first_place : (p q : Position) (t : Tile) (at : ℤ) (out new : List Position) → q ≡ tile_at p (copy_begin t at 0) → new ≡ out ++ q ∷ [] → new ≡ out ++ reverse (copies_placed p t at 0)
 first_place p q t at out new e f = f ∙ ap (λ r. out ++ r ∷ []) e

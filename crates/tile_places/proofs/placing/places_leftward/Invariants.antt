@@ -1,6 +1,6 @@
 use Rattle.std.proofs.Common.{◌-◌}
-use Rattle.script_tiles.proofs.Places.{ArePlaced}
-use Rattle.script_tiles.proofs.placing.places_leftward.Given as goal
+use Rattle.tile_places.proofs.Places.{ArePlaced}
+use Rattle.tile_places.proofs.placing.places_leftward.Given as goal
 
 -- so many at the end are placed
 abbrev pub invariant-loop-i : goal.invariant-loop-i

@@ -1,9 +1,9 @@
 //! Where tiles stand.
 ghost use Rattle.std.specs.Prelude.{ℕ, ℤ, ◌≡◌, ◌++◌, ◌+◌, IfOk, length, reverse};
 ghost use Rattle.std.specs.Int.{int_wrap, w32};
-ghost use Rattle.script_tiles.specs.Placing.{begins_at, copies_placed, copy_begin, laid, placed, tile_at};
+ghost use Rattle.tile_places.specs.Placing.{begins_at, copies_placed, copy_begin, laid, placed, tile_at};
 
-use crate::laying::Tile;
+use crate::tile::Tile;
 use glyph_types::position::GlyphPosition;
 use std::alloc::{AllocFailed, Global};
 

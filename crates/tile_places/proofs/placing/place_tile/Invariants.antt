@@ -1,8 +1,8 @@
 use Rattle.std.proofs.Common.{ℤ, ◌≡◌, ◌++◌}
 use Rattle.std.specs.Prelude.{reverse}
 use Rattle.std.specs.Int.{int_wrap, w32}
-use Rattle.script_tiles.specs.Placing.{copies_placed, copy_begin}
-use Rattle.script_tiles.proofs.placing.place_tile.Given as goal
+use Rattle.tile_places.specs.Placing.{copies_placed, copy_begin}
+use Rattle.tile_places.proofs.placing.place_tile.Given as goal
 
 -- the tile and so many copies stand to the left of `at`
 abbrev pub invariant-loop : goal.invariant-loop

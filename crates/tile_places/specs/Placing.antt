@@ -2,7 +2,7 @@
 use Rattle.std.specs.Prelude.{ℕ, ℤ, zero, suc, pos, ◌+ℤ◌, ◌-ℤ◌, List, [], ◌∷◌, ◌++◌, Option, None, Some}
 use Rattle.std.specs.Int.{int_wrap, w32}
 use Rattle.glyph_lists.specs.Items.{Position}
-use Rattle.script_tiles.specs.declared.laying.Tile.{Tile}
+use Rattle.tile_places.specs.declared.tile.Tile.{Tile}
 
 -- a tile that begins at x, modulo 2^32; it moves nothing on
 abbrev pub tile_at : Position → ℤ → Position

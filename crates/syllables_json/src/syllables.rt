@@ -5,7 +5,7 @@ ghost use Rattle.serde_json.specs.View.{view};
 ghost use Rattle.json_values.specs.Objects.{of_object};
 ghost use Rattle.script_syllables.specs.Machines.{machine_in, machines_in};
 ghost use Rattle.script_syllables.specs.Sound.{AreRising, IsRising};
-ghost use Rattle.tables_json.specs.Syllables.{step, accept, machine_keys, machine_at, machines_keys, syllables_key, syllables_of};
+ghost use Rattle.syllables_json.specs.Syllables.{step, accept, machine_keys, machine_at, machines_keys, syllables_key, syllables_of};
 
 use json_values::cell::pair;
 use json_values::fault::JsonFault;

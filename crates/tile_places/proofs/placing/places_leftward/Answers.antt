@@ -1,7 +1,7 @@
 use Rattle.std.proofs.Common.{arith, ◌+◌, ◌-◌, length}
-use Rattle.script_tiles.proofs.Places.{one_placed}
-use Rattle.script_tiles.proofs.Wrapped.{back}
-use Rattle.script_tiles.proofs.placing.places_leftward.Goals as goal
+use Rattle.tile_places.proofs.Places.{one_placed}
+use Rattle.tile_places.proofs.Wrapped.{back}
+use Rattle.tile_places.proofs.placing.places_leftward.Goals as goal
 
 pub loop-i-preserved : goal.loop-i-preserved
 loop-i-preserved c =
