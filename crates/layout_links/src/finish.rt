@@ -16,6 +16,7 @@ pub fn position_start(buffer: &mut hb_buffer_t)
     requires { IsReady buffer.old }
     ensures { IsDone (always links_cleared) buffer.old buffer.new }
 {
+    buffer.learn_order();
     clear_links(buffer.pos_slice_mut());
 }
 

@@ -18,4 +18,13 @@ impl hb_buffer_t {
         self.order.known = known;
         known
     }
+
+    /// Learns whether the clusters stand in order, where that is not known, so that ranges of one cluster are marked
+    /// without a walk. It takes linear time, and changes nothing that is seen.
+    pub fn learn_order(&mut self)
+        requires { self.old.is_open ≡ false }
+        ensures { self.new ≡ self.old }
+    {
+        self.walked_order();
+    }
 }
