@@ -1,0 +1,168 @@
+//! A shaper that wants characters split as far as may be, and has no hooks: its laws can be met outside the stack.
+use font_face::Face;
+use glyph_buffer::buffer::hb_buffer_t;
+use glyph_types::cause::ShapeCause;
+use map_builder::builder::hb_ot_map_builder_t;
+use map_builder::map::hb_ot_map_t;
+use normal_forms::NormalizationMode;
+use script_syllables::SyllableSpans;
+use shape_plan::plan::hb_script_plan_t;
+use shape_plan::planned::{
+    HB_OT_SHAPE_ZERO_WIDTH_MARKS_BY_GDEF_LATE, PlannedShaper, hb_ot_shape_zero_width_marks_type_t,
+};
+use shape_shaper::hb_ot_shaper_t;
+use shaping_text::script::Script;
+use shaping_text::tag::Tag;
+use std::alloc::{AllocError, Global};
+use unicode_tables::UnicodeTables;
+
+/// A shaper of texts whose characters are split and not composed again.
+#[derive(Clone, Copy, Debug)]
+pub struct DecomposingShaper;
+
+impl PlannedShaper for DecomposingShaper {
+    ghost use Rattle.pipeline_tests.specs.Decomposing.{decomposing_traits};
+
+    type PlanData = ();
+
+    ghost traits = { λ _. decomposing_traits };
+
+    ghost collects = { λ _ _ asked. asked };
+
+    ghost overrides = { λ _ _ asked. asked };
+
+    ghost data_of = { λ _ _ _. tt };
+
+    fn normalization_preference(&self) -> NormalizationMode {
+        NormalizationMode::Decomposed
+    }
+
+    fn gpos_tag(&self) -> Option<Tag> {
+        None
+    }
+
+    fn zero_width_marks(&self) -> hb_ot_shape_zero_width_marks_type_t {
+        HB_OT_SHAPE_ZERO_WIDTH_MARKS_BY_GDEF_LATE
+    }
+
+    fn fallback_position(&self) -> bool {
+        true
+    }
+
+    fn collect_features(
+        &self,
+        _builder: &mut hb_ot_map_builder_t,
+        _script: Option<Script>,
+    ) -> Result<(), AllocError> {
+        Ok(())
+    }
+
+    fn override_features(
+        &self,
+        _builder: &mut hb_ot_map_builder_t,
+        _script: Option<Script>,
+    ) -> Result<(), AllocError> {
+        Ok(())
+    }
+
+    fn create_data(
+        &self,
+        _alloc: Global,
+        _map: &hb_ot_map_t,
+        _script: Option<Script>,
+    ) -> Result<(), AllocError> {
+        Ok(())
+    }
+}
+
+impl hb_ot_shaper_t for DecomposingShaper {
+    ghost use Rattle.std.specs.Prelude.{refl, true};
+    ghost use Rattle.unicode_tables.specs.Tables.{split_of};
+    ghost use Rattle.shape_shaper.specs.Rules.{plain_rules};
+    ghost use Rattle.shape_shaper.specs.Lemmas.Unchanged.{nine_splits, plain_order};
+
+    ghost rules = { λ _ _. plain_rules };
+
+    ghost keeps_order = { λ _. true };
+
+    ghost splits_end = { λ _ _ t. nine_splits (split_of t) };
+
+    ghost keeps_count = { λ _ _ _. refl };
+
+    ghost rules_keep_order = { λ _ _ _. plain_order };
+
+    fn preprocess_text(
+        &self,
+        _plan: &hb_script_plan_t<()>,
+        _face: &Face,
+        _tables: &UnicodeTables,
+        _buffer: &mut hb_buffer_t,
+    ) -> Result<(), ShapeCause> {
+        Ok(())
+    }
+
+    fn decompose(
+        &self,
+        _plan: &hb_script_plan_t<()>,
+        tables: &UnicodeTables,
+        ab: char,
+    ) -> Option<(char, char)> {
+        unicode_tables::decompose(tables, ab)
+    }
+
+    fn compose(
+        &self,
+        _plan: &hb_script_plan_t<()>,
+        tables: &UnicodeTables,
+        a: char,
+        b: char,
+    ) -> Option<char> {
+        unicode_tables::compose(tables, a, b)
+    }
+
+    #[tactic(auto, using(shape_shaper::specs::Lemmas::Unchanged::unchanged_run))]
+    fn reorder_marks(
+        &self,
+        _plan: &hb_script_plan_t<()>,
+        _buffer: &mut hb_buffer_t,
+        _start: usize,
+        _end: usize,
+    ) {}
+
+    fn setup_masks(
+        &self,
+        _plan: &hb_script_plan_t<()>,
+        _face: &Face,
+        _tables: &UnicodeTables,
+        _buffer: &mut hb_buffer_t,
+    ) -> Result<(), ShapeCause> {
+        Ok(())
+    }
+
+    fn run_pause<P: SyllableSpans>(
+        &self,
+        _alloc: Global,
+        _pause: u8,
+        _plan: &hb_script_plan_t<()>,
+        _face: &Face,
+        _tables: &UnicodeTables,
+        _spans: &P,
+        _buffer: &mut hb_buffer_t,
+    ) -> Result<bool, ShapeCause> {
+        Ok(false)
+    }
+
+    fn postprocess_glyphs(
+        &self,
+        _alloc: Global,
+        _plan: &hb_script_plan_t<()>,
+        _face: &Face,
+        _buffer: &mut hb_buffer_t,
+    ) -> Result<(), ShapeCause> {
+        Ok(())
+    }
+
+    fn keeps_cluster_order(&self) -> bool {
+        true
+    }
+}

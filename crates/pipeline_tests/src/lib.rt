@@ -1,0 +1,12 @@
+// Tests of shaping with plans and without them, and with a shaper of their own.
+#![tactic(auto)]
+
+#[cfg(test)]
+mod data;
+pub mod decomposing;
+#[cfg(test)]
+mod plans;
+#[cfg(test)]
+mod rows;
+#[cfg(test)]
+mod shaped;
