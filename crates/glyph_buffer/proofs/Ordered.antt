@@ -1,5 +1,5 @@
 -- What is known of the order of clusters, after each call.
-use Rattle.std.proofs.Common.{take, Option, None, ℕ, ◌≡◌, ◌≤◌, ◌<◌, ◌+◌, ◌-◌, arith, true, false, List, [], ◌∷◌, ◌++◌, length, map, drop, reverse, get_or, set, refl, ap, sym, subst, ◌∙◌}
+use Rattle.std.proofs.Common.{take, Option, None, ℕ, ◌≡◌, ◌≤◌, ◌<◌, ◌+◌, ◌-◌, arith, Bool, true, false, if◌then◌else◌, List, [], ◌∷◌, ◌++◌, length, map, drop, reverse, get_or, set, refl, ap, sym, subst, ◌∙◌}
 use Rattle.std.proofs.lemmas.List.{map-append, drop-map, drop-drop, take-append-drop, drop_more, append_assoc, map-set, set-set, set-get_or, get_or-map}
 use Rattle.glyph_types.specs.declared.info.hb_glyph_info_t.{hb_glyph_info_t}
 use Rattle.glyph_lists.specs.Items.{clusters}
@@ -7,6 +7,10 @@ use Rattle.glyph_lists.specs.Parts.{stretch}
 use Rattle.glyph_lists.specs.Order.{IsOrdered}
 use Rattle.glyph_lists.specs.Lemmas.Drawn.{IsDrawn, past, drawn_second, drawn_drop, drawn_take}
 use Rattle.glyph_lists.specs.Lemmas.Parts.{order_drawn}
+use Rattle.std.specs.Bool.{OnFalse}
+use Rattle.glyph_buffer.specs.declared.buffer.hb_buffer_t.TheInside.{Inside}
+use Rattle.glyph_buffer.specs.Inside.{sides_of, start_of}
+use Rattle.glyph_buffer.specs.Sides.{all_glyphs}
 use Rattle.buffer_lists.specs.declared.order.KnownOrder.{KnownOrder}
 use Rattle.buffer_lists.specs.declared.order.KnownOrder.TheVariants.{Unknown, Rising, Falling}
 use Rattle.buffer_lists.specs.declared.order.Lent.{Lent}
@@ -101,3 +105,11 @@ range_ordered o start end n out info le is h =
     let there : n + (start - n) ≡ start = omega (arith, le) in
     let from : HasOrder o (drop start ns) = subst (HasOrder o) (drop-drop (start - n) n ns ∙ ap (λ (k : ℕ). drop k ns) there) (order_drawn_known o (drop n ns) (drop (start - n) (drop n ns)) (drawn_drop (start - n) (drop n ns)) left) in
     known_ordered o (stretch start end ns) is (order_drawn_known o (drop start ns) (take (end - start) (drop start ns)) (drawn_take (end - start) (drop start ns)) from)
+
+-- the clusters of all glyphs, where both lists have them
+all_clusters_of : (is_open : Bool) (out info : List hb_glyph_info_t) (n : ℕ) → OnFalse is_open (out ≡ []) → clusters ((if is_open then out else take n info) ++ drop n info) ≡ clusters out ++ drop (if is_open then n else 0) (clusters info)
+all_clusters_of true out info n h = map-append (λ (g : hb_glyph_info_t). g.cluster) out (drop n info) ∙ ap (λ ns. clusters out ++ ns) (sym (drop-map (λ (g : hb_glyph_info_t). g.cluster) n info))
+all_clusters_of false out info n h = rw h (ap clusters (take-append-drop n info))
+
+pub all_clusters : (b : Inside) → OnFalse b.have_output (b.out_info.items ≡ []) → clusters (all_glyphs (sides_of b)) ≡ clusters b.out_info.items ++ drop (start_of b) (clusters b.info.items)
+all_clusters b h = all_clusters_of b.have_output b.out_info.items b.info.items b.idx h

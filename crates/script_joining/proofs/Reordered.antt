@@ -51,7 +51,7 @@ part_changed f from to xs ys le e =
     ∙ ap (λ zs. take from xs ++ (map f (slice_range xs from to) ++ zs)) (drop-drop (to - from) from xs ∙ ap (λ k. drop k xs) last)
     ∙ sym (append_assoc (take from xs) (map f (slice_range xs from to)) (drop (max from to) xs))
 
-changed_length : {X : Type 0} (f : X → X) (from to : ℕ) (xs : List X) → length (changed_within f from to xs) ≡ length xs
+pub changed_length : {X : Type 0} (f : X → X) (from to : ℕ) (xs : List X) → length (changed_within f from to xs) ≡ length xs
 changed_length f from to xs =
     sym (length-map (changed_within f from to xs) (λ x. 0)) ∙ ap (λ (ns : List ℕ). length ns) (within_kept (λ x. 0) f from to xs (λ x. refl)) ∙ length-map xs (λ x. 0)
 

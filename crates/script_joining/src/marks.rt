@@ -126,7 +126,9 @@ fn put_first(buffer: &mut hb_buffer_t, start: usize, below: usize, leading: usiz
         return;
     }
     move_back(buffer, start, start + below, start + below + leading);
+    let known = buffer.known_order();
     set_classes(buffer.info_slice_mut(), start, start + leading, new_class);
+    buffer.keep_order(known);
 }
 
 #[tactic(auto, using(crate::proofs::Reordered::part_changed))]

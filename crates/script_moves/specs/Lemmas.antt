@@ -4,3 +4,4 @@ pub mod Walked
 pub mod Alone
 pub mod Nested
 pub mod Fronted
+pub mod Ordered

@@ -1,11 +1,17 @@
 -- Glyphs that come to stand in front of others, and merge with them.
-use Rattle.std.specs.Prelude.{ℕ, ◌≡◌, ◌≤◌, ◌+◌, List, [], ◌∷◌, ◌++◌, length, take, drop}
-use Rattle.std.specs.List.{range_with_len}
+use Rattle.std.specs.Prelude.{ℕ, ◌≡◌, ◌≤◌, ◌+◌, ◌==◌, Bool, true, List, [], ◌∷◌, ◌++◌, length, take, drop}
+use Rattle.std.specs.List.{list_all, range_with_len}
+use Rattle.glyph_types.specs.declared.info.hb_glyph_info_t.{hb_glyph_info_t}
 use Rattle.glyph_types.specs.declared.level.BufferClusterLevel.{BufferClusterLevel}
 use Rattle.glyph_lists.specs.Levels.{InList, manner}
 use Rattle.glyph_lists.specs.Origins.{Asks, Origin, merged_as}
 use Rattle.glyph_lists.specs.Events.{Event, Move, origins_after}
 use Rattle.glyph_lists.specs.Readings.{View, Read, with_events}
+
+-- whether glyphs are of one cluster
+abbrev pub are_one_cluster : List hb_glyph_info_t → Bool
+are_one_cluster [] = true
+are_one_cluster (g ∷ gs) = list_all (λ h. h.cluster == g.cluster) gs
 
 -- from an index on, n elements come to stand behind the k that followed them
 abbrev pub moved : {X : Type 0} → ℕ → ℕ → ℕ → List X → List X

@@ -1,11 +1,15 @@
 //! Moves of glyphs within a text.
-ghost use Rattle.std.specs.Prelude.{◌≡◌, ◌≤◌, ◌-◌, length};
+ghost use Rattle.std.specs.Prelude.{ℕ, ◌≡◌, ◌≤◌, ◌+◌, ◌-◌, ◌==◌, false, length};
+ghost use Rattle.std.specs.List.{list_all};
+ghost use Rattle.glyph_lists.specs.Items.{clusters};
+ghost use Rattle.buffer_lists.specs.Known.{HasOrder};
 ghost use Rattle.glyph_lists.specs.Readings.{always};
 ghost use Rattle.glyph_buffer.specs.Sides.{all_glyphs};
 ghost use Rattle.layout_rules.specs.Ready.{IsReady};
-ghost use Rattle.script_moves.specs.Moves.{moved, with_move};
+ghost use Rattle.script_moves.specs.Moves.{are_one_cluster, moved, with_move};
 ghost use Rattle.text_stages.specs.Stages.{IsFollowed};
 
+use buffer_lists::order::KnownOrder;
 use glyph_buffer::buffer::hb_buffer_t;
 use glyph_types::info::hb_glyph_info_t;
 
@@ -19,7 +23,39 @@ pub fn move_back(buffer: &mut hb_buffer_t, start: usize, middle: usize, end: usi
     ensures { IsFollowed (always (with_move start (middle - start) (end - middle))) buffer.old buffer.new }
 {
     buffer.merge_clusters(start, end);
+    let known = order_kept(buffer, start, end);
     rotate(buffer.info_slice_mut(), start, middle, end);
+    buffer.keep_order(known);
+}
+
+/// What is known of the order of the clusters however the glyphs of a range stand: where they are of one cluster, what is
+/// known of it as they stand.
+fn order_kept(buffer: &mut hb_buffer_t, start: usize, end: usize) -> KnownOrder
+    requires closed { buffer.old.is_open ≡ false }
+    requires ordered { start ≤ end }
+    requires within { end ≤ length (all_glyphs buffer.old) }
+    ensures same { buffer.new ≡ buffer.old }
+    ensures moved { (n k : ℕ) → start + (n + k) ≡ end → HasOrder result (clusters (moved start n k (all_glyphs buffer.old))) }
+{
+    let is_one = are_one_cluster(&buffer.info_slice()[start..end]);
+    let known = buffer.known_order();
+    known.if_kept(is_one)
+}
+
+/// Whether glyphs are of one cluster.
+pub(crate) fn are_one_cluster(glyphs: &[hb_glyph_info_t]) -> bool
+    ensures { result ≡ are_one_cluster glyphs.now }
+{
+    let Some((first, rest)) = glyphs.split_first() else {
+        return true;
+    };
+    are_of(first.cluster, rest)
+}
+
+fn are_of(cluster: u32, glyphs: &[hb_glyph_info_t]) -> bool
+    ensures { result ≡ list_all (λ g. g.cluster == cluster) glyphs.now }
+{
+    glyphs.iter().all(|glyph| glyph.cluster == cluster)
 }
 
 /// The glyphs from `start` up to before `middle` come to stand behind those up to before `end`.

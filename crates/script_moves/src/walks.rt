@@ -1,7 +1,8 @@
 //! A text on its way through an open output.
-ghost use Rattle.std.specs.Prelude.{◌≡◌, ◌≢◌, ◌<◌, ◌≤◌, ◌-◌, ◌+◌, ◌++◌, ◌∷◌, [], Some, true, false, drop, length, replicate, slice_get, take, IfErr, OnOk};
+ghost use Rattle.std.specs.Prelude.{ℕ, ◌≡◌, ◌≢◌, ◌<◌, ◌≤◌, ◌-◌, ◌+◌, ◌++◌, ◌∷◌, [], Some, true, false, drop, length, replicate, slice_get, take, IfErr, OnOk};
 ghost use Rattle.glyph_types.specs.declared.info.hb_glyph_info_t.{hb_glyph_info_t as Glyph};
-ghost use Rattle.glyph_lists.specs.Items.{item_of, strip};
+ghost use Rattle.glyph_lists.specs.Items.{clusters, item_of, strip};
+ghost use Rattle.buffer_lists.specs.Known.{HasOrder};
 ghost use Rattle.glyph_lists.specs.Levels.{InOutput};
 ghost use Rattle.glyph_lists.specs.Events.{Merge, Move, Replace};
 ghost use Rattle.glyph_lists.specs.Origins.{origin_of, origins};
@@ -9,7 +10,8 @@ ghost use Rattle.glyph_buffer.specs.Sides.{fits_joined, synced};
 ghost use Rattle.script_moves.specs.Moves.{moved, order_of_move};
 ghost use Rattle.script_moves.specs.Walks.{Exceeds, Walked, renumbered_first};
 
-use crate::moves::rotate;
+use crate::moves::{are_one_cluster, rotate};
+use buffer_lists::order::KnownOrder;
 use glyph_buffer::buffer::hb_buffer_t;
 use glyph_types::cause::ShapeCause;
 use glyph_types::info::hb_glyph_info_t;
@@ -94,7 +96,21 @@ pub fn move_behind(start: usize, middle: usize, end: usize, buffer: &mut hb_buff
     ensures { Walked (moved start (middle - start) (end - middle) (strip buffer.old.behind)) (strip buffer.old.ahead) (Move InOutput start (order_of_move (middle - start) (end - middle)) ∷ []) buffer.old buffer.new }
 {
     merge_behind(start, end, buffer);
+    let known = order_kept_behind(buffer, start, end);
     rotate(buffer.out_info_mut(), start, middle, end);
+    buffer.keep_order(known);
+}
+
+/// What is known of the order of the clusters however the glyphs of a range of the output stand.
+fn order_kept_behind(buffer: &mut hb_buffer_t, start: usize, end: usize) -> KnownOrder
+    requires ordered { start ≤ end }
+    requires within { end ≤ length buffer.old.behind }
+    ensures same { buffer.new ≡ buffer.old }
+    ensures moved { (n k : ℕ) → start + (n + k) ≡ end → HasOrder result (clusters (moved start n k buffer.old.behind ++ buffer.old.ahead)) }
+{
+    let is_one = are_one_cluster(&buffer.out_info()[start..end]);
+    let known = buffer.known_order();
+    known.if_kept(is_one)
 }
 
 /// What went through the output becomes the list.

@@ -4,7 +4,7 @@ ghost use Rattle.buffer_lists.specs.Known.{HasOrder};
 ghost use Rattle.glyph_buffer.specs.Sides.{all_glyphs};
 
 use super::hb_buffer_t;
-use buffer_lists::order::KnownOrder;
+use buffer_lists::order::{ClusterOrder, KnownOrder};
 
 impl hb_buffer_t {
     /// What is known of the order of clusters once the list has been walked, where it was not known.
@@ -26,5 +26,24 @@ impl hb_buffer_t {
         ensures { self.new ≡ self.old }
     {
         self.walked_order();
+    }
+
+    /// What is known of the order of the clusters of all glyphs, without a walk, for one who is to write glyphs and to say
+    /// by `keep_order` that it holds of what they then are.
+    pub fn known_order(&mut self) -> KnownOrder
+        ensures same { self.new ≡ self.old }
+        ensures order { HasOrder result (clusters (all_glyphs self.old)) }
+    {
+        self.order.settle(&self.out_info, &self.info);
+        self.order.known
+    }
+
+    /// The clusters of all glyphs have an order: ranges of them merge without a walk over the rest. It changes nothing that
+    /// is seen.
+    pub fn keep_order(&mut self, known: KnownOrder)
+        requires { HasOrder known (clusters (all_glyphs self.old)) }
+        ensures { self.new ≡ self.old }
+    {
+        self.order = ClusterOrder::of(known);
     }
 }

@@ -1,10 +1,17 @@
-use Rattle.std.proofs.Common.{ap, arith, subst, ◌≡◌, ◌+◌, ◌-◌, ℕ, ◌∙◌}
+use Rattle.std.proofs.Common.{ap, arith, refl, subst, sym, ◌≡◌, ◌+◌, ◌-◌, ℕ, List, length, ◌∙◌}
+use Rattle.glyph_types.specs.declared.info.hb_glyph_info_t.{hb_glyph_info_t}
+use Rattle.glyph_lists.specs.Items.{clusters}
 use Rattle.glyph_lists.specs.Origins.{changed_within}
+use Rattle.glyph_lists.specs.Lemmas.Origins.{within_kept}
 use Rattle.glyph_lists.specs.Readings.{always}
+use Rattle.buffer_lists.specs.Known.{HasOrder}
+use Rattle.glyph_buffer.specs.Sides.{Sides, all_glyphs}
 use Rattle.text_stages.specs.Stages.{IsFollowed}
 use Rattle.script_moves.specs.Moves.{with_move}
+use Rattle.script_moves.specs.Lemmas.Ordered.{order_written}
+use Rattle.script_joining.specs.Marks.{led}
 use Rattle.script_joining.specs.Classed.{glyph_classed}
-use Rattle.script_joining.proofs.Reordered.{led_followed, some_leading}
+use Rattle.script_joining.proofs.Reordered.{changed_length, led_followed, some_leading}
 use Rattle.script_joining.proofs.marks.put_first.Goals as goal
 
 pub returns : goal.returns
@@ -13,11 +20,27 @@ returns c =
     let below = c.args.below in
     let leading = c.args.leading in
     let s = c.args.buffer.now in
-    let t = c.move_back.new.buffer in
+    let t = c.known_order-known.new.self in
     let n : start + below - start ≡ below = omega arith in
     let k : start + below + leading - (start + below) ≡ leading = omega arith in
     let moved : IsFollowed (always (with_move start below leading)) s t =
-    subst (λ (m : ℕ). IsFollowed (always (with_move start below m)) s t) k
-    (subst (λ (m : ℕ). IsFollowed (always (with_move start m (start + below + leading - (start + below)))) s t) n c.move_back.ensures) in
-    led_followed c.args.new_class start below leading s t c.set_classes.new.glyphs (some_leading leading c.if-leading-eq0.false) moved
-    (c.set_classes.ensures ∙ ap (changed_within (glyph_classed c.args.new_class) start (start + leading)) c.info_slice_mut.ensures.value)
+    subst (IsFollowed (always (with_move start below leading)) s) (sym c.known_order-known.ensures.same)
+    (subst (λ (m : ℕ). IsFollowed (always (with_move start below m)) s c.move_back.new.buffer) k
+    (subst (λ (m : ℕ). IsFollowed (always (with_move start m (start + below + leading - (start + below)))) s c.move_back.new.buffer) n c.move_back.ensures)) in
+    subst (IsFollowed (always (led c.args.new_class start below leading)) s) (sym c.keep_order.ensures)
+    (led_followed c.args.new_class start below leading s t c.set_classes.new.glyphs (some_leading leading c.if-leading-eq0.false) moved
+    (c.set_classes.ensures ∙ ap (changed_within (glyph_classed c.args.new_class) start (start + leading)) c.info_slice_mut.ensures.value))
+
+pub keep_order-requires : goal.keep_order-requires
+keep_order-requires c =
+    let start = c.args.start in
+    let end = start + c.args.leading in
+    let f = glyph_classed c.args.new_class in
+    let t = c.known_order-known.new.self in
+    let gs = c.set_classes.new.glyphs in
+    let e : gs ≡ changed_within f start end (all_glyphs t) = c.set_classes.ensures ∙ ap (changed_within f start end) c.info_slice_mut.ensures.value in
+    let long : length gs ≡ length (all_glyphs t) = ap (λ (hs : List hb_glyph_info_t). length hs) e ∙ changed_length f start end (all_glyphs t) in
+    let same : clusters gs ≡ clusters (all_glyphs t) = ap clusters e ∙ within_kept (λ (g : hb_glyph_info_t). g.cluster) f start end (all_glyphs t) (λ g. refl) in
+    let known : HasOrder c.known_order-known.result (clusters (all_glyphs t)) =
+    subst (λ (u : Sides). HasOrder c.known_order-known.result (clusters (all_glyphs u))) (sym c.known_order-known.ensures.same) c.known_order-known.ensures.order in
+    order_written c.known_order-known.result gs t long same known

@@ -1,0 +1,84 @@
+-- What is known of the order of clusters, once glyphs were written.
+use Rattle.std.proofs.Common.{ℕ, ◌≡◌, ◌+◌, ◌-◌, ◌==◌, ◌&&◌, Bool, true, List, [], ◌∷◌, ◌++◌, length, take, drop, arith, refl, ap, sym, subst, ◌∙◌, append_assoc}
+use Rattle.std.specs.Prelude.{slice_range}
+use Rattle.std.specs.List.{list_all}
+use Rattle.std.proofs.lemmas.Grind.{common_steps}
+use Rattle.std.proofs.lemmas.List.{append-nil, drop-drop, drop-map, map-append, take-append-drop, take-map}
+use Rattle.std.proofs.lemmas.List.Folds.{list_all-append, list_all-map}
+use Rattle.glyph_types.specs.declared.info.hb_glyph_info_t.{hb_glyph_info_t}
+use Rattle.glyph_lists.specs.Items.{clusters}
+use Rattle.glyph_lists.specs.Order.{IsInOrder}
+use Rattle.buffer_lists.specs.declared.order.KnownOrder.{KnownOrder}
+use Rattle.buffer_lists.specs.Known.{HasOrder}
+use Rattle.glyph_buffer.specs.Sides.{Sides, all_glyphs}
+use Rattle.glyph_buffer.specs.Lending.{with_refilled}
+use Rattle.text_stages.specs.Lemmas.Written.{written_all}
+use Rattle.script_moves.specs.Moves.{are_one_cluster, moved}
+use Rattle.script_moves.specs.Lemmas.Moved.{moved_seen, take_both}
+
+-- such a number behind so many of it
+one_behind : (c : ℕ) (ns : List ℕ) → list_all (λ n. n == c) ns ≡ true → ns ++ c ∷ [] ≡ c ∷ ns
+one_behind c [] e = refl
+one_behind c (n ∷ ns) e =
+    let first : n ≡ c = grind (arith, common_steps, e) in
+    let rest : list_all (λ m. m == c) ns ≡ true = grind (arith, common_steps, e) in
+    ap (λ ms. n ∷ ms) (one_behind c ns rest) ∙ ap (λ m. m ∷ c ∷ ns) first ∙ ap (λ m. c ∷ m ∷ ns) (sym first)
+
+both_ways : (c : ℕ) (ms ns : List ℕ) → list_all (λ n. n == c) ms ≡ true → list_all (λ n. n == c) ns ≡ true → ns ++ ms ≡ ms ++ ns
+both_ways c ms [] a b = sym (append-nil ms)
+both_ways c ms (n ∷ ns) a b =
+    let first : n ≡ c = grind (arith, common_steps, b) in
+    let rest : list_all (λ m. m == c) ns ≡ true = grind (arith, common_steps, b) in
+    ap (λ ks. n ∷ ks) (both_ways c ms ns a rest) ∙ ap (λ m. m ∷ (ms ++ ns)) first ∙ ap (λ ks. ks ++ ns) (sym (one_behind c ms a)) ∙ append_assoc ms (c ∷ []) ns ∙ ap (λ m. ms ++ m ∷ ns) (sym first)
+
+both_all : (p : ℕ → Bool) (ms ns : List ℕ) → list_all p (ms ++ ns) ≡ true → (list_all p ms ≡ true) × (list_all p ns ≡ true)
+both_all p ms ns e =
+    let both : (list_all p ms && list_all p ns) ≡ true = sym (list_all-append p ms ns) ∙ e in
+    (grind (arith, common_steps, both), grind (arith, common_steps, both))
+
+-- numbers that are all the same
+numbers_moved : (c start n k : ℕ) (ns : List ℕ) → list_all (λ m. m == c) (take (n + k) (drop start ns)) ≡ true → moved start n k ns ≡ ns
+numbers_moved c start n k ns e =
+    let ms = drop start ns in
+    let both = both_all (λ m. m == c) (take n ms) (take k (drop n ms)) (ap (list_all (λ m. m == c)) (sym (take_both n k ms)) ∙ e) in
+    let swapped : take k (drop n ms) ++ take n ms ≡ take (n + k) ms = both_ways c (take n ms) (take k (drop n ms)) both.0 both.1 ∙ sym (take_both n k ms) in
+    rw (← drop-drop n start ns, ← drop-drop (n + k) start ns, swapped) (append_assoc (take start ns) (take (n + k) ms) (drop (n + k) ms) ∙ ap (λ zs. take start ns ++ zs) (take-append-drop (n + k) ms) ∙ take-append-drop start ns)
+
+one_all : {P : Type 0} (gs : List hb_glyph_info_t) → are_one_cluster gs ≡ true → ((c : ℕ) → list_all (λ n. n == c) (clusters gs) ≡ true → P) → P
+one_all [] e k = k 0 refl
+one_all (g ∷ gs) e k =
+    let cluster_of : hb_glyph_info_t → ℕ = λ h. h.cluster in
+    let self : (g.cluster == g.cluster) ≡ true = grind (arith, common_steps) in
+    k g.cluster (rw self (list_all-map (λ n. n == g.cluster) cluster_of gs ∙ e))
+
+-- glyphs of one cluster that changed places
+pub clusters_moved : (start n k : ℕ) (gs : List hb_glyph_info_t) → are_one_cluster (take (n + k) (drop start gs)) ≡ true → clusters (moved start n k gs) ≡ clusters gs
+clusters_moved start n k gs e =
+    let cluster_of : hb_glyph_info_t → ℕ = λ g. g.cluster in
+    one_all (take (n + k) (drop start gs)) e (λ c all.
+    let seen : take (n + k) (drop start (clusters gs)) ≡ clusters (take (n + k) (drop start gs)) = ap (take (n + k)) (drop-map cluster_of start gs) ∙ take-map cluster_of (n + k) (drop start gs) in
+    moved_seen cluster_of start n k gs ∙ numbers_moved c start n k (clusters gs) (ap (list_all (λ m. m == c)) seen ∙ all))
+
+-- what is known of glyphs of which a range changes places, if it is of one cluster
+pub order_moved : (o p : KnownOrder) (is_one : Bool) (start end : ℕ) (gs : List hb_glyph_info_t) → ((old new : List ℕ) → ((falls : Bool) → is_one ≡ true → IsInOrder falls old → IsInOrder falls new) → HasOrder o old → HasOrder p new)
+    → is_one ≡ are_one_cluster (slice_range gs start end) → HasOrder o (clusters gs) → (n k : ℕ) → start + (n + k) ≡ end → HasOrder p (clusters (moved start n k gs))
+order_moved o p is_one start end gs kept one h n k at =
+    let wide : n + k ≡ end - start = omega (arith, at) in
+    kept (clusters gs) (clusters (moved start n k gs)) (λ falls is_one h.
+    let same : are_one_cluster (take (n + k) (drop start gs)) ≡ true = ap (λ m. are_one_cluster (take m (drop start gs))) wide ∙ sym one ∙ is_one in
+    subst (IsInOrder falls) (sym (clusters_moved start n k gs same)) h) h
+
+-- and so of a range of the output
+pub order_moved_behind : (o p : KnownOrder) (is_one : Bool) (start end : ℕ) (gs hs : List hb_glyph_info_t) → ((old new : List ℕ) → ((falls : Bool) → is_one ≡ true → IsInOrder falls old → IsInOrder falls new) → HasOrder o old → HasOrder p new)
+    → is_one ≡ are_one_cluster (slice_range gs start end) → HasOrder o (clusters (gs ++ hs)) → (n k : ℕ) → start + (n + k) ≡ end → HasOrder p (clusters (moved start n k gs ++ hs))
+order_moved_behind o p is_one start end gs hs kept one h n k at =
+    let cluster_of : hb_glyph_info_t → ℕ = λ g. g.cluster in
+    let wide : n + k ≡ end - start = omega (arith, at) in
+    kept (clusters (gs ++ hs)) (clusters (moved start n k gs ++ hs)) (λ falls is_one h.
+    let same : are_one_cluster (take (n + k) (drop start gs)) ≡ true = ap (λ m. are_one_cluster (take m (drop start gs))) wide ∙ sym one ∙ is_one in
+    let all : clusters (moved start n k gs ++ hs) ≡ clusters (gs ++ hs) = map-append cluster_of (moved start n k gs) hs ∙ ap (λ ns. ns ++ clusters hs) (clusters_moved start n k gs same) ∙ sym (map-append cluster_of gs hs) in
+    subst (IsInOrder falls) (sym all) h) h
+
+-- glyphs whose clusters are as they were
+pub order_written : (o : KnownOrder) (gs : List hb_glyph_info_t) (s : Sides) → length gs ≡ length (all_glyphs s) → clusters gs ≡ clusters (all_glyphs s) → HasOrder o (clusters (all_glyphs s)) → HasOrder o (clusters (all_glyphs (with_refilled gs s)))
+order_written o gs s long same h = subst (HasOrder o) (sym (ap clusters (written_all gs s long) ∙ same)) h
