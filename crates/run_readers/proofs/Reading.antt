@@ -6,9 +6,6 @@ use Rattle.json_values.specs.declared.fault.JsonFault.TheVariants.{NotJson, Wron
 use Rattle.run_options.specs.declared.fault.RunFault.{RunFault}
 use Rattle.run_options.specs.declared.fault.RunFault.TheVariants.{Unlawful}
 use Rattle.run_options.specs.Fault.{run_fault_of}
-use Rattle.script_syllables.specs.Machines.{Machines}
-use Rattle.tables_json.specs.Languages.{Language, languages_of}
-use Rattle.syllables_json.specs.Syllables.{syllables_of}
 use Rattle.tables_json.specs.Deep.{HasDeepSplits}
 use Rattle.tables_json.specs.Unicode.{tables_of}
 use Rattle.unicode_tables.specs.Expansion.{EndWithin}

@@ -5,9 +5,10 @@ ghost use Rattle.run_readers.specs.Input.{IsInput, font_in, input_value};
 ghost use Rattle.run_readers.specs.Tables.{IfLawful, tables_value};
 
 use crate::tables::{TextTables, check_laws, tables_in};
-use crate::values::read_json;
-use face_json::read_face;
+use crate::values::utf8;
+use face_text::read_face_text;
 use font_face::Face;
+use json_values::fault::JsonFault;
 use run_options::fault::RunFault;
 use std::alloc::Global;
 
@@ -20,14 +21,16 @@ pub struct RunInput {
     pub face: Face,
 }
 
-#[tactic(auto, unfolding(crate::specs::Input::font_in))]
+#[tactic(auto, using(crate::proofs::Fonts::font_of_text, crate::proofs::Fonts::no_font), unfolding(crate::specs::Input::font_in))]
 fn font_in(alloc: Global, bytes: &[u8]) -> Result<Face, RunFault>
     ensures ok { IfOk result (λ face. font_in bytes.now ≡ Ok face) }
     ensures refused { IfErr result (λ e. e ≢ RunFault.OutOfMemory → font_in bytes.now ≡ Err e) }
     ensures kind { IfErr result IsOfRun }
 {
-    let font = read_json(alloc, bytes)?;
-    let face = read_face(alloc, &font)?;
+    let Some(text) = utf8(bytes) else {
+        return Err(RunFault::Json(JsonFault::NotJson));
+    };
+    let face = read_face_text(alloc, text)?;
     Ok(face)
 }
 
