@@ -1,4 +1,4 @@
-use crate::rows::{Row, are, glyphs_of, have_advances, positions_of, stand_in_order};
+use super::rows::{Row, are, glyphs_of, have_advances, positions_of, stand_in_order};
 use glyph_slices::deletion::delete_within;
 use glyph_slices::flags::{AskedFlags, propagate_flags};
 use glyph_slices::groups::{group_end, next_cluster, next_grapheme, next_syllable};
