@@ -4,3 +4,4 @@ pub mod Sizes
 pub mod MyanmarSize
 pub mod KhmerPermuted
 pub mod MyanmarPermuted
+pub mod Forms

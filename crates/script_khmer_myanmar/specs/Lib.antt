@@ -1,4 +1,5 @@
 pub mod Khmer
+pub mod Runs
 pub mod Myanmar
 pub mod Turned
 pub mod Lemmas

@@ -1,5 +1,5 @@
 //! Khmer: vowels that split, and coeng forms and left vowels, which go to the start of their syllable.
-ghost use Rattle.std.specs.Prelude.{◌≡◌, ◌≤◌, ◌<◌, ◌+◌, ◌-◌, length, slice_range, OnOk};
+ghost use Rattle.std.specs.Prelude.{◌≡◌, ◌≤◌, ◌<◌, ◌+◌, ◌-◌, length, nat_le, slice_range, true, OnOk};
 ghost use Rattle.glyph_lists.specs.Items.{item_of};
 ghost use Rattle.glyph_lists.specs.Readings.{always};
 ghost use Rattle.glyph_buffer.specs.Sides.{all_glyphs, items_of};
@@ -8,8 +8,10 @@ ghost use Rattle.text_stages.specs.Stages.{IsFollowed};
 ghost use Rattle.script_walks.specs.Rewriting.{by_syllable};
 ghost use Rattle.script_walks.specs.Buffers.{IsRewritten, with_rule};
 ghost use Rattle.script_khmer_myanmar.specs.Khmer.{coeng_met, coeng_moved, khmer_at, khmer_reordered, khmer_split, khmer_syllable, khmer_walk, vowel_met};
+ghost use Rattle.script_khmer_myanmar.specs.Runs.{IsRun, IsWalked, OpensForms};
 
 use crate::glyphs::glyph_in;
+use crate::runs::{move_forms, move_run, opens_forms, run_length};
 use glyph_buffer::buffer::hb_buffer_t;
 use glyph_types::info::{hb_glyph_info_t, hb_mask_t};
 use script_constants::hb_ot_script_shaper_t::KHMER_SHAPER;
@@ -88,7 +90,16 @@ fn reorder_syllable(masks: &KhmerMasks, buffer: &mut hb_buffer_t, start: usize, 
     reorder_from_second(masks, buffer, start, end);
 }
 
-#[tactic(auto, using(crate::proofs::KhmerWalk::entered))]
+/// How far a syllable was walked.
+#[derive(Clone, Copy)]
+struct Walk {
+    /// The index of the next glyph.
+    place: usize,
+    /// How many coengs were met.
+    count: u32,
+}
+
+#[tactic(auto, using(crate::proofs::KhmerWalk::none_walked))]
 fn reorder_from_second(masks: &KhmerMasks, buffer: &mut hb_buffer_t, start: usize, end: usize)
     requires ready { IsReady buffer.old }
     requires ordered { start ≤ end }
@@ -96,11 +107,90 @@ fn reorder_from_second(masks: &KhmerMasks, buffer: &mut hb_buffer_t, start: usiz
     ensures { IsRewritten (khmer_walk masks.now (end - start - 1) 1 0 (slice_range (items_of buffer.old) start end)) start
         end buffer.old buffer.new }
 {
-    let mut count = 0;
-    let mut place = 1;
-    while place < end - start {
-        count = reorder_at(masks, buffer, start, end, place, count);
-        place += 1;
+    let mut walk = Walk { place: 1, count: 0 };
+    while walk.place < end - start {
+        walk = reorder_from(masks, buffer, start, end, walk);
+    }
+}
+
+/// Walks glyphs from an index on: those that can be walked at once, where there are any, else one. Only a coeng of no form,
+/// or what a form finds before it, ends a run, and a coeng of no form does so at most three times: in a syllable with one
+/// left vowel there are few runs.
+fn reorder_from(
+    masks: &KhmerMasks,
+    buffer: &mut hb_buffer_t,
+    start: usize,
+    end: usize,
+    walk: Walk,
+) -> Walk
+    requires ready { IsReady buffer.old }
+    requires some { 0 < walk.place }
+    requires there { start + walk.place < end }
+    requires within { end ≤ length (all_glyphs buffer.old) }
+    ensures walked { IsWalked masks.now start end walk.place walk.count result.place result.count buffer.old buffer.new }
+    ensures onward { walk.place < result.place }
+{
+    let from = start + walk.place;
+    let forms = opens_forms(buffer, start, end, walk.place, walk.count);
+    let run = run_length(&buffer.info_slice()[from..end], forms, walk.count <= 2);
+    if run == 0 {
+        return reorder_one(masks, buffer, start, end, walk);
+    }
+    reorder_run(masks, buffer, start, end, walk, run, forms)
+}
+
+fn reorder_one(
+    masks: &KhmerMasks,
+    buffer: &mut hb_buffer_t,
+    start: usize,
+    end: usize,
+    walk: Walk,
+) -> Walk
+    requires ready { IsReady buffer.old }
+    requires there { start + walk.place < end }
+    requires within { end ≤ length (all_glyphs buffer.old) }
+    ensures walked { IsWalked masks.now start end walk.place walk.count result.place result.count buffer.old buffer.new }
+    ensures onward { result.place ≡ walk.place + 1 }
+{
+    let count = reorder_at(masks, buffer, start, end, walk.place, walk.count);
+    Walk {
+        place: walk.place + 1,
+        count,
+    }
+}
+
+/// Walks a run of glyphs from an index on.
+fn reorder_run(
+    masks: &KhmerMasks,
+    buffer: &mut hb_buffer_t,
+    start: usize,
+    end: usize,
+    walk: Walk,
+    run: usize,
+    forms: bool,
+) -> Walk
+    requires ready { IsReady buffer.old }
+    requires some { 0 < walk.place }
+    requires there { start + (walk.place + run) ≤ end }
+    requires within { end ≤ length (all_glyphs buffer.old) }
+    requires opens { forms ≡ true → OpensForms walk.count walk.place (slice_range (items_of buffer.old) start end) }
+    requires run { IsRun forms (nat_le walk.count 2) (slice_range (items_of buffer.old) (start + walk.place) (start + (walk.place + run))) }
+    requires long { 0 < run }
+    ensures walked { IsWalked masks.now start end walk.place walk.count result.place result.count buffer.old buffer.new }
+    ensures onward { result.place ≡ walk.place + run }
+{
+    let to = walk.place + run;
+    if forms {
+        move_forms(masks, buffer, start, end, walk.place, to);
+        return Walk {
+            place: to,
+            count: 2,
+        };
+    }
+    move_run(buffer, start, start + to, walk.place, false);
+    Walk {
+        place: to,
+        count: walk.count,
     }
 }
 

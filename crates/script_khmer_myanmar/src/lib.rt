@@ -6,3 +6,4 @@ pub mod khmer;
 pub mod laws;
 pub mod myanmar;
 mod places;
+mod runs;

@@ -33,7 +33,8 @@ pub fn add_mask(buffer: &mut hb_buffer_t, start: usize, end: usize, mask: hb_mas
     mask_within(buffer.info_slice_mut(), start, end, mask);
 }
 
-fn mask_within(glyphs: &mut [hb_glyph_info_t], start: usize, end: usize, mask: hb_mask_t)
+/// The glyphs from `start` up to before `end` of a slice get the features of a mask; its glyph flags are left out.
+pub fn mask_within(glyphs: &mut [hb_glyph_info_t], start: usize, end: usize, mask: hb_mask_t)
     requires ordered { start ≤ end }
     requires within { end ≤ length glyphs.old }
     ensures { glyphs.new ≡ take start glyphs.old ++ map (glyph_masked mask) (slice_range glyphs.old start end)

@@ -1,10 +1,10 @@
-use Rattle.std.proofs.Common.{◌-◌}
-use Rattle.script_khmer_myanmar.proofs.KhmerWalk.{IsInside}
+use Rattle.std.proofs.Common.{◌<◌, ◌-◌}
+use Rattle.script_khmer_myanmar.specs.Runs.{IsWalked}
 use Rattle.script_khmer_myanmar.proofs.khmer.reorder_from_second.Given as goal
 
 -- the places before this one were walked
-abbrev pub invariant-loop-place : goal.invariant-loop-place
-invariant-loop-place l = IsInside l.masks l.start l.end l.place l.count l.initial.buffer l.buffer
+abbrev pub invariant-loop-walk : goal.invariant-loop-walk
+invariant-loop-walk l = IsWalked l.masks l.start l.end 1 0 l.walk.place l.walk.count l.initial.buffer l.buffer × (0 < l.walk.place)
 
-abbrev pub decreases-loop-place : goal.decreases-loop-place
-decreases-loop-place l = l.end - l.start - l.place
+abbrev pub decreases-loop-walk : goal.decreases-loop-walk
+decreases-loop-walk l = l.end - l.start - l.walk.place
