@@ -2,5 +2,3 @@
 #![tactic(auto)]
 
 pub mod lookup;
-#[cfg(test)]
-mod tests;

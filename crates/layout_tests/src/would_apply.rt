@@ -1,5 +1,4 @@
 //! What contexts would do, by their rules.
-use crate::lookup::{context_would_apply, would_apply};
 use layout_common::array::Array;
 use layout_common::class_definition::ClassDefinition;
 use layout_common::coverage::Coverage;
@@ -7,8 +6,10 @@ use layout_common::glyph_row::GlyphRow;
 use layout_contexts::context::{ClassRules, ContextSubtable, SequenceRule};
 use layout_gsub::would_apply::WouldApplyContext;
 use layout_lookups::substitution::{SubstLookup, SubstitutionSubtables};
+use layout_would_apply::lookup::{context_would_apply, would_apply};
 use sorted_rows::SortedRows;
 use std::alloc::Global;
+use std::process::Abort;
 use std::test::Fail;
 
 /// What a rule wants before, in and after its input, glyphs, whether nothing may be wanted around them, and whether it would
@@ -89,39 +90,59 @@ fn holds(subtable: &ContextSubtable, row: &Row) -> bool {
     context_would_apply(subtable, &ctx) == expected
 }
 
+fn holds_by_glyphs(alloc: Global, row: &Row) -> Result<bool, Fail> {
+    let subtable = ContextSubtable::Glyphs(rules(alloc, row)?);
+    Ok(holds(&subtable, row))
+}
+
+fn holds_by_classes(alloc: Global, row: &Row) -> Result<bool, Fail> {
+    let subtable = by_classes(alloc, row)?;
+    Ok(holds(&subtable, row))
+}
+
 #[test]
 fn contexts_would_apply(rt: HostRuntime) -> Result<(), Fail> {
     for (i, row) in BY_GLYPHS.iter().enumerate() {
-        let subtable = ContextSubtable::Glyphs(rules(rt.alloc(), row)?);
-        assert!(rt; holds(&subtable, row), "glyphs {i}");
+        let as_wanted = holds_by_glyphs(rt.alloc(), row)?;
+        assert!(rt; as_wanted, "glyphs {i}");
     }
     for (i, row) in BY_CLASSES.iter().enumerate() {
-        let subtable = by_classes(rt.alloc(), row)?;
-        assert!(rt; holds(&subtable, row), "classes {i}");
+        let as_wanted = holds_by_classes(rt.alloc(), row)?;
+        assert!(rt; as_wanted, "classes {i}");
     }
     Ok(())
 }
 
-// Glyph 1 or 2, and then 3, by a lookup of one context of sets.
-#[test]
-fn lookups_would_apply(rt: HostRuntime) -> Result<(), Fail> {
-    let mut input = Vec::new(rt.alloc());
-    input.push(Coverage::new([1, 2].to_vec(rt.alloc())?))?;
-    input.push(Coverage::new([3].to_vec(rt.alloc())?))?;
-    let mut rules = Vec::new(rt.alloc());
-    rules.push(SequenceRule {
-        backtrack: Array::new(Vec::new(rt.alloc())),
+/// A rule on glyph 1 or 2, and then 3.
+fn set_rule(alloc: Global) -> Result<SequenceRule<Coverage>, Fail> {
+    let mut input = Vec::new(alloc);
+    input.push(Coverage::new([1, 2].to_vec(alloc)?))?;
+    input.push(Coverage::new([3].to_vec(alloc)?))?;
+    Ok(SequenceRule {
+        backtrack: Array::new(Vec::new(alloc)),
         input: Array::new(input),
-        lookahead: Array::new(Vec::new(rt.alloc())),
-        records: Array::new(Vec::new(rt.alloc())),
-    })?;
-    let mut subtables = Vec::new(rt.alloc());
-    subtables.push(ContextSubtable::Coverage(Array::new(rules)))?;
-    let lookup = SubstLookup {
+        lookahead: Array::new(Vec::new(alloc)),
+        records: Array::new(Vec::new(alloc)),
+    })
+}
+
+fn set_rules(alloc: Global) -> Result<ContextSubtable, Fail> {
+    let mut rules = Vec::new(alloc);
+    rules.push(set_rule(alloc)?)?;
+    Ok(ContextSubtable::Coverage(Array::new(rules)))
+}
+
+fn lookup(alloc: Global) -> Result<SubstLookup, Fail> {
+    let mut subtables = Vec::new(alloc);
+    subtables.push(set_rules(alloc)?)?;
+    Ok(SubstLookup {
         flags: 0,
         mark_filtering_set: None,
         subtables: SubstitutionSubtables::Context(Array::new(subtables)),
-    };
+    })
+}
+
+fn applies(rt: &impl Abort, lookup: &SubstLookup) {
     for (glyphs, expected) in [
         ([1, 3], true),
         ([2, 3], true),
@@ -132,7 +153,14 @@ fn lookups_would_apply(rt: HostRuntime) -> Result<(), Fail> {
             glyphs: &glyphs,
             zero_context: true,
         };
-        assert!(rt; would_apply(&lookup, &ctx) == expected);
+        assert!(rt; would_apply(lookup, &ctx) == expected);
     }
+}
+
+// A lookup of one context of sets.
+#[test]
+fn lookups_would_apply(rt: HostRuntime) -> Result<(), Fail> {
+    let lookup = lookup(rt.alloc())?;
+    applies(&rt, &lookup);
     Ok(())
 }

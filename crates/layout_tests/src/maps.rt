@@ -15,6 +15,7 @@ use map_features::per_table::TableIndex;
 use map_stages::stages::StageMap;
 use shaping_text::tag::Tag;
 use std::alloc::{AllocError, Global};
+use std::process::Abort;
 use std::test::Fail;
 
 type Text = &'static [u8; 4];
@@ -671,12 +672,16 @@ fn is_paused(stages: &[StageMap]) -> bool {
     }
 }
 
-#[test]
-fn pauses_end_stages(rt: HostRuntime) -> Result<(), Fail> {
-    let map = paused_map(rt.alloc())?;
+fn pauses_before_kern(rt: &impl Abort, map: &hb_ot_map_t) {
     let kern = Tag::from_bytes(b"kern");
     assert!(rt; is_paused(map.stages(TableIndex::GPOS)));
     assert!(rt; map.get_feature_stage(TableIndex::GPOS, kern) == Some(1));
     assert!(rt; map.features().len() == 1);
+}
+
+#[test]
+fn pauses_end_stages(rt: HostRuntime) -> Result<(), Fail> {
+    let map = paused_map(rt.alloc())?;
+    pauses_before_kern(&rt, &map);
     Ok(())
 }
