@@ -137,7 +137,8 @@ fn read_definition_at(alloc: Global, value: &Value) -> Result<GlyphDefinition, J
     }
 }
 
-fn read_definition(alloc: Global, value: &Value) -> Result<GlyphDefinition, JsonFault>
+/// What a font says of its glyphs.
+pub fn read_definition(alloc: Global, value: &Value) -> Result<GlyphDefinition, JsonFault>
     ensures ok { IfOk result (λ g. glyph_definition (view value.now) ≡ Ok g) }
     ensures refused { IfErr result (λ e. e ≢ JsonFault.OutOfMemory
         → glyph_definition (view value.now) ≡ Err e) }
@@ -163,7 +164,8 @@ fn few_sets(sets: Array<Coverage>) -> Result<Array<Coverage>, JsonFault>
     }
 }
 
-fn no_definition(alloc: Global) -> GlyphDefinition
+/// A font that says nothing of its glyphs.
+pub fn no_definition(alloc: Global) -> GlyphDefinition
     ensures { result ≡ no_definition }
 {
     GlyphDefinition {

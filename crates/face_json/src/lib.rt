@@ -2,22 +2,22 @@
 #![tactic(auto)]
 
 mod contexts;
-mod face;
+pub mod face;
 mod features;
 mod font_rows;
-mod glyphs;
+pub mod glyphs;
 mod lengths;
-mod lists;
+pub mod lists;
 mod marks;
 mod numbers;
 mod objects;
 mod position_table;
 mod positions;
-mod rising;
+pub mod rising;
 mod rows;
 mod scripts;
 mod substitution_table;
 mod substitutions;
-mod value;
+pub mod value;
 
 pub use face::read_face;

@@ -1,1 +1,2 @@
 pub mod Hooks
+pub mod Present

@@ -3,6 +3,7 @@
 
 pub mod characters;
 pub mod glyphs;
+pub mod hooks;
 pub mod masks;
 pub mod pauses;
 pub mod text;

@@ -1,0 +1,3 @@
+mod InTurn
+mod Tables
+mod OfKeys

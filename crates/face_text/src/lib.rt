@@ -1,0 +1,10 @@
+// Reads a font from a JSON text: a part at a time, so that a large font takes little more memory than it keeps, or else whole,
+// with the fault that comes first.
+#![tactic(auto)]
+
+mod face;
+mod keys;
+mod rows;
+mod table;
+
+pub use face::read_face_text;

@@ -1,0 +1,4 @@
+mod Reading
+pub mod Steps
+mod Numbers
+mod Found
