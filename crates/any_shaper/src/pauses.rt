@@ -10,7 +10,7 @@ ghost use Rattle.script_pauses.specs.Syllables.{khmer_order, substitutions_forgo
 ghost use Rattle.script_masks.specs.Masks.{khmer_masks};
 ghost use Rattle.script_stretch.specs.Tiles.{tiles_recorded};
 ghost use Rattle.shape_plan.specs.Plans.{has_mask};
-ghost use Rattle.script_shapers.specs.Hooks.{pause_done, pauses_by, syllables_found_by};
+ghost use Rattle.any_shaper.specs.Hooks.{pause_done, pauses_by, syllables_found_by};
 
 use feature_requests::pause::hb_script_pause_t;
 use font_face::Face;

@@ -11,7 +11,7 @@ use Rattle.normal_forms.specs.Arranged.{kept}
 use Rattle.feature_requests.specs.Lists.{features_of, overrides_of}
 use Rattle.script_constants.specs.declared.shaper.hb_ot_script_shaper_t.{hb_ot_script_shaper_t}
 use Rattle.script_constants.specs.declared.shaper.hb_ot_script_shaper_t.TheVariants.{ARABIC_SHAPER, HANGUL_SHAPER, HEBREW_SHAPER, INDIC_SHAPER, KHMER_SHAPER, MYANMAR_SHAPER, THAI_SHAPER, UNIVERSAL_SHAPER}
-use Rattle.script_shapers.specs.Hooks.{composes_by, masks_set_by, postprocessed_by, preprocessed_by, reorders_by, splits_by}
+use Rattle.any_shaper.specs.Hooks.{composes_by, masks_set_by, postprocessed_by, preprocessed_by, reorders_by, splits_by}
 
 -- ---- the hooks of each shaper
 

@@ -19,8 +19,8 @@ use Rattle.universal_syllables.specs.Features.{pref_recorded, reph_size, rphf_ma
 use Rattle.universal_syllables.specs.Spans.{categories_counted, place_of, universal_set}
 use Rattle.script_pauses.specs.Syllables.{forms_set, syllables_by, then_syllables, universal_syllables_set, unsubstituted, without_syllable}
 use Rattle.shape_shaper.specs.Rules.{Spans, StaysPlain}
-use Rattle.script_laws.specs.Plain.{SyllablesLeavePlain}
-use Rattle.script_laws.specs.Lemmas.Events.{IsPlainly, always_plain, ok_plain, rule_plain, same_plain, syllables_plain, then_plain, then_plainly, within_plainly}
+use Rattle.any_shaper.specs.Plain.{SyllablesLeavePlain}
+use Rattle.any_shaper.specs.Lemmas.Plain.Events.{IsPlainly, always_plain, ok_plain, rule_plain, same_plain, syllables_plain, then_plain, then_plainly, within_plainly}
 
 bytes_plainly : (at : ℕ → ℕ) (index : ℕ) (ss : List Syllable) (xs : List Item) → IsPlainly (bytes_set at index ss xs)
 bytes_plainly at index [] xs = tt

@@ -20,8 +20,8 @@ use Rattle.script_hangul.specs.Actions.{action_on, has_character}
 use Rattle.script_hangul.specs.Steps.{DOTTED_CIRCLE, Step, before_syllable, grapheme_merged, has_no_width, kept, numbers_of, performed, toned, with_circle}
 use Rattle.script_hangul.specs.Hangul.{character_at, events_behind, step, step_by, syllables_formed, text_behind, wants_circles}
 use Rattle.shape_shaper.specs.Rules.{StaysPlain}
-use Rattle.script_laws.specs.Plain.{TextsLeavePlain}
-use Rattle.script_laws.specs.Lemmas.Events.{always_plain, both_plain, ok_plain}
+use Rattle.any_shaper.specs.Plain.{TextsLeavePlain}
+use Rattle.any_shaper.specs.Lemmas.Plain.Events.{always_plain, both_plain, ok_plain}
 
 -- a read where a list does not pass the limit
 pub limited_plain : (t : Bool) (s r : Read) (level : BufferClusterLevel) → IsPlain (s.events level) → ◌≡◌ {A = Reading} (if t then Ok s else Err TooLong) (Ok r) → IsPlain (r.events level)

@@ -3,7 +3,7 @@ ghost use Rattle.std.specs.Prelude.{◌≡◌};
 ghost use Rattle.layout_rules.specs.Ready.{IsReady};
 ghost use Rattle.layout_walks.specs.Settings.{text_settings};
 ghost use Rattle.text_stages.specs.Stages.{IsFollowed};
-ghost use Rattle.script_shapers.specs.Hooks.{masks_set_by};
+ghost use Rattle.any_shaper.specs.Hooks.{masks_set_by};
 
 use glyph_buffer::buffer::hb_buffer_t;
 use script_constants::hb_ot_script_shaper_t;

@@ -20,9 +20,9 @@ use Rattle.script_khmer_myanmar.specs.Myanmar as myanmar
 use Rattle.script_universal.specs.Reordering as universal
 use Rattle.script_pauses.specs.Syllables.{khmer_circles, myanmar_circles, syllables_by, universal_circles}
 use Rattle.shape_shaper.specs.Rules.{StaysPlain}
-use Rattle.script_laws.specs.Plain.{OrdersLeavePlain}
-use Rattle.script_laws.specs.Lemmas.Events.{IsPlainly, same_plain, syllables_plain, then_plain, then_plainly, within_plainly}
-use Rattle.script_laws.specs.Lemmas.Texts.{limited_plain}
+use Rattle.any_shaper.specs.Plain.{OrdersLeavePlain}
+use Rattle.any_shaper.specs.Lemmas.Plain.Events.{IsPlainly, same_plain, syllables_plain, then_plain, then_plainly, within_plainly}
+use Rattle.any_shaper.specs.Lemmas.Plain.Texts.{limited_plain}
 
 -- ---- circles
 

@@ -1,5 +1,5 @@
-use Rattle.script_shapers.proofs.Kept.{hangul_followed, hangul_refused}
-use Rattle.script_shapers.proofs.text.preprocess_hangul.Goals as goal
+use Rattle.any_shaper.proofs.Kept.{hangul_followed, hangul_refused}
+use Rattle.any_shaper.proofs.text.preprocess_hangul.Goals as goal
 
 pub returns-clause-ok : goal.returns-clause-ok
 returns-clause-ok c = hangul_followed c.preprocess_text.result c.args.face.now c.args.buffer.now.flags c.args.buffer.now c.preprocess_text.new.buffer c.preprocess_text.ensures.ok

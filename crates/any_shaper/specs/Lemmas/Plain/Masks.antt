@@ -13,8 +13,8 @@ use Rattle.script_hangul.specs.Masks.{with_place_mask}
 use Rattle.script_pauses.specs.Categories.{categories_set, universal_category_of, with_category}
 use Rattle.script_masks.specs.Masks.{arabic_masks, is_mongolian, joined_if, letters_join, letters_joined, universal_masks_set}
 use Rattle.script_stretch.specs.Tiles.{tile_recorded, tiles_recorded}
-use Rattle.script_laws.specs.Plain.{MasksLeavePlain}
-use Rattle.script_laws.specs.Lemmas.Events.{always_plain, same_plain, then_plain}
+use Rattle.any_shaper.specs.Plain.{MasksLeavePlain}
+use Rattle.any_shaper.specs.Lemmas.Plain.Events.{always_plain, same_plain, then_plain}
 
 -- one of two stages, each of which does so
 pub either_plain : (s t : Stage) → StaysPlain s → StaysPlain t → (b : Bool) → StaysPlain (λ v. if b then s v else t v)

@@ -3,7 +3,7 @@ ghost use Rattle.std.specs.Prelude.{◌≡◌, ◌≢◌, Err, IfErr, OnOk};
 ghost use Rattle.glyph_lists.specs.Readings.{read_of};
 ghost use Rattle.glyph_buffer.specs.Sides.{run_of};
 ghost use Rattle.layout_rules.specs.Ready.{IsDone, IsReady};
-ghost use Rattle.script_shapers.specs.Hooks.{postprocessed_by};
+ghost use Rattle.any_shaper.specs.Hooks.{postprocessed_by};
 
 use font_face::Face;
 use glyph_buffer::buffer::hb_buffer_t;

@@ -3,7 +3,7 @@ ghost use Rattle.std.specs.Prelude.{◌≡◌, ◌≤◌, length};
 ghost use Rattle.glyph_buffer.specs.Sides.{all_glyphs};
 ghost use Rattle.layout_rules.specs.Ready.{IsReady};
 ghost use Rattle.normal_rounds.specs.Rearranged.{Rearranges};
-ghost use Rattle.script_shapers.specs.Hooks.{composes_by, reorders_by, splits_by, unmarked_pair};
+ghost use Rattle.any_shaper.specs.Hooks.{composes_by, reorders_by, splits_by, unmarked_pair};
 
 use glyph_buffer::buffer::hb_buffer_t;
 use script_constants::hb_ot_script_shaper_t;

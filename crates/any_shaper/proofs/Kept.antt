@@ -19,7 +19,7 @@ use Rattle.normal_rounds.specs.Rearranged.{Rearranges}
 use Rattle.text_stages.specs.Stages.{IsFollowed}
 use Rattle.script_hebrew_thai.specs.ThaiPrivate.{with_private}
 use Rattle.script_hangul.specs.Hangul.{events_behind, syllables_formed, text_behind, wants_circles}
-use Rattle.script_shapers.specs.Hooks.{Spans, pause_done, private_if}
+use Rattle.any_shaper.specs.Hooks.{Spans, pause_done, private_if}
 use Rattle.shaping_text.specs.declared.script.Script.{Script}
 use Rattle.map_builder.specs.Compiled.{OtMapValue}
 use Rattle.layout_walks.specs.Settings.{TextSettings}

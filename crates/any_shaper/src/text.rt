@@ -6,7 +6,7 @@ ghost use Rattle.layout_rules.specs.Ready.{IsReady};
 ghost use Rattle.layout_walks.specs.Settings.{text_settings};
 ghost use Rattle.text_stages.specs.Stages.{IsFollowed};
 ghost use Rattle.script_hangul.specs.Hangul.{syllables_formed};
-ghost use Rattle.script_shapers.specs.Hooks.{has_private_forms, is_thai, preprocessed_by, private_if, thai_text};
+ghost use Rattle.any_shaper.specs.Hooks.{has_private_forms, is_thai, preprocessed_by, private_if, thai_text};
 
 use font_face::Face;
 use glyph_buffer::buffer::hb_buffer_t;

@@ -1,2 +1,0 @@
-pub mod Hooks
-pub mod Present
