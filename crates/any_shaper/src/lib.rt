@@ -1,10 +1,17 @@
-// The shapers of the stack: which of them a text has, and what each does to it.
+// The shapers of the stack: which of them a text has, and which rule each has, at the places where the pipeline asks.
 #![tactic(auto)]
 
 pub mod any_shaper;
+mod characters;
 mod dispatch;
+mod glyphs;
+pub mod hooks;
+pub mod laws;
+mod masks;
+mod pauses;
 pub mod planned;
 pub mod shaper;
+mod text;
 
 pub use any_shaper::{DEFAULT_SHAPER, DUMBER_SHAPER, hb_ot_any_shaper_t};
 pub use dispatch::{hb_ot_shape_complex_categorize, script_waits};

@@ -1,9 +1,9 @@
 //! What the shapers of the stack do to a text.
 use crate::any_shaper::hb_ot_any_shaper_t;
+use crate::{characters, glyphs, masks, pauses, text};
 use font_face::Face;
 use glyph_buffer::buffer::hb_buffer_t;
 use glyph_types::cause::ShapeCause;
-use script_shapers::{characters, glyphs, masks, pauses, text};
 use script_syllables::SyllableSpans;
 use shape_plan::plan::hb_script_plan_t;
 use shape_shaper::hb_ot_shaper_t;

@@ -1,10 +1,13 @@
-// Worked rows of the buffer's calls, of texts and printed glyphs, and of the numbers that types of glyphs have.
+// Worked rows of lists of glyphs, of the buffer's calls, of texts and printed glyphs, and of the numbers that types of
+// glyphs have.
 #![tactic(auto)]
 
 #[cfg(test)]
 mod call;
 #[cfg(test)]
 mod growth;
+#[cfg(test)]
+mod lists;
 #[cfg(test)]
 mod rows;
 #[cfg(test)]

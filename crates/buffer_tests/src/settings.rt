@@ -1,11 +1,15 @@
 //! What is set for a text, limits, and where runs of glyphs end.
+ghost use Rattle.std.specs.Prelude.{◌≡◌, false, IfOk};
+
 use glyph_buffer::buffer::hb_buffer_t;
+use std::alloc::{AllocError, Global};
+use std::process::Abort;
 use std::test::Fail;
 use text_buffers::unicode_buffer::UnicodeBuffer;
 
-#[test]
-fn sets_limits_and_gives_ligature_numbers(rt: HostRuntime) -> Result<(), Fail> {
-    let mut buffer = hb_buffer_t::new(rt.alloc());
+fn has_limits(rt: &impl Abort, buffer: &mut hb_buffer_t)
+    requires { buffer.old.is_open ≡ false }
+{
     buffer.enter();
     assert_eq!(rt; (buffer.max_len(), buffer.max_ops()), (16384, 16384));
     buffer.set_max_ops(-1);
@@ -18,7 +22,12 @@ fn sets_limits_and_gives_ligature_numbers(rt: HostRuntime) -> Result<(), Fail> {
     for want in [1, 2, 3, 4, 5, 6, 7, 1] {
         assert_eq!(rt; buffer.allocate_lig_id(), want);
     }
-    Ok(())
+}
+
+#[test]
+fn sets_limits_and_gives_ligature_numbers(rt: HostRuntime) {
+    let mut buffer = hb_buffer_t::new(rt.alloc());
+    has_limits(&rt, &mut buffer);
 }
 
 /// The characters in front and behind that a buffer keeps of a text are these.
@@ -29,32 +38,47 @@ fn keeps(buffer: &mut hb_buffer_t, text: &str, pre: &str, post: &str) -> bool {
         && buffer.post_context().iter().copied().eq(post.chars())
 }
 
-#[test]
-fn keeps_five_characters_of_the_text_around(rt: HostRuntime) -> Result<(), Fail> {
-    let mut buffer = hb_buffer_t::new(rt.alloc());
+fn keeps_each(rt: &impl Abort, buffer: &mut hb_buffer_t) {
     for (text, pre, post) in [
         ("", "", ""),
         ("aé€", "€éa", "aé€"),
         ("abcdefg", "gfedc", "abcde"),
     ] {
-        assert!(rt; keeps(&mut buffer, text, pre, post), "{text}");
+        assert!(rt; keeps(buffer, text, pre, post), "{text}");
     }
-    Ok(())
 }
 
 #[test]
-fn finds_where_runs_end(rt: HostRuntime) -> Result<(), Fail> {
-    let mut text = UnicodeBuffer::new(rt.alloc());
-    for (character, cluster) in [('a', 0), ('b', 0), ('c', 1)] {
-        assert!(rt; text.add(character, cluster)?);
-    }
-    let buffer = text.into_buffer();
-    let ends = [
+fn keeps_five_characters_of_the_text_around(rt: HostRuntime) {
+    let mut buffer = hb_buffer_t::new(rt.alloc());
+    keeps_each(&rt, &mut buffer);
+}
+
+/// Three characters, the first two of one cluster.
+fn two_clusters(alloc: Global) -> Result<hb_buffer_t, AllocError>
+    ensures { IfOk result (λ b. b.is_open ≡ false) }
+{
+    let mut text = UnicodeBuffer::new(alloc);
+    text.add('a', 0)?;
+    text.add('b', 0)?;
+    text.add('c', 1)?;
+    Ok(text.into_buffer())
+}
+
+fn ends_of(buffer: &hb_buffer_t) -> [usize; 4]
+    requires { buffer.now.is_open ≡ false }
+{
+    [
         buffer.next_cluster(0),
         buffer.next_syllable(1),
         buffer.next_grapheme(1),
         buffer.next_cluster(3),
-    ];
-    assert_eq!(rt; ends, [2, 3, 2, 3]);
+    ]
+}
+
+#[test]
+fn finds_where_runs_end(rt: HostRuntime) -> Result<(), Fail> {
+    let buffer = two_clusters(rt.alloc())?;
+    assert_eq!(rt; ends_of(&buffer), [2, 3, 2, 3]);
     Ok(())
 }

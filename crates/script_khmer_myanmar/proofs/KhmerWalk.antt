@@ -94,9 +94,6 @@ vowels_walked_at m start end place count to a b some le last fits run f =
 
 -- ---- a run of forms
 
-form_rule : KhmerMasks → List Item → Rewritten
-form_rule m ys = kept (forms_masked (together true) (masked m.pref) ys)
-
 far_size : (m : KhmerMasks) (place : ℕ) (xs : List Item) → place + 2 ≤ length xs → length (within (place + 2) (length xs) (masked_all m.cfar) xs).items ≡ length xs
 far_size m place xs le = within_size (masked_all m.cfar) (place + 2) (length xs) xs (masked_size m.cfar) le (omega arith)
 

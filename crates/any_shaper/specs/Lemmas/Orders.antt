@@ -24,12 +24,12 @@ use Rattle.script_mark_orders.specs.Lemmas.Counts.{orders_are_plain, orders_keep
 use Rattle.script_pauses.specs.Categories.{ot_category_of}
 use Rattle.script_masks.specs.Masks.{form_masks, jamo_masks, khmer_masks}
 use Rattle.script_tiles.specs.Lemmas.Plain.{tiles_plain}
-use Rattle.script_laws.specs.Lemmas.Events.{then_plain}
-use Rattle.script_laws.specs.Lemmas.Masks.{either_plain, masks_leave_plain}
-use Rattle.script_laws.specs.Lemmas.Orders.{orders_leave_plain}
-use Rattle.script_laws.specs.Lemmas.Syllables.{syllables_leave_plain}
-use Rattle.script_laws.specs.Lemmas.Texts.{texts_leave_plain}
-use Rattle.script_shapers.specs.Hooks.{has_private_forms, masks_set_by, pause_done, pause_if, postprocessed_by, preprocessed_by, private_if, reorders_by, syllables_found_by}
+use Rattle.any_shaper.specs.Lemmas.Plain.Events.{then_plain}
+use Rattle.any_shaper.specs.Lemmas.Plain.Masks.{either_plain, masks_leave_plain}
+use Rattle.any_shaper.specs.Lemmas.Plain.Orders.{orders_leave_plain}
+use Rattle.any_shaper.specs.Lemmas.Plain.Syllables.{syllables_leave_plain}
+use Rattle.any_shaper.specs.Lemmas.Plain.Texts.{texts_leave_plain}
+use Rattle.any_shaper.specs.Hooks.{has_private_forms, masks_set_by, pause_done, pause_if, postprocessed_by, preprocessed_by, private_if, reorders_by, syllables_found_by}
 use Rattle.any_shaper.specs.declared.any_shaper.hb_ot_any_shaper_t.{hb_ot_any_shaper_t}
 use Rattle.any_shaper.specs.declared.any_shaper.hb_ot_any_shaper_t.TheVariants as any
 use Rattle.any_shaper.specs.Rules.{rules_of, script_rules}

@@ -9,7 +9,7 @@ use Rattle.shape_shaper.specs.Lemmas.Unchanged.{by_more, nine_splits, none_more}
 use Rattle.script_constants.specs.declared.shaper.hb_ot_script_shaper_t.{hb_ot_script_shaper_t}
 use Rattle.script_constants.specs.declared.shaper.hb_ot_script_shaper_t.TheVariants.{ARABIC_SHAPER, HANGUL_SHAPER, HEBREW_SHAPER, INDIC_SHAPER, KHMER_SHAPER, MYANMAR_SHAPER, MYANMAR_ZAWGYI_SHAPER, THAI_SHAPER, UNIVERSAL_SHAPER}
 use Rattle.script_khmer_myanmar.specs.Khmer.{LEFT_PART, khmer_split, split_vowels}
-use Rattle.script_shapers.specs.Hooks.{splits_by}
+use Rattle.any_shaper.specs.Hooks.{splits_by}
 use Rattle.any_shaper.specs.declared.any_shaper.hb_ot_any_shaper_t.{hb_ot_any_shaper_t}
 use Rattle.any_shaper.specs.declared.any_shaper.hb_ot_any_shaper_t.TheVariants as any
 use Rattle.any_shaper.specs.Rules.{rules_of}

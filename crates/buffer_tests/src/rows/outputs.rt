@@ -29,6 +29,13 @@ pub const ROWS: &[Row] = &[
         want: &[(6, 4, 0), (1, 4, 0), (7, 4, 0)],
     },
     Row {
+        name: "copies the first of the input, with its cluster",
+        start: &[0, 1],
+        calls: &[Open, Next, Output(7), Sync],
+        refused: 0,
+        want: &[(1, 0, 0), (7, 1, 0), (2, 1, 0)],
+    },
+    Row {
         name: "merges what it replaces",
         start: &[1, 0, 2],
         calls: &[

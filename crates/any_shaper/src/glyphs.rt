@@ -1,0 +1,37 @@
+//! What a shaper does to glyphs that stand as they are drawn.
+ghost use Rattle.std.specs.Prelude.{◌≡◌, ◌≢◌, Err, IfErr, OnOk};
+ghost use Rattle.glyph_lists.specs.Readings.{read_of};
+ghost use Rattle.glyph_buffer.specs.Sides.{run_of};
+ghost use Rattle.layout_rules.specs.Ready.{IsDone, IsReady};
+ghost use Rattle.any_shaper.specs.Hooks.{postprocessed_by};
+
+use font_face::Face;
+use glyph_buffer::buffer::hb_buffer_t;
+use glyph_types::cause::ShapeCause;
+use script_constants::hb_ot_script_shaper_t;
+use script_tiles::stretch::apply_stch;
+use std::alloc::Global;
+
+/// Changes the glyphs and their positions: tiles of Arabic are laid over the words that they stretch.
+///
+/// # Errors
+///
+/// `StretchRange` where a word or its tiles have a width outside 32 bits, `TooLong` where the text would grow past its
+/// limit, or want of memory.
+#[tactic(auto, using(crate::proofs::Kept::unchanged_done))]
+pub fn postprocess_glyphs(
+    shaper: hb_ot_script_shaper_t,
+    alloc: Global,
+    face: &Face,
+    buffer: &mut hb_buffer_t,
+) -> Result<(), ShapeCause>
+    requires { IsReady buffer.old }
+    ensures ok { OnOk result (IsDone (postprocessed_by shaper face.now) buffer.old buffer.new) }
+    ensures err { IfErr result (λ e. e ≢ ShapeCause.OutOfMemory → read_of
+        (postprocessed_by shaper face.now) (run_of buffer.old) ≡ Err e) }
+{
+    match shaper {
+        hb_ot_script_shaper_t::ARABIC_SHAPER => apply_stch(alloc, face, buffer),
+        _ => Ok(()),
+    }
+}

@@ -1,0 +1,40 @@
+//! The masks and the categories that a shaper sets.
+ghost use Rattle.std.specs.Prelude.{◌≡◌};
+ghost use Rattle.layout_rules.specs.Ready.{IsReady};
+ghost use Rattle.layout_walks.specs.Settings.{text_settings};
+ghost use Rattle.text_stages.specs.Stages.{IsFollowed};
+ghost use Rattle.any_shaper.specs.Hooks.{masks_set_by};
+
+use glyph_buffer::buffer::hb_buffer_t;
+use script_constants::hb_ot_script_shaper_t;
+use script_masks::{arabic, hangul, universal};
+use script_pauses::categories::set_ot_categories;
+use shape_plan::plan::hb_script_plan_t;
+use unicode_tables::UnicodeTables;
+
+/// Sets the masks of features that act on some characters alone, and what the shaper sees of characters. It takes no memory.
+#[tactic(auto, using(crate::proofs::Kept::unchanged_followed))]
+pub fn setup_masks<D>(
+    shaper: hb_ot_script_shaper_t,
+    plan: &hb_script_plan_t<D>,
+    tables: &UnicodeTables,
+    buffer: &mut hb_buffer_t,
+)
+    requires { IsReady buffer.old }
+    ensures { IsFollowed (masks_set_by shaper plan.now.map plan.now.script tables.now (text_settings buffer.old))
+        buffer.old buffer.new }
+{
+    match shaper {
+        hb_ot_script_shaper_t::ARABIC_SHAPER => {
+            arabic::setup_masks(&plan.map, plan.script, tables, buffer)
+        }
+        hb_ot_script_shaper_t::HANGUL_SHAPER => hangul::setup_masks(&plan.map, buffer),
+        hb_ot_script_shaper_t::KHMER_SHAPER | hb_ot_script_shaper_t::MYANMAR_SHAPER => {
+            set_ot_categories(tables, buffer)
+        }
+        hb_ot_script_shaper_t::UNIVERSAL_SHAPER => {
+            universal::setup_masks(&plan.map, plan.script, tables, buffer)
+        }
+        _ => {}
+    }
+}

@@ -1,4 +1,0 @@
-// Laws of what the shapers of scripts do to where glyphs come from.
-#![tactic(auto)]
-
-pub mod laws;

@@ -1,8 +1,0 @@
-// The shapers of scripts: which rule each has, at the places where the pipeline asks.
-#![tactic(auto)]
-
-pub mod characters;
-pub mod glyphs;
-pub mod masks;
-pub mod pauses;
-pub mod text;
