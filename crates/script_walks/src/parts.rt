@@ -30,7 +30,9 @@ pub fn add_mask(buffer: &mut hb_buffer_t, start: usize, end: usize, mask: hb_mas
     ensures { IsRewritten (masked_all mask (slice_range (items_of buffer.old) start end)) start end buffer.old
         buffer.new }
 {
+    let known = buffer.known_order();
     mask_within(buffer.info_slice_mut(), start, end, mask);
+    buffer.keep_order(known);
 }
 
 /// The glyphs from `start` up to before `end` of a slice get the features of a mask; its glyph flags are left out.

@@ -7,17 +7,20 @@ use Rattle.std.proofs.lemmas.Nat.{and_or_apart, or_block, and_mask}
 use Rattle.std.proofs.Math.Seq.{take-add}
 use Rattle.std.proofs.lemmas.List.{length-append, length-map, drop-drop, drop-take, take-take, drop-append-le, length-take-le, length-drop, take-append-drop, take-map, drop-map, map-append}
 use Rattle.glyph_types.specs.declared.info.hb_glyph_info_t.{hb_glyph_info_t}
-use Rattle.glyph_lists.specs.Items.{Item, item_of, strip, without_flags}
+use Rattle.glyph_lists.specs.Items.{Item, clusters, item_of, strip, without_flags}
 use Rattle.glyph_lists.specs.Levels.{InList}
 use Rattle.glyph_lists.specs.Events.{Move}
 use Rattle.glyph_lists.specs.Origins.{origins, origin_of}
 use Rattle.glyph_lists.specs.Readings.{Run, always}
+use Rattle.buffer_lists.specs.declared.order.KnownOrder.{KnownOrder}
+use Rattle.buffer_lists.specs.Known.{HasOrder}
 use Rattle.glyph_buffer.specs.Sides.{Sides, all_glyphs, items_of, origins_of, origins_by, view_of}
 use Rattle.glyph_buffer.specs.Lending.{with_refilled}
 use Rattle.layout_rules.specs.Ready.{IsReady}
 use Rattle.text_stages.specs.Stages.{IsFollowed}
 use Rattle.text_stages.specs.Lemmas.Written.{written_all, written_ready}
 use Rattle.script_moves.specs.Moves.{moved, order_of_move, with_move}
+use Rattle.script_moves.specs.Lemmas.Ordered.{order_written}
 use Rattle.script_walks.specs.Rewriting.{Rewritten, kept, shifted, within}
 use Rattle.script_walks.specs.Buffers.{IsRewritten}
 use Rattle.script_walks.specs.Parts.{masked, glyph_masked, masked_all, first_to_back}
@@ -213,3 +216,21 @@ mask_rewrites from to bits gs a ready le fits e =
     let range = slice_range (all_glyphs a) from to in
     part_written from to (map (masked bits) (slice_range (items_of a) from to)) (map (glyph_masked bits) range) gs a ready le fits e
     (items_masked bits range ∙ ap (map (masked bits)) (range_seen item_of from to (all_glyphs a))) (origins_masked bits range)
+
+-- ---- what is known of the order of clusters
+
+-- a part that was written, whose clusters are as they were
+pub part_clusters : (from to : ℕ) (hs gs all : List hb_glyph_info_t) → from ≤ to → gs ≡ take from all ++ hs ++ drop to all → clusters hs ≡ clusters (slice_range all from to) → clusters gs ≡ clusters all
+part_clusters from to hs gs all le e same =
+    let cluster_of : hb_glyph_info_t → ℕ = λ g. g.cluster in
+    ap clusters e ∙ part_seen cluster_of from to all hs ∙ ap (λ ns. take from (clusters all) ++ ns ++ drop to (clusters all)) (same ∙ range_seen cluster_of from to all) ∙ whole_cut from to (clusters all) le
+
+-- glyphs whose clusters are as they were
+pub order_kept : (o : KnownOrder) (gs : List hb_glyph_info_t) (s : Sides) → clusters gs ≡ clusters (all_glyphs s) → HasOrder o (clusters (all_glyphs s)) → HasOrder o (clusters (all_glyphs (with_refilled gs s)))
+order_kept o gs s same known =
+    let cluster_of : hb_glyph_info_t → ℕ = λ g. g.cluster in
+    order_written o gs s (sym (length-map gs cluster_of) ∙ ap (λ (ns : List ℕ). length ns) same ∙ length-map (all_glyphs s) cluster_of) same known
+
+pub clusters_masked : (bits : ℕ) (gs : List hb_glyph_info_t) → clusters (map (glyph_masked bits) gs) ≡ clusters gs
+clusters_masked bits [] = refl
+clusters_masked bits (g ∷ gs) = ap (λ ns. g.cluster ∷ ns) (clusters_masked bits gs)
