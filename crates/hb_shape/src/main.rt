@@ -1,8 +1,8 @@
 // hb_shape [options] TABLES FONT TEXT: shapes a text in a font, and prints its glyphs with their positions.
 #![tactic(auto)]
 
-use shape_program::files::SystemFiles;
-use shape_program::program::shape;
+use shape_run::files::SystemFiles;
+use shape_run::program::shape;
 use std::process::ExitCode;
 use std::{env, io};
 

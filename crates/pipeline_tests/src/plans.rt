@@ -1,9 +1,9 @@
 //! Plans for texts.
 use crate::decomposing::DecomposingShaper;
 use crate::rows::text_of;
-use any_shaper::hb_ot_any_shaper_t;
 use font_face::Face;
 use language_tables::language_table::LanguageTable;
+use shape_pipeline::hb_ot_any_shaper_t;
 use shape_plan::plan::hb_ot_shape_plan_t;
 use shape_plan::planner::hb_ot_shape_planner_t;
 use std::alloc::{AllocError, Global};

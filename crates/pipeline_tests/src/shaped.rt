@@ -2,9 +2,9 @@
 use crate::data::{Tables, characters, face_of, languages, spans};
 use crate::plans::{decomposing_plan_of_row, plan_of_row};
 use crate::rows::{flags_of, part, text_of};
-use any_shaper::hb_ot_any_shaper_t;
 use font_face::Face;
 use script_syllables::SyllableTable;
+use shape_pipeline::hb_ot_any_shaper_t;
 use shape_pipeline::shape::{ShapeFault, shape, shape_with_plan};
 use shape_plan::plan::hb_ot_shape_plan_t;
 use shape_shaper::hb_ot_shaper_t;

@@ -1,7 +1,7 @@
 //! The program: statuses, what it writes and tells, the order of its files.
 use crate::languages;
-use shape_program::files::Files;
-use shape_program::program::shape;
+use shape_run::files::Files;
+use shape_run::program::shape;
 use std::alloc::{AllocError, Global};
 use std::test::Fail;
 

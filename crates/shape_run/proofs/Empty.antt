@@ -4,7 +4,7 @@ use Rattle.std.specs.Prelude.{Option, Some, None}
 use Rattle.std.proofs.lemmas.Str.{chars-nil}
 use Rattle.shaping_text.specs.declared.script.Script.{Script}
 use Rattle.glyph_lists.specs.Parts.{or}
-use Rattle.any_shaper.specs.Dispatch.{script_waits}
+use Rattle.shape_pipeline.specs.Dispatch.{script_waits}
 use Rattle.font_face.specs.declared.parts.FaceParts.{FaceParts}
 use Rattle.glyph_types.specs.declared.flags.SerializeFlags.{SerializeFlags}
 use Rattle.glyph_text.specs.Printed.{printed_text}

@@ -5,7 +5,7 @@ use Rattle.run_options.specs.declared.fault.RunFault.{RunFault}
 use Rattle.run_options.specs.declared.fault.RunFault.TheVariants.{NotYet, OutOfMemory}
 use Rattle.shaping_text.specs.declared.script.Script.{Script}
 use Rattle.shaping_text.specs.declared.script.TheConstants.{UNKNOWN}
-use Rattle.any_shaper.specs.Dispatch.{script_waits}
+use Rattle.shape_pipeline.specs.Dispatch.{script_waits}
 use Rattle.run_options.specs.declared.options.Options.{Options}
 use Rattle.run_options.specs.Fault.{fault_of_cause}
 use Rattle.glyph_types.specs.declared.cause.ShapeCause.{ShapeCause}

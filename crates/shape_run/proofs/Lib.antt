@@ -6,3 +6,5 @@ pub mod Empty
 pub mod Writing
 pub mod Languages
 pub mod Guessed
+pub mod Asking
+pub mod Ending

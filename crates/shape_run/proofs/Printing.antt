@@ -9,7 +9,7 @@ use Rattle.glyph_lists.specs.Origins.{origin_of, origins}
 use Rattle.glyph_lists.specs.Readings.{Follows, Reading, Run}
 use Rattle.glyph_buffer.specs.Text.{fits_text}
 use Rattle.shape_run.specs.Output.{glyph_of, glyphs_of}
-use Rattle.any_shaper.specs.Dispatch.{script_waits}
+use Rattle.shape_pipeline.specs.Dispatch.{script_waits}
 use Rattle.shape_pipeline.specs.Shaped.{text_reading}
 use Rattle.shape_run.specs.Asked.{text_buffer}
 use Rattle.run_readers.specs.Tables.{RunTables}

@@ -13,7 +13,7 @@ use Rattle.run_options.specs.Fault.{fault_of_cause}
 use Rattle.layout_common.specs.Rows.{value_of}
 use Rattle.font_face.specs.Glyphs.{name_of}
 use Rattle.font_face.specs.declared.parts.FaceParts.{FaceParts}
-use Rattle.any_shaper.specs.Dispatch.{script_waits}
+use Rattle.shape_pipeline.specs.Dispatch.{script_waits}
 use Rattle.shape_reading.specs.Shaping.{Shaping}
 use Rattle.shape_pipeline.specs.Shaped.{by_text, text_reading}
 use Rattle.shape_run.specs.Asked.{text_buffer}

@@ -2,7 +2,7 @@
 use Rattle.std.specs.Prelude.{ℕ, ◌≡◌, false, List, [], ◌∷◌, Result, Ok}
 use Rattle.run_options.specs.declared.options.Options.{Options}
 use Rattle.font_face.specs.declared.parts.FaceParts.{FaceParts}
-use Rattle.any_shaper.specs.Dispatch.{script_waits}
+use Rattle.shape_pipeline.specs.Dispatch.{script_waits}
 use Rattle.run_options.specs.declared.fault.RunFault.{RunFault}
 use Rattle.shape_run.specs.Answer.{IsAnswer, line_of}
 use Rattle.run_readers.specs.Tables.{RunTables}

@@ -2,4 +2,5 @@ pub mod Asked
 pub mod Output
 pub mod Answer
 pub mod Run
+pub mod Program
 pub mod Laws

@@ -3,18 +3,17 @@ ghost use Rattle.std.specs.Prelude.{◌≡◌, ◌≢◌, false, IfOk, IfErr, On
 ghost use Rattle.glyph_lists.specs.Readings.{Follows};
 ghost use Rattle.glyph_buffer.specs.Segment.{guessed};
 ghost use Rattle.glyph_buffer.specs.Sides.{run_of};
-ghost use Rattle.any_shaper.specs.Dispatch.{script_waits};
+ghost use Rattle.shape_pipeline.specs.Dispatch.{script_waits};
 ghost use Rattle.shape_pipeline.specs.Shaped.{text_reading};
 ghost use Rattle.shape_run.specs.Answer.{IsUnshaped, shaping};
 ghost use Rattle.run_readers.specs.Faults.{IsOfRun};
 ghost use Rattle.run_readers.specs.Tables.{tables_value};
 
-use any_shaper::script_waits;
 use feature_text::feature::Feature;
 use font_face::Face;
 use run_options::fault::RunFault;
 use run_readers::tables::TextTables;
-use shape_pipeline::hb_shape_data_t;
+use shape_pipeline::{hb_shape_data_t, script_waits};
 use std::alloc::Global;
 use text_buffers::glyphs::GlyphBuffer;
 use text_buffers::unicode_buffer::UnicodeBuffer;

@@ -4,7 +4,7 @@ use Rattle.feature_text.specs.declared.feature.Feature.{Feature}
 use Rattle.glyph_lists.specs.Readings.{Follows}
 use Rattle.glyph_buffer.specs.Segment.{guessed}
 use Rattle.glyph_buffer.specs.Sides.{Sides, all_glyphs, run_of}
-use Rattle.any_shaper.specs.Dispatch.{script_waits}
+use Rattle.shape_pipeline.specs.Dispatch.{script_waits}
 use Rattle.shape_pipeline.specs.Shaped.{text_reading}
 use Rattle.shape_run.specs.Answer.{IsUnshaped, printed_line, shaping}
 use Rattle.shape_run.specs.Asked.{text_buffer}

@@ -1,7 +1,7 @@
 use Rattle.std.proofs.Common.{◌≡◌, ◌≢◌, true, false, sym, ap, ◌∙◌}
 use Rattle.std.specs.Prelude.{Some}
 use Rattle.std.proofs.lemmas.Result.{IfErr-weaker}
-use Rattle.any_shaper.specs.Dispatch.{script_waits}
+use Rattle.shape_pipeline.specs.Dispatch.{script_waits}
 use Rattle.shape_run.proofs.Faults.{known_script, on_ok, still_unshaped, waiting_unshaped}
 use Rattle.shape_run.proofs.shape.shape.Goals as goal
 

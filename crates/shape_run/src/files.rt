@@ -1,6 +1,6 @@
 //! The files of a run, opened by their names.
 ghost use Rattle.std.specs.Prelude.{◌≡◌, ℕ, List, [], ◌∷◌, Option, None, OnOk, OnErr, IfErr, string_bytes, take};
-ghost use Rattle.shape_program.specs.Program.{Asks};
+ghost use Rattle.shape_run.specs.Program.{Asks};
 
 use run_options::fault::RunFault;
 use shape_words::CommandLine;

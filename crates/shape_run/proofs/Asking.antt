@@ -1,6 +1,6 @@
 -- One name after another is asked for.
 use Rattle.std.proofs.Common.{◌≡◌, ℕ, List, [], ◌∷◌, ◌++◌, Option, Some, None, take, refl, ap, ◌∙◌, append_assoc}
-use Rattle.shape_program.specs.Program.{Asks}
+use Rattle.shape_run.specs.Program.{Asks}
 
 asks_then : (a b c : Option (List (List ℕ))) (xs ys : List (List ℕ)) → Asks a b xs → Asks b c ys → Asks a c (xs ++ ys)
 asks_then None b c xs ys p q = tt

@@ -2,7 +2,7 @@
 ghost use Rattle.std.specs.Prelude.{◌≡◌, IfOk, OnOk};
 ghost use Rattle.std.specs.Io.KnownBytes.{Appends};
 ghost use Rattle.run_options.specs.Fault.{status_of};
-ghost use Rattle.shape_program.specs.Program.{line_of_fault};
+ghost use Rattle.shape_run.specs.Program.{line_of_fault};
 
 use run_options::fault::RunFault;
 use std::io;

@@ -3,7 +3,7 @@ use Rattle.std.proofs.Common.{◌≡◌, ℕ, List, Option, Some, None, inl, inr
 use Rattle.std.specs.Io.KnownBytes.{Appends}
 use Rattle.run_options.specs.declared.fault.RunFault.{RunFault}
 use Rattle.run_options.specs.Fault.{status_of}
-use Rattle.shape_program.specs.Program.{Ends, line_of_fault}
+use Rattle.shape_run.specs.Program.{Ends, line_of_fault}
 
 pub ends_well : (a : Option (List ℕ)) → Ends 0 a a
 ends_well None = inl (refl, tt)

@@ -1,11 +1,11 @@
 //! The program over its words, its files and what it writes to.
 ghost use Rattle.std.specs.Prelude.{IfOk};
-ghost use Rattle.shape_program.specs.Program.{Ends};
+ghost use Rattle.shape_run.specs.Program.{Ends};
 
 use crate::files::{Files, open_files};
 use crate::report::report;
+use crate::run::run;
 use run_options::fault::RunFault;
-use shape_run::run::run;
 use shape_words::parse_options;
 use std::alloc::Global;
 use std::io;

@@ -1,7 +1,7 @@
 use Rattle.std.proofs.Common.{[], ◌∷◌, string_bytes}
-use Rattle.shape_program.specs.Program.{Asks}
-use Rattle.shape_program.proofs.Asking.{asked_two}
-use Rattle.shape_program.proofs.files.open_files.Goals as goal
+use Rattle.shape_run.specs.Program.{Asks}
+use Rattle.shape_run.proofs.Asking.{asked_two}
+use Rattle.shape_run.proofs.files.open_files.Goals as goal
 
 -- the font is missing
 pub returns-in_default-open-clause-front : goal.returns-in_default-open-clause-front
