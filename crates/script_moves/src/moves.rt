@@ -1,6 +1,7 @@
 //! Moves of glyphs within a text.
-ghost use Rattle.std.specs.Prelude.{ℕ, ◌≡◌, ◌≤◌, ◌+◌, ◌-◌, ◌==◌, false, length};
+ghost use Rattle.std.specs.Prelude.{◌≡◌, ◌≤◌, ◌-◌, ◌==◌, List, false, true, length, slice_range};
 ghost use Rattle.std.specs.List.{list_all};
+ghost use Rattle.glyph_types.specs.declared.info.hb_glyph_info_t.{hb_glyph_info_t as Glyph};
 ghost use Rattle.glyph_lists.specs.Items.{clusters};
 ghost use Rattle.buffer_lists.specs.Known.{HasOrder};
 ghost use Rattle.glyph_lists.specs.Readings.{always};
@@ -28,14 +29,16 @@ pub fn move_back(buffer: &mut hb_buffer_t, start: usize, middle: usize, end: usi
     buffer.keep_order(known);
 }
 
-/// What is known of the order of the clusters however the glyphs of a range stand: where they are of one cluster, what is
-/// known of it as they stand.
-fn order_kept(buffer: &mut hb_buffer_t, start: usize, end: usize) -> KnownOrder
+/// What is known of the order of the clusters, to be kept once the glyphs of a range have changed places: where these are of
+/// one cluster, what is known of it as they stand.
+pub fn order_kept(buffer: &mut hb_buffer_t, start: usize, end: usize) -> KnownOrder
     requires closed { buffer.old.is_open ≡ false }
     requires ordered { start ≤ end }
     requires within { end ≤ length (all_glyphs buffer.old) }
     ensures same { buffer.new ≡ buffer.old }
-    ensures moved { (n k : ℕ) → start + (n + k) ≡ end → HasOrder result (clusters (moved start n k (all_glyphs buffer.old))) }
+    ensures kept { (gs : List Glyph) →
+        (are_one_cluster (slice_range (all_glyphs buffer.old) start end) ≡ true → clusters gs ≡ clusters (all_glyphs buffer.old)) →
+        HasOrder result (clusters gs) }
 {
     let is_one = are_one_cluster(&buffer.info_slice()[start..end]);
     let known = buffer.known_order();

@@ -1,9 +1,9 @@
 -- What is known of the order of clusters, once glyphs were written.
-use Rattle.std.proofs.Common.{ℕ, ◌≡◌, ◌+◌, ◌-◌, ◌==◌, ◌&&◌, Bool, true, List, [], ◌∷◌, ◌++◌, length, take, drop, arith, refl, ap, sym, subst, ◌∙◌, append_assoc}
+use Rattle.std.proofs.Common.{ℕ, ◌≡◌, ◌≤◌, ◌+◌, ◌-◌, ◌==◌, ◌&&◌, Bool, true, List, [], ◌∷◌, ◌++◌, length, take, drop, arith, refl, ap, sym, subst, ◌∙◌, append_assoc}
 use Rattle.std.specs.Prelude.{slice_range}
 use Rattle.std.specs.List.{list_all}
 use Rattle.std.proofs.lemmas.Grind.{common_steps}
-use Rattle.std.proofs.lemmas.List.{append-nil, drop-drop, drop-map, map-append, take-append-drop, take-map}
+use Rattle.std.proofs.lemmas.List.{append-nil, drop-drop, drop-map, length-map, map-append, take-append-drop, take-map, take-take}
 use Rattle.std.proofs.lemmas.List.Folds.{list_all-append, list_all-map}
 use Rattle.glyph_types.specs.declared.info.hb_glyph_info_t.{hb_glyph_info_t}
 use Rattle.glyph_lists.specs.Items.{clusters}
@@ -13,8 +13,9 @@ use Rattle.buffer_lists.specs.Known.{HasOrder}
 use Rattle.glyph_buffer.specs.Sides.{Sides, all_glyphs}
 use Rattle.glyph_buffer.specs.Lending.{with_refilled}
 use Rattle.text_stages.specs.Lemmas.Written.{written_all}
-use Rattle.script_moves.specs.Moves.{are_one_cluster, moved}
+use Rattle.script_moves.specs.Moves.{FrontMove, IsGrowing, all_moved, are_one_cluster, moved, reach}
 use Rattle.script_moves.specs.Lemmas.Moved.{moved_seen, take_both}
+use Rattle.script_moves.specs.Lemmas.Nested.{all_moved_seen, reach_grows}
 
 -- such a number behind so many of it
 one_behind : (c : ℕ) (ns : List ℕ) → list_all (λ n. n == c) ns ≡ true → ns ++ c ∷ [] ≡ c ∷ ns
@@ -59,16 +60,48 @@ clusters_moved start n k gs e =
     let seen : take (n + k) (drop start (clusters gs)) ≡ clusters (take (n + k) (drop start gs)) = ap (take (n + k)) (drop-map cluster_of start gs) ∙ take-map cluster_of (n + k) (drop start gs) in
     moved_seen cluster_of start n k gs ∙ numbers_moved c start n k (clusters gs) (ap (list_all (λ m. m == c)) seen ∙ all))
 
--- what is known of glyphs of which a range changes places, if it is of one cluster
-pub order_moved : (o p : KnownOrder) (is_one : Bool) (start end : ℕ) (gs : List hb_glyph_info_t) → ((old new : List ℕ) → ((falls : Bool) → is_one ≡ true → IsInOrder falls old → IsInOrder falls new) → HasOrder o old → HasOrder p new)
-    → is_one ≡ are_one_cluster (slice_range gs start end) → HasOrder o (clusters gs) → (n k : ℕ) → start + (n + k) ≡ end → HasOrder p (clusters (moved start n k gs))
-order_moved o p is_one start end gs kept one h n k at =
-    let wide : n + k ≡ end - start = omega (arith, at) in
-    kept (clusters gs) (clusters (moved start n k gs)) (λ falls is_one h.
-    let same : are_one_cluster (take (n + k) (drop start gs)) ≡ true = ap (λ m. are_one_cluster (take m (drop start gs))) wide ∙ sym one ∙ is_one in
-    subst (IsInOrder falls) (sym (clusters_moved start n k gs same)) h) h
+-- a part in front
+all_before : (p : ℕ → Bool) (i j : ℕ) (ns : List ℕ) → i ≤ j → list_all p (take j ns) ≡ true → list_all p (take i ns) ≡ true
+all_before p i j ns le e =
+    ap (list_all p) (sym (take-take i j ns le)) ∙ (both_all p (take i (take j ns)) (drop i (take j ns)) (ap (list_all p) (take-append-drop i (take j ns)) ∙ e)).0
 
--- and so of a range of the output
+numbers_all_moved : (c start n : ℕ) (ms : List FrontMove) (ns : List ℕ) → IsGrowing n ms → list_all (λ m. m == c) (take (reach n ms) (drop start ns)) ≡ true → all_moved start ms ns ≡ ns
+numbers_all_moved c start n [] ns g e = refl
+numbers_all_moved c start n (m ∷ ms) ns g e =
+    let r = m.passed + m.taken in
+    let first = all_before (λ k. k == c) r (reach r ms) (drop start ns) (reach_grows r ms g.1) e in
+    ap (all_moved start ms) (numbers_moved c start m.passed m.taken ns first) ∙ numbers_all_moved c start r ms ns g.1 e
+
+-- glyphs of one cluster that moved to the front, one after another
+pub clusters_all_moved : (start : ℕ) (ms : List FrontMove) (gs : List hb_glyph_info_t) → IsGrowing 1 ms → are_one_cluster (take (reach 1 ms) (drop start gs)) ≡ true → clusters (all_moved start ms gs) ≡ clusters gs
+clusters_all_moved start ms gs grow e =
+    let cluster_of : hb_glyph_info_t → ℕ = λ g. g.cluster in
+    let n = reach 1 ms in
+    one_all (take n (drop start gs)) e (λ c all.
+    let seen : take n (drop start (clusters gs)) ≡ clusters (take n (drop start gs)) = ap (take n) (drop-map cluster_of start gs) ∙ take-map cluster_of n (drop start gs) in
+    all_moved_seen cluster_of start ms gs ∙ numbers_all_moved c start 1 ms (clusters gs) grow (ap (list_all (λ m. m == c)) seen ∙ all))
+
+as_many : (c : ℕ) (ms ns : List ℕ) → list_all (λ n. n == c) ms ≡ true → list_all (λ n. n == c) ns ≡ true → length ms ≡ length ns → ms ≡ ns
+as_many c [] [] a b e = refl
+as_many c [] (n ∷ ns) a b e = absurd (omega (arith, e))
+as_many c (m ∷ ms) [] a b e = absurd (omega (arith, e))
+as_many c (m ∷ ms) (n ∷ ns) a b e =
+    let first : m ≡ n = grind (arith, common_steps, a, b) in
+    let ours : list_all (λ n. n == c) ms ≡ true = grind (arith, common_steps, a) in
+    let theirs : list_all (λ n. n == c) ns ≡ true = grind (arith, common_steps, b) in
+    ap (λ ks. m ∷ ks) (as_many c ms ns ours theirs (omega (arith, e))) ∙ ap (λ k. k ∷ ns) first
+
+-- glyphs of one cluster in the place of as many, of which all is told that is told of these
+pub clusters_among : (gs hs : List hb_glyph_info_t) → are_one_cluster gs ≡ true → length hs ≡ length gs → ((p : hb_glyph_info_t → Bool) → list_all p gs ≡ true → list_all p hs ≡ true) → clusters hs ≡ clusters gs
+clusters_among gs hs one many told =
+    let cluster_of : hb_glyph_info_t → ℕ = λ g. g.cluster in
+    one_all gs one (λ c all.
+    let is_c : ℕ → Bool = λ n. n == c in
+    let ours : list_all (λ g. is_c (cluster_of g)) gs ≡ true = sym (list_all-map is_c cluster_of gs) ∙ all in
+    let theirs : list_all is_c (clusters hs) ≡ true = list_all-map is_c cluster_of hs ∙ told (λ g. is_c (cluster_of g)) ours in
+    as_many c (clusters hs) (clusters gs) theirs all (length-map hs cluster_of ∙ many ∙ sym (length-map gs cluster_of)))
+
+-- what is known of glyphs of which a range of the output changes places, if it is of one cluster
 pub order_moved_behind : (o p : KnownOrder) (is_one : Bool) (start end : ℕ) (gs hs : List hb_glyph_info_t) → ((old new : List ℕ) → ((falls : Bool) → is_one ≡ true → IsInOrder falls old → IsInOrder falls new) → HasOrder o old → HasOrder p new)
     → is_one ≡ are_one_cluster (slice_range gs start end) → HasOrder o (clusters (gs ++ hs)) → (n k : ℕ) → start + (n + k) ≡ end → HasOrder p (clusters (moved start n k gs ++ hs))
 order_moved_behind o p is_one start end gs hs kept one h n k at =

@@ -1,4 +1,4 @@
-use Rattle.std.proofs.Common.{◌≡◌, ◌+◌, ◌-◌, [], ◌∷◌, List, length, arith, ap, sym, subst, ◌∙◌}
+use Rattle.std.proofs.Common.{◌≡◌, ◌+◌, ◌-◌, [], ◌∷◌, List, length, take, drop, arith, ap, sym, subst, ◌∙◌}
 use Rattle.std.proofs.lemmas.List.{length-map}
 use Rattle.glyph_types.specs.declared.info.hb_glyph_info_t.{hb_glyph_info_t}
 use Rattle.glyph_lists.specs.Items.{Item, clusters, item_of}
@@ -10,8 +10,9 @@ use Rattle.glyph_buffer.specs.Sides.{all_glyphs}
 use Rattle.text_stages.specs.Stages.{Happens, IsFollowed}
 use Rattle.text_stages.specs.Lemmas.Happened.{merge_happens}
 use Rattle.text_stages.specs.Lemmas.Written.{written_all}
-use Rattle.script_moves.specs.Moves.{moved, with_move}
+use Rattle.script_moves.specs.Moves.{are_one_cluster, moved, with_move}
 use Rattle.script_moves.specs.Lemmas.Moved.{moved_length}
+use Rattle.script_moves.specs.Lemmas.Ordered.{clusters_moved}
 use Rattle.script_moves.proofs.Moved.{move_followed}
 use Rattle.script_moves.proofs.moves.move_back.Goals as goal
 
@@ -34,6 +35,7 @@ keep_order-requires c =
     let n = c.args.middle - start in
     let k = c.args.end - c.args.middle in
     let at : start + (n + k) ≡ c.args.end = omega (arith, r.begins, r.ordered) in
+    let wide : n + k ≡ c.args.end - start = omega (arith, at) in
     let merged = c.merge_clusters.new.self in
     let t = c.order_kept-known.new.buffer in
     let gs = c.rotate.new.glyphs in
@@ -43,4 +45,5 @@ keep_order-requires c =
     let e : gs ≡ moved start n k (all_glyphs t) = c.rotate.ensures ∙ ap (moved start n k) c.info_slice_mut.ensures.value in
     let count : length (all_glyphs t) ≡ length (all_glyphs merged) = ap (λ (hs : List hb_glyph_info_t). length hs) same in
     let long : length gs ≡ length (all_glyphs t) = ap (λ (hs : List hb_glyph_info_t). length hs) e ∙ moved_length start n k (all_glyphs t) (omega (arith, at, r.within, many, count)) in
-    subst (HasOrder c.order_kept-known.result) (sym (ap clusters (written_all gs t long) ∙ ap clusters e ∙ ap (λ hs. clusters (moved start n k hs)) same)) (c.order_kept-known.ensures.moved n k at)
+    subst (HasOrder c.order_kept-known.result) (sym (ap clusters (written_all gs t long) ∙ ap clusters e ∙ ap (λ hs. clusters (moved start n k hs)) same)) (c.order_kept-known.ensures.kept (moved start n k (all_glyphs merged))
+    (λ one. clusters_moved start n k (all_glyphs merged) (ap (λ m. are_one_cluster (take m (drop start (all_glyphs merged)))) wide ∙ one)))
