@@ -9,6 +9,7 @@ ghost use Rattle.script_walks.specs.Parts.{fronts_moved};
 
 use glyph_buffer::buffer::hb_buffer_t;
 use script_moves::fronts::{FrontRule, gather_behind};
+use script_moves::moves::order_kept;
 
 /// The first `walked` glyphs from `start` up to before `end` stand in front. Of those behind them some come before them one
 /// after another, and merge with what they pass; `merged` glyphs are those up to the last of these, and at least one. It takes
@@ -30,5 +31,7 @@ pub fn move_fronts<R: FrontRule>(
         buffer.old buffer.new }
 {
     buffer.merge_clusters(start, start + merged);
+    let known = order_kept(buffer, start, start + merged);
     gather_behind(rule, buffer.info_slice_mut(), start, start + walked, end);
+    buffer.keep_order(known);
 }

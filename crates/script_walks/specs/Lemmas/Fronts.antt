@@ -1,9 +1,9 @@
 -- A part of a buffer whose glyphs came to the front.
-use Rattle.std.proofs.Common.{ℕ, ◌≡◌, ◌≤◌, ◌+◌, ◌-◌, Bool, List, [], ◌∷◌, ◌++◌, length, map, take, drop, refl, sym, ap, ◌∙◌, arith, append_assoc}
+use Rattle.std.proofs.Common.{ℕ, ◌≡◌, ◌≤◌, ◌+◌, ◌-◌, Bool, true, List, [], ◌∷◌, ◌++◌, length, map, take, drop, refl, sym, ap, ◌∙◌, arith, append_assoc}
 use Rattle.std.specs.Prelude.{slice_range}
 use Rattle.std.proofs.lemmas.List.{map-append, length-map, length-append, length-take-le, length-drop, take-append-drop, take-map, drop-map}
 use Rattle.glyph_types.specs.declared.info.hb_glyph_info_t.{hb_glyph_info_t}
-use Rattle.glyph_lists.specs.Items.{Item, item_of, strip}
+use Rattle.glyph_lists.specs.Items.{Item, clusters, item_of, strip}
 use Rattle.glyph_lists.specs.Levels.{InList, manner}
 use Rattle.glyph_lists.specs.Events.{Merge}
 use Rattle.glyph_lists.specs.Origins.{merged_as, origin_of, origins}
@@ -12,10 +12,11 @@ use Rattle.glyph_buffer.specs.Sides.{Sides, all_glyphs, asks_of, items_of, origi
 use Rattle.glyph_buffer.specs.Lending.{with_refilled}
 use Rattle.text_stages.specs.Stages.{Happens}
 use Rattle.text_stages.specs.Lemmas.Written.{written_all, written_ready}
-use Rattle.script_moves.specs.Moves.{FrontMove, all_moved, move_events, reach}
+use Rattle.script_moves.specs.Moves.{FrontMove, all_moved, are_one_cluster, move_events, reach}
 use Rattle.script_moves.specs.Fronts.{front_moves, gathered_behind, one_seen, pair_seen}
 use Rattle.script_moves.specs.Lemmas.Nested.{all_moved_seen, moves_merge_once}
 use Rattle.script_moves.specs.Lemmas.Fronted.{all_moved_fronts, behind_length, behind_seen, moves_grow, moves_seen}
+use Rattle.script_moves.specs.Lemmas.Ordered.{clusters_all_moved}
 use Rattle.script_walks.specs.Rewriting.{shifted}
 use Rattle.script_walks.specs.Buffers.{IsRewritten}
 use Rattle.script_walks.specs.Parts.{fronts_moved}
@@ -55,6 +56,40 @@ part_moves {X = X} pair one start end n xs le fits =
     ∙ ap (λ i. all_moved start (front_moves pair one i zs) (pre ++ (front ++ (zs ++ post)))) b
     ∙ ap (all_moved start (front_moves pair one n zs)) whole
 
+-- glyphs of which some came to the front: by the moves of the items
+fronts_shape : (pair : Item → Item → Bool) (one : Item → Bool) (start end walked : ℕ) (a merged : Sides) (gs : List hb_glyph_info_t) → start + walked ≤ end → end ≤ length (all_glyphs merged)
+    → items_of merged ≡ items_of a
+    → gs ≡ take start (all_glyphs merged) ++ gathered_behind (pair_seen pair) (one_seen one) walked (slice_range (all_glyphs merged) start end) ++ drop end (all_glyphs merged)
+    → gs ≡ all_moved start (front_moves pair one walked (drop walked (slice_range (items_of a) start end))) (all_glyphs merged)
+fronts_shape pair one start end walked a merged gs le fits same e =
+    let hs = all_glyphs merged in
+    let part = slice_range (items_of a) start end in
+    let seen : strip (slice_range hs start end) ≡ part = range_seen item_of start end hs ∙ ap (λ xs. slice_range xs start end) same in
+    let moves : front_moves (pair_seen pair) (one_seen one) walked (drop walked (slice_range hs start end)) ≡ front_moves pair one walked (drop walked part) =
+    moves_seen item_of pair one walked (drop walked (slice_range hs start end)) ∙ ap (front_moves pair one walked) (sym (drop-map item_of walked (slice_range hs start end)) ∙ ap (drop walked) seen) in
+    e ∙ part_moves (pair_seen pair) (one_seen one) start end walked hs le fits ∙ ap (λ ns. all_moved start ns hs) moves
+
+pub fronts_length : (pair : Item → Item → Bool) (one : Item → Bool) (start end walked : ℕ) (merged : Sides) (gs : List hb_glyph_info_t) → start + walked ≤ end → end ≤ length (all_glyphs merged)
+    → gs ≡ take start (all_glyphs merged) ++ gathered_behind (pair_seen pair) (one_seen one) walked (slice_range (all_glyphs merged) start end) ++ drop end (all_glyphs merged)
+    → length gs ≡ length (all_glyphs merged)
+fronts_length pair one start end walked merged gs le fits e =
+    let hs = all_glyphs merged in
+    let size = range_size start end hs (omega (arith, le)) fits in
+    ap length e ∙ between start end hs (gathered_behind (pair_seen pair) (one_seen one) walked (slice_range hs start end)) (omega (arith, le)) fits (behind_length (pair_seen pair) (one_seen one) walked (slice_range hs start end) ∙ size)
+
+-- their clusters, where those that moved are of one
+pub fronts_clusters : (pair : Item → Item → Bool) (one : Item → Bool) (start end walked count : ℕ) (a merged : Sides) (gs : List hb_glyph_info_t) → start + walked ≤ end → end ≤ length (all_glyphs merged)
+    → items_of merged ≡ items_of a → count ≡ reach 1 (front_moves pair one walked (drop walked (slice_range (items_of a) start end)))
+    → gs ≡ take start (all_glyphs merged) ++ gathered_behind (pair_seen pair) (one_seen one) walked (slice_range (all_glyphs merged) start end) ++ drop end (all_glyphs merged)
+    → are_one_cluster (slice_range (all_glyphs merged) start (start + count)) ≡ true → clusters gs ≡ clusters (all_glyphs merged)
+fronts_clusters pair one start end walked count a merged gs le fits same at e is_one =
+    let hs = all_glyphs merged in
+    let zs = drop walked (slice_range (items_of a) start end) in
+    let ms = front_moves pair one walked zs in
+    let wide : reach 1 ms ≡ start + count - start = omega (arith, at) in
+    ap clusters (fronts_shape pair one start end walked a merged gs le fits same e)
+    ∙ clusters_all_moved start ms hs (moves_grow pair one 1 walked zs (omega arith)) (ap (λ n. are_one_cluster (take n (drop start hs))) wide ∙ is_one)
+
 pub fronts_rewrite : (pair : Item → Item → Bool) (one : Item → Bool) (start end walked count : ℕ) (a merged : Sides) (gs : List hb_glyph_info_t) → start + walked ≤ end → end ≤ length (all_glyphs a)
     → count ≡ reach 1 (front_moves pair one walked (drop walked (slice_range (items_of a) start end))) → start + count ≤ end → Happens (Merge InList start (start + count) ∷ []) a merged
     → gs ≡ take start (all_glyphs merged) ++ gathered_behind (pair_seen pair) (one_seen one) walked (slice_range (all_glyphs merged) start end) ++ drop end (all_glyphs merged)
@@ -67,11 +102,8 @@ fronts_rewrite pair one start end walked count a merged gs le fits at inside h e
     let many : length hs ≡ length (all_glyphs a) = sym (length-map hs item_of) ∙ ap (λ (xs : List Item). length xs) same ∙ length-map (all_glyphs a) item_of in
     let there : end ≤ length hs = omega (arith, many, fits) in
     let seen : strip (slice_range hs start end) ≡ part = range_seen item_of start end hs ∙ ap (λ xs. slice_range xs start end) same in
-    let moves : front_moves (pair_seen pair) (one_seen one) walked (drop walked (slice_range hs start end)) ≡ ms =
-    moves_seen item_of pair one walked (drop walked (slice_range hs start end)) ∙ ap (front_moves pair one walked) (sym (drop-map item_of walked (slice_range hs start end)) ∙ ap (drop walked) seen) in
-    let shape : gs ≡ all_moved start ms hs = e ∙ part_moves (pair_seen pair) (one_seen one) start end walked hs le there ∙ ap (λ ns. all_moved start ns hs) moves in
-    let size = range_size start end hs (omega (arith, le)) there in
-    let long : length gs ≡ length hs = ap length e ∙ between start end hs (gathered_behind (pair_seen pair) (one_seen one) walked (slice_range hs start end)) (omega (arith, le)) there (behind_length (pair_seen pair) (one_seen one) walked (slice_range hs start end) ∙ size) in
+    let shape : gs ≡ all_moved start ms hs = fronts_shape pair one start end walked a merged gs le there same e in
+    let long : length gs ≡ length hs = fronts_length pair one start end walked merged gs le there e in
     let all = written_all gs merged long in
     let items : strip gs ≡ take start (items_of a) ++ gathered_behind pair one walked part ++ drop end (items_of a) =
     ap strip e ∙ part_seen item_of start end hs (gathered_behind (pair_seen pair) (one_seen one) walked (slice_range hs start end))

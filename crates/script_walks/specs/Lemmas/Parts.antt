@@ -231,6 +231,10 @@ order_kept o gs s same known =
     let cluster_of : hb_glyph_info_t → ℕ = λ g. g.cluster in
     order_written o gs s (sym (length-map gs cluster_of) ∙ ap (λ (ns : List ℕ). length ns) same ∙ length-map (all_glyphs s) cluster_of) same known
 
+-- glyphs whose clusters have an order
+pub order_put : (o : KnownOrder) (gs : List hb_glyph_info_t) (s t : Sides) → t ≡ s → length gs ≡ length (all_glyphs s) → HasOrder o (clusters gs) → HasOrder o (clusters (all_glyphs (with_refilled gs t)))
+order_put o gs s t same long h = subst (HasOrder o) (sym (ap clusters (written_all gs t (long ∙ ap (λ u. length (all_glyphs u)) (sym same))))) h
+
 pub clusters_masked : (bits : ℕ) (gs : List hb_glyph_info_t) → clusters (map (glyph_masked bits) gs) ≡ clusters gs
 clusters_masked bits [] = refl
 clusters_masked bits (g ∷ gs) = ap (λ ns. g.cluster ∷ ns) (clusters_masked bits gs)
