@@ -1,8 +1,9 @@
 -- The steps of a Myanmar syllable on a buffer.
-use Rattle.std.proofs.Common.{ℕ, zero, suc, ◌≡◌, ◌≤◌, ◌+◌, ◌-◌, ◌==◌, Bool, true, false, if◌then◌else◌, List, [], ◌∷◌, ◌++◌, length, map, take, drop, filter, Some, None, slice_get, refl, sym, ap, subst, ◌∙◌, arith}
+use Rattle.std.proofs.Common.{ℕ, zero, suc, ◌≡◌, ◌≤◌, ◌+◌, ◌-◌, ◌==◌, ◌&&◌, Bool, true, false, if◌then◌else◌, List, [], ◌∷◌, ◌++◌, length, map, take, drop, filter, Some, None, slice_get, refl, sym, ap, subst, ◌∙◌, arith}
 use Rattle.std.specs.Prelude.{bit_and, nat_lt, not, slice_range, Result, Ok, Err, OnOk}
-use Rattle.std.specs.List.{range_with_len}
+use Rattle.std.specs.List.{list_all, range_with_len}
 use Rattle.std.proofs.lemmas.List.{length-append, length-drop, length-map, length-take-le, map-append, take-map, take-take, drop-map, drop_all}
+use Rattle.std.proofs.lemmas.List.Folds.{list_all-append}
 use Rattle.std.proofs.lemmas.List.FromFn.{length-range_with_len}
 use Rattle.std.proofs.lemmas.Bool.Decides.{nat_tests}
 use Rattle.std.proofs.lemmas.Grind.{common_steps}
@@ -15,11 +16,13 @@ use Rattle.glyph_slices.specs.Events.{order_of}
 use Rattle.glyph_slices.specs.Lemmas.Picked.{AreAt, are_all, arranged_as}
 use Rattle.glyph_slices.specs.Sorting.{range_sorted}
 use Rattle.glyph_slices.specs.Turning.{groups_turned}
-use Rattle.glyph_lists.specs.Items.{Item, item_of, strip}
+use Rattle.glyph_lists.specs.Items.{Item, clusters, item_of, strip}
 use Rattle.glyph_lists.specs.Levels.{InList}
 use Rattle.glyph_lists.specs.Origins.{arranged, manner, merged_as, origin_of, origins}
 use Rattle.glyph_lists.specs.Events.{Merge, Sort}
 use Rattle.glyph_lists.specs.Readings.{View}
+use Rattle.buffer_lists.specs.declared.order.KnownOrder.{KnownOrder}
+use Rattle.buffer_lists.specs.Known.{HasOrder}
 use Rattle.glyph_buffer.specs.Sides.{Sides, all_glyphs, items_of, origins_by, origins_of, settings_of, view_of}
 use Rattle.glyph_buffer.specs.Sorting.{with_range_sorted}
 use Rattle.glyph_buffer.specs.Told.{told_telling}
@@ -27,10 +30,12 @@ use Rattle.glyph_buffer.specs.Lending.{with_refilled}
 use Rattle.layout_rules.specs.Ready.{IsReady}
 use Rattle.text_stages.specs.Stages.{Happens}
 use Rattle.text_stages.specs.Lemmas.Written.{written_all, written_ready}
+use Rattle.script_moves.specs.Moves.{are_one_cluster}
+use Rattle.script_moves.specs.Lemmas.Ordered.{clusters_among}
 use Rattle.script_walks.specs.Rewriting.{Rewritten, kept, then_rule, within}
 use Rattle.script_walks.specs.Buffers.{IsRewritten}
 use Rattle.script_walks.specs.Lemmas.Rewritings.{counted, rewritten_count, rewritten_next, rewritten_same}
-use Rattle.script_walks.specs.Lemmas.Parts.{part_written, range_size, rewritten_part}
+use Rattle.script_walks.specs.Lemmas.Parts.{order_put, part_clusters, part_written, range_size, rewritten_part}
 use Rattle.script_khmer_myanmar.specs.Myanmar.{all_placed, groups_reversed, has_two_matras, is_left_at, is_left_matra, matras_of, matras_reversed, myanmar_places, myanmar_reordered, myanmar_syllable, same_group, sorted_by_place, with_place, with_places}
 use Rattle.script_khmer_myanmar.specs.Turned.{glyphs_at, leading_turned}
 use Rattle.script_khmer_myanmar.specs.Lemmas.MyanmarSize.{all_placed_size, sorted_size}
@@ -114,7 +119,19 @@ origins_at [] gs le = refl
 origins_at (p ∷ ps) [] le = absurd (omega (arith, le))
 origins_at (p ∷ ps) (g ∷ gs) le = ap (λ os. origin_of g ∷ os) (origins_at ps gs (omega (arith, le)))
 
+clusters_at : (ps : List ℕ) (gs : List hb_glyph_info_t) → length ps ≡ length gs → clusters (glyphs_at ps gs) ≡ clusters gs
+clusters_at [] gs e = refl
+clusters_at (p ∷ ps) [] e = absurd (omega (arith, e))
+clusters_at (p ∷ ps) (g ∷ gs) e = ap (λ ns. g.cluster ∷ ns) (clusters_at ps gs (omega (arith, e)))
+
 -- ---- places
+
+pub placed_clusters : (from to : ℕ) (gs all : List hb_glyph_info_t) → from ≤ to
+    → gs ≡ take from all ++ glyphs_at (myanmar_places (map (λ (g : hb_glyph_info_t). g.category) (slice_range all from to))) (slice_range all from to) ++ drop to all → clusters gs ≡ clusters all
+placed_clusters from to gs all le e =
+    let range = slice_range all from to in
+    let cs = map (λ (g : hb_glyph_info_t). g.category) range in
+    part_clusters from to (glyphs_at (myanmar_places cs) range) gs all le e (clusters_at (myanmar_places cs) range (places_size cs ∙ length-map range (λ (g : hb_glyph_info_t). g.category)))
 
 pub syllable_placed : (from to : ℕ) (gs : List hb_glyph_info_t) (a : Sides) → IsReady a → from ≤ to → to ≤ length (all_glyphs a)
     → gs ≡ take from (all_glyphs a) ++ glyphs_at (myanmar_places (map (λ (g : hb_glyph_info_t). g.category) (slice_range (all_glyphs a) from to))) (slice_range (all_glyphs a) from to) ++ drop to (all_glyphs a)
@@ -175,6 +192,54 @@ got_strip (h ∷ gs) (suc i) g e = got_strip gs i g e
 left_agrees : (gs : List hb_glyph_info_t) (i : ℕ) (g : hb_glyph_info_t) → slice_get gs i ≡ Some g → is_left_at (strip gs) i ≡ is_left_matra (item_of g)
 left_agrees gs i g e = rw (got_strip gs i g e) refl
 
+-- groups that are put in front one by one: as many glyphs, and all of them are what all were
+turned_length : (begins : hb_glyph_info_t → Bool) (xs group done : List hb_glyph_info_t) → length (leading_turned begins xs group done) ≡ length xs + (length group + length done)
+turned_length begins [] group done = omega (arith, length-append group done)
+turned_length begins (x ∷ xs) group done = by_test (begins x) (turned_length begins xs (x ∷ []) (group ++ done)) (turned_length begins xs (group ++ x ∷ []) done)
+  where
+    by_test : (t : Bool) → length (leading_turned begins xs (x ∷ []) (group ++ done)) ≡ length xs + (1 + length (group ++ done))
+        → length (leading_turned begins xs (group ++ x ∷ []) done) ≡ length xs + (length (group ++ x ∷ []) + length done)
+        → length (if t then leading_turned begins xs (x ∷ []) (group ++ done) else leading_turned begins xs (group ++ x ∷ []) done) ≡ suc (length xs) + (length group + length done)
+    by_test true e f = omega (arith, e, length-append group done)
+    by_test false e f = omega (arith, f, length-append group (x ∷ []))
+
+all_turned : (begins p : hb_glyph_info_t → Bool) (xs group done : List hb_glyph_info_t) → list_all p xs ≡ true → list_all p (group ++ done) ≡ true → list_all p (leading_turned begins xs group done) ≡ true
+all_turned begins p [] group done a b = b
+all_turned begins p (x ∷ xs) group done a b =
+    let first : p x ≡ true = grind (arith, common_steps, a) in
+    let rest : list_all p xs ≡ true = grind (arith, common_steps, a) in
+    let joined : (list_all p group && list_all p done) ≡ true = sym (list_all-append p group done) ∙ b in
+    let ours : list_all p group ≡ true = grind (arith, common_steps, joined) in
+    let theirs : list_all p done ≡ true = grind (arith, common_steps, joined) in
+    let front : list_all p ((x ∷ []) ++ (group ++ done)) ≡ true = grind (arith, common_steps, first, b) in
+    let behind : list_all p ((group ++ x ∷ []) ++ done) ≡ true =
+    list_all-append p (group ++ x ∷ []) done ∙ ap (λ t. t && list_all p done) (list_all-append p group (x ∷ [])) ∙ grind (arith, common_steps, first, ours, theirs) in
+    by_test (begins x) (all_turned begins p xs (x ∷ []) (group ++ done) rest front) (all_turned begins p xs (group ++ x ∷ []) done rest behind)
+  where
+    by_test : (t : Bool) → list_all p (leading_turned begins xs (x ∷ []) (group ++ done)) ≡ true → list_all p (leading_turned begins xs (group ++ x ∷ []) done) ≡ true
+        → list_all p (if t then leading_turned begins xs (x ∷ []) (group ++ done) else leading_turned begins xs (group ++ x ∷ []) done) ≡ true
+    by_test true e f = e
+    by_test false e f = f
+
+part_length : {X : Type 0} (i j : ℕ) (xs ys : List X) → i ≤ j → j ≤ length xs → length ys ≡ j - i → length (take i xs ++ ys ++ drop j xs) ≡ length xs
+part_length i j xs ys le inside len =
+    length-append (take i xs ++ ys) (drop j xs) ∙ ap (λ n. n + length (drop j xs)) (length-append (take i xs) ys) ∙ omega (arith, len, le, inside, length-take-le i xs (omega (arith, le, inside)), length-drop j xs)
+
+-- glyphs whose groups were reversed: as many, and where they are of one cluster, with the clusters that they had
+pub reversed_order : (o : KnownOrder) (begins : hb_glyph_info_t → Bool) (from to : ℕ) (gs : List hb_glyph_info_t) (s t : Sides) → t ≡ s → from ≤ to → to ≤ length (all_glyphs s)
+    → gs ≡ take from (all_glyphs s) ++ leading_turned begins (slice_range (all_glyphs s) from to) [] [] ++ drop to (all_glyphs s)
+    → ((hs : List hb_glyph_info_t) → (are_one_cluster (slice_range (all_glyphs s) from to) ≡ true → clusters hs ≡ clusters (all_glyphs s)) → HasOrder o (clusters hs))
+    → HasOrder o (clusters (all_glyphs (with_refilled gs t)))
+reversed_order o begins from to gs s t same le fits e kept =
+    let hs = all_glyphs s in
+    let range = slice_range hs from to in
+    let zs = leading_turned begins range [] [] in
+    let many : length zs ≡ length range = turned_length begins range [] [] ∙ omega arith in
+    let size : length zs ≡ to - from = many ∙ range_size from to hs le fits in
+    let long : length gs ≡ length hs = ap length e ∙ part_length from to hs zs le fits size in
+    order_put o gs s t same long
+    (kept gs (λ one. part_clusters from to zs gs hs le e (clusters_among range zs one many (λ p all. all_turned begins p range [] [] all refl))))
+
 -- glyphs that merged and whose groups were then reversed
 pub reversed_rewrites : (from to : ℕ) (s merged : Sides) (gs : List hb_glyph_info_t) → from ≤ to → to ≤ length (all_glyphs s) → Happens (Merge InList from to ∷ []) s merged
     → gs ≡ take from (all_glyphs merged) ++ leading_turned (λ (g : hb_glyph_info_t). is_left_matra (item_of g)) (slice_range (all_glyphs merged) from to) [] [] ++ drop to (all_glyphs merged)
@@ -204,7 +269,7 @@ reversed_rewrites from to s merged gs le fits h e =
     let end : from + length order ≡ to = omega (arith, long_order, le) in
     let at : from + 0 ≡ from = omega arith in
     let zs_size : length zs ≡ to - from = sym (length-map zs item_of) ∙ ap length items ∙ groups_turned_size same_group xs ∙ size_xs in
-    let long : length gs ≡ length (all_glyphs merged) = ap length e ∙ between from to (all_glyphs merged) zs le within_merged zs_size in
+    let long : length gs ≡ length (all_glyphs merged) = ap length e ∙ part_length from to (all_glyphs merged) zs le within_merged zs_size in
     let all = written_all gs merged long in
     record {
       view = ap (λ (ys : List hb_glyph_info_t). record (view_of merged) { items = strip ys }) (all ∙ e)
@@ -221,10 +286,6 @@ reversed_rewrites from to s merged gs le fits h e =
     part_seen v i j xs ys =
         map-append v (take i xs ++ ys) (drop j xs) ∙ ap (λ zs. zs ++ map v (drop j xs)) (map-append v (take i xs) ys)
         ∙ ap (λ zs. zs ++ map v ys ++ map v (drop j xs)) (sym (take-map v i xs)) ∙ ap (λ zs. take i (map v xs) ++ map v ys ++ zs) (sym (drop-map v j xs))
-
-    between : {X : Type 0} (i j : ℕ) (xs ys : List X) → i ≤ j → j ≤ length xs → length ys ≡ j - i → length (take i xs ++ ys ++ drop j xs) ≡ length xs
-    between i j xs ys le inside len =
-        length-append (take i xs ++ ys) (drop j xs) ∙ ap (λ n. n + length (drop j xs)) (length-append (take i xs) ys) ∙ omega (arith, len, le, inside, length-take-le i xs (omega (arith, le, inside)), length-drop j xs)
 
 -- ---- the branches of a syllable
 

@@ -21,6 +21,7 @@ use glyph_types::info::hb_glyph_info_t;
 use script_constants::hb_ot_script_shaper_t::MYANMAR_SHAPER;
 use script_constants::ot_category_t::OT_VPre;
 use script_constants::ot_position_t::POS_PRE_M;
+use script_moves::moves::order_kept;
 use script_walks::walk::{SyllableRule, each_syllable};
 use std::alloc::{AllocError, Global};
 
@@ -93,7 +94,9 @@ fn place_syllable(buffer: &mut hb_buffer_t, start: usize, end: usize)
     requires within { end ≤ length (all_glyphs buffer.old) }
     ensures { IsRewritten (all_placed (slice_range (items_of buffer.old) start end)) start end buffer.old buffer.new }
 {
+    let known = buffer.known_order();
     place_within(buffer.info_slice_mut(), start, end);
+    buffer.keep_order(known);
 }
 
 fn place_within(glyphs: &mut [hb_glyph_info_t], start: usize, end: usize)
@@ -200,7 +203,9 @@ fn reverse_groups(buffer: &mut hb_buffer_t, start: usize, end: usize)
         buffer.new }
 {
     buffer.merge_clusters(start, end);
+    let known = order_kept(buffer, start, end);
     turn_within(buffer.info_slice_mut(), start, end);
+    buffer.keep_order(known);
 }
 
 fn turn_within(glyphs: &mut [hb_glyph_info_t], start: usize, end: usize)
