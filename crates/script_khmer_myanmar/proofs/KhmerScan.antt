@@ -7,8 +7,9 @@ use Rattle.std.proofs.lemmas.Grind.{common_steps}
 use Rattle.std.proofs.lemmas.List.{drop_all, drop-map, length-drop, length-map, take-append-drop}
 use Rattle.script_constants.specs.declared.ot_category_t.TheConstants as category
 use Rattle.glyph_types.specs.declared.info.hb_glyph_info_t.{hb_glyph_info_t}
-use Rattle.glyph_lists.specs.Items.{Item, item_of, strip}
-use Rattle.glyph_lists.specs.Origins.{origin_of, origins}
+use Rattle.glyph_lists.specs.Items.{Item, clusters, item_of, strip}
+use Rattle.glyph_lists.specs.Origins.{numbers, origin_of, origins}
+use Rattle.glyph_lists.specs.Lemmas.Origins.{numbers_origins}
 use Rattle.glyph_buffer.specs.Sides.{Sides, all_glyphs, items_of}
 use Rattle.glyph_buffer.specs.Lending.{with_refilled}
 use Rattle.layout_rules.specs.Ready.{IsReady}
@@ -17,7 +18,7 @@ use Rattle.script_moves.specs.Fronts.{front_moves, pair_seen}
 use Rattle.script_walks.specs.Rewriting.{kept}
 use Rattle.script_walks.specs.Parts.{glyph_masked, masked}
 use Rattle.script_walks.specs.Buffers.{IsRewritten}
-use Rattle.script_walks.specs.Lemmas.Parts.{item_masked_is, origin_masked_is, part_written, range_seen}
+use Rattle.script_walks.specs.Lemmas.Parts.{item_masked_is, origin_masked_is, part_clusters, part_written, range_seen}
 use Rattle.script_walks.specs.Lemmas.Rewritings.{middle}
 use Rattle.script_khmer_myanmar.specs.Runs.{IsRun, ends_run, forms_masked, is_vowel, run_length, taken, together}
 use Rattle.script_khmer_myanmar.specs.Lemmas.Forms.{ra_no_coeng}
@@ -228,6 +229,11 @@ origins_formed bits (g ∷ h ∷ gs) = by_pair (together true (item_of g) (item_
         → origins (if t then glyph_masked bits g ∷ glyph_masked bits h ∷ glyphs_formed bits gs else g ∷ glyphs_formed bits (h ∷ gs)) ≡ origins (g ∷ h ∷ gs)
     by_pair true e f = ap (λ ys. origin_of (glyph_masked bits g) ∷ origin_of (glyph_masked bits h) ∷ ys) e ∙ ap (λ y. y ∷ origin_of (glyph_masked bits h) ∷ origins gs) (origin_masked_is bits g) ∙ ap (λ y. origin_of g ∷ y ∷ origins gs) (origin_masked_is bits h)
     by_pair false e f = ap (λ ys. origin_of g ∷ ys) f
+
+pub formed_clusters : (from to bits : ℕ) (gs all : List hb_glyph_info_t) → from ≤ to → gs ≡ take from all ++ glyphs_formed bits (slice_range all from to) ++ drop to all → clusters gs ≡ clusters all
+formed_clusters from to bits gs all le e =
+    let range = slice_range all from to in
+    part_clusters from to (glyphs_formed bits range) gs all le e (sym (numbers_origins (glyphs_formed bits range)) ∙ ap numbers (origins_formed bits range) ∙ numbers_origins range)
 
 pub formed_rewrites : (from to bits : ℕ) (gs : List hb_glyph_info_t) (a : Sides) → IsReady a → from ≤ to → to ≤ length (all_glyphs a)
     → gs ≡ take from (all_glyphs a) ++ glyphs_formed bits (slice_range (all_glyphs a) from to) ++ drop to (all_glyphs a)

@@ -121,7 +121,9 @@ fn mask_run(buffer: &mut hb_buffer_t, start: usize, end: usize, mask: hb_mask_t)
     ensures { IsRewritten (kept (forms_masked (together true) (masked mask) (slice_range (items_of buffer.old) start end))) start
         end buffer.old buffer.new }
 {
+    let known = buffer.known_order();
     mask_part(buffer.info_slice_mut(), start, end, mask);
+    buffer.keep_order(known);
 }
 
 fn mask_part(glyphs: &mut [hb_glyph_info_t], start: usize, end: usize, mask: hb_mask_t)
