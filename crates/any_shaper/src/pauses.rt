@@ -60,7 +60,8 @@ fn reorder_khmer<D>(
     requires ready { IsReady buffer.old }
     requires numbers { are_glyphs (items_of buffer.old) ≡ true }
     ensures ok { OnOk result
-        (IsDone (khmer_order face.now (text_settings buffer.old).flags (khmer_masks plan.now.map)) buffer.old buffer.new) }
+        (IsDone (khmer_order face.now (text_settings buffer.old).flags (khmer_masks plan.now.map)) buffer.old
+        buffer.new) }
     ensures told { result ≡ Ok false → BringsNoGlyph (items_of buffer.old) (items_of buffer.new) }
     ensures err { IfErr result (λ e. e ≢ ShapeCause.OutOfMemory → read_of
         (khmer_order face.now (text_settings buffer.old).flags (khmer_masks plan.now.map)) (run_of buffer.old) ≡ Err e) }

@@ -143,7 +143,8 @@ fn behind_base(
     position: GlyphPosition,
 ) -> Before
     requires { glyph.now.glyph_id ≤ 65535 }
-    ensures value { result ≡ behind_base face.now direction (item_of glyph.now) position (value_of glyph.now.glyph_id face.now.extents) }
+    ensures value { result ≡ behind_base face.now direction (item_of glyph.now) position
+        (value_of glyph.now.glyph_id face.now.extents) }
     ensures bound { HasBound result }
 {
     match extents_of(face, glyph) {
@@ -220,7 +221,8 @@ fn make_step(
 fn place_marks(face: &Face, by: Placing, buffer: &mut hb_buffer_t)
     requires ready { IsReady buffer.old }
     requires numbers { are_glyphs (items_of buffer.old) ≡ true }
-    ensures { Becomes (items_of buffer.old) (placed_marks face.now by Nothing (items_of buffer.old) buffer.old.positions)
+    ensures { Becomes (items_of buffer.old) (placed_marks face.now by Nothing (items_of buffer.old)
+        buffer.old.positions)
         buffer.old buffer.new }
 {
     let count = buffer.info_slice().len();

@@ -22,7 +22,8 @@ pub fn collect_features(
     script: Option<Script>,
 ) -> Result<(), AllocError>
     ensures { OnOk result (builder.new
-        ≡ fold with_ask builder.old (features_of shaper script (in_any (system_features (tag_of (codes "rclt")) builder.old.tables)))) }
+        ≡ fold with_ask builder.old (features_of shaper script
+        (in_any (system_features (tag_of (codes "rclt")) builder.old.tables)))) }
 {
     match shaper {
         hb_ot_script_shaper_t::ARABIC_SHAPER => {

@@ -65,11 +65,14 @@ J2 WrongShape: {"gpos":{"lookups":[{"type":"single","subtables":[[[1,[0,0,0]]]]}
 J2 WrongShape: {"gpos":{"lookups":[{"type":"pair","subtables":[[[1,2,null,null]]]}]}}
 U1 OutOfOrder: {"gpos":{"lookups":[{"type":"pair","subtables":[[[1,2,[0,0,0,0],null],[1,2,[0,0,0,0],null]]]}]}}
 U2 OutOfRange: {"gpos":{"lookups":[{"type":"pair","subtables":[{"class1":[[1,0]]}]}]}}
-U2 OutOfRange: {"gpos":{"lookups":[{"type":"pair","subtables":[{"class2":[[1,1]],"records":[[[[0,0,0,0],null],[[0,0,0,0],null]],[[[0,0,0,0],null]]]}]}]}}
+U2 OutOfRange:
+{"gpos":{"lookups":[{"type":"pair","subtables":[{"class2":[[1,1]],"records":[[[[0,0,0,0],null],[[0,0,0,0],null]],[[[0,0,0,0],null]]]}]}]}}
 J2 WrongShape: {"gpos":{"lookups":[{"type":"cursive","subtables":[[[1,null]]]}]}}
-U2 OutOfRange: {"gpos":{"lookups":[{"type":"markbase","subtables":[{"marks":[[9,1,null]],"bases":[[1,[null,null]],[2,[null]]]}]}]}}
+U2 OutOfRange:
+{"gpos":{"lookups":[{"type":"markbase","subtables":[{"marks":[[9,1,null]],"bases":[[1,[null,null]],[2,[null]]]}]}]}}
 U2 OutOfRange: {"gpos":{"lookups":[{"type":"markmark","subtables":[{"marks":[[9,0,[0,40000]]],"bases":[[1,["x"]]]}]}]}}
-U2 OutOfRange: {"gpos":{"lookups":[{"type":"marklig","subtables":[{"marks":[[9,1,null]],"bases":[[1,[[null,null],[null]]]]}]}]}}
+U2 OutOfRange:
+{"gpos":{"lookups":[{"type":"marklig","subtables":[{"marks":[[9,1,null]],"bases":[[1,[[null,null],[null]]]]}]}]}}
 J3 FloatNumber: {"h":3,"cmap":[[97,70000]],"ascender":1.5}
 U2 OutOfRange: {"variants":[[1,2,3],[1,2,70000]],"h":[["x"]]}
 U1 OutOfOrder: {"cmap":[[98,1],[97,1],["x",1]]}

@@ -23,7 +23,8 @@ impl Flags for GlyphPropsFlags {
 
     ghost exact = { ⊤ };
 
-    ghost table = { (codes "BASE_GLYPH", 2) ∷ (codes "LIGATURE", 4) ∷ (codes "MARK", 8) ∷ (codes "SUBSTITUTED", 16) ∷ (codes "LIGATED", 32) ∷ (codes "MULTIPLIED", 64) ∷ (codes "PRESERVE", 112) ∷ [] };
+    ghost table = { (codes "BASE_GLYPH", 2) ∷ (codes "LIGATURE", 4) ∷ (codes "MARK", 8) ∷ (codes "SUBSTITUTED", 16)
+        ∷ (codes "LIGATED", 32) ∷ (codes "MULTIPLIED", 64) ∷ (codes "PRESERVE", 112) ∷ [] };
 
     ghost set_of = { λ p. p.0 };
 
@@ -61,7 +62,9 @@ impl Flags for UnicodeProps {
 
     ghost exact = { ⊤ };
 
-    ghost table = { (codes "GENERAL_CATEGORY", 0x1F) ∷ (codes "IGNORABLE", 0x20) ∷ (codes "HIDDEN", 0x40) ∷ (codes "CONTINUATION", 0x80) ∷ (codes "CF_ZWJ", 0x100) ∷ (codes "CF_ZWNJ", 0x200) ∷ (codes "CF_VS", 0x400) ∷ [] };
+    ghost table = { (codes "GENERAL_CATEGORY", 0x1F) ∷ (codes "IGNORABLE", 0x20) ∷ (codes "HIDDEN", 0x40)
+        ∷ (codes "CONTINUATION", 0x80) ∷ (codes "CF_ZWJ", 0x100) ∷ (codes "CF_ZWNJ", 0x200) ∷ (codes "CF_VS", 0x400)
+        ∷ [] };
 
     ghost set_of = { λ p. p.0 };
 
@@ -103,7 +106,8 @@ impl Flags for SerializeFlags {
 
     ghost exact = { ⊤ };
 
-    ghost table = { (codes "NO_CLUSTERS", 1) ∷ (codes "NO_POSITIONS", 2) ∷ (codes "NO_GLYPH_NAMES", 4) ∷ (codes "GLYPH_EXTENTS", 8) ∷ (codes "GLYPH_FLAGS", 16) ∷ (codes "NO_ADVANCES", 32) ∷ [] };
+    ghost table = { (codes "NO_CLUSTERS", 1) ∷ (codes "NO_POSITIONS", 2) ∷ (codes "NO_GLYPH_NAMES", 4)
+        ∷ (codes "GLYPH_EXTENTS", 8) ∷ (codes "GLYPH_FLAGS", 16) ∷ (codes "NO_ADVANCES", 32) ∷ [] };
 
     ghost set_of = { λ p. p.0 };
 

@@ -110,7 +110,8 @@ pub fn match_chain(
     places: &mut MatchPositions,
 ) -> Option<usize>
     requires { 0 < length buffer.old.ahead }
-    ensures { Matched result (applied_of ctx.now) (chain_of rule.now) ctx.now.random_state places.new.items buffer.old buffer.new }
+    ensures { Matched result (applied_of ctx.now) (chain_of rule.now) ctx.now.random_state places.new.items buffer.old
+        buffer.new }
 {
     let front = backtrack_len(buffer);
     let _rest = buffer.lookahead_len();

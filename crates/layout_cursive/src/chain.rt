@@ -223,7 +223,8 @@ pub fn join_advances(
 )
     requires first { first < length positions.old }
     requires second { second < length positions.old }
-    ensures { positions.new ≡ joined_advances (is_forward direction) (is_horizontal direction) first exit second entry positions.old }
+    ensures { positions.new ≡ joined_advances (is_forward direction) (is_horizontal direction) first exit second entry
+        positions.old }
 {
     let across = direction.is_horizontal();
     if direction.is_forward() {

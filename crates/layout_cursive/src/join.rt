@@ -153,7 +153,8 @@ fn join_if(
     requires there { 0 < length buffer.old.ahead }
     requires before { back < length buffer.old.behind }
     requires placed { length buffer.old.positions ≡ length (all_glyphs buffer.old) }
-    ensures { (random : ℕ) → Performed (join_if buffer.old.direction (applied_of ctx.now) exit entry back (cut_with random
+    ensures { (random : ℕ) → Performed (join_if buffer.old.direction (applied_of ctx.now) exit entry back
+        (cut_with random
         buffer.old)) result random random buffer.old buffer.new }
 {
     let _end = buffer.out_len();

@@ -55,7 +55,8 @@ fn attach(base: Anchor, mark: Anchor, back: usize, buffer: &mut hb_buffer_t)
     requires there { 0 < length buffer.old.ahead }
     requires before { back < length buffer.old.behind }
     requires placed { length buffer.old.positions ≡ length (all_glyphs buffer.old) }
-    ensures { (random : ℕ) → Performed (attach base mark back (cut_with random buffer.old)) true random random buffer.old
+    ensures { (random : ℕ) → Performed (attach base mark back (cut_with random buffer.old)) true random random
+        buffer.old
         buffer.new }
 {
     let _end = buffer.len();

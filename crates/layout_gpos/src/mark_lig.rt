@@ -41,7 +41,8 @@ fn component_in(
     ligature: &hb_glyph_info_t,
     mark: &hb_glyph_info_t,
 ) -> Option<usize>
-    ensures { result ≡ component_in (component_count glyph subtable.now.ligatures) (item_of ligature.now) (item_of mark.now) }
+    ensures { result ≡ component_in (component_count glyph subtable.now.ligatures) (item_of ligature.now)
+        (item_of mark.now) }
 {
     match subtable.component_count(glyph) {
         Some(0) | None => None,

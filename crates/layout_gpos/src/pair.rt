@@ -101,7 +101,10 @@ fn mark_pair(values: PairValues, apart: usize, buffer: &mut hb_buffer_t)
 fn adjust_pair(buffer: &mut hb_buffer_t, first: usize, apart: usize, values: PairValues)
     requires closed { buffer.old.is_open ≡ false }
     requires second { first + apart < length buffer.old.positions }
-    ensures { buffer.new ≡ record buffer.old { positions = pair_adjusted buffer.old.direction first (first + apart) values buffer.old.positions } }
+    ensures { buffer.new ≡ record buffer.old {
+      positions = pair_adjusted buffer.old.direction first (first + apart)
+          values buffer.old.positions;
+    } }
 {
     let _count = buffer.pos_slice().len();
     adjust_glyph(buffer, first, values.first);
@@ -155,7 +158,8 @@ fn apply_from(
     requires placed { length buffer.old.positions ≡ length (all_glyphs buffer.old) }
     requires number { are_glyphs (items_of buffer.old) ≡ true }
     ensures { (random : ℕ) → Performed (pair_second buffer.old.direction
-        (λ y. pair_values subtable.now first y.number) (next_item (applied_of ctx.now) (strip buffer.old.ahead)) (cut_with
+        (λ y. pair_values subtable.now first y.number) (next_item (applied_of ctx.now) (strip buffer.old.ahead))
+        (cut_with
         random buffer.old)) result random random buffer.old buffer.new }
 {
     match next_glyph(ctx, buffer) {

@@ -12,7 +12,10 @@ use layout_positions::value::ValueRecord;
 pub fn adjust_glyph(buffer: &mut hb_buffer_t, at: usize, value: ValueRecord)
     requires closed { buffer.old.is_open ≡ false }
     requires here { at < length buffer.old.positions }
-    ensures { buffer.new ≡ record buffer.old { positions = adjusted_at buffer.old.direction at value buffer.old.positions } }
+    ensures { buffer.new ≡ record buffer.old {
+      positions = adjusted_at buffer.old.direction at value
+          buffer.old.positions;
+    } }
 {
     let direction = buffer.direction();
     adjust(buffer.pos_slice_mut(), at, value, direction);

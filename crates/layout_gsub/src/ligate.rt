@@ -185,7 +185,8 @@ fn pass_between(
     requires there { count ≤ length buffer.old.ahead }
     requires number { numbering.now.lig_id < 8 }
     requires bound { numbering.now.ended < 2 ^ 60 }
-    ensures passed { OnOk result (ArePassedAs (passed_item numbering.now.renumbers numbering.now.lig_id numbering.now.ended
+    ensures passed { OnOk result (ArePassedAs (passed_item numbering.now.renumbers numbering.now.lig_id
+        numbering.now.ended
         numbering.now.own) count buffer.old buffer.new) }
     ensures cause { IfErr result (λ e. e ≢ ShapeCause.OutOfMemory → e ≡ ShapeCause.TooLong) }
     ensures full { IfErr result (λ e. e ≢ ShapeCause.OutOfMemory → has_output_room count buffer.old ≡ false) }
@@ -214,7 +215,8 @@ fn unite_parts(
     requires few { length others.now < 64 }
     requires number { first_numbering.lig_id < 8 }
     requires bound { first_numbering.ended ≤ 2 ^ 28 }
-    ensures united { OnOk result (AreUnited (item_of first) (passed_items first_numbering.renumbers first_numbering.lig_id
+    ensures united { OnOk result (AreUnited (item_of first)
+        (passed_items first_numbering.renumbers first_numbering.lig_id
         first_numbering.ended first_numbering.own 1 others.now (strip buffer.old.ahead)) others.now buffer.old
         buffer.new) }
     ensures cause { IfErr result (λ e. e ≢ ShapeCause.OutOfMemory → e ≡ ShapeCause.TooLong) }

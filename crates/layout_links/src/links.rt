@@ -170,7 +170,8 @@ fn unlink(positions: &mut [GlyphPosition], at: usize)
 /// Goes on along a glyph's link, and leaves there the link by which the walk came to the glyph.
 fn go_on(positions: &mut [GlyphPosition], last: Step) -> Option<Step>
     requires here { last.at < length positions.old }
-    ensures { MatchOption result (Stops last.at positions.old positions.new) (λ s. Goes s.at s.by last.at last.by positions.old positions.new) }
+    ensures { MatchOption result (Stops last.at positions.old positions.new)
+        (λ s. Goes s.at s.by last.at last.by positions.old positions.new) }
 {
     let at = last.at;
     let place = positions[at];
@@ -223,7 +224,8 @@ fn go_back(positions: &mut [GlyphPosition], last: Step, direction: Direction) ->
 fn go_along(positions: &mut [GlyphPosition], start: usize) -> Walk
     requires here { start < length positions.old }
     requires shut { are_shut positions.old }
-    ensures { (d : Way) → IsComing d (followed (drawn_by_sums d) (length positions.old) start positions.old) (length positions.old) result.last.at result.last.by result.depth positions.new }
+    ensures { (d : Way) → IsComing d (followed (drawn_by_sums d) (length positions.old) start positions.old)
+        (length positions.old) result.last.at result.last.by result.depth positions.new }
 {
     let count = positions.len();
     let mut last = Step { by: 1, at: start };

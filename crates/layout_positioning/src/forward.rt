@@ -29,7 +29,8 @@ fn apply_next(
     requires unrefused { buffer.old.has_refused ≡ false }
     requires numbers { are_glyphs (items_of buffer.old) ≡ true }
     requires kept { AreKept (applied_of ctx.now) (items_of buffer.old) last.old }
-    ensures ok { OnOk result (IsStep (lookup_action table.now.lookups buffer.old.direction (applied_of ctx.now) lookup.now)
+    ensures ok { OnOk result (IsStep (lookup_action table.now.lookups buffer.old.direction (applied_of ctx.now)
+        lookup.now)
         ctx.now.random_state ctx.now.random_state buffer.old buffer.new) }
     ensures err { IfErr result (λ e. e ≢ ShapeCause.OutOfMemory → IsGivenUp (lookup_action table.now.lookups
         buffer.old.direction (applied_of ctx.now) lookup.now) ctx.now.random_state buffer.old e) }

@@ -133,7 +133,9 @@ fn apply_contexts(
     requires there { 0 < length buffer.old.ahead }
     requires number { are_glyphs (items_of buffer.old) ≡ true }
     requires kept { AreKept (applied_of ctx.now) (items_of buffer.old) last.old }
-    ensures performs { Performs (first_rule (context_subtable (nested table.now.lookups depth buffer.old.direction (applied_of ctx.now)) (applied_of ctx.now)) subtables.now (cut_with ctx.now.random_state buffer.old))
+    ensures performs { Performs (first_rule (context_subtable
+        (nested table.now.lookups depth buffer.old.direction (applied_of ctx.now)) (applied_of ctx.now)) subtables.now
+        (cut_with ctx.now.random_state buffer.old))
         result ctx.now.random_state ctx.now.random_state buffer.old buffer.new }
     ensures kept { OnOk result (AreKept (applied_of ctx.now) (items_of buffer.new) last.new) }
 {
@@ -162,7 +164,8 @@ fn apply_context(
     requires there { 0 < length buffer.old.ahead }
     requires number { are_glyphs (items_of buffer.old) ≡ true }
     requires kept { AreKept (applied_of ctx.now) (items_of buffer.old) last.old }
-    ensures performs { Performs (context_subtable (nested table.now.lookups depth buffer.old.direction (applied_of ctx.now)) (applied_of ctx.now) subtable.now (cut_with ctx.now.random_state buffer.old)) result
+    ensures performs { Performs (context_subtable (nested table.now.lookups depth buffer.old.direction
+        (applied_of ctx.now)) (applied_of ctx.now) subtable.now (cut_with ctx.now.random_state buffer.old)) result
         ctx.now.random_state ctx.now.random_state buffer.old buffer.new }
     ensures kept { OnOk result (AreKept (applied_of ctx.now) (items_of buffer.new) last.new) }
 {
@@ -188,7 +191,9 @@ fn apply_rules(
     requires there { 0 < length buffer.old.ahead }
     requires number { are_glyphs (items_of buffer.old) ≡ true }
     requires kept { AreKept (applied_of ctx.now) (items_of buffer.old) last.old }
-    ensures performs { Performs (first_rule (chain_rule (nested table.now.lookups depth buffer.old.direction (applied_of ctx.now)) (applied_of ctx.now)) (chains_of subtable.now) (cut_with ctx.now.random_state buffer.old)) result
+    ensures performs { Performs (first_rule (chain_rule (nested table.now.lookups depth buffer.old.direction
+        (applied_of ctx.now)) (applied_of ctx.now)) (chains_of subtable.now) (cut_with ctx.now.random_state buffer.old))
+        result
         ctx.now.random_state ctx.now.random_state buffer.old buffer.new }
     ensures kept { OnOk result (AreKept (applied_of ctx.now) (items_of buffer.new) last.new) }
 {
@@ -218,7 +223,8 @@ fn apply_rule(
     requires there { 0 < length buffer.old.ahead }
     requires number { are_glyphs (items_of buffer.old) ≡ true }
     requires kept { AreKept (applied_of ctx.now) (items_of buffer.old) last.old }
-    ensures performs { Performs (chain_rule (nested table.now.lookups depth buffer.old.direction (applied_of ctx.now)) (applied_of ctx.now) (chain_of rule.now) (cut_with ctx.now.random_state buffer.old)) result
+    ensures performs { Performs (chain_rule (nested table.now.lookups depth buffer.old.direction (applied_of ctx.now))
+        (applied_of ctx.now) (chain_of rule.now) (cut_with ctx.now.random_state buffer.old)) result
         ctx.now.random_state ctx.now.random_state buffer.old buffer.new }
     ensures kept { OnOk result (AreKept (applied_of ctx.now) (items_of buffer.new) last.new) }
 {
@@ -259,7 +265,8 @@ fn apply_records(
     requires kept { AreKept (applied_of ctx.now) (items_of buffer.old) last.old }
     requires rising { AreRising 0 (length (whole (cut_of buffer.old)) + 1) places.old.items }
     requires within { end ≤ length (whole (cut_of buffer.old)) }
-    ensures walks { Walking (each_nested (nested table.now.lookups depth buffer.old.direction (applied_of ctx.now)) records.now
+    ensures walks { Walking (each_nested (nested table.now.lookups depth buffer.old.direction (applied_of ctx.now))
+        records.now
         (cut_with ctx.now.random_state buffer.old) places.old.items end) result places.new.items ctx.now.random_state
         buffer.old buffer.new }
     ensures inside { IfOk result (λ at. StaysInside (length (whole (cut_of buffer.old)))
@@ -307,7 +314,8 @@ fn apply_record(
     requires kept { AreKept (applied_of ctx.now) (items_of buffer.old) last.old }
     requires rising { AreRising 0 (length (whole (cut_of buffer.old)) + 1) places.old.items }
     requires within { end ≤ length (whole (cut_of buffer.old)) }
-    ensures walks { Walking (one_record (nested_act table.now.lookups depth buffer.old.direction (applied_of ctx.now)) lookup_record.now
+    ensures walks { Walking (one_record (nested_act table.now.lookups depth buffer.old.direction (applied_of ctx.now))
+        lookup_record.now
         (cut_with ctx.now.random_state buffer.old) places.old.items end) result places.new.items ctx.now.random_state
         buffer.old buffer.new }
     ensures inside { IfOk result (λ at. StaysInside (length (whole (cut_of buffer.old)))

@@ -48,7 +48,8 @@ fn apply_layout_table<P: Pause>(
     ensures ok { OnOk result (IsDoneFrom 1 1 (table_stages face.now (positioning_lookups face.now) map.now.tables.gpos
         (P.stage pause.now (text_settings buffer.old)) 0 map.now.tables.gpos.stages) buffer.old buffer.new) }
     ensures err { IfErr result (λ e. e ≢ ShapeCause.OutOfMemory → read_of (table_stages face.now
-        (positioning_lookups face.now) map.now.tables.gpos (P.stage pause.now (text_settings buffer.old)) 0 map.now.tables.gpos.stages)
+        (positioning_lookups face.now) map.now.tables.gpos (P.stage pause.now (text_settings buffer.old)) 0
+        map.now.tables.gpos.stages)
         (run_with 1 buffer.old) ≡ Err e) }
 {
     let stages = map.stages(TableIndex::GPOS);
@@ -72,9 +73,11 @@ pub fn position<P: Pause>(
 ) -> Result<(), ShapeCause>
     requires ready { IsReady buffer.old }
     requires numbers { are_glyphs (items_of buffer.old) ≡ true }
-    ensures ok { OnOk result (IsDone (positioned_by face.now map.now (P.stage pause.now (text_settings buffer.old))) buffer.old buffer.new) }
+    ensures ok { OnOk result (IsDone (positioned_by face.now map.now (P.stage pause.now (text_settings buffer.old)))
+        buffer.old buffer.new) }
     ensures err { IfErr result (λ e. e ≢ ShapeCause.OutOfMemory
-        → read_of (positioned_by face.now map.now (P.stage pause.now (text_settings buffer.old))) (run_of buffer.old) ≡ Err e) }
+        → read_of (positioned_by face.now map.now (P.stage pause.now (text_settings buffer.old))) (run_of buffer.old)
+        ≡ Err e) }
     ensures items { OnOk result (((i : ℕ) → LeavesItems (P.stage pause.now (text_settings buffer.old) i)) →
         items_of buffer.new ≡ items_of buffer.old) }
 {

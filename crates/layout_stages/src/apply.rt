@@ -31,7 +31,8 @@ fn apply_everywhere(
         (IsDoneFrom ctx.old.random_state ctx.new.random_state (lookup_applied table.now.lookups
         (applied_of ctx.old) lookup.now) buffer.old buffer.new) }
     ensures err { IfErr result (λ e. e ≢ ShapeCause.OutOfMemory → read_of
-        (lookup_applied table.now.lookups (applied_of ctx.old) lookup.now) (run_with ctx.old.random_state buffer.old) ≡ Err e) }
+        (lookup_applied table.now.lookups (applied_of ctx.old) lookup.now) (run_with ctx.old.random_state buffer.old)
+        ≡ Err e) }
     ensures context { applied_of ctx.new ≡ applied_of ctx.old }
 {
     if lookup.is_reverse() {
@@ -68,7 +69,8 @@ fn apply_mapped(
     ensures ok { OnOk result
         (IsDoneFrom ctx.old.random_state ctx.new.random_state (lookup_stage ctx.old.face.now table.now.lookups
         (slice_get table.now.lookups lookup_map.now.index) lookup_map.now) buffer.old buffer.new) }
-    ensures err { IfErr result (λ e. e ≢ ShapeCause.OutOfMemory → read_of (lookup_stage ctx.old.face.now table.now.lookups
+    ensures err { IfErr result (λ e. e ≢ ShapeCause.OutOfMemory
+        → read_of (lookup_stage ctx.old.face.now table.now.lookups
         (slice_get table.now.lookups lookup_map.now.index) lookup_map.now)
         (run_with ctx.old.random_state buffer.old) ≡ Err e) }
     ensures table { ctx.new.table_index ≡ GSUB }

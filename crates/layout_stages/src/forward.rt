@@ -57,7 +57,8 @@ pub fn apply_forward(
         (IsDoneFrom ctx.old.random_state ctx.new.random_state (looked_up
         (lookup_action table.now.lookups (applied_of ctx.old) lookup.now)) buffer.old buffer.new) }
     ensures err { IfErr result (λ e. e ≢ ShapeCause.OutOfMemory → read_of (looked_up
-        (lookup_action table.now.lookups (applied_of ctx.old) lookup.now)) (run_with ctx.old.random_state buffer.old) ≡ Err e) }
+        (lookup_action table.now.lookups (applied_of ctx.old) lookup.now)) (run_with ctx.old.random_state buffer.old)
+        ≡ Err e) }
     ensures context { applied_of ctx.new ≡ applied_of ctx.old }
 {
     let count = buffer.len();

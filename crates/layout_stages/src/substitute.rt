@@ -56,10 +56,12 @@ fn apply_layout_table<P: Pause>(
     requires numbers { are_glyphs (items_of buffer.old) ≡ true }
     ensures ok { OnOk result
         (IsDoneFrom ctx.old.random_state ctx.new.random_state (table_stages ctx.old.face.now
-        (substitution_lookups ctx.old.face.now) map.now.tables.gsub (P.stage pause.now (text_settings buffer.old)) 0 map.now.tables.gsub.stages)
+        (substitution_lookups ctx.old.face.now) map.now.tables.gsub (P.stage pause.now (text_settings buffer.old)) 0
+        map.now.tables.gsub.stages)
         buffer.old buffer.new) }
     ensures err { IfErr result (λ e. e ≢ ShapeCause.OutOfMemory → read_of (table_stages ctx.old.face.now
-        (substitution_lookups ctx.old.face.now) map.now.tables.gsub (P.stage pause.now (text_settings buffer.old)) 0 map.now.tables.gsub.stages)
+        (substitution_lookups ctx.old.face.now) map.now.tables.gsub (P.stage pause.now (text_settings buffer.old)) 0
+        map.now.tables.gsub.stages)
         (run_with ctx.old.random_state buffer.old) ≡ Err e) }
 {
     let stages = map.stages(TableIndex::GSUB);
@@ -81,9 +83,11 @@ pub fn substitute<P: Pause>(
 ) -> Result<(), ShapeCause>
     requires ready { IsReady buffer.old }
     requires numbers { are_glyphs (items_of buffer.old) ≡ true }
-    ensures ok { OnOk result (IsDone (substituted_by face.now map.now (P.stage pause.now (text_settings buffer.old))) buffer.old buffer.new) }
+    ensures ok { OnOk result (IsDone (substituted_by face.now map.now (P.stage pause.now (text_settings buffer.old)))
+        buffer.old buffer.new) }
     ensures err { IfErr result (λ e. e ≢ ShapeCause.OutOfMemory
-        → read_of (substituted_by face.now map.now (P.stage pause.now (text_settings buffer.old))) (run_of buffer.old) ≡ Err e) }
+        → read_of (substituted_by face.now map.now (P.stage pause.now (text_settings buffer.old))) (run_of buffer.old)
+        ≡ Err e) }
 {
     let mut ctx = hb_ot_apply_context_t::new(TableIndex::GSUB, face);
     apply_layout_table(map, &mut ctx, buffer, pause)

@@ -38,7 +38,8 @@ fn put_part<N: Normalizing>(by: &N, u: char, buffer: &mut hb_buffer_t) -> Result
 fn put_alone<N: Normalizing>(by: &N, u: char, buffer: &mut hb_buffer_t) -> Result<bool, ShapeCause>
     requires open { buffer.old.is_open ≡ true }
     requires there { 0 < length buffer.old.ahead }
-    ensures ok { IfOk result (λ b. Puts (N.normalizer by.now) (alone (has_character (N.normalizer by.now)) u) b buffer.old buffer.new) }
+    ensures ok { IfOk result (λ b. Puts (N.normalizer by.now) (alone (has_character (N.normalizer by.now)) u) b
+        buffer.old buffer.new) }
     ensures err { IfErr result (λ e. Overfills (count_of (alone (has_character (N.normalizer by.now)) u)) e buffer.old) }
 {
     if !has(by, u as u32) {
@@ -60,8 +61,11 @@ fn put_supported<N: Normalizing>(
 ) -> Result<bool, ShapeCause>
     requires open { buffer.old.is_open ≡ true }
     requires there { 0 < length buffer.old.ahead }
-    ensures ok { IfOk result (λ b. Puts (N.normalizer by.now) (supported reach (has_character (N.normalizer by.now)) (N.normalizer by.now).splits depth u) b buffer.old buffer.new) }
-    ensures err { IfErr result (λ e. Overfills (count_of (supported reach (has_character (N.normalizer by.now)) (N.normalizer by.now).splits depth u)) e buffer.old) }
+    ensures ok { IfOk result (λ b. Puts (N.normalizer by.now)
+        (supported reach (has_character (N.normalizer by.now)) (N.normalizer by.now).splits depth u) b buffer.old
+        buffer.new) }
+    ensures err { IfErr result (λ e. Overfills (count_of (supported reach (has_character (N.normalizer by.now))
+        (N.normalizer by.now).splits depth u)) e buffer.old) }
 {
     if depth == 0 {
         return put_alone(by, u, buffer);
@@ -94,8 +98,13 @@ fn put_in_parts<N: Normalizing>(
 ) -> Result<bool, ShapeCause>
     requires open { buffer.old.is_open ≡ true }
     requires there { 0 < length buffer.old.ahead }
-    ensures ok { IfOk result (λ b. Puts (N.normalizer by.now) (by_supported (has_character (N.normalizer by.now)) (supported reach (has_character (N.normalizer by.now)) (N.normalizer by.now).splits depth) ((N.normalizer by.now).splits u)) b buffer.old buffer.new) }
-    ensures err { IfErr result (λ e. Overfills (count_of (by_supported (has_character (N.normalizer by.now)) (supported reach (has_character (N.normalizer by.now)) (N.normalizer by.now).splits depth) ((N.normalizer by.now).splits u))) e buffer.old) }
+    ensures ok { IfOk result (λ b. Puts (N.normalizer by.now)
+        (by_supported (has_character (N.normalizer by.now))
+        (supported reach (has_character (N.normalizer by.now)) (N.normalizer by.now).splits depth)
+        ((N.normalizer by.now).splits u)) b buffer.old buffer.new) }
+    ensures err { IfErr result (λ e. Overfills (count_of (by_supported (has_character (N.normalizer by.now))
+        (supported reach (has_character (N.normalizer by.now)) (N.normalizer by.now).splits depth)
+        ((N.normalizer by.now).splits u))) e buffer.old) }
 {
     let Some((first, second)) = by.decompose(u) else {
         return Ok(false);
@@ -123,8 +132,10 @@ fn put_expansion<N: Normalizing>(
 ) -> Result<bool, ShapeCause>
     requires open { buffer.old.is_open ≡ true }
     requires there { 0 < length buffer.old.ahead }
-    ensures ok { IfOk result (λ b. Puts (N.normalizer by.now) (expansion reach (has_character (N.normalizer by.now)) (N.normalizer by.now).splits u) b buffer.old buffer.new) }
-    ensures err { IfErr result (λ e. Overfills (count_of (expansion reach (has_character (N.normalizer by.now)) (N.normalizer by.now).splits u)) e buffer.old) }
+    ensures ok { IfOk result (λ b. Puts (N.normalizer by.now)
+        (expansion reach (has_character (N.normalizer by.now)) (N.normalizer by.now).splits u) b buffer.old buffer.new) }
+    ensures err { IfErr result (λ e. Overfills (count_of (expansion reach (has_character (N.normalizer by.now))
+        (N.normalizer by.now).splits u)) e buffer.old) }
 {
     match reach {
         Reach::Least => {
@@ -145,8 +156,10 @@ fn expand_current<N: Normalizing>(
 ) -> Result<(), ShapeCause>
     requires open { buffer.old.is_open ≡ true }
     requires there { 0 < length buffer.old.ahead }
-    ensures ok { OnOk result ((x : Item) (xs : List Item) → strip buffer.old.ahead ≡ x ∷ xs → Brought (expanded (N.normalizer by.now) reach x) xs buffer.old buffer.new) }
-    ensures err { IfErr result (λ e. (x : Item) (xs : List Item) → strip buffer.old.ahead ≡ x ∷ xs → Overfills (length (expanded_item (N.normalizer by.now) reach x)) e buffer.old) }
+    ensures ok { OnOk result ((x : Item) (xs : List Item) → strip buffer.old.ahead ≡ x ∷ xs
+        → Brought (expanded (N.normalizer by.now) reach x) xs buffer.old buffer.new) }
+    ensures err { IfErr result (λ e. (x : Item) (xs : List Item) → strip buffer.old.ahead ≡ x ∷ xs
+        → Overfills (length (expanded_item (N.normalizer by.now) reach x)) e buffer.old) }
 {
     let info = *buffer.cur(0);
     if put_expansion(by, reach, info.glyph_id, buffer)? {
@@ -166,8 +179,10 @@ fn expand_each<N: Normalizing>(
 ) -> Result<(), ShapeCause>
     requires open { buffer.old.is_open ≡ true }
     requires there { count ≤ length buffer.old.ahead }
-    ensures ok { OnOk result ((xs ys : List Item) → strip buffer.old.ahead ≡ xs ++ ys → length xs ≡ count → Brought (in_turn (map (expanded (N.normalizer by.now) reach) xs)) ys buffer.old buffer.new) }
-    ensures err { IfErr result (λ e. (xs ys : List Item) → strip buffer.old.ahead ≡ xs ++ ys → length xs ≡ count → Overfills (length (in_turn (map (expanded (N.normalizer by.now) reach) xs)).items) e buffer.old) }
+    ensures ok { OnOk result ((xs ys : List Item) → strip buffer.old.ahead ≡ xs ++ ys → length xs ≡ count
+        → Brought (in_turn (map (expanded (N.normalizer by.now) reach) xs)) ys buffer.old buffer.new) }
+    ensures err { IfErr result (λ e. (xs ys : List Item) → strip buffer.old.ahead ≡ xs ++ ys → length xs ≡ count
+        → Overfills (length (in_turn (map (expanded (N.normalizer by.now) reach) xs)).items) e buffer.old) }
 {
     for _ in 0..count {
         expand_current(by, reach, buffer)?;
@@ -286,8 +301,10 @@ fn expand_all<N: Normalizing>(
 pub fn expand_list<N: Normalizing>(by: &N, buffer: &mut hb_buffer_t) -> Result<(), ShapeCause>
     requires open { buffer.old.is_open ≡ true }
     requires unread { buffer.old.read ≡ 0 }
-    ensures ok { OnOk result (Brought (expanded_list (N.normalizer by.now) (strip buffer.old.ahead)) [] buffer.old buffer.new) }
-    ensures err { IfErr result (λ e. Overfills (length (expanded_list (N.normalizer by.now) (strip buffer.old.ahead)).items) e buffer.old) }
+    ensures ok { OnOk result (Brought (expanded_list (N.normalizer by.now) (strip buffer.old.ahead)) [] buffer.old
+        buffer.new) }
+    ensures err { IfErr result (λ e. Overfills (length (expanded_list (N.normalizer by.now)
+        (strip buffer.old.ahead)).items) e buffer.old) }
 {
     let count = buffer.len();
     if count == 0 {

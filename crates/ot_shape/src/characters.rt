@@ -48,7 +48,8 @@ impl<S: hb_ot_shaper_t, P: SyllableSpans> hb_ot_shape_context_t<'_, S, P> {
     fn rotate_chars(&self, buffer: &mut hb_buffer_t)
         requires { IsReady buffer.old }
         ensures { IsFollowed
-            (always (turned_to_line (⟦<Self as Shaped>⟧.shaping self.now (text_settings buffer.old)))) buffer.old buffer.new }
+            (always (turned_to_line (⟦<Self as Shaped>⟧.shaping self.now (text_settings buffer.old)))) buffer.old
+            buffer.new }
     {
         let plan = &self.plan.script_plan;
         let rotation = Rotation {
@@ -99,7 +100,8 @@ impl<S: hb_ot_shaper_t, P: SyllableSpans> hb_ot_shape_context_t<'_, S, P> {
         ensures ok { OnOk result (IsFollowed
             (characters_chosen (⟦<Self as Shaped>⟧.shaping self.now (text_settings buffer.old))) buffer.old buffer.new) }
         ensures err { IfErr result (λ e. e ≢ ShapeCause.OutOfMemory → read_of
-            (characters_chosen (⟦<Self as Shaped>⟧.shaping self.now (text_settings buffer.old))) (run_of buffer.old) ≡ Err e) }
+            (characters_chosen (⟦<Self as Shaped>⟧.shaping self.now (text_settings buffer.old))) (run_of buffer.old)
+            ≡ Err e) }
     {
         self.preprocess_text(buffer)?;
         self.rotate_chars(buffer);

@@ -25,7 +25,8 @@ use shaping_text::direction::Direction;
 #[tactic(auto, using(crate::proofs::Sets::hidden_as_asked))]
 fn hide_ignorables(face: &Face, buffer: &mut hb_buffer_t)
     requires { IsReady buffer.old }
-    ensures stage { IsFollowed (always (hidden (text_settings buffer.old).flags (text_settings buffer.old).invisible face.now))
+    ensures stage { IsFollowed (always (hidden (text_settings buffer.old).flags (text_settings buffer.old).invisible
+        face.now))
         buffer.old buffer.new }
     ensures numbers { is_glyph_if_set buffer.old.invisible ≡ true
         → are_glyphs (items_of buffer.old) ≡ true → are_glyphs (items_of buffer.new) ≡ true }
@@ -49,7 +50,8 @@ impl<S: hb_ot_shaper_t, P: SyllableSpans> hb_ot_shape_context_t<'_, S, P> {
         ensures ok { OnOk result (IsDone
             (postprocessed (⟦<Self as Shaped>⟧.shaping self.now (text_settings buffer.old))) buffer.old buffer.new) }
         ensures err { IfErr result (λ e. e ≢ ShapeCause.OutOfMemory → read_of
-            (postprocessed (⟦<Self as Shaped>⟧.shaping self.now (text_settings buffer.old))) (run_of buffer.old) ≡ Err e) }
+            (postprocessed (⟦<Self as Shaped>⟧.shaping self.now (text_settings buffer.old))) (run_of buffer.old)
+            ≡ Err e) }
     {
         let plan = self.plan;
         plan.shaper

@@ -33,7 +33,8 @@ impl<S: hb_ot_shaper_t> Normalizing for hb_ot_shape_normalize_context_t<'_, S> {
       invisible = n.invisible;
       unjoined_glyph = n.unjoined_glyph;
       splits = λ u. if scalar u then (S.rules n.shaper.now n.plan.now).splits n.tables.now u else None;
-      composes = λ a b. if scalar a && scalar b then (S.rules n.shaper.now n.plan.now).composes n.tables.now a b else None;
+      composes = λ a b. if scalar a && scalar b then (S.rules n.shaper.now n.plan.now).composes n.tables.now a b else
+          None;
       reorders = (S.rules n.shaper.now n.plan.now).reorders;
     } };
 

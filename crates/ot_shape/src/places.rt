@@ -74,7 +74,8 @@ impl<S: hb_ot_shaper_t, P: SyllableSpans> hb_ot_shape_context_t<'_, S, P> {
     }
 
     fn adjusts_marks(&self, direction: Direction) -> bool
-        ensures { result ≡ (self.now.plan.now.script_plan.choices.adjust_mark_positioning_when_zeroing && is_forward direction) }
+        ensures { result ≡ (self.now.plan.now.script_plan.choices.adjust_mark_positioning_when_zeroing
+            && is_forward direction) }
     {
         self.plan
             .script_plan
@@ -106,7 +107,8 @@ impl<S: hb_ot_shaper_t, P: SyllableSpans> hb_ot_shape_context_t<'_, S, P> {
         requires { IsReady buffer.old }
         ensures { IsDone
             (only_if (zeroes_marks time (⟦<Self as Shaped>⟧.shaping self.now (text_settings buffer.old)))
-            (always (marks_zeroed (⟦<Self as Shaped>⟧.shaping self.now (text_settings buffer.old))))) buffer.old buffer.new }
+            (always (marks_zeroed (⟦<Self as Shaped>⟧.shaping self.now (text_settings buffer.old))))) buffer.old
+            buffer.new }
     {
         if self.zeroes_marks(time) {
             self.zero_all_marks(buffer);
@@ -193,7 +195,8 @@ impl<S: hb_ot_shaper_t, P: SyllableSpans> hb_ot_shape_context_t<'_, S, P> {
         requires ready { IsReady buffer.old }
         requires numbers { are_glyphs (items_of buffer.old) ≡ true }
         ensures { IsDone (only_if self.now.plan.now.script_plan.choices.fallback_mark_positioning
-            (always (marks_placed (⟦<Self as Shaped>⟧.shaping self.now (text_settings buffer.old))))) buffer.old buffer.new }
+            (always (marks_placed (⟦<Self as Shaped>⟧.shaping self.now (text_settings buffer.old))))) buffer.old
+            buffer.new }
     {
         if self.plan.script_plan.choices.fallback_mark_positioning {
             self.place_all_marks(buffer);

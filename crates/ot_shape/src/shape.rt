@@ -38,7 +38,8 @@ impl<S: hb_ot_shaper_t, P: SyllableSpans> hb_ot_shape_context_t<'_, S, P> {
         ensures ok { OnOk result (IsFollowed
             (before_ranges (⟦<Self as Shaped>⟧.shaping self.now (text_settings buffer.old))) buffer.old buffer.new) }
         ensures err { IfErr result (λ e. e ≢ ShapeCause.OutOfMemory → read_of
-            (before_ranges (⟦<Self as Shaped>⟧.shaping self.now (text_settings buffer.old))) (run_of buffer.old) ≡ Err e) }
+            (before_ranges (⟦<Self as Shaped>⟧.shaping self.now (text_settings buffer.old))) (run_of buffer.old)
+            ≡ Err e) }
     {
         self.begin_text(buffer)?;
         self.choose_characters(buffer)?;

@@ -55,7 +55,8 @@ pub fn insert_dotted_circles(
     requires ready { IsReady buffer.old }
     ensures glyphs { OnOk result (are_glyphs (items_of buffer.old) ≡ true → are_glyphs (items_of buffer.new) ≡ true) }
     ensures told { IfOk result (λ b. b ≡ puts_circles
-        (circle_rule face.now buffer.old.flags kind circle_category repha_category circle_position) (items_of buffer.old)) }
+        (circle_rule face.now buffer.old.flags kind circle_category repha_category circle_position)
+        (items_of buffer.old)) }
     ensures ok { OnOk result (IsFollowed
         (circles_by (circle_rule face.now buffer.old.flags kind circle_category repha_category circle_position))
         buffer.old buffer.new) }

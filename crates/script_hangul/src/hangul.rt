@@ -32,7 +32,8 @@ use shaping_text::constants::BufferFlags;
 pub fn preprocess_text(face: &Face, buffer: &mut hb_buffer_t) -> Result<(), ShapeCause>
     requires ready { IsReady buffer.old }
     ensures ok { OnOk result (IsFollowed (syllables_formed face.now buffer.old.flags) buffer.old buffer.new) }
-    ensures err { IfErr result (λ e. e ≢ ShapeCause.OutOfMemory → read_of (syllables_formed face.now buffer.old.flags) (run_of buffer.old) ≡ Err e) }
+    ensures err { IfErr result (λ e. e ≢ ShapeCause.OutOfMemory
+        → read_of (syllables_formed face.now buffer.old.flags) (run_of buffer.old) ≡ Err e) }
 {
     let circles = wants_circles(buffer.flags());
     let count = buffer.len();
@@ -61,7 +62,8 @@ fn pass(
 ) -> Result<usize, ShapeCause>
     requires open { buffer.old.is_open ≡ true }
     ensures ok { IfOk result (λ n. Passes face.now circles start n buffer.old buffer.new) }
-    ensures err { IfErr result (λ e. Exceeds (length (step face.now circles start (strip buffer.old.behind) (strip buffer.old.ahead)).out) e buffer.old) }
+    ensures err { IfErr result (λ e. Exceeds (length (step face.now circles start (strip buffer.old.behind)
+        (strip buffer.old.ahead)).out) e buffer.old) }
 {
     if buffer.lookahead_len() == 0 {
         return Ok(start);
@@ -79,8 +81,10 @@ fn pass_next(
 ) -> Result<usize, ShapeCause>
     requires open { buffer.old.is_open ≡ true }
     requires there { 0 < length buffer.old.ahead }
-    ensures ok { IfOk result (λ n. Stepped (step face.now circles start (strip buffer.old.behind) (strip buffer.old.ahead)) n buffer.old buffer.new) }
-    ensures err { IfErr result (λ e. Refuses (step face.now circles start (strip buffer.old.behind) (strip buffer.old.ahead)) e buffer.old) }
+    ensures ok { IfOk result (λ n. Stepped (step face.now circles start (strip buffer.old.behind)
+        (strip buffer.old.ahead)) n buffer.old buffer.new) }
+    ensures err { IfErr result (λ e. Refuses (step face.now circles start (strip buffer.old.behind)
+        (strip buffer.old.ahead)) e buffer.old) }
 {
     match character_at(0, buffer) {
         Some(u) => {
@@ -97,8 +101,11 @@ fn pass_next(
 fn pass_other(face: &Face, u: char, buffer: &mut hb_buffer_t) -> Result<usize, ShapeCause>
     requires open { buffer.old.is_open ≡ true }
     requires there { 0 < length buffer.old.ahead }
-    ensures ok { IfOk result (λ n. Stepped (performed (action_on face.now u (character_at 1 (strip buffer.old.ahead)) (character_at 2 (strip buffer.old.ahead))) (strip buffer.old.behind) (strip buffer.old.ahead)) n buffer.old buffer.new) }
-    ensures err { IfErr result (λ e. Refuses (performed (action_on face.now u (character_at 1 (strip buffer.old.ahead)) (character_at 2 (strip buffer.old.ahead))) (strip buffer.old.behind) (strip buffer.old.ahead)) e buffer.old) }
+    ensures ok { IfOk result (λ n. Stepped (performed (action_on face.now u (character_at 1 (strip buffer.old.ahead))
+        (character_at 2 (strip buffer.old.ahead))) (strip buffer.old.behind) (strip buffer.old.ahead)) n buffer.old
+        buffer.new) }
+    ensures err { IfErr result (λ e. Refuses (performed (action_on face.now u (character_at 1 (strip buffer.old.ahead))
+        (character_at 2 (strip buffer.old.ahead))) (strip buffer.old.behind) (strip buffer.old.ahead)) e buffer.old) }
 {
     let second = character_at(1, buffer);
     let third = character_at(2, buffer);

@@ -28,8 +28,10 @@ pub const TJMO: u8 = 3;
 pub(crate) fn perform(action: Action, buffer: &mut hb_buffer_t) -> Result<usize, ShapeCause>
     requires open { buffer.old.is_open ≡ true }
     requires there { fits_ahead action (length buffer.old.ahead) ≡ true }
-    ensures ok { IfOk result (λ n. Stepped (performed action (strip buffer.old.behind) (strip buffer.old.ahead)) n buffer.old buffer.new) }
-    ensures err { IfErr result (λ e. Refuses (performed action (strip buffer.old.behind) (strip buffer.old.ahead)) e buffer.old) }
+    ensures ok { IfOk result (λ n. Stepped (performed action (strip buffer.old.behind) (strip buffer.old.ahead)) n
+        buffer.old buffer.new) }
+    ensures err { IfErr result (λ e. Refuses (performed action (strip buffer.old.behind) (strip buffer.old.ahead)) e
+        buffer.old) }
 {
     match action {
         Action::Keep(is_whole) => keep(is_whole, buffer),
@@ -43,8 +45,10 @@ pub(crate) fn perform(action: Action, buffer: &mut hb_buffer_t) -> Result<usize,
 pub(crate) fn keep(is_whole: bool, buffer: &mut hb_buffer_t) -> Result<usize, ShapeCause>
     requires open { buffer.old.is_open ≡ true }
     requires there { 0 < length buffer.old.ahead }
-    ensures ok { IfOk result (λ n. Stepped (kept is_whole (strip buffer.old.behind) (strip buffer.old.ahead)) n buffer.old buffer.new) }
-    ensures err { IfErr result (λ e. Refuses (kept is_whole (strip buffer.old.behind) (strip buffer.old.ahead)) e buffer.old) }
+    ensures ok { IfOk result (λ n. Stepped (kept is_whole (strip buffer.old.behind) (strip buffer.old.ahead)) n
+        buffer.old buffer.new) }
+    ensures err { IfErr result (λ e. Refuses (kept is_whole (strip buffer.old.behind) (strip buffer.old.ahead)) e
+        buffer.old) }
 {
     let at = buffer.out_len();
     advance(buffer)?;
@@ -60,8 +64,10 @@ fn compose(count: usize, u: char, buffer: &mut hb_buffer_t) -> Result<usize, Sha
     requires open { buffer.old.is_open ≡ true }
     requires some { 0 < count }
     requires there { count ≤ length buffer.old.ahead }
-    ensures ok { IfOk result (λ n. Stepped (composed count u (strip buffer.old.behind) (strip buffer.old.ahead)) n buffer.old buffer.new) }
-    ensures err { IfErr result (λ e. Refuses (composed count u (strip buffer.old.behind) (strip buffer.old.ahead)) e buffer.old) }
+    ensures ok { IfOk result (λ n. Stepped (composed count u (strip buffer.old.behind) (strip buffer.old.ahead)) n
+        buffer.old buffer.new) }
+    ensures err { IfErr result (λ e. Refuses (composed count u (strip buffer.old.behind) (strip buffer.old.ahead)) e
+        buffer.old) }
 {
     let at = buffer.out_len();
     replace_front(count, u32::from(u), buffer)?;
@@ -72,8 +78,10 @@ fn compose(count: usize, u: char, buffer: &mut hb_buffer_t) -> Result<usize, Sha
 fn put_apart(count: usize, buffer: &mut hb_buffer_t) -> Result<usize, ShapeCause>
     requires open { buffer.old.is_open ≡ true }
     requires there { fits_ahead (Action.Apart count) (length buffer.old.ahead) ≡ true }
-    ensures ok { IfOk result (λ n. Stepped (apart count (strip buffer.old.behind) (strip buffer.old.ahead)) n buffer.old buffer.new) }
-    ensures err { IfErr result (λ e. Refuses (apart count (strip buffer.old.behind) (strip buffer.old.ahead)) e buffer.old) }
+    ensures ok { IfOk result (λ n. Stepped (apart count (strip buffer.old.behind) (strip buffer.old.ahead)) n buffer.old
+        buffer.new) }
+    ensures err { IfErr result (λ e. Refuses (apart count (strip buffer.old.behind) (strip buffer.old.ahead)) e
+        buffer.old) }
 {
     let at = buffer.out_len();
     put_letter(LJMO, buffer)?;
@@ -90,7 +98,8 @@ fn put_apart(count: usize, buffer: &mut hb_buffer_t) -> Result<usize, ShapeCause
 fn put_letter(place: u8, buffer: &mut hb_buffer_t) -> Result<(), ShapeCause>
     requires open { buffer.old.is_open ≡ true }
     requires there { 0 < length buffer.old.ahead }
-    ensures ok { OnOk result (Walked (strip buffer.old.behind ++ letters_from place (take 1 (strip buffer.old.ahead))) (drop 1 (strip buffer.old.ahead)) [] buffer.old buffer.new) }
+    ensures ok { OnOk result (Walked (strip buffer.old.behind ++ letters_from place (take 1 (strip buffer.old.ahead)))
+        (drop 1 (strip buffer.old.ahead)) [] buffer.old buffer.new) }
     ensures err { IfErr result (λ e. Exceeds (length buffer.old.behind + 1) e buffer.old) }
 {
     let letter = placed(buffer.cur(0), place);
@@ -125,7 +134,8 @@ fn letter_of(glyph: &hb_glyph_info_t, u: char, place: u8) -> hb_glyph_info_t
 fn merge_grapheme(at: usize, count: usize, buffer: &mut hb_buffer_t)
     requires open { buffer.old.is_open ≡ true }
     requires within { at + count ≡ length buffer.old.behind }
-    ensures { Walked (strip buffer.old.behind) (strip buffer.old.ahead) (grapheme_merged buffer.old.level at count) buffer.old buffer.new }
+    ensures { Walked (strip buffer.old.behind) (strip buffer.old.ahead) (grapheme_merged buffer.old.level at count)
+        buffer.old buffer.new }
 {
     let end = buffer.out_len();
     match buffer.cluster_level() {
@@ -139,7 +149,8 @@ fn put_third(at: usize, buffer: &mut hb_buffer_t) -> Result<(), ShapeCause>
     requires open { buffer.old.is_open ≡ true }
     requires there { 0 < length buffer.old.ahead }
     requires two { at + 2 ≡ length buffer.old.behind }
-    ensures ok { OnOk result (Walked (strip buffer.old.behind ++ letters_from 3 (take 1 (strip buffer.old.ahead))) (drop 1 (strip buffer.old.ahead)) (grapheme_merged buffer.old.level at 3) buffer.old buffer.new) }
+    ensures ok { OnOk result (Walked (strip buffer.old.behind ++ letters_from 3 (take 1 (strip buffer.old.ahead)))
+        (drop 1 (strip buffer.old.ahead)) (grapheme_merged buffer.old.level at 3) buffer.old buffer.new) }
     ensures err { IfErr result (λ e. Exceeds (length buffer.old.behind + 1) e buffer.old) }
 {
     put_letter(TJMO, buffer)?;
@@ -151,8 +162,10 @@ fn put_third(at: usize, buffer: &mut hb_buffer_t) -> Result<(), ShapeCause>
 fn split(letters: Letters, joins: bool, buffer: &mut hb_buffer_t) -> Result<usize, ShapeCause>
     requires open { buffer.old.is_open ≡ true }
     requires there { fits_ahead (Action.Split letters joins) (length buffer.old.ahead) ≡ true }
-    ensures ok { IfOk result (λ n. Stepped (split letters (if joins then 1 else 0) (strip buffer.old.behind) (strip buffer.old.ahead)) n buffer.old buffer.new) }
-    ensures err { IfErr result (λ e. Refuses (split letters (if joins then 1 else 0) (strip buffer.old.behind) (strip buffer.old.ahead)) e buffer.old) }
+    ensures ok { IfOk result (λ n. Stepped (split letters (if joins then 1 else 0) (strip buffer.old.behind)
+        (strip buffer.old.ahead)) n buffer.old buffer.new) }
+    ensures err { IfErr result (λ e. Refuses (split letters (if joins then 1 else 0) (strip buffer.old.behind)
+        (strip buffer.old.ahead)) e buffer.old) }
 {
     let at = buffer.out_len();
     put_parts(letters, buffer)?;
@@ -169,7 +182,9 @@ fn split(letters: Letters, joins: bool, buffer: &mut hb_buffer_t) -> Result<usiz
 fn put_parts(letters: Letters, buffer: &mut hb_buffer_t) -> Result<(), ShapeCause>
     requires open { buffer.old.is_open ≡ true }
     requires there { 0 < length buffer.old.ahead }
-    ensures ok { OnOk result (Walked (strip buffer.old.behind ++ letters_from 1 (parted letters (strip buffer.old.ahead))) (drop 1 (strip buffer.old.ahead)) (Replace (length buffer.old.behind) 1 (length (numbers_of letters)) ∷ []) buffer.old buffer.new) }
+    ensures ok { OnOk result (Walked (strip buffer.old.behind
+        ++ letters_from 1 (parted letters (strip buffer.old.ahead))) (drop 1 (strip buffer.old.ahead))
+        (Replace (length buffer.old.behind) 1 (length (numbers_of letters)) ∷ []) buffer.old buffer.new) }
     ensures err { IfErr result (λ e. Exceeds (length buffer.old.behind + length (numbers_of letters)) e buffer.old) }
 {
     match letters {
@@ -181,7 +196,9 @@ fn put_parts(letters: Letters, buffer: &mut hb_buffer_t) -> Result<(), ShapeCaus
 fn put_two(l: char, v: char, buffer: &mut hb_buffer_t) -> Result<(), ShapeCause>
     requires open { buffer.old.is_open ≡ true }
     requires there { 0 < length buffer.old.ahead }
-    ensures ok { OnOk result (Walked (strip buffer.old.behind ++ letters_from 1 (parted (Letters.Two l v) (strip buffer.old.ahead))) (drop 1 (strip buffer.old.ahead)) (Replace (length buffer.old.behind) 1 2 ∷ []) buffer.old buffer.new) }
+    ensures ok { OnOk result (Walked (strip buffer.old.behind
+        ++ letters_from 1 (parted (Letters.Two l v) (strip buffer.old.ahead))) (drop 1 (strip buffer.old.ahead))
+        (Replace (length buffer.old.behind) 1 2 ∷ []) buffer.old buffer.new) }
     ensures err { IfErr result (λ e. Exceeds (length buffer.old.behind + 2) e buffer.old) }
 {
     let glyph = *buffer.cur(0);
@@ -194,7 +211,9 @@ fn put_two(l: char, v: char, buffer: &mut hb_buffer_t) -> Result<(), ShapeCause>
 fn put_three(l: char, v: char, t: char, buffer: &mut hb_buffer_t) -> Result<(), ShapeCause>
     requires open { buffer.old.is_open ≡ true }
     requires there { 0 < length buffer.old.ahead }
-    ensures ok { OnOk result (Walked (strip buffer.old.behind ++ letters_from 1 (parted (Letters.Three l v t) (strip buffer.old.ahead))) (drop 1 (strip buffer.old.ahead)) (Replace (length buffer.old.behind) 1 3 ∷ []) buffer.old buffer.new) }
+    ensures ok { OnOk result (Walked (strip buffer.old.behind
+        ++ letters_from 1 (parted (Letters.Three l v t) (strip buffer.old.ahead))) (drop 1 (strip buffer.old.ahead))
+        (Replace (length buffer.old.behind) 1 3 ∷ []) buffer.old buffer.new) }
     ensures err { IfErr result (λ e. Exceeds (length buffer.old.behind + 3) e buffer.old) }
 {
     let glyph = *buffer.cur(0);

@@ -28,8 +28,10 @@ pub(crate) fn put_tone(
 ) -> Result<usize, ShapeCause>
     requires open { buffer.old.is_open ≡ true }
     requires there { 0 < length buffer.old.ahead }
-    ensures ok { IfOk result (λ n. Stepped (toned face.now circles start u (strip buffer.old.behind) (strip buffer.old.ahead)) n buffer.old buffer.new) }
-    ensures err { IfErr result (λ e. Refuses (toned face.now circles start u (strip buffer.old.behind) (strip buffer.old.ahead)) e buffer.old) }
+    ensures ok { IfOk result (λ n. Stepped (toned face.now circles start u (strip buffer.old.behind)
+        (strip buffer.old.ahead)) n buffer.old buffer.new) }
+    ensures err { IfErr result (λ e. Refuses (toned face.now circles start u (strip buffer.old.behind)
+        (strip buffer.old.ahead)) e buffer.old) }
 {
     let is_thin = has_no_width(face, u);
     if start < buffer.out_len() {
@@ -49,8 +51,10 @@ fn put_before(start: usize, buffer: &mut hb_buffer_t) -> Result<usize, ShapeCaus
     requires open { buffer.old.is_open ≡ true }
     requires there { 0 < length buffer.old.ahead }
     requires before { start < length buffer.old.behind }
-    ensures ok { IfOk result (λ n. Stepped (before_syllable start (strip buffer.old.behind) (strip buffer.old.ahead)) n buffer.old buffer.new) }
-    ensures err { IfErr result (λ e. Refuses (before_syllable start (strip buffer.old.behind) (strip buffer.old.ahead)) e buffer.old) }
+    ensures ok { IfOk result (λ n. Stepped (before_syllable start (strip buffer.old.behind) (strip buffer.old.ahead)) n
+        buffer.old buffer.new) }
+    ensures err { IfErr result (λ e. Refuses (before_syllable start (strip buffer.old.behind) (strip buffer.old.ahead))
+        e buffer.old) }
 {
     let middle = buffer.out_len();
     advance(buffer)?;
@@ -63,8 +67,10 @@ fn put_before(start: usize, buffer: &mut hb_buffer_t) -> Result<usize, ShapeCaus
 fn put_circle(is_thin: bool, buffer: &mut hb_buffer_t) -> Result<usize, ShapeCause>
     requires open { buffer.old.is_open ≡ true }
     requires there { 0 < length buffer.old.ahead }
-    ensures ok { IfOk result (λ n. Stepped (with_circle is_thin (strip buffer.old.behind) (strip buffer.old.ahead)) n buffer.old buffer.new) }
-    ensures err { IfErr result (λ e. Refuses (with_circle is_thin (strip buffer.old.behind) (strip buffer.old.ahead)) e buffer.old) }
+    ensures ok { IfOk result (λ n. Stepped (with_circle is_thin (strip buffer.old.behind) (strip buffer.old.ahead)) n
+        buffer.old buffer.new) }
+    ensures err { IfErr result (λ e. Refuses (with_circle is_thin (strip buffer.old.behind) (strip buffer.old.ahead)) e
+        buffer.old) }
 {
     let mark = *buffer.cur(0);
     let circle = circle_for(&mark);

@@ -49,8 +49,10 @@ fn pass(buffer: &mut hb_buffer_t) -> Result<(), ShapeCause>
     requires open { buffer.old.is_open ≡ true }
     requires there { 0 < length buffer.old.ahead }
     ensures ok { OnOk result ((x : Item) (xs : List Item) → strip buffer.old.ahead ≡ x ∷ xs
-        → Walked (with_character (strip buffer.old.behind) x) xs (events_of_character buffer.old.level (strip buffer.old.behind) x) buffer.old buffer.new) }
-    ensures err { IfErr result (λ e. (x : Item) (xs : List Item) → strip buffer.old.ahead ≡ x ∷ xs → Exceeds (length (with_character (strip buffer.old.behind) x)) e buffer.old) }
+        → Walked (with_character (strip buffer.old.behind) x) xs
+        (events_of_character buffer.old.level (strip buffer.old.behind) x) buffer.old buffer.new) }
+    ensures err { IfErr result (λ e. (x : Item) (xs : List Item) → strip buffer.old.ahead ≡ x ∷ xs
+        → Exceeds (length (with_character (strip buffer.old.behind) x)) e buffer.old) }
 {
     let glyph = *buffer.cur(0);
     if is_sara_am(&glyph) {
@@ -67,7 +69,9 @@ fn split(glyph: &hb_glyph_info_t, buffer: &mut hb_buffer_t) -> Result<(), ShapeC
     requires there { slice_get buffer.old.ahead 0 ≡ Some glyph.now }
     requires vowel { is_sara_am (item_of glyph.now) ≡ true }
     ensures ok { OnOk result ((x : Item) (xs : List Item) → strip buffer.old.ahead ≡ x ∷ xs
-        → Walked (with_vowel (strip buffer.old.behind) x) xs (events_of_vowel buffer.old.level (length buffer.old.behind) (count_above (strip buffer.old.behind))) buffer.old buffer.new) }
+        → Walked (with_vowel (strip buffer.old.behind) x) xs
+        (events_of_vowel buffer.old.level (length buffer.old.behind) (count_above (strip buffer.old.behind))) buffer.old
+        buffer.new) }
     ensures err { IfErr result (λ e. Exceeds (length buffer.old.behind + 2) e buffer.old) }
 {
     let at = buffer.out_len();
@@ -83,7 +87,8 @@ fn place(at: usize, marks: usize, buffer: &mut hb_buffer_t)
     requires open { buffer.old.is_open ≡ true }
     requires parts { at + 2 ≡ length buffer.old.behind }
     requires before { marks ≤ at }
-    ensures { Walked (moved (at - marks) marks 1 (strip buffer.old.behind)) (strip buffer.old.ahead) (placing buffer.old.level at marks) buffer.old buffer.new }
+    ensures { Walked (moved (at - marks) marks 1 (strip buffer.old.behind)) (strip buffer.old.ahead)
+        (placing buffer.old.level at marks) buffer.old buffer.new }
 {
     if marks == 0 {
         return join(at, buffer);
@@ -96,7 +101,8 @@ fn place(at: usize, marks: usize, buffer: &mut hb_buffer_t)
 fn join(at: usize, buffer: &mut hb_buffer_t)
     requires open { buffer.old.is_open ≡ true }
     requires parts { at + 2 ≡ length buffer.old.behind }
-    ensures { Walked (strip buffer.old.behind) (strip buffer.old.ahead) (placing buffer.old.level at 0) buffer.old buffer.new }
+    ensures { Walked (strip buffer.old.behind) (strip buffer.old.ahead) (placing buffer.old.level at 0) buffer.old
+        buffer.new }
 {
     if at == 0 {
         return;

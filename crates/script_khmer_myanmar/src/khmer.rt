@@ -104,7 +104,8 @@ fn reorder_from_second(masks: &KhmerMasks, buffer: &mut hb_buffer_t, start: usiz
     requires ready { IsReady buffer.old }
     requires ordered { start ≤ end }
     requires within { end ≤ length (all_glyphs buffer.old) }
-    ensures { IsRewritten (khmer_walk masks.now (end - start - 1) 1 0 (slice_range (items_of buffer.old) start end)) start
+    ensures { IsRewritten (khmer_walk masks.now (end - start - 1) 1 0 (slice_range (items_of buffer.old) start end))
+        start
         end buffer.old buffer.new }
 {
     let mut walk = Walk { place: 1, count: 0 };
@@ -174,7 +175,8 @@ fn reorder_run(
     requires there { start + (walk.place + run) ≤ end }
     requires within { end ≤ length (all_glyphs buffer.old) }
     requires opens { forms ≡ true → OpensForms walk.count walk.place (slice_range (items_of buffer.old) start end) }
-    requires run { IsRun forms (nat_le walk.count 2) (slice_range (items_of buffer.old) (start + walk.place) (start + (walk.place + run))) }
+    requires run { IsRun forms (nat_le walk.count 2) (slice_range (items_of buffer.old) (start + walk.place)
+        (start + (walk.place + run))) }
     requires long { 0 < run }
     ensures walked { IsWalked masks.now start end walk.place walk.count result.place result.count buffer.old buffer.new }
     ensures onward { result.place ≡ walk.place + run }

@@ -118,7 +118,8 @@ fn mask_run(buffer: &mut hb_buffer_t, start: usize, end: usize, mask: hb_mask_t)
     requires ready { IsReady buffer.old }
     requires ordered { start ≤ end }
     requires within { end ≤ length (all_glyphs buffer.old) }
-    ensures { IsRewritten (kept (forms_masked (together true) (masked mask) (slice_range (items_of buffer.old) start end))) start
+    ensures { IsRewritten (kept (forms_masked (together true) (masked mask)
+        (slice_range (items_of buffer.old) start end))) start
         end buffer.old buffer.new }
 {
     let known = buffer.known_order();
@@ -175,7 +176,8 @@ pub(crate) fn move_run(
     requires some { 0 < place }
     requires there { start + place ≤ end }
     requires within { end ≤ length (all_glyphs buffer.old) }
-    ensures { IsRewritten (fronts_moved (together forms) is_vowel place (slice_range (items_of buffer.old) start end)) start end
+    ensures { IsRewritten (fronts_moved (together forms) is_vowel place (slice_range (items_of buffer.old) start end))
+        start end
         buffer.old buffer.new }
 {
     let merged = merged_length(&buffer.info_slice()[start..end], place, forms);

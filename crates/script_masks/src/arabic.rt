@@ -70,7 +70,8 @@ pub fn setup_masks_inner(
 )
     requires ready { IsReady buffer.old }
     requires flagless { AreFlagless arabic_plan.now.mask_array }
-    ensures { IsFollowed (always (joined tables.now (is_mongolian script) arabic_plan.now.mask_array buffer.old.pre_context buffer.old.post_context))
+    ensures { IsFollowed (always (joined tables.now (is_mongolian script) arabic_plan.now.mask_array
+        buffer.old.pre_context buffer.old.post_context))
         buffer.old buffer.new }
 {
     script_joining::setup_masks_inner(

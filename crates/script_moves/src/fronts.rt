@@ -37,7 +37,8 @@ pub fn gather<R: FrontRule>(
     ensures gathered { glyphs.new ≡ take from glyphs.old
         ++ gathered (pair_seen (R.pairs rule.now)) (one_seen (R.ones rule.now)) (slice_range glyphs.old from to)
         ++ drop to glyphs.old }
-    ensures count { result ≡ length (fronts (pair_seen (R.pairs rule.now)) (one_seen (R.ones rule.now)) (slice_range glyphs.old from to)) }
+    ensures count { result ≡ length (fronts (pair_seen (R.pairs rule.now)) (one_seen (R.ones rule.now))
+        (slice_range glyphs.old from to)) }
 {
     if to - from < 2 {
         return count_short(rule, glyphs, from, to);
@@ -65,7 +66,8 @@ pub fn gather_behind<R: FrontRule>(
     requires ordered { begin ≤ end }
     requires within { end ≤ length glyphs.old }
     ensures { glyphs.new ≡ take start glyphs.old
-        ++ gathered_behind (pair_seen (R.pairs rule.now)) (one_seen (R.ones rule.now)) (begin - start) (slice_range glyphs.old start end)
+        ++ gathered_behind (pair_seen (R.pairs rule.now)) (one_seen (R.ones rule.now)) (begin - start)
+        (slice_range glyphs.old start end)
         ++ drop end glyphs.old }
 {
     let count = gather(rule, glyphs, begin, end);
@@ -77,7 +79,8 @@ fn count_short<R: FrontRule>(rule: &R, glyphs: &[hb_glyph_info_t], from: usize, 
     requires ordered { from ≤ to }
     requires within { to ≤ length glyphs.now }
     requires short { to < from + 2 }
-    ensures { result ≡ length (fronts (pair_seen (R.pairs rule.now)) (one_seen (R.ones rule.now)) (slice_range glyphs.now from to)) }
+    ensures { result ≡ length (fronts (pair_seen (R.pairs rule.now)) (one_seen (R.ones rule.now))
+        (slice_range glyphs.now from to)) }
 {
     if from < to && rule.comes(&glyphs[from]) {
         return 1;
@@ -91,9 +94,12 @@ fn end_of_half<R: FrontRule>(rule: &R, glyphs: &[hb_glyph_info_t], from: usize, 
     requires within { to ≤ length glyphs.now }
     ensures some { from < result }
     ensures inside { result ≤ to }
-    ensures apart { result < to → IsApart (pair_seen (R.pairs rule.now)) (slice_range glyphs.now from result) (slice_range glyphs.now result to) }
-    ensures whole { result ≡ to → gathered (pair_seen (R.pairs rule.now)) (one_seen (R.ones rule.now)) (slice_range glyphs.now from to) ≡ slice_range glyphs.now from to }
-    ensures both { result ≡ to → length (fronts (pair_seen (R.pairs rule.now)) (one_seen (R.ones rule.now)) (slice_range glyphs.now from to)) ≡ 2 }
+    ensures apart { result < to → IsApart (pair_seen (R.pairs rule.now)) (slice_range glyphs.now from result)
+        (slice_range glyphs.now result to) }
+    ensures whole { result ≡ to → gathered (pair_seen (R.pairs rule.now)) (one_seen (R.ones rule.now))
+        (slice_range glyphs.now from to) ≡ slice_range glyphs.now from to }
+    ensures both { result ≡ to → length (fronts (pair_seen (R.pairs rule.now)) (one_seen (R.ones rule.now))
+        (slice_range glyphs.now from to)) ≡ 2 }
 {
     let middle = from + (to - from) / 2;
     if rule.comes_with(&glyphs[middle - 1], &glyphs[middle]) {

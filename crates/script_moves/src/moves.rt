@@ -37,7 +37,8 @@ pub fn order_kept(buffer: &mut hb_buffer_t, start: usize, end: usize) -> KnownOr
     requires within { end ≤ length (all_glyphs buffer.old) }
     ensures same { buffer.new ≡ buffer.old }
     ensures kept { (gs : List Glyph) →
-        (are_one_cluster (slice_range (all_glyphs buffer.old) start end) ≡ true → clusters gs ≡ clusters (all_glyphs buffer.old)) →
+        (are_one_cluster (slice_range (all_glyphs buffer.old) start end) ≡ true → clusters gs
+        ≡ clusters (all_glyphs buffer.old)) →
         HasOrder result (clusters gs) }
 {
     let is_one = are_one_cluster(&buffer.info_slice()[start..end]);

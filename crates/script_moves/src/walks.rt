@@ -24,7 +24,8 @@ use glyph_types::info::hb_glyph_info_t;
 pub fn advance(buffer: &mut hb_buffer_t) -> Result<(), ShapeCause>
     requires open { buffer.old.is_open ≡ true }
     requires there { 0 < length buffer.old.ahead }
-    ensures ok { OnOk result (Walked (strip buffer.old.behind ++ take 1 (strip buffer.old.ahead)) (drop 1 (strip buffer.old.ahead)) [] buffer.old buffer.new) }
+    ensures ok { OnOk result (Walked (strip buffer.old.behind ++ take 1 (strip buffer.old.ahead))
+        (drop 1 (strip buffer.old.ahead)) [] buffer.old buffer.new) }
     ensures err { IfErr result (λ e. Exceeds (length buffer.old.behind + 1) e buffer.old) }
 {
     if !buffer.next_glyph()? {
@@ -42,7 +43,8 @@ pub fn advance_as(glyph: hb_glyph_info_t, buffer: &mut hb_buffer_t) -> Result<()
     requires open { buffer.old.is_open ≡ true }
     requires there { 0 < length buffer.old.ahead }
     requires same { (g : Glyph) → slice_get buffer.old.ahead 0 ≡ Some g → origin_of glyph ≡ origin_of g }
-    ensures ok { OnOk result (Walked (strip buffer.old.behind ++ item_of glyph ∷ []) (drop 1 (strip buffer.old.ahead)) [] buffer.old buffer.new) }
+    ensures ok { OnOk result (Walked (strip buffer.old.behind ++ item_of glyph ∷ []) (drop 1 (strip buffer.old.ahead))
+        [] buffer.old buffer.new) }
     ensures err { IfErr result (λ e. Exceeds (length buffer.old.behind + 1) e buffer.old) }
 {
     if !buffer.output_info(glyph)? {
@@ -63,8 +65,10 @@ pub fn replace_current(
 ) -> Result<(), ShapeCause>
     requires open { buffer.old.is_open ≡ true }
     requires there { 0 < length buffer.old.ahead }
-    requires same { (g : Glyph) → slice_get buffer.old.ahead 0 ≡ Some g → origins glyphs.now ≡ replicate (length glyphs.now) (origin_of g) }
-    ensures ok { OnOk result (Walked (strip buffer.old.behind ++ strip glyphs.now) (drop 1 (strip buffer.old.ahead)) (Replace (length buffer.old.behind) 1 (length glyphs.now) ∷ []) buffer.old buffer.new) }
+    requires same { (g : Glyph) → slice_get buffer.old.ahead 0 ≡ Some g → origins glyphs.now
+        ≡ replicate (length glyphs.now) (origin_of g) }
+    ensures ok { OnOk result (Walked (strip buffer.old.behind ++ strip glyphs.now) (drop 1 (strip buffer.old.ahead))
+        (Replace (length buffer.old.behind) 1 (length glyphs.now) ∷ []) buffer.old buffer.new) }
     ensures err { IfErr result (λ e. Exceeds (length buffer.old.behind + length glyphs.now) e buffer.old) }
 {
     for glyph in glyphs {
@@ -81,7 +85,8 @@ pub fn merge_behind(start: usize, end: usize, buffer: &mut hb_buffer_t)
     requires open { buffer.old.is_open ≡ true }
     requires ordered { start ≤ end }
     requires within { end ≤ length buffer.old.behind }
-    ensures { Walked (strip buffer.old.behind) (strip buffer.old.ahead) (Merge InOutput start end ∷ []) buffer.old buffer.new }
+    ensures { Walked (strip buffer.old.behind) (strip buffer.old.ahead) (Merge InOutput start end ∷ []) buffer.old
+        buffer.new }
 {
     buffer.merge_out_clusters(start, end);
 }
@@ -93,7 +98,8 @@ pub fn move_behind(start: usize, middle: usize, end: usize, buffer: &mut hb_buff
     requires begins { start ≤ middle }
     requires ordered { middle ≤ end }
     requires within { end ≤ length buffer.old.behind }
-    ensures { Walked (moved start (middle - start) (end - middle) (strip buffer.old.behind)) (strip buffer.old.ahead) (Move InOutput start (order_of_move (middle - start) (end - middle)) ∷ []) buffer.old buffer.new }
+    ensures { Walked (moved start (middle - start) (end - middle) (strip buffer.old.behind)) (strip buffer.old.ahead)
+        (Move InOutput start (order_of_move (middle - start) (end - middle)) ∷ []) buffer.old buffer.new }
 {
     merge_behind(start, end, buffer);
     let known = order_kept_behind(buffer, start, end);
@@ -106,7 +112,8 @@ fn order_kept_behind(buffer: &mut hb_buffer_t, start: usize, end: usize) -> Know
     requires ordered { start ≤ end }
     requires within { end ≤ length buffer.old.behind }
     ensures same { buffer.new ≡ buffer.old }
-    ensures moved { (n k : ℕ) → start + (n + k) ≡ end → HasOrder result (clusters (moved start n k buffer.old.behind ++ buffer.old.ahead)) }
+    ensures moved { (n k : ℕ) → start + (n + k) ≡ end → HasOrder result
+        (clusters (moved start n k buffer.old.behind ++ buffer.old.ahead)) }
 {
     let is_one = are_one_cluster(&buffer.out_info()[start..end]);
     let known = buffer.known_order();
@@ -121,7 +128,8 @@ fn order_kept_behind(buffer: &mut hb_buffer_t, start: usize, end: usize) -> Know
 pub fn finish(buffer: &mut hb_buffer_t) -> Result<(), ShapeCause>
     requires open { buffer.old.is_open ≡ true }
     ensures ok { OnOk result ((fits_joined buffer.old ≡ true) × (buffer.new ≡ synced buffer.old)) }
-    ensures err { IfErr result (λ e. e ≢ ShapeCause.OutOfMemory → (e ≡ ShapeCause.TooLong) × (fits_joined buffer.old ≡ false)) }
+    ensures err { IfErr result (λ e. e ≢ ShapeCause.OutOfMemory
+        → (e ≡ ShapeCause.TooLong) × (fits_joined buffer.old ≡ false)) }
 {
     if !buffer.sync()? {
         return Err(ShapeCause::TooLong);
@@ -138,7 +146,8 @@ pub fn replace_front(count: usize, number: u32, buffer: &mut hb_buffer_t) -> Res
     requires open { buffer.old.is_open ≡ true }
     requires some { 0 < count }
     requires there { count ≤ length buffer.old.ahead }
-    ensures ok { OnOk result (Walked (strip buffer.old.behind ++ renumbered_first number (strip buffer.old.ahead)) (drop count (strip buffer.old.ahead)) (Replace (length buffer.old.behind) count 1 ∷ []) buffer.old buffer.new) }
+    ensures ok { OnOk result (Walked (strip buffer.old.behind ++ renumbered_first number (strip buffer.old.ahead))
+        (drop count (strip buffer.old.ahead)) (Replace (length buffer.old.behind) count 1 ∷ []) buffer.old buffer.new) }
     ensures err { IfErr result (λ e. Exceeds (length buffer.old.behind + 1) e buffer.old) }
 {
     if !buffer.replace_glyphs(count, 1, &[number])? {

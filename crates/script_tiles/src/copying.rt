@@ -23,7 +23,8 @@ pub fn copy_tiles(tiles: &[Option<Tile>], buffer: &mut hb_buffer_t) -> Result<()
     requires ready { IsReady buffer.old }
     requires each { length tiles.now ≡ length (all_glyphs buffer.old) }
     ensures ok { OnOk result (IsFollowed (tiles_copied tiles.now) buffer.old buffer.new) }
-    ensures err { IfErr result (λ e. e ≢ ShapeCause.OutOfMemory → read_of (tiles_copied tiles.now) (run_of buffer.old) ≡ Err e) }
+    ensures err { IfErr result (λ e. e ≢ ShapeCause.OutOfMemory → read_of (tiles_copied tiles.now) (run_of buffer.old)
+        ≡ Err e) }
 {
     buffer.clear_output()?;
     for tile in tiles {
@@ -37,7 +38,8 @@ fn pass(tile: Option<Tile>, buffer: &mut hb_buffer_t) -> Result<(), ShapeCause>
     requires open { buffer.old.is_open ≡ true }
     requires there { 0 < length buffer.old.ahead }
     ensures ok { OnOk result ((x : Item) (xs : List Item) → strip buffer.old.ahead ≡ x ∷ xs
-        → Walked (strip buffer.old.behind ++ replicate (copies_in tile + 1) x) xs (copy_events (length buffer.old.behind) (copies_in tile)) buffer.old buffer.new) }
+        → Walked (strip buffer.old.behind ++ replicate (copies_in tile + 1) x) xs
+        (copy_events (length buffer.old.behind) (copies_in tile)) buffer.old buffer.new) }
     ensures err { IfErr result (λ e. Exceeds (length buffer.old.behind + (copies_in tile + 1)) e buffer.old) }
 {
     for _ in 0..copies_in(tile) {
@@ -60,7 +62,8 @@ fn copy_current(buffer: &mut hb_buffer_t) -> Result<(), ShapeCause>
     requires open { buffer.old.is_open ≡ true }
     requires there { 0 < length buffer.old.ahead }
     ensures ok { OnOk result ((x : Item) (xs : List Item) → strip buffer.old.ahead ≡ x ∷ xs
-        → Walked (strip buffer.old.behind ++ x ∷ []) (x ∷ xs) (Replace (length buffer.old.behind) 0 1 ∷ []) buffer.old buffer.new) }
+        → Walked (strip buffer.old.behind ++ x ∷ []) (x ∷ xs) (Replace (length buffer.old.behind) 0 1 ∷ []) buffer.old
+        buffer.new) }
     ensures err { IfErr result (λ e. Exceeds (length buffer.old.behind + 1) e buffer.old) }
 {
     let number = buffer.cur(0).glyph_id;

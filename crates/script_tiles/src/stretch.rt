@@ -33,7 +33,8 @@ use tile_places::tile::Tile;
 pub fn apply_stch(alloc: Global, face: &Face, buffer: &mut hb_buffer_t) -> Result<(), ShapeCause>
     requires ready { IsReady buffer.old }
     ensures ok { OnOk result (IsDone (tiles_laid face.now) buffer.old buffer.new) }
-    ensures err { IfErr result (λ e. e ≢ ShapeCause.OutOfMemory → read_of (tiles_laid face.now) (run_of buffer.old) ≡ Err e) }
+    ensures err { IfErr result (λ e. e ≢ ShapeCause.OutOfMemory → read_of (tiles_laid face.now) (run_of buffer.old)
+        ≡ Err e) }
 {
     if !has_tiles(buffer) {
         return Ok(());
@@ -71,7 +72,8 @@ fn lay_tiles(
     requires ready { IsReady buffer.old }
     requires each { length tiles.now ≡ length (all_glyphs buffer.old) }
     ensures ok { OnOk result (IsDone (laid_over tiles.now) buffer.old buffer.new) }
-    ensures err { IfErr result (λ e. e ≢ ShapeCause.OutOfMemory → read_of (laid_over tiles.now) (run_of buffer.old) ≡ Err e) }
+    ensures err { IfErr result (λ e. e ≢ ShapeCause.OutOfMemory → read_of (laid_over tiles.now) (run_of buffer.old)
+        ≡ Err e) }
 {
     let positions = buffer.pos_slice().to_vec(alloc)?;
     copy_tiles(tiles, buffer)?;

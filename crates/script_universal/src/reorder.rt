@@ -132,7 +132,8 @@ fn move_left(buffer: &mut hb_buffer_t, start: usize, end: usize)
     requires ready { IsReady buffer.old }
     requires ordered { start ≤ end }
     requires within { end ≤ length (all_glyphs buffer.old) }
-    ensures { IsRewritten (left_walk (end - start) 0 0 (slice_range (items_of buffer.old) start end)) start end buffer.old
+    ensures { IsRewritten (left_walk (end - start) 0 0 (slice_range (items_of buffer.old) start end)) start end
+        buffer.old
         buffer.new }
 {
     let mut i = 0;
@@ -178,7 +179,8 @@ fn move_stretch(buffer: &mut hb_buffer_t, start: usize, end: usize)
     requires ready { IsReady buffer.old }
     requires ordered { start ≤ end }
     requires within { end ≤ length (all_glyphs buffer.old) }
-    ensures { IsRewritten (fronts_moved together is_left 0 (slice_range (items_of buffer.old) start end)) start end buffer.old
+    ensures { IsRewritten (fronts_moved together is_left 0 (slice_range (items_of buffer.old) start end)) start end
+        buffer.old
         buffer.new }
 {
     let merged = end_of_left(&buffer.info_slice()[start..end]);

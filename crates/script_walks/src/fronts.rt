@@ -25,9 +25,11 @@ pub fn move_fronts<R: FrontRule>(
     requires ready { IsReady buffer.old }
     requires ordered { start + walked ≤ end }
     requires within { end ≤ length (all_glyphs buffer.old) }
-    requires last { merged ≡ reach 1 (front_moves (R.pairs rule.now) (R.ones rule.now) walked (drop walked (slice_range (items_of buffer.old) start end))) }
+    requires last { merged ≡ reach 1 (front_moves (R.pairs rule.now) (R.ones rule.now) walked
+        (drop walked (slice_range (items_of buffer.old) start end))) }
     requires fits { start + merged ≤ end }
-    ensures { IsRewritten (fronts_moved (R.pairs rule.now) (R.ones rule.now) walked (slice_range (items_of buffer.old) start end)) start end
+    ensures { IsRewritten (fronts_moved (R.pairs rule.now) (R.ones rule.now) walked
+        (slice_range (items_of buffer.old) start end)) start end
         buffer.old buffer.new }
 {
     buffer.merge_clusters(start, start + merged);

@@ -51,7 +51,8 @@ fn mirror_chars(rotation: Rotation, face: &Face, tables: &UnicodeTables, buffer:
     requires ready { IsReady buffer.old }
     requires flagless { bit_and rotation.rtlm_mask 7 ≡ 0 }
     ensures { IsFollowed
-        (always (mapped_where (is_backward rotation.target_direction) (mirrored tables.now face.now rotation.rtlm_mask)))
+        (always (mapped_where (is_backward rotation.target_direction)
+        (mirrored tables.now face.now rotation.rtlm_mask)))
         buffer.old buffer.new }
 {
     if rotation.target_direction.is_backward() {
@@ -64,7 +65,8 @@ fn mirror_chars(rotation: Rotation, face: &Face, tables: &UnicodeTables, buffer:
 fn raise_chars(rotation: Rotation, face: &Face, tables: &UnicodeTables, buffer: &mut hb_buffer_t)
     requires ready { IsReady buffer.old }
     ensures { IsFollowed
-        (always (mapped_where (is_vertical rotation.target_direction && not rotation.has_vert) (upright tables.now face.now)))
+        (always (mapped_where (is_vertical rotation.target_direction && not rotation.has_vert)
+        (upright tables.now face.now)))
         buffer.old buffer.new }
 {
     if raises_chars(rotation) {

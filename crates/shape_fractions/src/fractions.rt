@@ -161,7 +161,8 @@ fn mask_fraction(
     requires start { start ≤ at }
     requires slash { at < end }
     requires end { end ≤ length (all_glyphs buffer.old) }
-    ensures { Becomes (fraction_items buffer.old.direction masks start at end (items_of buffer.old)) buffer.old.positions
+    ensures { Becomes (fraction_items buffer.old.direction masks start at end (items_of buffer.old))
+        buffer.old.positions
         buffer.old buffer.new }
 {
     let direction = buffer.direction();
@@ -176,7 +177,8 @@ fn mask_stretch(mask: hb_mask_t, start: usize, end: usize, buffer: &mut hb_buffe
     requires flagless { bit_and mask 7 ≡ 0 }
     requires ordered { start ≤ end }
     requires within { end ≤ length (all_glyphs buffer.old) }
-    ensures { Becomes (with_features_within mask start end (items_of buffer.old)) buffer.old.positions buffer.old buffer.new }
+    ensures { Becomes (with_features_within mask start end (items_of buffer.old)) buffer.old.positions buffer.old
+        buffer.new }
 {
     flag_within(buffer.info_slice_mut(), start, end, mask);
 }

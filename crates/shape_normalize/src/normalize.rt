@@ -61,7 +61,8 @@ fn arrange_marks<N: Normalizing>(
 ) -> Result<(), ShapeCause>
     requires ready { IsReady buffer.old }
     requires placed { buffer.old.positions ≡ zero_positions (length (all_glyphs buffer.old)) }
-    ensures ok { OnOk result (IsArranged (arranged_marks has_later_mark (N.normalizer by.now) (items_of buffer.old)) buffer.old buffer.new) }
+    ensures ok { OnOk result (IsArranged (arranged_marks has_later_mark (N.normalizer by.now) (items_of buffer.old))
+        buffer.old buffer.new) }
     ensures err { IfErr result (λ e. e ≡ ShapeCause.OutOfMemory) }
 {
     if !has_later_mark {

@@ -133,7 +133,8 @@ pub(crate) fn arrange_runs<N: Normalizing>(
     buffer: &mut hb_buffer_t,
 ) -> Result<(), ShapeCause>
     requires ready { IsReady buffer.old }
-    ensures ok { OnOk result (IsRearranged [] (ordered_list (N.normalizer by.now).reorders (items_of buffer.old)) [] buffer.old buffer.new) }
+    ensures ok { OnOk result (IsRearranged [] (ordered_list (N.normalizer by.now).reorders (items_of buffer.old)) []
+        buffer.old buffer.new) }
     ensures err { IfErr result (λ e. e ≡ ShapeCause.OutOfMemory) }
 {
     let count = buffer.len();

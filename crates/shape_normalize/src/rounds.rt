@@ -25,9 +25,13 @@ pub(crate) fn expand_characters<N: Normalizing>(
     buffer: &mut hb_buffer_t,
 ) -> Result<(), ShapeCause>
     requires ready { IsReady buffer.old }
-    ensures ok { OnOk result (IsArranged (expanded_list (N.normalizer by.now) (items_of buffer.old)) buffer.old buffer.new) }
-    ensures fits { OnOk result (length (expanded_list (N.normalizer by.now) (items_of buffer.old)).items ≤ buffer.old.max_len) }
-    ensures err { IfErr result (λ e. e ≢ ShapeCause.OutOfMemory → (e ≡ ShapeCause.TooLong) × (buffer.old.max_len < length (expanded_list (N.normalizer by.now) (items_of buffer.old)).items)) }
+    ensures ok { OnOk result (IsArranged (expanded_list (N.normalizer by.now) (items_of buffer.old)) buffer.old
+        buffer.new) }
+    ensures fits { OnOk result (length (expanded_list (N.normalizer by.now) (items_of buffer.old)).items
+        ≤ buffer.old.max_len) }
+    ensures err { IfErr result (λ e. e ≢ ShapeCause.OutOfMemory
+        → (e ≡ ShapeCause.TooLong) × (buffer.old.max_len < length
+        (expanded_list (N.normalizer by.now) (items_of buffer.old)).items)) }
 {
     buffer.clear_output()?;
     expand_list(by, buffer)?;
@@ -61,7 +65,8 @@ pub(crate) fn compose_characters<N: Normalizing>(
     buffer: &mut hb_buffer_t,
 ) -> Result<(), ShapeCause>
     requires ready { IsReady buffer.old }
-    ensures ok { OnOk result (IsArranged (composed_list (N.normalizer by.now) (items_of buffer.old)) buffer.old buffer.new) }
+    ensures ok { OnOk result (IsArranged (composed_list (N.normalizer by.now) (items_of buffer.old)) buffer.old
+        buffer.new) }
     ensures err { IfErr result (λ e. e ≡ ShapeCause.OutOfMemory) }
 {
     let count = buffer.len();

@@ -112,7 +112,8 @@ fn compose_all<N: Normalizing>(
     requires front { buffer.old.behind ≡ [] }
     requires counted { count ≡ length buffer.old.ahead }
     requires some { 0 < count }
-    ensures ok { OnOk result (Brought (composed_list (N.normalizer by.now) (strip buffer.old.ahead)) [] buffer.old buffer.new) }
+    ensures ok { OnOk result (Brought (composed_list (N.normalizer by.now) (strip buffer.old.ahead)) [] buffer.old
+        buffer.new) }
     ensures room { OnOk result (HasRoom buffer.new) }
     ensures err { IfErr result (λ e. e ≡ ShapeCause.OutOfMemory) }
 {
@@ -138,7 +139,8 @@ pub(crate) fn compose_list<N: Normalizing>(
     requires room { HasRoom buffer.old }
     requires front { buffer.old.behind ≡ [] }
     requires counted { count ≡ length buffer.old.ahead }
-    ensures ok { OnOk result (Brought (composed_list (N.normalizer by.now) (strip buffer.old.ahead)) [] buffer.old buffer.new) }
+    ensures ok { OnOk result (Brought (composed_list (N.normalizer by.now) (strip buffer.old.ahead)) [] buffer.old
+        buffer.new) }
     ensures room { OnOk result (HasRoom buffer.new) }
     ensures err { IfErr result (λ e. e ≡ ShapeCause.OutOfMemory) }
 {

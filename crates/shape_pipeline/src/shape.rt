@@ -49,7 +49,8 @@ fn shape_guessed<'a, S: hb_ot_shaper_t, P: SyllableSpans>(
     requires unrefused { buffer.has_refused ≡ false }
     requires characters { are_characters (items_of buffer) ≡ true }
     ensures ok { IfOk result (λ glyphs. Follows
-        (text_reading (⟦<hb_ot_shape_context_t<'a, S, P> as Shaped>⟧.shaping context.now (text_settings buffer)) (run_of buffer))
+        (text_reading (⟦<hb_ot_shape_context_t<'a, S, P> as Shaped>⟧.shaping context.now (text_settings buffer))
+        (run_of buffer))
         (run_of buffer) (run_of glyphs)) }
     ensures refused { IfErr result (λ e. e.cause ≢ ShapeCause.OutOfMemory → text_reading
         (⟦<hb_ot_shape_context_t<'a, S, P> as Shaped>⟧.shaping context.now (text_settings buffer)) (run_of buffer)
@@ -76,12 +77,15 @@ pub fn shape_with_plan<S: hb_ot_shaper_t, P: SyllableSpans, L: LanguageTags>(
     mut buffer: UnicodeBuffer,
 ) -> Result<GlyphBuffer, ShapeFault>
     ensures ok { IfOk result (λ glyphs. Follows
-        (text_reading (by_plan (S.traits plan.now.shaper) (S.rules plan.now.shaper plan.now.script_plan) plan.now face.now
-        shape_data.entry.tables.now (P.span_of shape_data.entry.spans.now) (text_settings (guessed buffer))) (run_of (guessed buffer)))
+        (text_reading (by_plan (S.traits plan.now.shaper) (S.rules plan.now.shaper plan.now.script_plan) plan.now
+        face.now
+        shape_data.entry.tables.now (P.span_of shape_data.entry.spans.now) (text_settings (guessed buffer)))
+        (run_of (guessed buffer)))
         (run_of (guessed buffer)) (run_of glyphs)) }
     ensures refused { IfErr result (λ e. e.cause ≢ ShapeCause.OutOfMemory → text_reading
         (by_plan (S.traits plan.now.shaper) (S.rules plan.now.shaper plan.now.script_plan) plan.now face.now
-        shape_data.entry.tables.now (P.span_of shape_data.entry.spans.now) (text_settings (guessed buffer))) (run_of (guessed buffer)) ≡ Err e.cause) }
+        shape_data.entry.tables.now (P.span_of shape_data.entry.spans.now) (text_settings (guessed buffer)))
+        (run_of (guessed buffer)) ≡ Err e.cause) }
     ensures cleared { IfErr result (λ e. e.buffer ≡ empty_buffer) }
 {
     buffer.guess_segment_properties();
@@ -104,10 +108,12 @@ pub fn shape<P: SyllableSpans, L: LanguageTags>(
     mut buffer: UnicodeBuffer,
 ) -> Result<GlyphBuffer, ShapeFault>
     ensures ok { IfOk result (λ glyphs. Follows
-        (text_reading (by_text face.now shape_data.entry.tables.now (L.tags_of shape_data.entry.languages.now) (P.span_of shape_data.entry.spans.now) features.now
+        (text_reading (by_text face.now shape_data.entry.tables.now (L.tags_of shape_data.entry.languages.now)
+        (P.span_of shape_data.entry.spans.now) features.now
         (guessed buffer)) (run_of (guessed buffer))) (run_of (guessed buffer)) (run_of glyphs)) }
     ensures refused { IfErr result (λ e. e.cause ≢ ShapeCause.OutOfMemory → text_reading
-        (by_text face.now shape_data.entry.tables.now (L.tags_of shape_data.entry.languages.now) (P.span_of shape_data.entry.spans.now) features.now
+        (by_text face.now shape_data.entry.tables.now (L.tags_of shape_data.entry.languages.now)
+        (P.span_of shape_data.entry.spans.now) features.now
         (guessed buffer)) (run_of (guessed buffer)) ≡ Err e.cause) }
     ensures cleared { IfErr result (λ e. e.buffer ≡ empty_buffer) }
 {

@@ -70,7 +70,8 @@ impl<'a, S: CategorizedShaper> hb_ot_shape_planner_t<'a, S> {
         ensures shaper { result.shaper ≡ S.shaper_of script direction (gsub_script face.now script
             (wanted_language_tags (L.tags_of languages.now) (option_copied language.entry))) }
         ensures requests { result.ot_map
-            ≡ nothing_asked face.now script (wanted_language_tags (L.tags_of languages.now) (option_copied language.entry)) }
+            ≡ nothing_asked face.now script (wanted_language_tags (L.tags_of languages.now)
+            (option_copied language.entry)) }
     {
         let ot_map = new_builder(alloc, face, languages, script, language);
         let gsub_script = ot_map.chosen_script(TableIndex::GSUB);
@@ -101,7 +102,8 @@ impl<'a, S: PlannedShaper> hb_ot_shape_planner_t<'a, S> {
         ensures script { result.script ≡ script }
         ensures shaper { result.shaper ≡ shaper }
         ensures requests { result.ot_map
-            ≡ nothing_asked face.now script (wanted_language_tags (L.tags_of languages.now) (option_copied language.entry)) }
+            ≡ nothing_asked face.now script (wanted_language_tags (L.tags_of languages.now)
+            (option_copied language.entry)) }
     {
         let ot_map = new_builder(alloc, face, languages, script, language);
         hb_ot_shape_planner_t {
@@ -116,7 +118,11 @@ impl<'a, S: PlannedShaper> hb_ot_shape_planner_t<'a, S> {
     /// Asks for what every text, the shaper and the user want. A planner that was refused memory is only dropped.
     pub fn collect_features(&mut self, features: &[Feature]) -> Result<(), AllocError>
         ensures { OnOk result (self.new ≡ record self.old {
-          ot_map = with_requests (record { collects = S.collects self.old.shaper; overrides = S.overrides self.old.shaper })
+          ot_map = with_requests (record {
+            collects = S.collects self.old.shaper;
+            overrides = S.overrides
+                self.old.shaper;
+          })
               self.old.direction self.old.script features.now self.old.ot_map;
         }) }
     {

@@ -30,7 +30,8 @@ fn shape_text(
         (text_reading (shaping (tables_value tables.now) face.now features.now (guessed text)) (run_of (guessed text)))
         (run_of (guessed text)) (run_of glyphs)) }
     ensures refused { IfErr result (λ e. e ≢ RunFault.OutOfMemory → IsUnshaped false
-        (text_reading (shaping (tables_value tables.now) face.now features.now (guessed text)) (run_of (guessed text))) e) }
+        (text_reading (shaping (tables_value tables.now) face.now features.now (guessed text)) (run_of (guessed text)))
+        e) }
     ensures kind { IfErr result IsOfRun }
 {
     let shape_data = hb_shape_data_t {
@@ -57,7 +58,8 @@ pub(crate) fn shape(
         (text_reading (shaping (tables_value tables.now) face.now features.now (guessed text)) (run_of (guessed text)))
         (run_of (guessed text)) (run_of glyphs)) }
     ensures refused { IfErr result (λ e. e ≢ RunFault.OutOfMemory → IsUnshaped (script_waits text.script)
-        (text_reading (shaping (tables_value tables.now) face.now features.now (guessed text)) (run_of (guessed text))) e) }
+        (text_reading (shaping (tables_value tables.now) face.now features.now (guessed text)) (run_of (guessed text)))
+        e) }
     ensures kind { IfErr result IsOfRun }
 {
     if script_waits(Some(text.script())) {

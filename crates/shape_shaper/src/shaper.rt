@@ -42,9 +42,11 @@ pub trait hb_ot_shaper_t: PlannedShaper {
     ) -> Result<(), ShapeCause>
         requires ready { IsReady buffer.old }
         ensures ok { OnOk result (IsFollowed
-            ((rules self.now plan.now).preprocesses face.now tables.now (text_settings buffer.old)) buffer.old buffer.new) }
+            ((rules self.now plan.now).preprocesses face.now tables.now (text_settings buffer.old)) buffer.old
+            buffer.new) }
         ensures err { IfErr result (λ e. e ≢ ShapeCause.OutOfMemory → read_of
-            ((rules self.now plan.now).preprocesses face.now tables.now (text_settings buffer.old)) (run_of buffer.old) ≡ Err e) };
+            ((rules self.now plan.now).preprocesses face.now tables.now (text_settings buffer.old)) (run_of buffer.old)
+            ≡ Err e) };
 
     /// The two parts of a character; the second is U+0000 where it is absent.
     fn decompose(
@@ -90,7 +92,8 @@ pub trait hb_ot_shaper_t: PlannedShaper {
         ensures ok { OnOk result (IsFollowed
             ((rules self.now plan.now).sets_masks face.now tables.now (text_settings buffer.old)) buffer.old buffer.new) }
         ensures err { IfErr result (λ e. e ≢ ShapeCause.OutOfMemory → read_of
-            ((rules self.now plan.now).sets_masks face.now tables.now (text_settings buffer.old)) (run_of buffer.old) ≡ Err e) };
+            ((rules self.now plan.now).sets_masks face.now tables.now (text_settings buffer.old)) (run_of buffer.old)
+            ≡ Err e) };
 
     /// Does what the pause of a number does between two stages of lookups, and answers true whenever a glyph number came in.
     fn run_pause<P: SyllableSpans>(
@@ -106,11 +109,13 @@ pub trait hb_ot_shaper_t: PlannedShaper {
         requires ready { IsReady buffer.old }
         requires numbers { are_glyphs (items_of buffer.old) ≡ true }
         ensures ok { OnOk result (IsDone
-            ((rules self.now plan.now).pauses face.now tables.now (P.span_of spans.now) (text_settings buffer.old) pause)
+            ((rules self.now plan.now).pauses face.now tables.now (P.span_of spans.now) (text_settings buffer.old)
+            pause)
             buffer.old buffer.new) }
         ensures told { result ≡ Ok false → BringsNoGlyph (items_of buffer.old) (items_of buffer.new) }
         ensures err { IfErr result (λ e. e ≢ ShapeCause.OutOfMemory → read_of
-            ((rules self.now plan.now).pauses face.now tables.now (P.span_of spans.now) (text_settings buffer.old) pause)
+            ((rules self.now plan.now).pauses face.now tables.now (P.span_of spans.now) (text_settings buffer.old)
+            pause)
             (run_of buffer.old) ≡ Err e) };
 
     /// Changes the glyphs, which stand as they are drawn, and their positions.

@@ -38,7 +38,8 @@ pub fn insert_dotted_circle(
     ensures ok { OnOk result
         (IsFollowed (first_circle tables.now face.now buffer.old.flags buffer.old.pre_context) buffer.old buffer.new) }
     ensures err { IfErr result (λ e. e ≢ ShapeCause.OutOfMemory
-        → read_of (first_circle tables.now face.now buffer.old.flags buffer.old.pre_context) (run_of buffer.old) ≡ Err e) }
+        → read_of (first_circle tables.now face.now buffer.old.flags buffer.old.pre_context) (run_of buffer.old)
+        ≡ Err e) }
 {
     if !needs_circle(face, buffer) {
         return Ok(());

@@ -25,7 +25,8 @@ pub fn form_clusters(buffer: &mut hb_buffer_t)
 #[tactic(auto, using(crate::proofs::Formed::none_formed, crate::proofs::Formed::next_formed, crate::proofs::Formed::all_formed, crate::proofs::Formed::grapheme_ends, crate::proofs::Formed::same_count))]
 fn form_graphemes(buffer: &mut hb_buffer_t)
     requires { IsReady buffer.old }
-    ensures { Happens (grapheme_events buffer.old.level 0 (grapheme_lengths (items_of buffer.old))) buffer.old buffer.new }
+    ensures { Happens (grapheme_events buffer.old.level 0 (grapheme_lengths (items_of buffer.old))) buffer.old
+        buffer.new }
 {
     let count = buffer.len();
     let mut start = 0;

@@ -24,7 +24,9 @@ impl Flags for BufferFlags {
 
     ghost exact = { ⊤ };
 
-    ghost table = { (codes "BEGINNING_OF_TEXT", 1) ∷ (codes "END_OF_TEXT", 2) ∷ (codes "PRESERVE_DEFAULT_IGNORABLES", 4) ∷ (codes "REMOVE_DEFAULT_IGNORABLES", 8) ∷ (codes "DO_NOT_INSERT_DOTTED_CIRCLE", 16) ∷ (codes "PRODUCE_UNSAFE_TO_CONCAT", 64) ∷ (codes "PRODUCE_SAFE_TO_INSERT_TATWEEL", 128) ∷ [] };
+    ghost table = { (codes "BEGINNING_OF_TEXT", 1) ∷ (codes "END_OF_TEXT", 2) ∷ (codes "PRESERVE_DEFAULT_IGNORABLES", 4)
+        ∷ (codes "REMOVE_DEFAULT_IGNORABLES", 8) ∷ (codes "DO_NOT_INSERT_DOTTED_CIRCLE", 16)
+        ∷ (codes "PRODUCE_UNSAFE_TO_CONCAT", 64) ∷ (codes "PRODUCE_SAFE_TO_INSERT_TATWEEL", 128) ∷ [] };
 
     ghost set_of = { λ p. p.0 };
 

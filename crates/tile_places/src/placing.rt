@@ -52,7 +52,9 @@ fn place(
     x: i32,
     places: &mut Vec<GlyphPosition>,
 ) -> Result<i32, AllocFailed<GlyphPosition>>
-    ensures { IfOk result (λ y. (at : ℤ) → x ≡ int_wrap w32 at → (y ≡ int_wrap w32 (begins_at tile at)) × (places.new.items ≡ places.old.items ++ reverse (placed position tile at))) }
+    ensures { IfOk result (λ y. (at : ℤ) → x ≡ int_wrap w32 at
+        → (y ≡ int_wrap w32 (begins_at tile at)) × (places.new.items ≡ places.old.items
+        ++ reverse (placed position tile at))) }
 {
     match tile {
         None => {
@@ -69,7 +71,9 @@ fn place_tile(
     x: i32,
     places: &mut Vec<GlyphPosition>,
 ) -> Result<i32, AllocFailed<GlyphPosition>>
-    ensures { IfOk result (λ y. (at : ℤ) → x ≡ int_wrap w32 at → (y ≡ int_wrap w32 (copy_begin tile at tile.copies)) × (places.new.items ≡ places.old.items ++ reverse (copies_placed position tile at tile.copies))) }
+    ensures { IfOk result (λ y. (at : ℤ) → x ≡ int_wrap w32 at
+        → (y ≡ int_wrap w32 (copy_begin tile at tile.copies)) ×
+        (places.new.items ≡ places.old.items ++ reverse (copies_placed position tile at tile.copies))) }
 {
     let mut begin = first_begin(tile, x);
     places.push(tile_at(position, begin))?;
@@ -89,7 +93,8 @@ fn first_begin(tile: Tile, x: i32) -> i32
 
 /// Where a further copy begins, to the left of a tile or copy that begins at x.
 fn next_begin(tile: Tile, x: i32) -> i32
-    ensures { (at : ℤ) (n : ℕ) → x ≡ int_wrap w32 (copy_begin tile at n) → result ≡ int_wrap w32 (copy_begin tile at (n + 1)) }
+    ensures { (at : ℤ) (n : ℕ) → x ≡ int_wrap w32 (copy_begin tile at n) → result
+        ≡ int_wrap w32 (copy_begin tile at (n + 1)) }
 {
     x.wrapping_sub(tile.width).wrapping_add(tile.overlap)
 }

@@ -1,6 +1,7 @@
 //! Properties of characters by tables.
 use crate::properties::characters_have_words;
 use serde_json::Value;
+use std::alloc::Global;
 use std::process::Abort;
 use std::test::Fail;
 use tables_json::read_tables;
@@ -66,24 +67,38 @@ fn types(tables: &UnicodeTables) -> [Option<u8>; 3] {
     ]
 }
 
-fn characters_have_properties(rt: &impl Abort, tables: &UnicodeTables) {
+fn characters_have_forms(rt: &impl Abort, tables: &UnicodeTables) {
     assert_eq!(rt; classes(tables), [230, 0]);
     assert_eq!(rt; other_forms(tables), [Some(')'), Some('\u{FE11}')]);
     assert_eq!(rt; are_pictographic(tables), [true, false]);
     assert_eq!(rt; types(tables), [Some(3), None, Some(44)]);
+}
+
+fn characters_have_rows(rt: &impl Abort, tables: &UnicodeTables) {
     assert_eq!(rt; tables.indic('\u{915}'), Some((34, 14)));
     assert_eq!(rt; tables.thai('\u{E38}', 3), Some(('\u{F71A}', '\u{F71B}')));
     assert_eq!(rt; tables.thai('\u{E38}', 2), None);
 }
 
+/// The tables of a text.
+pub(crate) fn tables_of(alloc: Global, text: &str) -> Result<UnicodeTables, Fail> {
+    let value = Value::from_str(alloc, text)?;
+    let tables = read_tables(alloc, &value)?;
+    Ok(tables)
+}
+
+fn characters_of(rt: &impl Abort, tables: &UnicodeTables) {
+    characters_split(rt, tables);
+    characters_compose(rt, tables);
+    characters_have_forms(rt, tables);
+    characters_have_rows(rt, tables);
+    characters_have_words(rt, tables);
+}
+
 #[test]
 fn characters_by_tables(rt: HostRuntime) -> Result<(), Fail> {
-    let value = Value::from_str(rt.alloc(), TABLES)?;
-    let tables = read_tables(rt.alloc(), &value)?;
-    characters_split(&rt, &tables);
-    characters_compose(&rt, &tables);
-    characters_have_properties(&rt, &tables);
-    characters_have_words(&rt, &tables);
+    let tables = tables_of(rt.alloc(), TABLES)?;
+    characters_of(&rt, &tables);
     Ok(())
 }
 

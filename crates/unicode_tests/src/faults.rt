@@ -1,4 +1,5 @@
 //! Texts of tables that are refused, each with the fault that comes first.
+use crate::characters::tables_of;
 use json_values::fault::JsonFault;
 use serde_json::Value;
 use std::alloc::Global;
@@ -63,10 +64,13 @@ J4 UnknownName: {"indic":[[55296,"QQ","END"]]}
 J2 WrongShape: {"indic":[[55296,"QQ",3]]}
 U2 OutOfRange: {"splits":[[97,97,98],[98,1114112,0]]}
 U1 OutOfOrder: {"splits":[[97,97,98]],"classes":[[1,1],[1,1]]}
-none: {"splits":[[4097,4096,768],[4098,4097,768],[4099,4098,768],[4100,4099,0],[4101,4100,768],[4102,4101,768],[4103,4102,768],[4104,4103,768]]}
-U3 SplitDepth: {"splits":[[4097,4096,768],[4098,4097,768],[4099,4098,768],[4100,4099,0],[4101,4100,768],[4102,4101,768],[4103,4102,768],[4104,4103,768],[4105,4104,768]]}
+none:
+{"splits":[[4097,4096,768],[4098,4097,768],[4099,4098,768],[4100,4099,0],[4101,4100,768],[4102,4101,768],[4103,4102,768],[4104,4103,768]]}
+U3 SplitDepth:
+{"splits":[[4097,4096,768],[4098,4097,768],[4099,4098,768],[4100,4099,0],[4101,4100,768],[4102,4101,768],[4103,4102,768],[4104,4103,768],[4105,4104,768]]}
 none: {"splits":[[4097,4096,768],[4098,4097,768],[4099,4098,768],[4100,4099,0],[4101,4100,768],[4352,4101,0]]}
-U3 SplitDepth: {"splits":[[4097,4096,768],[4098,4097,768],[4099,4098,768],[4100,4099,0],[4101,4100,768],[4102,4101,0],[4352,4102,0]]}"#;
+U3 SplitDepth:
+{"splits":[[4097,4096,768],[4098,4097,768],[4099,4098,768],[4100,4099,0],[4101,4100,768],[4102,4101,0],[4352,4102,0]]}"#;
 
 // What stands in `syllables`; in the last two, states come before steps, steps before accepting states, and Indic before
 // Khmer.
@@ -109,8 +113,10 @@ none: {"splits":[[225,97,769]],"classes":[[769,230]]}
 SplitLosesClass: {"splits":[[836,776,769]],"classes":[[769,230],[836,230]]}
 SecondPartSplits: {"splits":[[836,776,769],[901,168,836]]}
 SecondPartSplits: {"splits":[[4520,97,0]]}
-none: {"splits":[[225,97,769],[7841,97,803],[983040,225,803]],"pairs":[[7841,769,983040]],"classes":[[769,230],[803,220]]}
-PairNotEquivalent: {"splits":[[225,97,769],[7841,97,803],[983040,225,803]],"pairs":[[7841,769,983040]],"classes":[[769,230],[803,230]]}
+none:
+{"splits":[[225,97,769],[7841,97,803],[983040,225,803]],"pairs":[[7841,769,983040]],"classes":[[769,230],[803,220]]}
+PairNotEquivalent:
+{"splits":[[225,97,769],[7841,97,803],[983040,225,803]],"pairs":[[7841,769,983040]],"classes":[[769,230],[803,230]]}
 PairNotEquivalent: {"splits":[[225,97,769]],"pairs":[[97,769,226]]}"#;
 
 fn name_of(fault: Option<JsonFault>) -> &'static str {
@@ -147,8 +153,7 @@ fn law_name(fault: Option<LawFault>) -> &'static str {
 }
 
 fn law_fault(alloc: Global, text: &str) -> Result<&'static str, Fail> {
-    let value = Value::from_str(alloc, text)?;
-    let tables = read_tables(alloc, &value)?;
+    let tables = tables_of(alloc, text)?;
     Ok(law_name(tables.law_fault()))
 }
 
@@ -173,7 +178,8 @@ fn fault_of(alloc: Global, reader: Reader, text: &str) -> Result<&'static str, F
 fn check_faults(rt: &impl Abort, alloc: Global, reader: Reader, lines: &str) -> Result<(), Fail> {
     for line in lines.lines() {
         let (fault, text) = line.split_once(": ").ok_or("no case")?;
-        assert_eq!(rt; fault_of(alloc, reader, text)?, fault, "{text}");
+        let found = fault_of(alloc, reader, text)?;
+        assert_eq!(rt; found, fault, "{text}");
     }
     Ok(())
 }

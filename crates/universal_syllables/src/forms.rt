@@ -116,7 +116,8 @@ fn set_form(masks: &FormMasks, buffer: &mut hb_buffer_t, start: usize, end: usiz
     requires ready { IsReady buffer.old }
     requires ordered { start ≤ end }
     requires within { end ≤ length (all_glyphs buffer.old) }
-    ensures { IsRewritten (kept (map (with_form masks.now form) (slice_range (items_of buffer.old) start end))) start end
+    ensures { IsRewritten (kept (map (with_form masks.now form) (slice_range (items_of buffer.old) start end))) start
+        end
         buffer.old buffer.new }
 {
     form_within(buffer.info_slice_mut(), start, end, masks.bits(), form);

@@ -100,7 +100,8 @@ impl hb_buffer_t {
         ensures held { IfOk result (λ b. b ≡ nat_le n self.old.max_len) }
         ensures set { result ≡ Ok true → self.new ≡ with_len n self.old }
         ensures items { result ≡ Ok true → items_of self.new ≡ of_length n (item_of zero_glyph) (items_of self.old) }
-        ensures origins { result ≡ Ok true → origins_of self.new ≡ of_length n (unflagged_origin 0) (origins_of self.old) }
+        ensures origins { result ≡ Ok true → origins_of self.new
+            ≡ of_length n (unflagged_origin 0) (origins_of self.old) }
         ensures full { result ≡ Ok false → self.new ≡ refused self.old }
         ensures err { OnErr result (self.new ≡ self.old) }
     {

@@ -1,15 +1,12 @@
-// buffer_bench: walks a buffer of a million glyphs, glyph by glyph, by ligatures, and by pairs that are merged in the
-// output; sorts such buffers and turns their groups round, with clusters that rise and that fall; and tells on standard
-// error how long a glyph took. In no order each merge walks the list, so that is left out.
-#![tactic(auto)]
-
+//! Walks a buffer of a million glyphs, glyph by glyph, by ligatures, and by pairs that are merged in the output; sorts such
+//! buffers and turns their groups round, with clusters that rise and that fall. In no order each merge walks the list, so
+//! that is left out.
 ghost use Rattle.std.specs.Prelude.{◌≡◌, true, false, OnOk, IfOk};
 ghost use Rattle.glyph_buffer.specs.Sides.{all_glyphs};
 
 use glyph_buffer::buffer::hb_buffer_t;
 use std::alloc::{AllocError, Global};
 use std::io;
-use std::process::ExitCode;
 use std::time::Instant;
 
 const COUNT: u32 = 1_000_000;
@@ -210,7 +207,7 @@ fn time(rt: &HostRuntime, task: Task) -> io::Result<()> {
     }
 }
 
-fn run(rt: &HostRuntime) -> io::Result<()> {
+pub(crate) fn run(rt: &HostRuntime) -> io::Result<()> {
     for task in [Task::Walk, Task::Ligate, Task::Compose] {
         time(rt, task)?;
     }
@@ -219,9 +216,4 @@ fn run(rt: &HostRuntime) -> io::Result<()> {
         time_turn(rt, name, going)?;
     }
     Ok(())
-}
-
-fn main(rt: HostRuntime) -> io::Result<ExitCode> {
-    run(&rt)?;
-    Ok(ExitCode::SUCCESS)
 }

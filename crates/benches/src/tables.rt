@@ -1,8 +1,6 @@
-// table_bench: asks a table of some 5,000 characters, spread like those of Unicode's tables, for a million characters:
-// of running text, at random, and of text that the table lacks, by halves and by pages; and tells on standard error how
-// long a look-up took. Then it asks tables of the size of a large font's, by halves.
-#![tactic(auto)]
-
+//! Asks a table of some 5,000 characters, spread like those of Unicode's tables, for a million characters: of running
+//! text, at random, and of text that the table lacks, by halves and by pages. Then asks tables of the size of a large
+//! font's, by halves.
 ghost use Rattle.std.specs.Prelude.{◌≡◌, IfOk};
 ghost use Rattle.sorted_rows.specs.Keys.{numbers_rise};
 
@@ -12,7 +10,6 @@ use fonts::ask_font;
 use sorted_rows::{Keyed, Numbered, PagedRows, SortedRows, is_rising};
 use std::alloc::{AllocError, Global};
 use std::io;
-use std::process::ExitCode;
 use std::time::Instant;
 
 const COUNT: u32 = 1_000_000;
@@ -148,7 +145,7 @@ fn compare_texts(
     compare(rt, "latin", Text::Latin, halves, pages)
 }
 
-fn run(rt: &HostRuntime) -> io::Result<()> {
+fn ask_characters(rt: &HostRuntime) -> io::Result<()> {
     let halves = rows(rt.alloc())?;
     let pages = rows(rt.alloc())?;
     if !is_rising(&halves) || !is_rising(&pages) {
@@ -158,8 +155,7 @@ fn run(rt: &HostRuntime) -> io::Result<()> {
     compare_texts(rt, &SortedRows::new(halves), &pages)
 }
 
-fn main(rt: HostRuntime) -> io::Result<ExitCode> {
-    run(&rt)?;
-    ask_font(&rt)?;
-    Ok(ExitCode::SUCCESS)
+pub(crate) fn run(rt: &HostRuntime) -> io::Result<()> {
+    ask_characters(rt)?;
+    ask_font(rt)
 }

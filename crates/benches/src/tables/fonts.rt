@@ -1,5 +1,5 @@
 //! Look-ups in the tables of a large font: what a glyph has, its class, and whether a set of glyphs has it.
-use crate::{COUNT, tell};
+use super::{COUNT, tell};
 use layout_common::class_definition::ClassDefinition;
 use layout_common::coverage::Coverage;
 use layout_common::glyph_row::{GlyphRow, find_value};

@@ -1,6 +1,6 @@
 use Rattle.std.proofs.Common.{◌≡◌, true, length}
 use Rattle.glyph_buffer.specs.Sides.{all_glyphs}
-use Rattle.buffer_bench.proofs.walk.Given as goal
+use Rattle.benches.proofs.buffer.walk.Given as goal
 
 abbrev pub invariant-loop-buffer : goal.invariant-loop-buffer
 invariant-loop-buffer l = (l.buffer.is_open ≡ true) × (all_glyphs l.buffer ≡ all_glyphs l.fn.buffer)

@@ -1,5 +1,5 @@
 use Rattle.std.proofs.Common.{◌≡◌, false}
-use Rattle.buffer_bench.proofs.swapped.Given as goal
+use Rattle.benches.proofs.buffer.swapped.Given as goal
 
 abbrev pub invariant-loop-place : goal.invariant-loop-place
 invariant-loop-place l = l.buffer.is_open ≡ false

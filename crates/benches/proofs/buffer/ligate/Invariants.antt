@@ -1,5 +1,5 @@
 use Rattle.std.proofs.Common.{◌≡◌, true}
-use Rattle.buffer_bench.proofs.ligate.Given as goal
+use Rattle.benches.proofs.buffer.ligate.Given as goal
 
 abbrev pub invariant-loop : goal.invariant-loop
 invariant-loop l = l.buffer.is_open ≡ true
