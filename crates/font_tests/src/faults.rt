@@ -1,11 +1,12 @@
 //! Fonts that are refused.
-use face_json::read_face;
-use serde_json::Value;
+use face_text::read_face_text;
 use std::alloc::{AllocError, Global};
 use std::test::Fail;
 
 // Fonts of one fault, by the keys of the format, and fonts of several, each behind its first fault.
-const FAULTS: &str = r#"J2 WrongShape: []
+const FAULTS: &str = r#"J1 NotJson: {"upem":"x","h":[[1,2]]
+J1 NotJson: {"upem":"x"} 1
+J2 WrongShape: []
 J2 WrongShape: {"upem":"x"}
 J3 FloatNumber: {"upem":1000.5}
 J3 FloatNumber: {"upem":-0}
@@ -65,14 +66,11 @@ J2 WrongShape: {"gpos":{"lookups":[{"type":"single","subtables":[[[1,[0,0,0]]]]}
 J2 WrongShape: {"gpos":{"lookups":[{"type":"pair","subtables":[[[1,2,null,null]]]}]}}
 U1 OutOfOrder: {"gpos":{"lookups":[{"type":"pair","subtables":[[[1,2,[0,0,0,0],null],[1,2,[0,0,0,0],null]]]}]}}
 U2 OutOfRange: {"gpos":{"lookups":[{"type":"pair","subtables":[{"class1":[[1,0]]}]}]}}
-U2 OutOfRange:
-{"gpos":{"lookups":[{"type":"pair","subtables":[{"class2":[[1,1]],"records":[[[[0,0,0,0],null],[[0,0,0,0],null]],[[[0,0,0,0],null]]]}]}]}}
+U2 OutOfRange: {"gpos":{"lookups":[{"type":"pair","subtables":[{"class2":[[1,1]],"records":[[[[0,0,0,0],null],[[0,0,0,0],null]],[[[0,0,0,0],null]]]}]}]}}
 J2 WrongShape: {"gpos":{"lookups":[{"type":"cursive","subtables":[[[1,null]]]}]}}
-U2 OutOfRange:
-{"gpos":{"lookups":[{"type":"markbase","subtables":[{"marks":[[9,1,null]],"bases":[[1,[null,null]],[2,[null]]]}]}]}}
+U2 OutOfRange: {"gpos":{"lookups":[{"type":"markbase","subtables":[{"marks":[[9,1,null]],"bases":[[1,[null,null]],[2,[null]]]}]}]}}
 U2 OutOfRange: {"gpos":{"lookups":[{"type":"markmark","subtables":[{"marks":[[9,0,[0,40000]]],"bases":[[1,["x"]]]}]}]}}
-U2 OutOfRange:
-{"gpos":{"lookups":[{"type":"marklig","subtables":[{"marks":[[9,1,null]],"bases":[[1,[[null,null],[null]]]]}]}]}}
+U2 OutOfRange: {"gpos":{"lookups":[{"type":"marklig","subtables":[{"marks":[[9,1,null]],"bases":[[1,[[null,null],[null]]]]}]}]}}
 J3 FloatNumber: {"h":3,"cmap":[[97,70000]],"ascender":1.5}
 U2 OutOfRange: {"variants":[[1,2,3],[1,2,70000]],"h":[["x"]]}
 U1 OutOfOrder: {"cmap":[[98,1],[97,1],["x",1]]}
@@ -81,8 +79,7 @@ J3 FloatNumber: {"gdef":{"sets":[[70000,1.5]]},"gsub":[]}
 U2 OutOfRange: {"gpos":3,"gsub":{"lookups":[{"subtables":3,"set":0,"type":3}],"features":[["liga",[1]]]}}"#;
 
 fn fault_of(alloc: Global, text: &str) -> Result<&'static str, Fail> {
-    let value = Value::from_str(alloc, text)?;
-    match read_face(alloc, &value) {
+    match read_face_text(alloc, text) {
         Ok(_) => Ok("none"),
         Err(fault) => Ok(fault.name()),
     }

@@ -1,15 +1,14 @@
 //! What a font answers of characters and glyphs.
-use face_json::read_face;
+use crate::{positions, substitutions};
+use face_text::{read_by_parts, read_face_text};
 use font_face::Face;
 use glyph_types::names::{GlyphId, GlyphNames, hb_glyph_extents_t};
-use serde_json::Value;
 use std::alloc::{AllocError, Global};
 use std::process::Abort;
 use std::test::Fail;
 
 pub(crate) fn font(alloc: Global, text: &str) -> Result<Face, Fail> {
-    let value = Value::from_str(alloc, text)?;
-    Ok(read_face(alloc, &value)?)
+    Ok(read_face_text(alloc, text)?)
 }
 
 const FONT: &str = r#"{"upem":1000,"ascender":-800,"cmap":[[97,1],[98,2]],"variants":[[97,65024,7]],
@@ -138,6 +137,24 @@ fn tables_of_a_font(rt: HostRuntime) -> Result<(), Fail> {
     ] {
         let font = font(rt.alloc(), text)?;
         assert_eq!(rt; tables_of(&font), tables, "{text}");
+    }
+    Ok(())
+}
+
+// A font with each key of the format and some others.
+const ALL_KEYS: &str =
+    r#"{"names":[[1,"\u0061lpha"],[2,"beta"]],"kern":[{"a":[null,true,[]]},"b"],"upem":1000,"h":[[1,501]],
+"v":[[1,900]],"origins":[[1,-880]],"extents":[[1,10,700,480,-710]],"cmap":[[97,1]],"variants":[[97,65024,7]],"ascender":-8,
+"gsub":{"lookups":[{"set":1,"flags":16,"type":"single","subtables":[[[1,2]]]}],"features":[["liga",[0]],["kern",[]]],
+"scripts":[["DFLT",null,[]],["latn",{"required":1,"features":[0]},[["DEU ",{}]]]],"size":3},"gpos":{"scripts":[]},
+"gdef":{"sets":[[9],[]],"attach":[[9,2]],"classes":[[1,1],[9,3]],"carets":{"1":[250]}}}"#;
+
+// A font that is read whole takes several times the memory.
+#[test]
+fn fonts_are_read_by_parts(rt: HostRuntime) -> Result<(), Fail> {
+    for text in ["{}", ALL_KEYS, substitutions::FONT, positions::FONT] {
+        let font = read_by_parts(rt.alloc(), text);
+        assert!(rt; font.is_ok(), "{text}");
     }
     Ok(())
 }

@@ -8,7 +8,7 @@ use layout_positions::value::{Anchor, ValueRecord};
 use std::process::Abort;
 use std::test::Fail;
 
-const FONT: &str = r#"{"gpos":{"lookups":[
+pub(crate) const FONT: &str = r#"{"gpos":{"lookups":[
 {"type":"single","subtables":[[[1,[1,2,-30,4]],[4,[0,0,9,0]]]]},
 {"type":"pair","subtables":[[[1,2,[0,0,-40,0],null],[1,9,[0,0,7,0],[0,0,0,0]],[2,1,[0,0,3,0],null]],
 {"first":[3,1],"class1":[[3,1]],"class2":[[7,1]],

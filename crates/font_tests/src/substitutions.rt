@@ -5,7 +5,7 @@ use layout_lookups::substitution::{SubstitutionSubtables, SubstitutionTable};
 use std::process::Abort;
 use std::test::Fail;
 
-const FONT: &str = r#"{"gdef":{"sets":[[9],[4]]},"gsub":{"lookups":[
+pub(crate) const FONT: &str = r#"{"gdef":{"sets":[[9],[4]]},"gsub":{"lookups":[
 {"flags":16,"set":1,"type":"single","subtables":[[[1,3],[4,0]]]},
 {"type":"multiple","subtables":[[[2,[3,4]],[7,[]]]]},
 {"type":"alternate","subtables":[[[2,[3,4]]]]},
