@@ -91,24 +91,26 @@ fn lists_of_a_key(rt: HostRuntime) -> Result<(), Fail> {
 }
 
 /// The faults of a text as a byte, as a number below 70000, as a tag.
-fn part_faults(alloc: Global, text: &str) -> Result<[&'static str; 3], Fail> {
+type PartFaults = (&'static str, &'static str, &'static str);
+
+fn part_faults(alloc: Global, text: &str) -> Result<PartFaults, Fail> {
     let value = Value::from_str(alloc, text)?;
-    Ok([
+    Ok((
         fault_of(u8::read(&value)),
         fault_of(natural_number_below(&value, 70_000)),
         fault_of(Tag::read(&value)),
-    ])
+    ))
 }
 
 #[test]
 fn parts(rt: HostRuntime) -> Result<(), Fail> {
     for (text, want) in [
-        ("255", ["read", "read", "J2 WrongShape"]),
-        ("256", ["U2 OutOfRange", "read", "J2 WrongShape"]),
-        ("70000", ["U2 OutOfRange", "U2 OutOfRange", "J2 WrongShape"]),
-        ("-1", ["U2 OutOfRange", "U2 OutOfRange", "J2 WrongShape"]),
-        ("\"liga\"", ["J2 WrongShape", "J2 WrongShape", "read"]),
-        ("\"\"", ["J2 WrongShape", "J2 WrongShape", "J2 WrongShape"]),
+        ("255", ("read", "read", "J2 WrongShape")),
+        ("256", ("U2 OutOfRange", "read", "J2 WrongShape")),
+        ("70000", ("U2 OutOfRange", "U2 OutOfRange", "J2 WrongShape")),
+        ("-1", ("U2 OutOfRange", "U2 OutOfRange", "J2 WrongShape")),
+        ("\"liga\"", ("J2 WrongShape", "J2 WrongShape", "read")),
+        ("\"\"", ("J2 WrongShape", "J2 WrongShape", "J2 WrongShape")),
     ] {
         let faults = part_faults(rt.alloc(), text)?;
         assert_eq!(rt; faults, want, "{text}");
