@@ -1,3 +1,4 @@
 mod InTurn
 mod Tables
 mod OfKeys
+mod Definitions

@@ -18,8 +18,8 @@ use serde_json::Value;
 use std::alloc::Global;
 
 /// Reads a font from a text. A text that is no JSON is the first fault; the others come in the order in which `read_face`
-/// gives them. A font without a fault is read a part at a time: beside the font and some two bytes a byte of text only what
-/// is said of glyphs, a lookup, or a row of another list is kept. Of a font with a fault its whole value is.
+/// gives them. A font without a fault is read a part at a time: beside the font and some two bytes a byte of text only a
+/// lookup, or a row of another list, is kept. Of a font with a fault its whole value is.
 pub fn read_face_text(alloc: Global, text: &str) -> Result<Face, JsonFault>
     ensures ok { IfOk result (λ f. face_in text.now ≡ Ok f) }
     ensures refused { IfErr result (λ e. e ≢ JsonFault.OutOfMemory → face_in text.now ≡ Err e) }
@@ -41,7 +41,9 @@ fn read_whole(alloc: Global, text: &str) -> Result<Face, JsonFault>
     }
 }
 
-fn read_by_parts(alloc: Global, text: &str) -> Result<Face, Unread>
+/// Reads a font from a text a part at a time. An error claims nothing of the text: it has a fault, or a number that is no
+/// integer of 64 bits, or memory was wanted.
+pub fn read_by_parts(alloc: Global, text: &str) -> Result<Face, Unread>
     ensures { IfOk result (λ f. face_in text.now ≡ Ok f) }
 {
     let mut scratch = Scratch::new(alloc);

@@ -10,13 +10,13 @@ ghost use Rattle.json_values.specs.Objects.{read_or, read_if_there};
 ghost use Rattle.face_json.specs.Lists.{is_object, rows_at};
 ghost use Rattle.face_json.specs.Sorted.{rows_by_key};
 ghost use Rattle.face_json.specs.Glyphs.{glyph_limit};
-ghost use Rattle.face_json.specs.Face.{glyph_definition_in};
+ghost use Rattle.face_json.specs.Face.{glyph_definition_in, no_definition};
 ghost use Rattle.face_json.specs.SubstitutionTable.{substitution_table};
 ghost use Rattle.face_json.specs.PositionTable.{positioning_table};
 
+use crate::definition::{DefinitionTaker, definition_or_none};
 use crate::rows::RowTaker;
 use crate::table::TableTaker;
-use face_json::face::{no_definition, read_definition};
 use face_json::glyphs::GLYPH_LIMIT;
 use face_json::value::Part;
 use font_face::parts::GlyphDefinition;
@@ -44,11 +44,15 @@ pub fn take_metrics(
         × (read_or (pos 0) signed_word (get (codes "ascender") d) ≡ Ok p.1)
         × (glyph_definition_in (get (codes "gdef") d) ≡ Ok p.2)) }
 {
+    let gdef = Key {
+        name: "gdef",
+        taker: DefinitionTaker,
+    };
+    let keys = (whole("upem"), (whole("ascender"), gdef));
     let mut found = (None, (None, None));
-    let keys = (whole("upem"), (whole("ascender"), whole("gdef")));
     take_text(alloc, text, scratch, &keys, &mut found)?;
     let (upem, (ascender, gdef)) = found;
-    read_metrics(alloc, &upem, &ascender, &gdef)
+    read_metrics(alloc, &upem, &ascender, gdef)
 }
 
 fn whole(name: &'static str) -> Key<Whole>
@@ -61,16 +65,15 @@ fn read_metrics(
     alloc: Global,
     upem: &Option<Value>,
     ascender: &Option<Value>,
-    gdef: &Option<Value>,
+    gdef: Option<GlyphDefinition>,
 ) -> Result<(u16, i16, GlyphDefinition), Unread>
     ensures { IfOk result (λ p. (read_or 0 word (option_map view upem.now) ≡ Ok p.0)
         × (read_or (pos 0) signed_word (option_map view ascender.now) ≡ Ok p.1)
-        × (glyph_definition_in (option_map view gdef.now) ≡ Ok p.2)) }
+        × (p.2 ≡ unwrap_or gdef no_definition)) }
 {
     let upem = cell_or(upem, 0u16)?;
     let ascender = cell_or(ascender, 0i16)?;
-    let gdef = definition(alloc, gdef)?;
-    Ok((upem, ascender, gdef))
+    Ok((upem, ascender, definition_or_none(alloc, gdef)))
 }
 
 fn cell_or<T: Cell>(value: &Option<Value>, missing: T) -> Result<T, Unread>
@@ -82,18 +85,6 @@ fn cell_or<T: Cell>(value: &Option<Value>, missing: T) -> Result<T, Unread>
     match T::read(value) {
         Ok(cell) => Ok(cell),
         Err(_) => Err(Unread),
-    }
-}
-
-fn definition(alloc: Global, gdef: &Option<Value>) -> Result<GlyphDefinition, Unread>
-    ensures { IfOk result (λ g. glyph_definition_in (option_map view gdef.now) ≡ Ok g) }
-{
-    match gdef {
-        Some(value) => match read_definition(alloc, value) {
-            Ok(definition) => Ok(definition),
-            Err(_) => Err(Unread),
-        },
-        None => Ok(no_definition(alloc)),
     }
 }
 

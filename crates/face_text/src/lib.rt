@@ -2,9 +2,10 @@
 // with the fault that comes first.
 #![tactic(auto)]
 
+mod definition;
 mod face;
 mod keys;
 mod rows;
 mod table;
 
-pub use face::read_face_text;
+pub use face::{read_by_parts, read_face_text};

@@ -87,7 +87,8 @@ fn table_keys<L: Part>(set_count: usize) -> TableKeys<L>
     (scripts, (features, lookups))
 }
 
-fn parts_or_none<P: Drop>(alloc: Global, found: Option<Array<P>>) -> Array<P>
+/// The parts that were found, none where their key is missing.
+pub(crate) fn parts_or_none<P: Drop>(alloc: Global, found: Option<Array<P>>) -> Array<P>
     ensures { result ≡ unwrap_or found [] }
 {
     match found {
