@@ -15,8 +15,9 @@ use glyph_types::level::BufferClusterLevel;
 use glyph_types::position::GlyphPosition;
 use std::alloc::Global;
 
+/// Writes a glyph of the text.
 #[tactic(auto, using(crate::proofs::Ready::written_ready))]
-fn write_glyph(info: hb_glyph_info_t, i: usize, buffer: &mut hb_buffer_t)
+pub fn write_glyph(info: hb_glyph_info_t, i: usize, buffer: &mut hb_buffer_t)
     requires ready { IsReady buffer.old }
     requires there { i < length buffer.old.ahead }
     ensures { IsReady buffer.new }

@@ -4,6 +4,8 @@
 #[cfg(test)]
 mod buffers;
 #[cfg(test)]
+mod normalizing;
+#[cfg(test)]
 mod positions;
 #[cfg(test)]
 mod rows;

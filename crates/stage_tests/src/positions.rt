@@ -2,6 +2,7 @@
 use glyph_types::position::GlyphPosition;
 use layout_links::links::finish_offsets;
 use shaping_text::direction::Direction;
+use std::alloc::{AllocError, Global};
 use std::test::Fail;
 
 /// The direction of each run, and how many positions it has.
@@ -174,24 +175,39 @@ fn position(row: [i32; 8]) -> GlyphPosition {
     }
 }
 
+fn drawn(row: [i32; 8]) -> GlyphPosition {
+    GlyphPosition {
+        x_offset: row[6],
+        y_offset: row[7],
+        attach_chain: 0,
+        ..position(row)
+    }
+}
+
+/// Whether the run of so many positions that starts there is drawn as its rows say.
+fn is_drawn(
+    alloc: Global,
+    direction: Direction,
+    start: usize,
+    count: usize,
+) -> Result<bool, AllocError> {
+    let rows = POSITIONS.iter().skip(start).take(count);
+    let mut positions: Vec<GlyphPosition> = rows.map(|row| position(*row)).collect(alloc)?;
+    finish_offsets(&mut positions, direction);
+    Ok(
+        positions
+            .iter()
+            .zip(POSITIONS.iter().skip(start))
+            .all(|(position, row)| *position == drawn(*row)),
+    )
+}
+
 #[test]
 fn runs_are_drawn(rt: HostRuntime) -> Result<(), Fail> {
     let mut start = 0;
     for (direction, count) in RUNS {
-        let mut positions = Vec::new(rt.alloc());
-        for row in POSITIONS.iter().skip(start).take(count) {
-            positions.push(position(*row))?;
-        }
-        finish_offsets(&mut positions, direction);
-        for (drawn, row) in positions.iter().zip(POSITIONS.iter().skip(start)) {
-            let wanted = GlyphPosition {
-                x_offset: row[6],
-                y_offset: row[7],
-                attach_chain: 0,
-                ..position(*row)
-            };
-            assert_eq!(&rt; *drawn, wanted);
-        }
+        let as_wanted = is_drawn(rt.alloc(), direction, start, count)?;
+        assert!(rt; as_wanted, "{start}");
         start = start.saturating_add(count);
     }
     assert_eq!(&rt; start, POSITIONS.len());
@@ -231,9 +247,9 @@ fn rings_are_cleared(rt: HostRuntime) -> Result<(), Fail> {
     Ok(())
 }
 
-#[test]
-fn many_marks_hang_on_a_base(rt: HostRuntime) -> Result<(), Fail> {
-    let mut positions = Vec::new(rt.alloc());
+/// A base and all marks that a link can lead to it.
+fn many_marks(alloc: Global) -> Result<Vec<GlyphPosition>, AllocError> {
+    let mut positions = Vec::new(alloc);
     positions.push(GlyphPosition {
         x_advance: 500,
         ..GlyphPosition::default()
@@ -241,9 +257,21 @@ fn many_marks_hang_on_a_base(rt: HostRuntime) -> Result<(), Fail> {
     for link in 1..i16::MAX {
         positions.push(mark(link.saturating_neg()))?;
     }
-    finish_offsets(&mut positions, Direction::LeftToRight);
-    for drawn in positions.iter().skip(1) {
-        assert_eq!(&rt; drawn.x_offset, -490);
-    }
+    Ok(positions)
+}
+
+fn hang(positions: &mut [GlyphPosition]) -> bool {
+    finish_offsets(positions, Direction::LeftToRight);
+    positions
+        .iter()
+        .skip(1)
+        .all(|position| position.x_offset == -490)
+}
+
+#[test]
+fn many_marks_hang_on_a_base(rt: HostRuntime) -> Result<(), Fail> {
+    let mut positions = many_marks(rt.alloc())?;
+    let as_wanted = hang(&mut positions);
+    assert!(rt; as_wanted);
     Ok(())
 }

@@ -1,8 +1,13 @@
-// Tests of characters, of what is read from a text's settings, of names, of sorted rows, and of the printed text.
+// Tests of characters, of what is read from a text's settings, of names, features, words and JSON values, of sorted rows, and
+// of the printed text and faults.
 #![tactic(auto)]
 
 #[cfg(test)]
 mod characters;
+#[cfg(test)]
+mod faults;
+#[cfg(test)]
+mod features;
 #[cfg(test)]
 mod names;
 #[cfg(test)]
@@ -11,3 +16,7 @@ mod printing;
 mod sorted;
 #[cfg(test)]
 mod texts;
+#[cfg(test)]
+mod values;
+#[cfg(test)]
+mod words;

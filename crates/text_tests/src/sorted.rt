@@ -1,6 +1,7 @@
 //! Records that are found and missed, by numbers and by pairs.
 use sorted_rows::{Keyed, Numbered, PagedRows, SortedRows, is_rising};
 use std::alloc::Global;
+use std::process::Abort;
 use std::test::Fail;
 
 #[derive(Clone, Copy)]
@@ -70,13 +71,17 @@ const ADVANCES: [(u16, Option<u16>); 5] = [
     (0, None),
 ];
 
-#[test]
-fn numbers(rt: HostRuntime) -> Result<(), Fail> {
-    let table = advances(rt.alloc())?;
+fn have_widths(rt: &impl Abort, table: &SortedRows<Advance>) {
     for (glyph, width) in ADVANCES {
         assert_eq!(rt; table.get(glyph).map(|row| row.width), width);
     }
     assert_eq!(rt; table.as_slice().len(), 4);
+}
+
+#[test]
+fn numbers(rt: HostRuntime) -> Result<(), Fail> {
+    let table = advances(rt.alloc())?;
+    have_widths(&rt, &table);
     Ok(())
 }
 
@@ -87,12 +92,16 @@ const KERNS: [((u16, u16), Option<i16>); 4] = [
     ((9, 1), None),
 ];
 
-#[test]
-fn pairs(rt: HostRuntime) -> Result<(), Fail> {
-    let table = kerns(rt.alloc())?;
+fn have_kerns(rt: &impl Abort, table: &SortedRows<Kern>) {
     for (key, width) in KERNS {
         assert_eq!(rt; table.get(key).map(|row| row.width), width);
     }
+}
+
+#[test]
+fn pairs(rt: HostRuntime) -> Result<(), Fail> {
+    let table = kerns(rt.alloc())?;
+    have_kerns(&rt, &table);
     Ok(())
 }
 
@@ -152,13 +161,17 @@ fn are_found(table: &PagedRows<Letter>, count: u32) -> bool {
     })
 }
 
+fn has_pages(alloc: Global, count: u32) -> Result<bool, Fail> {
+    let table = letters(alloc, count)?;
+    Ok(are_found(&table, count) && table.get(letter_of(count)).is_none())
+}
+
 // The index has room for 188 pages; records behind those are searched for.
 #[test]
 fn pages(rt: HostRuntime) -> Result<(), Fail> {
     for count in [0, 1, 188, 189, 500] {
-        let table = letters(rt.alloc(), count)?;
-        assert!(rt; are_found(&table, count), "{count}");
-        assert!(rt; table.get(letter_of(count)).is_none());
+        let are_found = has_pages(rt.alloc(), count)?;
+        assert!(rt; are_found, "{count}");
     }
     Ok(())
 }

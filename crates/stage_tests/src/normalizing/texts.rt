@@ -1,7 +1,8 @@
 //! Texts on a buffer that is ready to be normalised.
-ghost use Rattle.std.specs.Prelude.{◌≡◌, ◌<◌, false, length, IfOk, OnOk};
+ghost use Rattle.std.specs.Prelude.{◌≡◌, false, IfOk, OnOk};
 ghost use Rattle.layout_rules.specs.Ready.{IsReady};
 
+use crate::buffers::write_glyph;
 use glyph_buffer::buffer::hb_buffer_t;
 use glyph_properties::character::{character_class, properties_of};
 use glyph_types::cause::ShapeCause;
@@ -12,15 +13,6 @@ use normal_rounds::normalizing::Normalizing;
 use shape_normalize::normalize::_hb_ot_shape_normalize;
 use std::alloc::Global;
 use unicode_tables::UnicodeTables;
-
-#[tactic(auto, using(crate::proofs::Ready::written_ready))]
-fn write_first(info: hb_glyph_info_t, i: usize, buffer: &mut hb_buffer_t)
-    requires ready { IsReady buffer.old }
-    requires there { i < length buffer.old.ahead }
-    ensures { IsReady buffer.new }
-{
-    *buffer.cur_mut(i) = info;
-}
 
 /// Adds a character with its cluster, its properties and its class.
 #[tactic(auto, using(crate::proofs::Ready::added_ready))]
@@ -45,7 +37,7 @@ fn add_character(
         modified_combining_class: character_class(tables, u),
         ..*buffer.cur(at)
     };
-    write_first(info, at, buffer);
+    write_glyph(info, at, buffer);
     Ok(())
 }
 

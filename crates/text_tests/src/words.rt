@@ -63,11 +63,16 @@ fn command_line(alloc: Global, line: &str) -> Result<Result<CommandLine, RunFaul
     Ok(parse_options(alloc, &words))
 }
 
+fn fault_of(alloc: Global, line: &str) -> Result<Option<RunFault>, AllocError> {
+    let found = command_line(alloc, line)?;
+    Ok(found.err())
+}
+
 #[test]
 fn other_words_are_refused(rt: HostRuntime) -> Result<(), Fail> {
     for line in REFUSED.lines() {
-        let found = command_line(rt.alloc(), line)?;
-        assert_eq!(rt; found.err(), Some(RunFault::Words), "{line}");
+        let fault = fault_of(rt.alloc(), line)?;
+        assert_eq!(rt; fault, Some(RunFault::Words), "{line}");
     }
     Ok(())
 }
@@ -144,15 +149,16 @@ const TAKEN: [(&str, Settings); 20] = [
     ("hb_shape|--script=é|a|b|c", (Invalid, Some(UNKNOWN), NAMED)),
 ];
 
+fn settings_of(alloc: Global, line: &str) -> Result<Settings, Fail> {
+    let options = command_line(alloc, line)??.options;
+    Ok((options.direction, options.script, options.flags))
+}
+
 #[test]
 fn options_are_read(rt: HostRuntime) -> Result<(), Fail> {
     for (line, want) in TAKEN {
-        let options = command_line(rt.alloc(), line)??.options;
-        assert_eq!(rt;
-            (options.direction, options.script, options.flags),
-            want,
-            "{line}"
-        );
+        let settings = settings_of(rt.alloc(), line)?;
+        assert_eq!(rt; settings, want, "{line}");
     }
     Ok(())
 }
@@ -175,9 +181,15 @@ fn languages_are_read(rt: HostRuntime) -> Result<(), Fail> {
         ("hb_shape|--language|de-CH|a|b|c", Some("de-ch")),
         ("hb_shape|a|--language=X-HBOT|b|c", Some("x-hbot")),
     ] {
-        assert!(rt; has_language(rt.alloc(), line, want)?, "{line}");
+        let is_read = has_language(rt.alloc(), line, want)?;
+        assert!(rt; is_read, "{line}");
     }
     Ok(())
+}
+
+fn has_names(alloc: Global, line: &str) -> Result<bool, Fail> {
+    let found = command_line(alloc, line)??;
+    Ok(found.tables.as_str() == "a" && found.font.as_str() == "b" && found.text.as_str() == "-c")
 }
 
 #[test]
@@ -187,13 +199,8 @@ fn names_stand_anywhere(rt: HostRuntime) -> Result<(), Fail> {
         "hb_shape|a|--direction=l|b|--|-c",
         "x|--|a|b|-c",
     ] {
-        let found = command_line(rt.alloc(), line)?.ok().ok_or("refused")?;
-        let names = (
-            found.tables.as_str(),
-            found.font.as_str(),
-            found.text.as_str(),
-        );
-        assert_eq!(rt; names, ("a", "b", "-c"), "{line}");
+        let are_read = has_names(rt.alloc(), line)?;
+        assert!(rt; are_read, "{line}");
     }
     Ok(())
 }
@@ -205,6 +212,11 @@ const fn request(text: &[u8; 4], value: u32) -> Feature {
         start: 0,
         end: u32::MAX,
     }
+}
+
+fn has_features(alloc: Global, line: &str, features: &[Feature]) -> Result<bool, Fail> {
+    let found = command_line(alloc, line)??;
+    Ok(found.options.features.as_slice() == features)
 }
 
 #[test]
@@ -236,23 +248,37 @@ fn features_are_read(rt: HostRuntime) -> Result<(), Fail> {
         ),
     ];
     for (line, features) in cases {
-        let found = command_line(rt.alloc(), line)??;
-        assert_eq!(rt; found.options.features.as_slice(), features, "{line}");
+        let are_read = has_features(rt.alloc(), line, features)?;
+        assert!(rt; are_read, "{line}");
     }
     Ok(())
+}
+
+fn long_line(alloc: Global) -> Result<String, AllocError> {
+    let mut line = String::from_str(alloc, "hb_shape|--features=kern=2")?;
+    for _ in 1..70_000u32 {
+        line.push_str(",liga")?;
+    }
+    line.push_str("|a|b|c")?;
+    Ok(line)
+}
+
+fn are_many(features: &[Feature]) -> bool {
+    features.len() == 70_000
+        && features.first() == Some(&request(b"kern", 2))
+        && features.last() == Some(&request(b"liga", 1))
+}
+
+fn has_many_features(alloc: Global, line: &str) -> Result<bool, Fail> {
+    let found = command_line(alloc, line)??;
+    Ok(are_many(found.options.features.as_slice()))
 }
 
 // A value past 65,536 features.
 #[test]
 fn many_features_are_read(rt: HostRuntime) -> Result<(), Fail> {
-    let mut word = String::from_str(rt.alloc(), "hb_shape|--features=kern=2")?;
-    for _ in 1..70_000u32 {
-        word.push_str(",liga")?;
-    }
-    word.push_str("|a|b|c")?;
-    let found = command_line(rt.alloc(), &word)??;
-    assert_eq!(rt; found.options.features.len(), 70_000);
-    assert_eq!(rt; found.options.features.first(), Some(&request(b"kern", 2)));
-    assert_eq!(rt; found.options.features.last(), Some(&request(b"liga", 1)));
+    let line = long_line(rt.alloc())?;
+    let are_read = has_many_features(rt.alloc(), &line)?;
+    assert!(rt; are_read);
     Ok(())
 }

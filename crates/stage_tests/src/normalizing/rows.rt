@@ -1,7 +1,7 @@
 //! A normaliser whose font and hooks are rows.
 ghost use Rattle.std.specs.Prelude.{◌≡◌, refl};
 ghost use Rattle.normal_forms.specs.Arranged.{kept};
-ghost use Rattle.normalize_tests.specs.Rows.{glyph_in, pair_in, parts_in};
+ghost use Rattle.stage_tests.specs.Rows.{glyph_in, pair_in, parts_in};
 
 use glyph_buffer::buffer::hb_buffer_t;
 use normal_forms::NormalizationMode;

@@ -1,0 +1,4 @@
+//! Normalising on the buffer.
+mod lists;
+mod rows;
+mod texts;
