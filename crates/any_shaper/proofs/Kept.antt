@@ -2,32 +2,32 @@
 use Rattle.std.proofs.Common.{ℕ, ◌≡◌, ◌==◌, not, Bool, true, false, if◌then◌else◌, nat_le, List, [], length, Result, Ok, Err, OnOk, IfErr, ◌≢◌, refl, sym, ap, subst}
 use Rattle.std.specs.Prelude.{Option, codes}
 use Rattle.std.proofs.lemmas.Nat.{and_assoc}
-use Rattle.glyph_types.specs.declared.cause.ShapeCause.{ShapeCause}
-use Rattle.glyph_types.specs.declared.cause.ShapeCause.TheVariants.{OutOfMemory, TooLong}
+use Rattle.glyph_lists.specs.declared.cause.ShapeCause.{ShapeCause}
+use Rattle.glyph_lists.specs.declared.cause.ShapeCause.TheVariants.{OutOfMemory, TooLong}
 use Rattle.shaping_text.specs.declared.constants.BufferFlags.{BufferFlags}
 use Rattle.unicode_tables.specs.Tables.{Tables}
 use Rattle.font_face.specs.declared.parts.FaceParts.{FaceParts}
 use Rattle.glyph_lists.specs.Items.{Item}
-use Rattle.glyph_lists.specs.Readings.{Stage, always, as_it_is, read_of}
-use Rattle.glyph_lists.specs.Steps.{follows_same}
+use Rattle.glyph_buffer.specs.Readings.{Stage, always, as_it_is, read_of}
+use Rattle.glyph_buffer.specs.Steps.{follows_same}
 use Rattle.glyph_buffer.specs.Sides.{Sides, items_of, run_of, zero_positions}
-use Rattle.layout_rules.specs.Ready.{IsDone, IsReady}
-use Rattle.layout_walks.specs.Pauses.{BringsNoGlyph}
-use Rattle.layout_walks.specs.Settings.{text_flags}
-use Rattle.normal_forms.specs.Arranged.{kept}
+use Rattle.stage_rules.specs.Ready.{IsDone, IsReady}
+use Rattle.stage_rules.specs.Pauses.{BringsNoGlyph}
+use Rattle.stage_rules.specs.Settings.{text_flags}
+use Rattle.glyph_properties.specs.Arranged.{kept}
 use Rattle.normal_rounds.specs.Rearranged.{Rearranges}
-use Rattle.text_stages.specs.Stages.{IsFollowed}
+use Rattle.stage_rules.specs.Stages.{IsFollowed}
 use Rattle.script_hebrew_thai.specs.ThaiPrivate.{with_private}
 use Rattle.script_hangul.specs.Hangul.{events_behind, syllables_formed, text_behind, wants_circles}
 use Rattle.any_shaper.specs.Hooks.{Spans, pause_done, private_if}
 use Rattle.shaping_text.specs.declared.script.Script.{Script}
 use Rattle.map_builder.specs.Compiled.{OtMapValue}
-use Rattle.layout_walks.specs.Settings.{TextSettings}
+use Rattle.stage_rules.specs.Settings.{TextSettings}
 use Rattle.shape_plan.specs.Plans.{mask_at_one}
-use Rattle.feature_requests.specs.declared.pause.hb_script_pause_t.{hb_script_pause_t}
-use Rattle.feature_requests.specs.declared.pause.hb_script_pause_t.TheVariants.{RecordRphf}
+use Rattle.shape_plan.specs.declared.pause.hb_script_pause_t.{hb_script_pause_t}
+use Rattle.shape_plan.specs.declared.pause.hb_script_pause_t.TheVariants.{RecordRphf}
 use Rattle.script_constants.specs.declared.shaper.hb_ot_script_shaper_t.{hb_ot_script_shaper_t}
-use Rattle.universal_syllables.specs.Features.{rphf_recorded}
+use Rattle.syllable_stages.specs.Features.{rphf_recorded}
 use Rattle.script_pauses.specs.Syllables.{syllables_by}
 
 pub unchanged_followed : (s : Sides) → IsReady s → IsFollowed as_it_is s s

@@ -7,16 +7,16 @@ use Rattle.unicode_tables.specs.Tables.{Tables, pair_of, split_of}
 use Rattle.font_face.specs.declared.parts.FaceParts.{FaceParts}
 use Rattle.glyph_properties.specs.Properties.{is_mark_character}
 use Rattle.glyph_lists.specs.Items.{Item}
-use Rattle.glyph_lists.specs.Readings.{Stage, always, and_then, as_it_is}
+use Rattle.glyph_buffer.specs.Readings.{Stage, always, and_then, as_it_is}
 use Rattle.map_builder.specs.Compiled.{OtMapValue}
-use Rattle.layout_walks.specs.Pauses.{Pauses}
-use Rattle.layout_walks.specs.Settings.{TextSettings}
-use Rattle.normal_forms.specs.Arranged.{Arranged, kept}
-use Rattle.text_stages.specs.Stages.{mapped}
+use Rattle.stage_rules.specs.Pauses.{Pauses}
+use Rattle.stage_rules.specs.Settings.{TextSettings}
+use Rattle.glyph_properties.specs.Arranged.{Arranged, kept}
+use Rattle.stage_rules.specs.Stages.{mapped}
 use Rattle.shape_plan.specs.Plans.{has_mask, mask_at_one}
-use Rattle.feature_requests.specs.declared.pause.hb_script_pause_t.{hb_script_pause_t}
-use Rattle.feature_requests.specs.declared.pause.hb_script_pause_t.TheVariants.{RecordStch, SetupSyllables, ReorderKhmer, ReorderMyanmar, ClearSyllables, ClearSubstitutionFlags, RecordRphf, RecordPref, ReorderUse, InitialReordering, FinalReordering}
-use Rattle.feature_requests.specs.Pauses.{pause_of_number}
+use Rattle.shape_plan.specs.declared.pause.hb_script_pause_t.{hb_script_pause_t}
+use Rattle.shape_plan.specs.declared.pause.hb_script_pause_t.TheVariants.{RecordStch, SetupSyllables, ReorderKhmer, ReorderMyanmar, ClearSyllables, ClearSubstitutionFlags, RecordRphf, RecordPref, ReorderUse, InitialReordering, FinalReordering}
+use Rattle.shape_plan.specs.Pauses.{pause_of_number}
 use Rattle.script_constants.specs.declared.shaper.hb_ot_script_shaper_t.{hb_ot_script_shaper_t}
 use Rattle.script_constants.specs.declared.shaper.hb_ot_script_shaper_t.TheVariants.{ARABIC_SHAPER, HANGUL_SHAPER, HEBREW_SHAPER, INDIC_SHAPER, KHMER_SHAPER, MYANMAR_SHAPER, THAI_SHAPER, UNIVERSAL_SHAPER}
 use Rattle.script_hebrew_thai.specs.Hebrew.{hebrew_pair}
@@ -26,13 +26,13 @@ use Rattle.script_hangul.specs.Hangul.{syllables_formed}
 use Rattle.script_hangul.specs.Masks.{with_place_mask}
 use Rattle.script_khmer_myanmar.specs.Khmer.{khmer_split}
 use Rattle.script_mark_orders.specs.Orders.{arabic_order, hebrew_order}
-use Rattle.script_circles.specs.Bytes.{syllables_set}
-use Rattle.universal_syllables.specs.Features.{pref_recorded, rphf_recorded}
+use Rattle.syllable_stages.specs.Bytes.{syllables_set}
+use Rattle.syllable_stages.specs.Features.{pref_recorded, rphf_recorded}
 use Rattle.script_pauses.specs.Categories.{categories_set, ot_category_of}
 use Rattle.script_pauses.specs.Syllables.{khmer_order, myanmar_order, substitutions_forgotten, syllables_by, syllables_cleared, universal_order, universal_syllables_set}
-use Rattle.script_stretch.specs.Tiles.{tiles_recorded}
-use Rattle.script_tiles.specs.Stretch.{tiles_laid}
-use Rattle.script_masks.specs.Masks.{form_masks, jamo_masks, khmer_masks, letters_joined, universal_masks_set}
+use Rattle.script_pauses.specs.Tiles.{tiles_recorded}
+use Rattle.script_pauses.specs.Stretch.{tiles_laid}
+use Rattle.any_shaper.specs.Masks.{form_masks, jamo_masks, khmer_masks, letters_joined, universal_masks_set}
 
 -- ---- the text
 

@@ -1,3 +1,4 @@
+pub mod Masks
 pub mod Shapers
 pub mod Dispatch
 pub mod Requests

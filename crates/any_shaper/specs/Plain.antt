@@ -4,24 +4,24 @@ use Rattle.shaping_text.specs.declared.constants.BufferFlags.{BufferFlags}
 use Rattle.shaping_text.specs.declared.script.Script.{Script}
 use Rattle.unicode_tables.specs.Tables.{Tables}
 use Rattle.font_face.specs.declared.parts.FaceParts.{FaceParts}
-use Rattle.glyph_lists.specs.Readings.{always}
+use Rattle.glyph_buffer.specs.Readings.{always}
 use Rattle.map_builder.specs.Compiled.{OtMapValue}
-use Rattle.text_stages.specs.Stages.{mapped}
-use Rattle.shape_shaper.specs.Rules.{Spans, StaysPlain}
+use Rattle.stage_rules.specs.Stages.{mapped}
+use Rattle.shape_plan.specs.Rules.{Spans, StaysPlain}
 use Rattle.script_constants.specs.declared.shaper.hb_ot_script_shaper_t.{hb_ot_script_shaper_t}
 use Rattle.script_hebrew_thai.specs.ThaiPrivate.{with_private}
 use Rattle.script_hebrew_thai.specs.ThaiVowel.{vowels_split}
 use Rattle.script_hangul.specs.declared.masks.JamoMasks.{JamoMasks}
 use Rattle.script_hangul.specs.Hangul.{syllables_formed}
 use Rattle.script_hangul.specs.Masks.{with_place_mask}
-use Rattle.script_circles.specs.Bytes.{syllables_set}
+use Rattle.syllable_stages.specs.Bytes.{syllables_set}
 use Rattle.script_khmer_myanmar.specs.declared.khmer.KhmerMasks.{KhmerMasks}
-use Rattle.universal_syllables.specs.declared.forms.FormMasks.{FormMasks}
-use Rattle.universal_syllables.specs.Features.{pref_recorded, rphf_recorded}
+use Rattle.syllable_stages.specs.declared.forms.FormMasks.{FormMasks}
+use Rattle.syllable_stages.specs.Features.{pref_recorded, rphf_recorded}
 use Rattle.script_pauses.specs.Categories.{categories_set}
 use Rattle.script_pauses.specs.Syllables.{khmer_order, myanmar_order, substitutions_forgotten, syllables_by, syllables_cleared, universal_order, universal_syllables_set}
-use Rattle.script_masks.specs.Masks.{letters_joined, universal_masks_set}
-use Rattle.script_stretch.specs.Tiles.{tiles_recorded}
+use Rattle.any_shaper.specs.Masks.{letters_joined, universal_masks_set}
+use Rattle.script_pauses.specs.Tiles.{tiles_recorded}
 
 pub record TextsLeavePlain : Type 0 where
   pub thai : StaysPlain vowels_split

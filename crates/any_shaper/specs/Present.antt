@@ -4,11 +4,11 @@ use Rattle.shaping_text.specs.declared.script.Script.{Script}
 use Rattle.unicode_tables.specs.Tables.{Tables, pair_of, split_of}
 use Rattle.font_face.specs.declared.parts.FaceParts.{FaceParts}
 use Rattle.glyph_lists.specs.Items.{Item}
-use Rattle.glyph_lists.specs.Readings.{as_it_is}
+use Rattle.glyph_buffer.specs.Readings.{as_it_is}
 use Rattle.map_builder.specs.Compiled.{OtMapValue}
-use Rattle.layout_walks.specs.Settings.{TextSettings}
-use Rattle.normal_forms.specs.Arranged.{kept}
-use Rattle.feature_requests.specs.Lists.{features_of, overrides_of}
+use Rattle.stage_rules.specs.Settings.{TextSettings}
+use Rattle.glyph_properties.specs.Arranged.{kept}
+use Rattle.shape_plan.specs.Lists.{features_of, overrides_of}
 use Rattle.script_constants.specs.declared.shaper.hb_ot_script_shaper_t.{hb_ot_script_shaper_t}
 use Rattle.script_constants.specs.declared.shaper.hb_ot_script_shaper_t.TheVariants.{ARABIC_SHAPER, HANGUL_SHAPER, HEBREW_SHAPER, INDIC_SHAPER, KHMER_SHAPER, MYANMAR_SHAPER, THAI_SHAPER, UNIVERSAL_SHAPER}
 use Rattle.any_shaper.specs.Hooks.{composes_by, masks_set_by, postprocessed_by, preprocessed_by, reorders_by, splits_by}

@@ -4,7 +4,7 @@ use Rattle.shaping_text.specs.declared.script.Script.{Script}
 use Rattle.shaping_text.specs.Tag.{tag_of}
 use Rattle.map_builder.specs.Compiled.{MapRequests}
 use Rattle.map_builder.specs.Features.{in_any, system_features}
-use Rattle.feature_requests.specs.Asks.{with_ask}
+use Rattle.shape_plan.specs.Asks.{with_ask}
 use Rattle.shape_plan.specs.Traits.{ShaperKind}
 use Rattle.any_shaper.specs.declared.any_shaper.hb_ot_any_shaper_t.{hb_ot_any_shaper_t}
 use Rattle.any_shaper.specs.Dispatch.{shaper_of}

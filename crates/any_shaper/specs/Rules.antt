@@ -1,7 +1,7 @@
 -- What the shapers of the stack do to a text.
 use Rattle.std.specs.Prelude.{⊤}
 use Rattle.shape_plan.specs.declared.plan.hb_script_plan_t.{hb_script_plan_t}
-use Rattle.shape_shaper.specs.Rules.{ShaperRules, plain_rules}
+use Rattle.shape_plan.specs.Rules.{ShaperRules, plain_rules}
 use Rattle.script_constants.specs.declared.shaper.hb_ot_script_shaper_t.{hb_ot_script_shaper_t}
 use Rattle.any_shaper.specs.Hooks.{composes_by, masks_set_by, pauses_by, postprocessed_by, preprocessed_by, reorders_by, splits_by}
 use Rattle.any_shaper.specs.declared.any_shaper.hb_ot_any_shaper_t.{hb_ot_any_shaper_t}

@@ -2,12 +2,12 @@
 use Rattle.std.specs.Prelude.{ℕ, Bool, true, false, List, [], Option, Some, None, codes}
 use Rattle.shaping_text.specs.declared.script.Script.{Script}
 use Rattle.shaping_text.specs.Tag.{tag_of}
-use Rattle.normal_forms.specs.declared.mode.NormalizationMode.TheVariants as mode
+use Rattle.glyph_properties.specs.declared.normal_mode.NormalizationMode.TheVariants as mode
 use Rattle.shape_plan.specs.Traits.{ShaperTraits}
 use Rattle.script_constants.specs.declared.shaper.hb_ot_script_shaper_t.{hb_ot_script_shaper_t}
 use Rattle.script_constants.specs.declared.shaper.hb_ot_script_shaper_t.TheVariants.{ARABIC_SHAPER, HANGUL_SHAPER, HEBREW_SHAPER, INDIC_SHAPER, KHMER_SHAPER, MYANMAR_SHAPER, MYANMAR_ZAWGYI_SHAPER, THAI_SHAPER, UNIVERSAL_SHAPER}
-use Rattle.feature_requests.specs.declared.ask.Ask.{Ask}
-use Rattle.feature_requests.specs.Lists.{features_of, overrides_of}
+use Rattle.shape_plan.specs.declared.ask.Ask.{Ask}
+use Rattle.shape_plan.specs.Lists.{features_of, overrides_of}
 use Rattle.any_shaper.specs.declared.any_shaper.hb_ot_any_shaper_t.{hb_ot_any_shaper_t}
 use Rattle.any_shaper.specs.declared.any_shaper.hb_ot_any_shaper_t.TheVariants as any
 use Rattle.shape_plan.specs.declared.planned.TheConstants.{HB_OT_SHAPE_ZERO_WIDTH_MARKS_NONE, HB_OT_SHAPE_ZERO_WIDTH_MARKS_BY_GDEF_EARLY, HB_OT_SHAPE_ZERO_WIDTH_MARKS_BY_GDEF_LATE}

@@ -2,7 +2,7 @@
 ghost use Rattle.std.specs.Prelude.{◌≡◌};
 ghost use Rattle.any_shaper.specs.Shapers.{traits_of, keeps_order};
 
-use normal_forms::NormalizationMode;
+use glyph_properties::NormalizationMode;
 use script_constants::hb_ot_script_shaper_t::{
     self, ARABIC_SHAPER, HANGUL_SHAPER, HEBREW_SHAPER, INDIC_SHAPER, KHMER_SHAPER, MYANMAR_SHAPER,
     MYANMAR_ZAWGYI_SHAPER, THAI_SHAPER, UNIVERSAL_SHAPER,

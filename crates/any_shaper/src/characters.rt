@@ -1,7 +1,7 @@
 //! How characters split and compose for a shaper, and the order of a run of marks.
 ghost use Rattle.std.specs.Prelude.{◌≡◌, ◌≤◌, length};
 ghost use Rattle.glyph_buffer.specs.Sides.{all_glyphs};
-ghost use Rattle.layout_rules.specs.Ready.{IsReady};
+ghost use Rattle.stage_rules.specs.Ready.{IsReady};
 ghost use Rattle.normal_rounds.specs.Rearranged.{Rearranges};
 ghost use Rattle.any_shaper.specs.Hooks.{composes_by, reorders_by, splits_by, unmarked_pair};
 

@@ -1,15 +1,15 @@
 //! What a shaper does to glyphs that stand as they are drawn.
 ghost use Rattle.std.specs.Prelude.{◌≡◌, ◌≢◌, Err, IfErr, OnOk};
-ghost use Rattle.glyph_lists.specs.Readings.{read_of};
+ghost use Rattle.glyph_buffer.specs.Readings.{read_of};
 ghost use Rattle.glyph_buffer.specs.Sides.{run_of};
-ghost use Rattle.layout_rules.specs.Ready.{IsDone, IsReady};
+ghost use Rattle.stage_rules.specs.Ready.{IsDone, IsReady};
 ghost use Rattle.any_shaper.specs.Hooks.{postprocessed_by};
 
 use font_face::Face;
 use glyph_buffer::buffer::hb_buffer_t;
-use glyph_types::cause::ShapeCause;
+use glyph_lists::cause::ShapeCause;
 use script_constants::hb_ot_script_shaper_t;
-use script_tiles::stretch::apply_stch;
+use script_pauses::stretch::apply_stch;
 use std::alloc::Global;
 
 /// Changes the glyphs and their positions: tiles of Arabic are laid over the words that they stretch.

@@ -1,13 +1,13 @@
 //! The masks and the categories that a shaper sets.
 ghost use Rattle.std.specs.Prelude.{◌≡◌};
-ghost use Rattle.layout_rules.specs.Ready.{IsReady};
-ghost use Rattle.layout_walks.specs.Settings.{text_settings};
-ghost use Rattle.text_stages.specs.Stages.{IsFollowed};
+ghost use Rattle.stage_rules.specs.Ready.{IsReady};
+ghost use Rattle.stage_rules.specs.Settings.{text_settings};
+ghost use Rattle.stage_rules.specs.Stages.{IsFollowed};
 ghost use Rattle.any_shaper.specs.Hooks.{masks_set_by};
 
+use crate::{arabic_masks, hangul_masks, universal_masks};
 use glyph_buffer::buffer::hb_buffer_t;
 use script_constants::hb_ot_script_shaper_t;
-use script_masks::{arabic, hangul, universal};
 use script_pauses::categories::set_ot_categories;
 use shape_plan::plan::hb_script_plan_t;
 use unicode_tables::UnicodeTables;
@@ -26,14 +26,14 @@ pub fn setup_masks<D>(
 {
     match shaper {
         hb_ot_script_shaper_t::ARABIC_SHAPER => {
-            arabic::setup_masks(&plan.map, plan.script, tables, buffer)
+            arabic_masks::setup_masks(&plan.map, plan.script, tables, buffer)
         }
-        hb_ot_script_shaper_t::HANGUL_SHAPER => hangul::setup_masks(&plan.map, buffer),
+        hb_ot_script_shaper_t::HANGUL_SHAPER => hangul_masks::setup_masks(&plan.map, buffer),
         hb_ot_script_shaper_t::KHMER_SHAPER | hb_ot_script_shaper_t::MYANMAR_SHAPER => {
             set_ot_categories(tables, buffer)
         }
         hb_ot_script_shaper_t::UNIVERSAL_SHAPER => {
-            universal::setup_masks(&plan.map, plan.script, tables, buffer)
+            universal_masks::setup_masks(&plan.map, plan.script, tables, buffer)
         }
         _ => {}
     }

@@ -1,28 +1,27 @@
 //! What a shaper does between the stages of lookups.
 ghost use Rattle.std.specs.Prelude.{◌≡◌, ◌≢◌, true, false, Ok, Err, IfErr, OnOk, codes};
-ghost use Rattle.glyph_lists.specs.Readings.{read_of};
+ghost use Rattle.glyph_buffer.specs.Readings.{read_of};
 ghost use Rattle.glyph_buffer.specs.Sides.{items_of, run_of};
-ghost use Rattle.layout_rules.specs.Buffers.{are_glyphs};
-ghost use Rattle.layout_rules.specs.Ready.{IsDone, IsReady};
-ghost use Rattle.layout_walks.specs.Pauses.{BringsNoGlyph};
-ghost use Rattle.layout_walks.specs.Settings.{text_settings};
+ghost use Rattle.stage_rules.specs.Buffers.{are_glyphs};
+ghost use Rattle.stage_rules.specs.Ready.{IsDone, IsReady};
+ghost use Rattle.stage_rules.specs.Pauses.{BringsNoGlyph};
+ghost use Rattle.stage_rules.specs.Settings.{text_settings};
 ghost use Rattle.script_pauses.specs.Syllables.{khmer_order, substitutions_forgotten, syllables_cleared};
-ghost use Rattle.script_masks.specs.Masks.{khmer_masks};
-ghost use Rattle.script_stretch.specs.Tiles.{tiles_recorded};
+ghost use Rattle.any_shaper.specs.Masks.{khmer_masks};
+ghost use Rattle.script_pauses.specs.Tiles.{tiles_recorded};
 ghost use Rattle.shape_plan.specs.Plans.{has_mask};
 ghost use Rattle.any_shaper.specs.Hooks.{pause_done, pauses_by, syllables_found_by};
 
-use feature_requests::pause::hb_script_pause_t;
+use crate::arabic_masks::has_stch;
+use crate::khmer_masks::khmer_masks;
+use crate::universal_masks::{form_masks, rphf_mask};
 use font_face::Face;
 use glyph_buffer::buffer::hb_buffer_t;
-use glyph_types::cause::ShapeCause;
+use glyph_lists::cause::ShapeCause;
 use script_constants::hb_ot_script_shaper_t;
-use script_masks::arabic::has_stch;
-use script_masks::khmer::khmer_masks;
-use script_masks::universal::{form_masks, rphf_mask};
-use script_pauses::{bytes, clearing, khmer, myanmar, universal};
-use script_stretch::tiles;
+use script_pauses::{bytes, clearing, khmer, myanmar, tiles, universal};
 use script_syllables::SyllableSpans;
+use shape_plan::pause::hb_script_pause_t;
 use shape_plan::plan::hb_script_plan_t;
 use std::alloc::Global;
 

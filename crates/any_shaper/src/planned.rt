@@ -1,16 +1,16 @@
 //! What the planner asks of the shapers of the stack.
 ghost use Rattle.std.specs.Prelude.{◌≡◌, OnOk, fold};
-ghost use Rattle.feature_requests.specs.Asks.{with_ask};
+ghost use Rattle.shape_plan.specs.Asks.{with_ask};
 ghost use Rattle.any_shaper.specs.Dispatch.{shaper_of};
 ghost use Rattle.any_shaper.specs.Requests.{collected, overridden, has_rclt};
 ghost use Rattle.any_shaper.specs.Shapers.{shaper_features, shaper_overrides, traits_of};
 
 use crate::any_shaper::{DEFAULT_SHAPER, hb_ot_any_shaper_t};
 use crate::dispatch::hb_ot_shape_complex_categorize;
-use feature_requests::collecting;
+use glyph_properties::NormalizationMode;
 use map_builder::builder::hb_ot_map_builder_t;
 use map_builder::map::hb_ot_map_t;
-use normal_forms::NormalizationMode;
+use shape_plan::collecting;
 use shape_plan::planned::{CategorizedShaper, PlannedShaper, hb_ot_shape_zero_width_marks_type_t};
 use shaping_text::direction::Direction;
 use shaping_text::script::Script;

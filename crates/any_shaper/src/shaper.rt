@@ -3,10 +3,10 @@ use crate::any_shaper::hb_ot_any_shaper_t;
 use crate::{characters, glyphs, masks, pauses, text};
 use font_face::Face;
 use glyph_buffer::buffer::hb_buffer_t;
-use glyph_types::cause::ShapeCause;
+use glyph_lists::cause::ShapeCause;
 use script_syllables::SyllableSpans;
+use shape_plan::hb_ot_shaper_t;
 use shape_plan::plan::hb_script_plan_t;
-use shape_shaper::hb_ot_shaper_t;
 use std::alloc::Global;
 use unicode_tables::UnicodeTables;
 
@@ -69,7 +69,7 @@ impl hb_ot_shaper_t for hb_ot_any_shaper_t {
         }
     }
 
-    #[tactic(auto, using(shape_shaper::specs::Lemmas::Unchanged::unchanged_run))]
+    #[tactic(auto, using(shape_plan::specs::Lemmas::Unchanged::unchanged_run))]
     fn reorder_marks(
         &self,
         _plan: &hb_script_plan_t<()>,

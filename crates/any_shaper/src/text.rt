@@ -1,16 +1,16 @@
 //! What a shaper does to a text before it is normalised.
 ghost use Rattle.std.specs.Prelude.{◌≡◌, ◌≢◌, ◌&&◌, not, Err, IfErr, OnOk};
-ghost use Rattle.glyph_lists.specs.Readings.{always, read_of};
+ghost use Rattle.glyph_buffer.specs.Readings.{always, read_of};
 ghost use Rattle.glyph_buffer.specs.Sides.{run_of};
-ghost use Rattle.layout_rules.specs.Ready.{IsReady};
-ghost use Rattle.layout_walks.specs.Settings.{text_settings};
-ghost use Rattle.text_stages.specs.Stages.{IsFollowed};
+ghost use Rattle.stage_rules.specs.Ready.{IsReady};
+ghost use Rattle.stage_rules.specs.Settings.{text_settings};
+ghost use Rattle.stage_rules.specs.Stages.{IsFollowed};
 ghost use Rattle.script_hangul.specs.Hangul.{syllables_formed};
 ghost use Rattle.any_shaper.specs.Hooks.{has_private_forms, is_thai, preprocessed_by, private_if, thai_text};
 
 use font_face::Face;
 use glyph_buffer::buffer::hb_buffer_t;
-use glyph_types::cause::ShapeCause;
+use glyph_lists::cause::ShapeCause;
 use map_features::per_table::TableIndex;
 use script_constants::hb_ot_script_shaper_t;
 use script_hangul::hangul;
@@ -51,7 +51,7 @@ fn take_private_forms<D>(
     }
 }
 
-#[tactic(auto, using(script_pauses::specs::Lemmas::Quiet::followed_then, glyph_lists::specs::Steps::refused_first))]
+#[tactic(auto, using(script_pauses::specs::Lemmas::Quiet::followed_then, glyph_buffer::specs::Steps::refused_first))]
 fn preprocess_thai<D>(
     plan: &hb_script_plan_t<D>,
     face: &Face,

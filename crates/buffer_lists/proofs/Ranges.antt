@@ -2,7 +2,7 @@
 use Rattle.std.specs.Prelude.{slice_range}
 use Rattle.std.proofs.Common.{ℕ, ◌≡◌, ◌≤◌, ◌-◌, true, false, inl, inr, List, ◌++◌, length, take, drop, refl, ap, sym, subst, append_assoc, ◌∙◌}
 use Rattle.std.proofs.lemmas.List.{drop_at, map-append}
-use Rattle.glyph_types.specs.declared.info.hb_glyph_info_t.{hb_glyph_info_t}
+use Rattle.glyph_lists.specs.declared.info.hb_glyph_info_t.{hb_glyph_info_t}
 use Rattle.glyph_lists.specs.Items.{clusters}
 use Rattle.glyph_lists.specs.Order.{IsOrdered}
 use Rattle.glyph_lists.specs.Lemmas.Drawn.{IsDrawn, drawn_second, drawn_drop, drawn_take}

@@ -1,6 +1,6 @@
 -- Glyphs that are put behind others.
 use Rattle.std.specs.Prelude.{ℕ, List, ◌++◌}
-use Rattle.glyph_types.specs.declared.info.hb_glyph_info_t.{hb_glyph_info_t}
+use Rattle.glyph_lists.specs.declared.info.hb_glyph_info_t.{hb_glyph_info_t}
 use Rattle.glyph_lists.specs.Parts.{first_of, last_of, or}
 use Rattle.glyph_lists.specs.Replacements.{copied, glyph_numbered}
 

@@ -1,14 +1,14 @@
 ghost use Rattle.std.specs.Prelude.{◌<◌, ◌++◌, false, length, drop};
-ghost use Rattle.glyph_types.specs.declared.level.BufferClusterLevel.{BufferClusterLevel as Level};
+ghost use Rattle.glyph_lists.specs.declared.level.BufferClusterLevel.{BufferClusterLevel as Level};
 ghost use Rattle.glyph_lists.specs.Items.{clusters};
-ghost use Rattle.glyph_clusters.specs.Deleting.{Deletes};
+ghost use Rattle.glyph_lists.specs.Deleting.{Deletes};
 ghost use Rattle.buffer_lists.specs.Known.{HasOrder};
 
 use crate::order::KnownOrder;
-use glyph_clusters::deletion::{delete_at_front, next_has, recast_end};
-use glyph_clusters::runs::last_cluster;
-use glyph_types::info::hb_glyph_info_t;
-use glyph_types::level::BufferClusterLevel;
+use glyph_lists::deletion::{delete_at_front, next_has, recast_end};
+use glyph_lists::info::hb_glyph_info_t;
+use glyph_lists::level::BufferClusterLevel;
+use glyph_lists::runs::last_cluster;
 
 /// The first glyph of the input goes, from behind the output; answers whether another was marked. What stands in its place
 /// has no meaning. What is known of the order stays known.

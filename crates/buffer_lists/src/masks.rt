@@ -1,7 +1,7 @@
 ghost use Rattle.std.specs.Prelude.{◌≡◌, map};
 ghost use Rattle.buffer_lists.specs.Masks.{glyph_masked, glyph_set, is_within};
 
-use glyph_types::info::{hb_glyph_info_t, hb_mask_t};
+use glyph_lists::info::{hb_glyph_info_t, hb_mask_t};
 
 /// Of each glyph whose cluster is from `start` up to before `end`, or of each where these are 0 and `u32::MAX`, the bits under
 /// `mask` become those of the value.

@@ -7,10 +7,10 @@ ghost use Rattle.glyph_lists.specs.Glyphs.{beside_merged, beside_merged_as, glyp
 ghost use Rattle.buffer_lists.specs.Known.{HasOrder};
 
 use crate::order::KnownOrder;
-use glyph_clusters::ranges::merge_range;
-use glyph_clusters::runs::{merge_after, merge_beside, merge_within};
-use glyph_types::info::hb_glyph_info_t;
-use glyph_types::level::BufferClusterLevel;
+use glyph_lists::info::hb_glyph_info_t;
+use glyph_lists::level::BufferClusterLevel;
+use glyph_lists::ranges::merge_range;
+use glyph_lists::runs::{merge_after, merge_beside, merge_within};
 
 /// Merges a range of the input on both lists; answers whether a glyph was marked, and what is known of the order after it.
 /// Where clusters are in no order each glyph is compared with the range.

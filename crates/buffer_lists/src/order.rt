@@ -3,8 +3,8 @@ ghost use Rattle.glyph_lists.specs.Items.{clusters};
 ghost use Rattle.glyph_lists.specs.Order.{IsFalling, IsInOrder, IsRising};
 ghost use Rattle.buffer_lists.specs.Known.{HasOrder, IsFallingTo, IsRisingTo, is_known, put_back_ahead, put_back_behind};
 
-use glyph_types::info::hb_glyph_info_t;
-use glyph_types::level::BufferClusterLevel;
+use glyph_lists::info::hb_glyph_info_t;
+use glyph_lists::level::BufferClusterLevel;
 
 /// What is known of the order of the clusters of all glyphs.
 #[derive(Clone, Copy, PartialEq, Eq, Debug)]

@@ -9,8 +9,8 @@ ghost use Rattle.buffer_lists.specs.Known.{HasOrder};
 
 use crate::merges::merge_input;
 use crate::order::KnownOrder;
-use glyph_types::info::hb_glyph_info_t;
-use glyph_types::level::BufferClusterLevel;
+use glyph_lists::info::hb_glyph_info_t;
+use glyph_lists::level::BufferClusterLevel;
 
 /// Merges the first `count` glyphs of the input on both lists, and puts a copy of the input's first behind the output for each
 /// of the numbers; answers whether a glyph was marked, and what is known of the order once the `count` glyphs are gone.

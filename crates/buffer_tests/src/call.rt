@@ -4,8 +4,8 @@ ghost use Rattle.buffer_tests.specs.Ranges.{Reaches};
 
 use Call::*;
 use glyph_buffer::buffer::hb_buffer_t;
-use glyph_types::info::hb_glyph_info_t;
-use glyph_types::level::BufferClusterLevel;
+use glyph_lists::info::hb_glyph_info_t;
+use glyph_lists::level::BufferClusterLevel;
 use shaping_text::constants::BufferFlags;
 use std::alloc::{AllocError, Global};
 

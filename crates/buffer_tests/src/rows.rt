@@ -5,7 +5,7 @@ mod refusals;
 
 use crate::call::{Call, make};
 use glyph_buffer::buffer::hb_buffer_t;
-use glyph_types::info::hb_glyph_info_t;
+use glyph_lists::info::hb_glyph_info_t;
 use std::alloc::{AllocError, Global};
 use std::test::Fail;
 

@@ -1,11 +1,11 @@
 //! Texts, what is guessed of them, and glyphs in print.
 ghost use Rattle.std.specs.Prelude.{None};
 
-use glyph_types::flags::SerializeFlags;
-use glyph_types::info::hb_glyph_info_t;
-use glyph_types::level::BufferClusterLevel;
-use glyph_types::names::{GlyphId, GlyphNames, hb_glyph_extents_t};
-use glyph_types::position::GlyphPosition;
+use glyph_lists::flags::SerializeFlags;
+use glyph_lists::info::hb_glyph_info_t;
+use glyph_lists::level::BufferClusterLevel;
+use glyph_lists::names::{GlyphId, GlyphNames, hb_glyph_extents_t};
+use glyph_lists::position::GlyphPosition;
 use shaping_text::constants::BufferFlags;
 use shaping_text::direction::Direction;
 use shaping_text::language::Language;

@@ -1,11 +1,11 @@
 //! The numbers of flags, levels and sets of bits, the records of glyphs, and the names of causes.
 use bitflags::Flags;
-use glyph_types::cause::ShapeCause;
-use glyph_types::flags::{GlyphPropsFlags, SerializeFlags, UnicodeProps};
-use glyph_types::info::*;
-use glyph_types::level::*;
-use glyph_types::names::GlyphId;
-use glyph_types::position::GlyphPosition;
+use glyph_lists::cause::ShapeCause;
+use glyph_lists::flags::{GlyphPropsFlags, SerializeFlags, UnicodeProps};
+use glyph_lists::info::*;
+use glyph_lists::level::*;
+use glyph_lists::names::GlyphId;
+use glyph_lists::position::GlyphPosition;
 use std::alloc::{AllocError, AllocFailed};
 use std::test::Fail;
 

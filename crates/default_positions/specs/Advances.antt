@@ -6,9 +6,9 @@ use Rattle.shaping_text.specs.Direction.{is_horizontal}
 use Rattle.font_face.specs.declared.parts.FaceParts.{FaceParts}
 use Rattle.font_face.specs.Glyphs.{width_of, height_of, origin_of}
 use Rattle.glyph_lists.specs.Items.{Item, Position}
-use Rattle.glyph_lists.specs.Readings.{View, Read}
+use Rattle.glyph_buffer.specs.Readings.{View, Read}
 use Rattle.position_sums.specs.Sums.{minus}
-use Rattle.text_stages.specs.Places.{placed}
+use Rattle.stage_rules.specs.Places.{placed}
 
 -- a horizontal line goes on by the glyph's width
 abbrev pub on_horizontal_line : FaceParts → ℕ → Position → Position

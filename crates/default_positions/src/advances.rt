@@ -2,16 +2,16 @@
 ghost use Rattle.std.specs.Prelude.{◌≡◌};
 ghost use Rattle.default_positions.specs.Advances.{default_position, on_horizontal_line, on_line, on_vertical_line, with_default_positions};
 ghost use Rattle.glyph_lists.specs.Items.{item_of};
-ghost use Rattle.glyph_lists.specs.Readings.{always};
-ghost use Rattle.layout_rules.specs.Ready.{IsDone, IsReady};
+ghost use Rattle.glyph_buffer.specs.Readings.{always};
+ghost use Rattle.stage_rules.specs.Ready.{IsDone, IsReady};
 
 use font_face::Face;
 use glyph_buffer::buffer::hb_buffer_t;
-use glyph_types::info::hb_glyph_info_t;
-use glyph_types::position::GlyphPosition;
+use glyph_lists::info::hb_glyph_info_t;
+use glyph_lists::position::GlyphPosition;
 use position_sums::sums::minus;
 use shaping_text::direction::Direction;
-use text_stages::positions::map_positions;
+use stage_rules::positions::map_positions;
 
 /// Gives each glyph the font's advance along the line, in font units; on a vertical line the font's vertical origin is
 /// subtracted from its offsets. It takes linear time and no memory.

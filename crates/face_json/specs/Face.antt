@@ -8,9 +8,9 @@ use Rattle.json_values.specs.declared.fault.JsonFault.TheVariants.{OutOfRange}
 use Rattle.json_values.specs.Cell.{and_then, word, signed_word}
 use Rattle.json_values.specs.Objects.{read_or, read_if_there}
 use Rattle.layout_common.specs.declared.glyph_row.GlyphRow.{GlyphRow}
-use Rattle.glyph_types.specs.declared.names.hb_glyph_extents_t.{hb_glyph_extents_t}
-use Rattle.layout_lookups.specs.declared.positioning.PositioningTable.{PositioningTable}
-use Rattle.layout_lookups.specs.declared.substitution.SubstitutionTable.{SubstitutionTable}
+use Rattle.glyph_lists.specs.declared.names.hb_glyph_extents_t.{hb_glyph_extents_t}
+use Rattle.font_face.specs.declared.positioning.PositioningTable.{PositioningTable}
+use Rattle.font_face.specs.declared.substitution.SubstitutionTable.{SubstitutionTable}
 use Rattle.font_face.specs.Names.{GlyphName}
 use Rattle.font_face.specs.declared.parts.CharacterRow.{CharacterRow}
 use Rattle.font_face.specs.declared.parts.VariationRow.{VariationRow}

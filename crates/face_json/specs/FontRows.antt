@@ -6,7 +6,7 @@ use Rattle.serde_json.specs.Find.{as_str}
 use Rattle.json_values.specs.declared.fault.JsonFault.{JsonFault}
 use Rattle.json_values.specs.declared.fault.JsonFault.TheVariants.{WrongShape}
 use Rattle.json_values.specs.Cell.{and_then, character, signed_word}
-use Rattle.glyph_types.specs.declared.names.hb_glyph_extents_t.{hb_glyph_extents_t}
+use Rattle.glyph_lists.specs.declared.names.hb_glyph_extents_t.{hb_glyph_extents_t}
 use Rattle.face_json.specs.Lists.{number_below}
 use Rattle.face_json.specs.Row.{first_and_rest, no_more, row_of_two, row_of_three}
 use Rattle.font_face.specs.Names.{GlyphName}

@@ -8,10 +8,10 @@ use Rattle.json_values.specs.declared.fault.JsonFault.{JsonFault}
 use Rattle.json_values.specs.declared.fault.JsonFault.TheVariants.{WrongShape, UnknownName}
 use Rattle.json_values.specs.Cell.{and_then, word}
 use Rattle.json_values.specs.Objects.{read_or, read_if_there}
-use Rattle.layout_lookups.specs.declared.positioning.PositioningSubtables.{PositioningSubtables}
-use Rattle.layout_lookups.specs.declared.positioning.PositioningSubtables.TheVariants as Subtables
-use Rattle.layout_lookups.specs.declared.positioning.PositioningLookup.{PositioningLookup}
-use Rattle.layout_lookups.specs.declared.positioning.PositioningTable.{PositioningTable}
+use Rattle.font_face.specs.declared.positioning.PositioningSubtables.{PositioningSubtables}
+use Rattle.font_face.specs.declared.positioning.PositioningSubtables.TheVariants as Subtables
+use Rattle.font_face.specs.declared.positioning.PositioningLookup.{PositioningLookup}
+use Rattle.font_face.specs.declared.positioning.PositioningTable.{PositioningTable}
 use Rattle.face_json.specs.declared.position_table.PositioningType.{PositioningType}
 use Rattle.face_json.specs.declared.position_table.PositioningType.TheVariants.{Single, Pair, Cursive, MarkToBase, MarkToLigature, MarkToMark, Context, ChainContext}
 use Rattle.face_json.specs.Lists.{number_below, is_object, rows_at, rows_in_turn}

@@ -8,10 +8,10 @@ use Rattle.json_values.specs.declared.fault.JsonFault.{JsonFault}
 use Rattle.json_values.specs.declared.fault.JsonFault.TheVariants.{WrongShape, UnknownName}
 use Rattle.json_values.specs.Cell.{and_then, word}
 use Rattle.json_values.specs.Objects.{read_or, read_if_there}
-use Rattle.layout_lookups.specs.declared.substitution.SubstitutionSubtables.{SubstitutionSubtables}
-use Rattle.layout_lookups.specs.declared.substitution.SubstitutionSubtables.TheVariants as Subtables
-use Rattle.layout_lookups.specs.declared.substitution.SubstLookup.{SubstLookup}
-use Rattle.layout_lookups.specs.declared.substitution.SubstitutionTable.{SubstitutionTable}
+use Rattle.font_face.specs.declared.substitution.SubstitutionSubtables.{SubstitutionSubtables}
+use Rattle.font_face.specs.declared.substitution.SubstitutionSubtables.TheVariants as Subtables
+use Rattle.font_face.specs.declared.substitution.SubstLookup.{SubstLookup}
+use Rattle.font_face.specs.declared.substitution.SubstitutionTable.{SubstitutionTable}
 use Rattle.face_json.specs.declared.substitution_table.SubstitutionType.{SubstitutionType}
 use Rattle.face_json.specs.declared.substitution_table.SubstitutionType.TheVariants.{Single, Multiple, Alternate, Ligature, Context, ChainContext, ReverseChainSingle}
 use Rattle.face_json.specs.Lists.{number_below, is_object, rows_at, rows_in_turn}

@@ -5,7 +5,7 @@ ghost use Rattle.face_json.specs.FontRows.{character_row, variation_row, extents
 use crate::rows::{Parts, read_row};
 use crate::value::Part;
 use font_face::parts::{CharacterRow, NameRow, VariationRow};
-use glyph_types::names::hb_glyph_extents_t;
+use glyph_lists::names::hb_glyph_extents_t;
 use json_values::fault::JsonFault;
 use serde_json::Value;
 use std::alloc::Global;

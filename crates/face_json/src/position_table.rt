@@ -7,9 +7,9 @@ ghost use Rattle.face_json.specs.PositionTable.{positioning_type_in, positioning
 use crate::features::read_layout;
 use crate::objects::{object, read_in_turn_at, read_optional_at, subtables};
 use crate::value::Part;
+use font_face::positioning::{PositioningLookup, PositioningSubtables, PositioningTable};
 use json_values::fault::JsonFault;
 use json_values::keys::read_key;
-use layout_lookups::positioning::{PositioningLookup, PositioningSubtables, PositioningTable};
 use serde_json::Value;
 use std::alloc::Global;
 

@@ -8,9 +8,9 @@ use crate::features::read_layout;
 use crate::glyphs::GLYPH_LIMIT;
 use crate::objects::{object, read_in_turn_at, read_optional_at, subtables};
 use crate::value::Part;
+use font_face::substitution::{SubstLookup, SubstitutionSubtables, SubstitutionTable};
 use json_values::fault::JsonFault;
 use json_values::keys::read_key;
-use layout_lookups::substitution::{SubstLookup, SubstitutionSubtables, SubstitutionTable};
 use serde_json::Value;
 use std::alloc::Global;
 

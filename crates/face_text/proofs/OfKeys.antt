@@ -19,8 +19,8 @@ use Rattle.face_json.specs.SubstitutionTable.{substitution_lookup, substitution_
 use Rattle.face_json.specs.PositionTable.{positioning_lookup, positioning_table}
 use Rattle.face_text.proofs.Tables.{list_found, whole_found}
 use Rattle.layout_font.specs.Layout.{LayoutLists}
-use Rattle.layout_lookups.specs.declared.substitution.SubstLookup.{SubstLookup}
-use Rattle.layout_lookups.specs.declared.positioning.PositioningLookup.{PositioningLookup}
+use Rattle.font_face.specs.declared.substitution.SubstLookup.{SubstLookup}
+use Rattle.font_face.specs.declared.positioning.PositioningLookup.{PositioningLookup}
 
 pub is_an_object : (d : Data) (ms : Members) → d ≡ object ms → is_object d ≡ Ok tt
 is_an_object d ms e = ap is_object e

@@ -1,10 +1,10 @@
 -- How many marks stand behind a place.
 use Rattle.std.proofs.Common.{ℕ, ◌≡◌, ◌≤◌, ◌<◌, ◌+◌, ◌-◌, Bool, true, false, if◌then◌else◌, List, ◌∷◌, length, drop, get_or, arith, refl, ap, ◌∙◌}
 use Rattle.std.proofs.lemmas.List.{drop_all, drop_more, length-map}
-use Rattle.glyph_types.specs.declared.info.hb_glyph_info_t.{hb_glyph_info_t}
+use Rattle.glyph_lists.specs.declared.info.hb_glyph_info_t.{hb_glyph_info_t}
 use Rattle.glyph_lists.specs.Items.{item_of, strip}
 use Rattle.glyph_lists.specs.Lists.{seen_at}
-use Rattle.normal_forms.specs.Characters.{is_mark}
+use Rattle.glyph_properties.specs.Characters.{is_mark}
 use Rattle.fallback_marks.specs.Marks.{marks}
 
 one_more : (n : ℕ) (b : Bool) → b ≡ true → (if b then n + 1 else 0) ≡ n + 1

@@ -3,15 +3,15 @@ use Rattle.std.proofs.Common.{ℕ, zero, suc, ◌≡◌, ◌≤◌, ◌<◌, ◌
 use Rattle.std.proofs.Math.Numerals.{add-one}
 use Rattle.std.proofs.lemmas.Grind.{common_steps}
 use Rattle.std.proofs.lemmas.List.{append-nil, append_assoc, drop_all, length-map}
-use Rattle.glyph_types.specs.declared.info.hb_glyph_info_t.{hb_glyph_info_t}
+use Rattle.glyph_lists.specs.declared.info.hb_glyph_info_t.{hb_glyph_info_t}
 use Rattle.glyph_lists.specs.Items.{Item, item_of}
 use Rattle.glyph_lists.specs.Events.{Break, Event}
-use Rattle.glyph_lists.specs.Readings.{View}
+use Rattle.glyph_buffer.specs.Readings.{View}
 use Rattle.glyph_buffer.specs.Sides.{Sides, all_glyphs, items_of, view_of}
-use Rattle.layout_rules.specs.Ready.{IsReady}
-use Rattle.normal_forms.specs.Characters.{is_mark}
-use Rattle.text_stages.specs.Lemmas.Happened.{both_happen, nothing_happens}
-use Rattle.text_stages.specs.Stages.{Happens}
+use Rattle.stage_rules.specs.Ready.{IsReady}
+use Rattle.glyph_properties.specs.Characters.{is_mark}
+use Rattle.stage_rules.specs.Lemmas.Happened.{both_happen, nothing_happens}
+use Rattle.stage_rules.specs.Stages.{Happens}
 use Rattle.fallback_marks.specs.Marks.{base_events, first_event, marks}
 use Rattle.fallback_marks.proofs.Counted.{first_left}
 

@@ -6,16 +6,16 @@ use Rattle.std.proofs.Math.Numerals.{add-one}
 use Rattle.std.proofs.lemmas.List.{drop_all, get_or-map, length-map, length-set, take-append-drop}
 use Rattle.shaping_text.specs.declared.direction.Direction.{Direction}
 use Rattle.font_face.specs.declared.parts.FaceParts.{FaceParts}
-use Rattle.glyph_types.specs.declared.info.hb_glyph_info_t.{hb_glyph_info_t}
+use Rattle.glyph_lists.specs.declared.info.hb_glyph_info_t.{hb_glyph_info_t}
 use Rattle.glyph_lists.specs.Items.{Item, Position, item_of}
 use Rattle.glyph_lists.specs.Events.{Event}
-use Rattle.glyph_lists.specs.Readings.{View, always}
+use Rattle.glyph_buffer.specs.Readings.{View, always}
 use Rattle.glyph_buffer.specs.Lending.{refilled, with_positions_refilled}
 use Rattle.glyph_buffer.specs.Sides.{Sides, all_glyphs, items_of, view_of}
-use Rattle.layout_rules.specs.Buffers.{are_glyphs}
-use Rattle.layout_rules.specs.Ready.{IsDone, IsReady}
-use Rattle.text_stages.specs.Lemmas.Written.{happened_followed, refilled_whole}
-use Rattle.text_stages.specs.Stages.{Becomes, Happens}
+use Rattle.stage_rules.specs.Buffers.{are_glyphs}
+use Rattle.stage_rules.specs.Ready.{IsDone, IsReady}
+use Rattle.stage_rules.specs.Lemmas.Written.{happened_followed, refilled_whole}
+use Rattle.stage_rules.specs.Stages.{Becomes, Happens}
 use Rattle.fallback_marks.specs.declared.around.Placing.{Placing}
 use Rattle.fallback_marks.specs.declared.marks.Before.{Before}
 use Rattle.fallback_marks.specs.declared.marks.Before.TheVariants.{Nothing}

@@ -6,7 +6,7 @@ use Rattle.font_face.specs.declared.parts.FaceParts.{FaceParts}
 use Rattle.font_face.specs.Glyphs.{width_of}
 use Rattle.glyph_lists.specs.Items.{Item, Position}
 use Rattle.position_sums.specs.Sums.{plus}
-use Rattle.layout_match.specs.LigatureWords.{lig_comp, lig_id, lig_num_comps}
+use Rattle.glyph_lists.specs.LigatureWords.{lig_comp, lig_id, lig_num_comps}
 use Rattle.shape_fallback.specs.Boxes.{Box}
 use Rattle.fallback_marks.specs.declared.bases.Base.{Base}
 

@@ -8,10 +8,10 @@ use Rattle.layout_common.specs.Rows.{value_of}
 use Rattle.font_face.specs.declared.parts.FaceParts.{FaceParts}
 use Rattle.glyph_lists.specs.Items.{Item, Position}
 use Rattle.glyph_lists.specs.Events.{Break, Event}
-use Rattle.glyph_lists.specs.Readings.{Read, View, with_events}
-use Rattle.layout_match.specs.LigatureWords.{component_bound}
-use Rattle.normal_forms.specs.Characters.{is_mark}
-use Rattle.text_stages.specs.Categories.{is_nonspacing_mark}
+use Rattle.glyph_buffer.specs.Readings.{Read, View, with_events}
+use Rattle.glyph_lists.specs.LigatureWords.{component_bound}
+use Rattle.glyph_properties.specs.Characters.{is_mark}
+use Rattle.glyph_properties.specs.Categories.{is_nonspacing_mark}
 use Rattle.shape_fallback.specs.Boxes.{Box}
 use Rattle.position_sums.specs.Zeroing.{zeroed}
 use Rattle.fallback_marks.specs.declared.around.Placed.{Placed}

@@ -2,14 +2,14 @@
 ghost use Rattle.std.specs.Prelude.{◌≡◌, ◌≤◌};
 ghost use Rattle.glyph_lists.specs.Items.{item_of};
 ghost use Rattle.layout_common.specs.Rows.{value_of};
-ghost use Rattle.layout_match.specs.LigatureWords.{component_bound};
+ghost use Rattle.glyph_lists.specs.LigatureWords.{component_bound};
 ghost use Rattle.fallback_marks.specs.Around.{along, at_class, at_component, begun, gap, is_class, mark_around, passed, pen_back, set_around, stood, stood_back};
 
 use crate::bases::{Base, component_box, component_of};
 use font_face::Face;
-use glyph_types::info::hb_glyph_info_t;
-use glyph_types::names::hb_glyph_extents_t;
-use glyph_types::position::GlyphPosition;
+use glyph_lists::info::hb_glyph_info_t;
+use glyph_lists::names::hb_glyph_extents_t;
+use glyph_lists::position::GlyphPosition;
 use position_sums::sums::{minus, plus};
 use position_sums::zeroing::without_advances;
 use shape_fallback::boxes::{Marked, position_mark};

@@ -3,15 +3,15 @@ ghost use Rattle.std.specs.Prelude.{◌≡◌, ◌<◌, ◌≤◌, pos};
 ghost use Rattle.std.specs.Int.RustNames.{int_div};
 ghost use Rattle.glyph_lists.specs.Items.{item_of};
 ghost use Rattle.fallback_marks.specs.Bases.{base_box, base_of, component_box, component_of, place_of_component, times};
-ghost use Rattle.layout_match.specs.LigatureWords.{component_bound};
+ghost use Rattle.glyph_lists.specs.LigatureWords.{component_bound};
 
 use font_face::Face;
-use glyph_types::info::hb_glyph_info_t;
-use glyph_types::names::hb_glyph_extents_t;
-use glyph_types::position::GlyphPosition;
-use layout_match::ligature_words::{
+use glyph_lists::info::hb_glyph_info_t;
+use glyph_lists::ligature_words::{
     _hb_glyph_info_get_lig_comp, _hb_glyph_info_get_lig_id, _hb_glyph_info_get_lig_num_comps,
 };
+use glyph_lists::names::hb_glyph_extents_t;
+use glyph_lists::position::GlyphPosition;
 use position_sums::sums::plus;
 
 /// A base, as marks are put around it.

@@ -2,11 +2,11 @@
 ghost use Rattle.std.specs.Prelude.{◌≡◌, ◌≤◌, ◌<◌, ◌+◌, true, length, drop, [], ◌∷◌};
 ghost use Rattle.glyph_lists.specs.Events.{Break};
 ghost use Rattle.glyph_lists.specs.Items.{item_of, strip};
-ghost use Rattle.glyph_lists.specs.Readings.{always};
+ghost use Rattle.glyph_buffer.specs.Readings.{always};
 ghost use Rattle.glyph_buffer.specs.Sides.{all_glyphs, items_of};
-ghost use Rattle.layout_rules.specs.Buffers.{are_glyphs};
-ghost use Rattle.layout_rules.specs.Ready.{IsDone, IsReady};
-ghost use Rattle.text_stages.specs.Stages.{Becomes, Happens};
+ghost use Rattle.stage_rules.specs.Buffers.{are_glyphs};
+ghost use Rattle.stage_rules.specs.Ready.{IsDone, IsReady};
+ghost use Rattle.stage_rules.specs.Stages.{Becomes, Happens};
 ghost use Rattle.fallback_marks.specs.Marks.{HasBound, base_events, behind_base, components_direction, first_event, is_left_to_right, marks, placed_marks, script_direction, step, step_of_mark, with_placed_marks, without_box};
 ghost use Rattle.layout_common.specs.Rows.{value_of};
 ghost use Rattle.fallback_marks.specs.declared.marks.Before.TheVariants.{Nothing};
@@ -15,12 +15,12 @@ use crate::around::{Around, Placing, begun, extents_of, mark_around};
 use crate::bases::base_of;
 use font_face::Face;
 use glyph_buffer::buffer::hb_buffer_t;
-use glyph_types::info::hb_glyph_info_t;
-use glyph_types::position::GlyphPosition;
+use glyph_lists::info::hb_glyph_info_t;
+use glyph_lists::position::GlyphPosition;
+use glyph_properties::categories::{is_mark, is_nonspacing_mark};
 use position_sums::zeroing::zeroed;
 use shaping_text::direction::Direction;
 use shaping_text::script::Script;
-use text_stages::categories::{is_mark, is_nonspacing_mark};
 
 /// What marks stand at.
 #[derive(Clone, Copy, PartialEq, Eq, Debug)]
@@ -111,7 +111,7 @@ fn mark_bases(buffer: &mut hb_buffer_t)
     }
 }
 
-#[tactic(auto, using(text_stages::specs::Lemmas::Happened::break_happens, text_stages::specs::Lemmas::Happened::end_of_input))]
+#[tactic(auto, using(stage_rules::specs::Lemmas::Happened::break_happens, stage_rules::specs::Lemmas::Happened::end_of_input))]
 fn mark_break(start: usize, end: usize, buffer: &mut hb_buffer_t)
     requires ready { IsReady buffer.old }
     requires ordered { start ≤ end }

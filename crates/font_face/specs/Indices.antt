@@ -1,7 +1,7 @@
 -- Indices and classes of a font that stay within their lists.
 use Rattle.std.specs.Prelude.{ℕ, ◌&&◌, Bool, true, length, nat_le}
 use Rattle.std.specs.Option.{option_map_or}
-use Rattle.layout_lookups.specs.Indices.{substitution_fits, positioning_fits}
+use Rattle.font_face.specs.LookupIndices.{substitution_fits, positioning_fits}
 use Rattle.font_face.specs.declared.parts.FaceParts.{FaceParts}
 
 -- the number of sets of marks is one of 16 bits (OpenType, GDEF, `markGlyphSetCount`), so that the index 65535 names none

@@ -7,10 +7,10 @@ ghost use Rattle.font_face.specs.Indices.{indices_fit};
 ghost use Rattle.font_face.specs.Glyphs.{nominal_glyph, variation_glyph, width_of, height_of, origin_of, name_of, has_mark, glyph_class};
 
 use crate::parts::{FaceParts, GlyphDefinition};
-use glyph_types::names::hb_glyph_extents_t;
+use crate::positioning::PositioningTable;
+use crate::substitution::SubstitutionTable;
+use glyph_lists::names::hb_glyph_extents_t;
 use layout_common::glyph_row::find_value;
-use layout_lookups::positioning::PositioningTable;
-use layout_lookups::substitution::SubstitutionTable;
 use std::marker::Model;
 
 /// A font. Lengths are in font units, y grows upward.

@@ -1,9 +1,12 @@
-// A font as a parsed value, and what shaping asks it of its glyphs.
+// A font as a parsed value: its lookups and their tables (OpenType, GSUB and GPOS), and what shaping asks it of its glyphs.
 #![tactic(auto)]
 
 pub mod face;
+mod lookup_indices;
 mod names;
 pub mod parts;
+pub mod positioning;
+pub mod substitution;
 
 pub use face::{Face, Face as hb_font_t};
 pub use parts::FaceParts;

@@ -1,7 +1,7 @@
 //! What a font tells of its glyphs to one who prints them.
 
 use crate::face::Face;
-use glyph_types::names::{GlyphId, GlyphNames, hb_glyph_extents_t};
+use glyph_lists::names::{GlyphId, GlyphNames, hb_glyph_extents_t};
 
 impl GlyphNames for Face {
     ghost use Rattle.layout_common.specs.Rows.{value_of};

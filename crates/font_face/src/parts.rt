@@ -1,16 +1,16 @@
 //! A font as its keys give it. Lengths are in font units.
 ghost use Rattle.std.specs.Prelude.{◌≡◌, true, string_bytes};
 ghost use Rattle.std.specs.Option.{option_map_or, option_copied};
-ghost use Rattle.layout_lookups.specs.Indices.{substitution_fits, positioning_fits};
+ghost use Rattle.font_face.specs.LookupIndices.{substitution_fits, positioning_fits};
 ghost use Rattle.font_face.specs.Indices.{indices_fit};
 
-use glyph_types::names::hb_glyph_extents_t;
+use crate::positioning::PositioningTable;
+use crate::substitution::SubstitutionTable;
+use glyph_lists::names::hb_glyph_extents_t;
 use layout_common::array::Array;
 use layout_common::class_definition::ClassDefinition;
 use layout_common::coverage::Coverage;
 use layout_common::glyph_row::GlyphRow;
-use layout_lookups::positioning::PositioningTable;
-use layout_lookups::substitution::SubstitutionTable;
 use sorted_rows::{Keyed, SortedRows};
 use std::marker::Model;
 

@@ -2,7 +2,7 @@
 use crate::{positions, substitutions};
 use face_text::{read_by_parts, read_face_text};
 use font_face::Face;
-use glyph_types::names::{GlyphId, GlyphNames, hb_glyph_extents_t};
+use glyph_lists::names::{GlyphId, GlyphNames, hb_glyph_extents_t};
 use std::alloc::{AllocError, Global};
 use std::process::Abort;
 use std::test::Fail;

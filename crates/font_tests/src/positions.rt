@@ -1,6 +1,6 @@
 //! The subtables of glyph positioning.
 use crate::fonts::font;
-use layout_lookups::positioning::{PositioningSubtables, PositioningTable};
+use font_face::positioning::{PositioningSubtables, PositioningTable};
 use layout_positions::cursive::EntryExit;
 use layout_positions::mark::{MarkLigPos, MarkRecord};
 use layout_positions::pair::{PairPos, PairValues};

@@ -1,7 +1,7 @@
 //! The subtables of glyph substitution.
 use crate::fonts::font;
+use font_face::substitution::{SubstitutionSubtables, SubstitutionTable};
 use layout_contexts::context::ContextSubtable;
-use layout_lookups::substitution::{SubstitutionSubtables, SubstitutionTable};
 use std::process::Abort;
 use std::test::Fail;
 

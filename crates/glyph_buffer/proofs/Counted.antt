@@ -2,7 +2,7 @@
 use Rattle.std.proofs.Common.{ℕ, zero, suc, ◌≡◌, ◌≤◌, ◌<◌, ◌+◌, min, false, List, [], ◌∷◌, ◌++◌, length, map, take, drop, get_or, set, arith, refl, ap, sym, ◌∙◌}
 use Rattle.std.specs.Global.{Vec}
 use Rattle.std.proofs.lemmas.List.{take-append-drop, length-take-le}
-use Rattle.glyph_types.specs.declared.info.hb_glyph_info_t.{hb_glyph_info_t}
+use Rattle.glyph_lists.specs.declared.info.hb_glyph_info_t.{hb_glyph_info_t}
 use Rattle.glyph_lists.specs.Items.{strip, clusters, glyph_flags}
 use Rattle.glyph_lists.specs.Order.{AllFrom, IsRising}
 use Rattle.glyph_buffer.specs.declared.buffer.hb_buffer_t.TheInside.{Inside}

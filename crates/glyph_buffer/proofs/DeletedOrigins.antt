@@ -1,9 +1,9 @@
 -- What the deletion of a glyph does to where the others come from.
 use Rattle.std.proofs.Common.{◌≡◌, List, [], ◌∷◌, ◌++◌, length, ap, sym, ◌∙◌}
-use Rattle.glyph_types.specs.declared.info.hb_glyph_info_t.{hb_glyph_info_t}
+use Rattle.glyph_lists.specs.declared.info.hb_glyph_info_t.{hb_glyph_info_t}
 use Rattle.glyph_lists.specs.Origins.{origins, origins_deleted}
 use Rattle.glyph_lists.specs.Events.{Delete}
-use Rattle.glyph_clusters.specs.DeletedOrigins.{deleted_behind}
+use Rattle.glyph_lists.specs.DeletedOrigins.{deleted_behind}
 use Rattle.glyph_buffer.specs.Sides.{Sides, origins_of, origins_by}
 use Rattle.glyph_buffer.specs.Grouping.{with_deleted}
 

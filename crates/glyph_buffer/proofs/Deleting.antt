@@ -2,11 +2,11 @@
 use Rattle.std.specs.Global.{Vec}
 use Rattle.std.proofs.Common.{ℕ, ◌≡◌, ◌+◌, Bool, true, List, ◌∷◌, ◌++◌, drop, refl, ap, sym, subst, ◌∙◌, get_or, arith, ◌<◌, [], length}
 use Rattle.std.proofs.lemmas.List.{map-append}
-use Rattle.glyph_types.specs.declared.info.hb_glyph_info_t.{hb_glyph_info_t as Glyph}
-use Rattle.glyph_types.specs.declared.level.BufferClusterLevel.{BufferClusterLevel as Level}
+use Rattle.glyph_lists.specs.declared.info.hb_glyph_info_t.{hb_glyph_info_t as Glyph}
+use Rattle.glyph_lists.specs.declared.level.BufferClusterLevel.{BufferClusterLevel as Level}
 use Rattle.glyph_lists.specs.Items.{item_of, strip}
-use Rattle.glyph_clusters.specs.Deleted.{items_deleted}
-use Rattle.glyph_clusters.specs.Deleting.{glyphs_deleted, Deletes}
+use Rattle.glyph_lists.specs.Deleted.{items_deleted}
+use Rattle.glyph_lists.specs.Deleting.{glyphs_deleted, Deletes}
 use Rattle.glyph_buffer.specs.declared.buffer.hb_buffer_t.TheInside.{Inside}
 use Rattle.buffer_lists.specs.declared.order.ClusterOrder.{ClusterOrder}
 use Rattle.glyph_buffer.specs.Grouping.{with_deleted}

@@ -2,9 +2,9 @@
 use Rattle.std.specs.Global.{Vec}
 use Rattle.std.proofs.Common.{ℕ, ◌≡◌, ◌≤◌, ◌+◌, ◌-◌, Bool, true, false, List, ◌++◌, length, take, drop, refl, arith, ap, sym, ◌∙◌}
 use Rattle.std.proofs.lemmas.List.{take-append-drop, length-take-le, take_at, drop_at}
-use Rattle.glyph_types.specs.declared.info.hb_glyph_info_t.{hb_glyph_info_t}
-use Rattle.glyph_types.specs.declared.level.BufferClusterLevel.{BufferClusterLevel}
-use Rattle.glyph_types.specs.declared.level.BufferClusterLevel.TheVariants.{MonotoneGraphemes, MonotoneCharacters, Characters}
+use Rattle.glyph_lists.specs.declared.info.hb_glyph_info_t.{hb_glyph_info_t}
+use Rattle.glyph_lists.specs.declared.level.BufferClusterLevel.{BufferClusterLevel}
+use Rattle.glyph_lists.specs.declared.level.BufferClusterLevel.TheVariants.{MonotoneGraphemes, MonotoneCharacters, Characters}
 use Rattle.glyph_lists.specs.Items.{strip, clusters}
 use Rattle.glyph_lists.specs.Parts.{stretch}
 use Rattle.glyph_lists.specs.Glyphs.{glyphs_merged_at, beside_merged, is_marked_at, tells_apart}

@@ -4,9 +4,9 @@ use Rattle.std.specs.Prelude.{Option, Some, None}
 use Rattle.std.proofs.lemmas.Grind.{common_steps}
 use Rattle.std.proofs.lemmas.List.{append-nil, map-append, take-append-drop, take-map, drop-map}
 use Rattle.std.proofs.Math.Seq.{take-append_seam, drop-append-add}
-use Rattle.glyph_types.specs.declared.info.hb_glyph_info_t.{hb_glyph_info_t}
-use Rattle.glyph_types.specs.declared.level.BufferClusterLevel.{BufferClusterLevel}
-use Rattle.glyph_types.specs.declared.level.BufferClusterLevel.TheVariants.{MonotoneGraphemes, MonotoneCharacters, Characters}
+use Rattle.glyph_lists.specs.declared.info.hb_glyph_info_t.{hb_glyph_info_t}
+use Rattle.glyph_lists.specs.declared.level.BufferClusterLevel.{BufferClusterLevel}
+use Rattle.glyph_lists.specs.declared.level.BufferClusterLevel.TheVariants.{MonotoneGraphemes, MonotoneCharacters, Characters}
 use Rattle.glyph_lists.specs.Parts.{first_of, last_of, or, copies, replaced_among, stretch}
 use Rattle.glyph_lists.specs.Glyphs.{glyphs_merged_at}
 use Rattle.glyph_lists.specs.Merges.{least_number, merged}

@@ -3,8 +3,8 @@ use Rattle.std.specs.Global.{Vec}
 use Rattle.std.proofs.Common.{ℕ, ◌≡◌, ◌≤◌, ◌+◌, ◌-◌, ◌++◌, true, false, List, length, take, drop, refl, ap, sym, subst, arith, append_assoc, ◌∙◌, [], ◌∷◌}
 use Rattle.std.proofs.lemmas.List.{map-append, take-append-drop, take-append-le, drop-append-le}
 use Rattle.std.proofs.Math.Seq.{take-append-add, drop-append-add}
-use Rattle.glyph_types.specs.declared.info.hb_glyph_info_t.{hb_glyph_info_t}
-use Rattle.glyph_types.specs.declared.position.GlyphPosition.{GlyphPosition}
+use Rattle.glyph_lists.specs.declared.info.hb_glyph_info_t.{hb_glyph_info_t}
+use Rattle.glyph_lists.specs.declared.position.GlyphPosition.{GlyphPosition}
 use Rattle.glyph_lists.specs.Items.{item_of, strip, clusters}
 use Rattle.glyph_buffer.specs.declared.buffer.hb_buffer_t.TheInside.{Inside}
 use Rattle.buffer_lists.specs.declared.order.ClusterOrder.{ClusterOrder}

@@ -3,11 +3,11 @@ use Rattle.std.specs.Prelude.{replicate}
 use Rattle.std.proofs.Common.{ℕ, zero, suc, ◌≡◌, ◌-◌, ◌++◌, List, ◌∷◌, length, map, take, false, refl, ap, sym, ◌∙◌, min}
 use Rattle.std.proofs.lemmas.List.{map-append, take-map, take-append-drop, length-map}
 use Rattle.std.specs.Global.{Vec}
-use Rattle.glyph_types.specs.declared.position.GlyphPosition.{GlyphPosition}
+use Rattle.glyph_lists.specs.declared.position.GlyphPosition.{GlyphPosition}
 use Rattle.glyph_buffer.specs.declared.buffer.hb_buffer_t.TheInside.{Inside}
 use Rattle.buffer_lists.specs.declared.order.ClusterOrder.{ClusterOrder}
 use Rattle.glyph_buffer.specs.Inside.{sides_of}
-use Rattle.glyph_types.specs.declared.info.hb_glyph_info_t.{hb_glyph_info_t}
+use Rattle.glyph_lists.specs.declared.info.hb_glyph_info_t.{hb_glyph_info_t}
 use Rattle.glyph_lists.specs.Items.{item_of, strip}
 use Rattle.glyph_buffer.specs.Moving.{of_length, with_len, zero_glyph}
 use Rattle.glyph_buffer.specs.Sides.{Sides, all_glyphs, items_of, zero_position, origins_of}

@@ -4,8 +4,8 @@ use Rattle.std.specs.Vec.{with_items}
 use borrow.Rule.Slice.PartMut.{put_mid}
 use Rattle.std.proofs.Common.{ℕ, ◌≡◌, ◌≤◌, ◌+◌, ◌-◌, List, [], ◌∷◌, ◌++◌, refl, length, map, take, drop, arith, ap, sym, ◌∙◌}
 use Rattle.std.proofs.lemmas.List.{with_items_is, append-nil, drop_all, drop_at, length-append, length-drop, length-take-le, map-append, take-append-drop}
-use Rattle.glyph_types.specs.declared.info.hb_glyph_info_t.{hb_glyph_info_t}
-use Rattle.glyph_types.specs.declared.position.GlyphPosition.{GlyphPosition}
+use Rattle.glyph_lists.specs.declared.info.hb_glyph_info_t.{hb_glyph_info_t}
+use Rattle.glyph_lists.specs.declared.position.GlyphPosition.{GlyphPosition}
 use Rattle.glyph_lists.specs.Items.{clusters}
 
 -- all of a list

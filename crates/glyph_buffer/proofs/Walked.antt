@@ -4,9 +4,9 @@ use Rattle.std.specs.Int.Bits.{or_add_and}
 use Rattle.std.specs.Int.RustNames.{bit_or}
 use Rattle.std.proofs.lemmas.Nat.{and_or_self}
 use Rattle.std.proofs.lemmas.List.{append-nil}
-use Rattle.glyph_types.specs.declared.info.hb_glyph_info_t.{hb_glyph_info_t as Glyph}
+use Rattle.glyph_lists.specs.declared.info.hb_glyph_info_t.{hb_glyph_info_t as Glyph}
 use Rattle.glyph_lists.specs.Items.{Position, clusters}
-use Rattle.glyph_clusters.specs.Deleting.{deletion_marks, glyphs_deleted}
+use Rattle.glyph_lists.specs.Deleting.{deletion_marks, glyphs_deleted}
 use Rattle.glyph_slices.specs.DeletionWalk.{Passed, many_passed, with_glyph, without_glyph}
 use Rattle.glyph_slices.specs.Lemmas.Kept.{back_length}
 use Rattle.glyph_buffer.specs.Grouping.{walked_over, with_deleted}

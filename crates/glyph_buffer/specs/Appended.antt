@@ -1,6 +1,6 @@
 -- Both vectors after glyphs were put at the end.
 use Rattle.std.specs.Prelude.{◌≡◌, List, ◌++◌, length}
-use Rattle.glyph_types.specs.declared.info.hb_glyph_info_t.{hb_glyph_info_t}
+use Rattle.glyph_lists.specs.declared.info.hb_glyph_info_t.{hb_glyph_info_t}
 use Rattle.glyph_lists.specs.Items.{Position}
 use Rattle.glyph_buffer.specs.Sides.{zero_positions}
 

@@ -1,8 +1,8 @@
 -- Groups in turned order, and glyphs that a test picks taken out.
 use Rattle.std.specs.Prelude.{ℕ, zero, suc, ◌+◌, Bool, if◌then◌else◌, List, [], ◌∷◌, min, length}
-use Rattle.glyph_types.specs.declared.info.hb_glyph_info_t.{hb_glyph_info_t}
+use Rattle.glyph_lists.specs.declared.info.hb_glyph_info_t.{hb_glyph_info_t}
 use Rattle.glyph_lists.specs.Items.{clusters}
-use Rattle.glyph_clusters.specs.Deleting.{Left, glyphs_deleted, deletion_marks}
+use Rattle.glyph_lists.specs.Deleting.{Left, glyphs_deleted, deletion_marks}
 use Rattle.glyph_slices.specs.Turning.{Turning, turned}
 use Rattle.glyph_slices.specs.DeletionWalk.{Passed, all_passed}
 use Rattle.glyph_buffer.specs.Merging.{telling_flags}

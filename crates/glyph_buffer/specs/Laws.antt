@@ -1,6 +1,6 @@
 -- What holds of all buffers.
 use Rattle.std.specs.Prelude.{◌≡◌, Bool, List, length}
-use Rattle.glyph_types.specs.declared.info.hb_glyph_info_t.{hb_glyph_info_t}
+use Rattle.glyph_lists.specs.declared.info.hb_glyph_info_t.{hb_glyph_info_t}
 use Rattle.glyph_buffer.specs.Grouping.{walked_over, with_picked_deleted}
 use Rattle.glyph_buffer.specs.Lending.{with_output_refilled}
 use Rattle.glyph_buffer.specs.Sides.{Sides, all_glyphs, reversed, with_output}

@@ -1,10 +1,10 @@
 -- What a buffer is once a glyph or a place that it lent comes back.
 use Rattle.std.specs.Prelude.{ℕ, ◌-◌, ◌++◌, if◌then◌else◌, List, length, take, drop, slice_set}
 use Rattle.std.specs.Borrow.{Lends, MutBor, Fml, Array}
-use Rattle.glyph_types.specs.declared.info.hb_glyph_info_t.{hb_glyph_info_t}
-use Rattle.glyph_types.specs.declared.position.GlyphPosition.{GlyphPosition}
-use Rattle.glyph_types.specs.contracts.info.hb_glyph_info_t.{the_row as info_row}
-use Rattle.glyph_types.specs.contracts.position.GlyphPosition.{the_row as place_row}
+use Rattle.glyph_lists.specs.declared.info.hb_glyph_info_t.{hb_glyph_info_t}
+use Rattle.glyph_lists.specs.declared.position.GlyphPosition.{GlyphPosition}
+use Rattle.glyph_lists.specs.contracts.info.hb_glyph_info_t.{the_row as info_row}
+use Rattle.glyph_lists.specs.contracts.position.GlyphPosition.{the_row as place_row}
 use Rattle.glyph_buffer.specs.contracts.buffer.hb_buffer_t.{the_row}
 use Rattle.glyph_lists.specs.Items.{Position}
 use Rattle.glyph_buffer.specs.Merging.{with_glyphs}

@@ -1,6 +1,6 @@
 -- The cursor at another place, and lists cut, filled or turned round in part.
 use Rattle.std.specs.Prelude.{ℕ, ◌+◌, ◌-◌, ◌&&◌, Bool, true, not, nat_le, nat_lt, if◌then◌else◌, List, ◌++◌, length, take, drop, replicate, min}
-use Rattle.glyph_types.specs.declared.info.hb_glyph_info_t.{hb_glyph_info_t}
+use Rattle.glyph_lists.specs.declared.info.hb_glyph_info_t.{hb_glyph_info_t}
 pub use Rattle.glyph_slices.specs.Events.{indices_reversed}
 pub use Rattle.glyph_slices.specs.Turning.{range_reversed}
 use Rattle.glyph_buffer.specs.Sides.{Sides, all_glyphs, with_list, zero_position}

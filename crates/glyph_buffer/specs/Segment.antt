@@ -1,7 +1,7 @@
 -- Script and direction of a text that were not told.
 use Rattle.std.specs.Prelude.{ℕ, Bool, not, ◌&&◌, if◌then◌else◌, List, [], ◌∷◌, Option, Some, None, unwrap_or}
 use lib.Utf8.{scalar}
-use Rattle.glyph_types.specs.declared.info.hb_glyph_info_t.{hb_glyph_info_t}
+use Rattle.glyph_lists.specs.declared.info.hb_glyph_info_t.{hb_glyph_info_t}
 use Rattle.shaping_text.specs.Direction.{direction_of_script, is_among}
 use Rattle.shaping_text.specs.declared.direction.Direction.{Direction}
 use Rattle.shaping_text.specs.declared.direction.Direction.TheVariants.{Invalid, LeftToRight, RightToLeft, TopToBottom, BottomToTop}

@@ -1,6 +1,6 @@
 -- Limits, ligature numbers and the text around.
 use Rattle.std.specs.Prelude.{ℕ, ℤ, pos, ◌+◌, ◌*◌, nat_le, nat_lt, max, if◌then◌else◌, List, [], ◌∷◌, length, min, Option}
-use Rattle.glyph_types.specs.declared.info.hb_glyph_info_t.{hb_glyph_info_t}
+use Rattle.glyph_lists.specs.declared.info.hb_glyph_info_t.{hb_glyph_info_t}
 use Rattle.glyph_lists.specs.Origins.{Origin}
 use Rattle.shaping_text.specs.declared.language.Language.{Language}
 use Rattle.glyph_buffer.specs.Merging.{with_glyphs}

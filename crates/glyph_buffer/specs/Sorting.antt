@@ -1,6 +1,6 @@
 -- A range of glyphs in the order of a key.
 use Rattle.std.specs.Prelude.{ℕ}
-use Rattle.glyph_types.specs.declared.info.hb_glyph_info_t.{hb_glyph_info_t}
+use Rattle.glyph_lists.specs.declared.info.hb_glyph_info_t.{hb_glyph_info_t}
 use Rattle.glyph_slices.specs.Sorting.{Spanned, range_sorted}
 use Rattle.glyph_buffer.specs.Merging.{telling_flags, with_glyphs}
 use Rattle.glyph_buffer.specs.Sides.{Sides, all_glyphs}

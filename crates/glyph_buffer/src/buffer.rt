@@ -27,9 +27,9 @@ mod storage;
 
 use arrayvec::ArrayVec;
 use buffer_lists::order::{ClusterOrder, KnownOrder};
-use glyph_types::info::hb_glyph_info_t;
-use glyph_types::level::BufferClusterLevel;
-use glyph_types::position::GlyphPosition;
+use glyph_lists::info::hb_glyph_info_t;
+use glyph_lists::level::BufferClusterLevel;
+use glyph_lists::position::GlyphPosition;
 use shaping_text::constants::{
     BufferFlags, HB_BUFFER_SCRATCH_FLAG_DEFAULT, hb_buffer_scratch_flags_t,
 };

@@ -1,6 +1,6 @@
 -- Small lists, by computation.
 use Rattle.std.proofs.Common.{ℕ, ◌≡◌, true, false, [], ◌∷◌, refl}
-use Rattle.glyph_types.specs.declared.level.BufferClusterLevel.TheVariants.{MonotoneGraphemes, MonotoneCharacters, Characters}
+use Rattle.glyph_lists.specs.declared.level.BufferClusterLevel.TheVariants.{MonotoneGraphemes, MonotoneCharacters, Characters}
 use Rattle.glyph_lists.specs.Origins.{Origin, Asks, InList, InOutput}
 use Rattle.glyph_lists.specs.Events.{Merge, Replace, Circle, Delete, Move, Arrange, Concat, Tatweel, Spread, origins_after}
 

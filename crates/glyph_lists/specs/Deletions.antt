@@ -1,7 +1,7 @@
 -- What the deletion of a glyph does to cluster numbers.
 use Rattle.std.specs.Prelude.{ℕ, ◌==◌, ◌||◌, nat_lt, if◌then◌else◌, List, [], ◌∷◌, ◌++◌, Option, Some, None, map, drop}
 use Rattle.std.specs.List.{list_all}
-use Rattle.glyph_types.specs.declared.level.BufferClusterLevel.{BufferClusterLevel}
+use Rattle.glyph_lists.specs.declared.level.BufferClusterLevel.{BufferClusterLevel}
 use Rattle.glyph_lists.specs.Parts.{first_of, last_of, is_number}
 use Rattle.glyph_lists.specs.Merges.{merged_at}
 

@@ -1,6 +1,6 @@
 -- What one call of a buffer does to where its glyphs come from.
 use Rattle.std.specs.Prelude.{ℕ, ◌≡◌, ◌≤◌, ◌+◌, Bool, true, false, List, [], ◌∷◌, Some, fold, length, reverse, slice_get}
-use Rattle.glyph_types.specs.declared.level.BufferClusterLevel.{BufferClusterLevel}
+use Rattle.glyph_lists.specs.declared.level.BufferClusterLevel.{BufferClusterLevel}
 use Rattle.glyph_lists.specs.Parts.{replaced_among}
 use Rattle.glyph_lists.specs.Origins.{Origin, Merging, InList, manner, merged_as, origins_deleted, arranged, is_seam, spans, spans_merged, origins_circled, origins_marked, origins_flagged, Asks, origins_spread, without_marks}
 

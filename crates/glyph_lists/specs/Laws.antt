@@ -1,9 +1,9 @@
 -- What holds of all lists of events, of merges and of deletions.
 use Rattle.std.specs.Prelude.{ℕ, ◌≡◌, ◌≢◌, Bool, false, List, [], ◌∷◌, ◌++◌, length}
-use Rattle.glyph_types.specs.declared.level.BufferClusterLevel.{BufferClusterLevel}
+use Rattle.glyph_lists.specs.declared.level.BufferClusterLevel.{BufferClusterLevel}
 use Rattle.glyph_lists.specs.Parts.{PartEvent, DeletePart, joined, after_part_event, after_part_events}
 use Rattle.glyph_lists.specs.Deletions.{deleted}
-use Rattle.glyph_lists.specs.Readings.{IsMonotone}
+use Rattle.glyph_lists.specs.Levels.{IsMonotone}
 use Rattle.glyph_lists.specs.Origins.{Origin, Asks, numbers, origins_spread}
 use Rattle.glyph_lists.specs.Events.{Event, IsPlain, origins_after}
 use Rattle.glyph_lists.specs.EventParts.{parts_of, AreEvenRuns, HaveNoConcat}

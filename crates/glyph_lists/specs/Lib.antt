@@ -1,4 +1,5 @@
 pub mod Items
+pub mod LigatureWords
 pub mod Levels
 pub mod Parts
 pub mod Order
@@ -9,8 +10,11 @@ pub mod EventParts
 pub mod Glyphs
 pub mod Replacements
 pub mod Deletions
-pub mod Readings
 pub mod Laws
 pub mod Lists
 pub mod Lemmas
-pub mod Steps
+pub mod Merging
+pub mod Deleting
+pub mod Deleted
+pub mod OneDeleted
+pub mod DeletedOrigins

@@ -1,6 +1,6 @@
 -- What a merge of a range does to cluster numbers.
 use Rattle.std.specs.Prelude.{ℕ, ◌≡◌, min, if◌then◌else◌, IsTrue, List, [], ◌∷◌, map, fold}
-use Rattle.glyph_types.specs.declared.level.BufferClusterLevel.{BufferClusterLevel}
+use Rattle.glyph_lists.specs.declared.level.BufferClusterLevel.{BufferClusterLevel}
 use Rattle.glyph_lists.specs.Levels.{InList, Manner, Unites, Marks, Keeps, manner}
 use Rattle.glyph_lists.specs.Parts.{stretch}
 use Rattle.glyph_lists.specs.Order.{has_number}

@@ -1,2 +1,13 @@
-pub mod Categories
+pub mod PropertyWords
 pub mod Words
+pub mod Supported
+pub mod Expanded
+pub mod Runs
+pub mod Classes
+pub mod Alike
+pub mod Equivalence
+pub mod Kept
+pub mod Sorted
+pub mod Composed
+pub mod Preserved
+pub mod Short

@@ -7,7 +7,7 @@ use Rattle.unicode_chars.specs.Category.{category_number}
 use Rattle.unicode_chars.specs.Character.{is_default_ignorable_character}
 use Rattle.glyph_properties.specs.Properties.{bit_if, is_hidden_character, is_mark_character, properties_of, text_properties_of}
 use Rattle.glyph_properties.specs.Laws.{ContinuationLeaves, LowBitsAreTheCategory}
-use Rattle.glyph_properties.proofs.Categories.{category_fits}
+use Rattle.glyph_properties.proofs.PropertyWords.{category_fits}
 
 -- a bit that is there or not
 bit_times : (b : Bool) (m : ℕ) → bit_if b m ≡ m * bit_if b 1

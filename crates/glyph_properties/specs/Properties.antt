@@ -6,7 +6,7 @@ use Rattle.unicode.specs.GeneralCategory.{general_category}
 use Rattle.unicode_chars.specs.Category.{category_number, is_mark_category}
 use Rattle.unicode_chars.specs.Character.{is_in_range, is_default_ignorable_character}
 use Rattle.unicode_tables.specs.Tables.{Tables, class_of}
-use Rattle.glyph_types.specs.declared.info.hb_glyph_info_t.{hb_glyph_info_t}
+use Rattle.glyph_lists.specs.declared.info.hb_glyph_info_t.{hb_glyph_info_t}
 use Rattle.shaping_text.specs.declared.constants.TheConstants.{HB_BUFFER_SCRATCH_FLAG_HAS_NON_ASCII, HB_BUFFER_SCRATCH_FLAG_HAS_DEFAULT_IGNORABLES, HB_BUFFER_SCRATCH_FLAG_HAS_CGJ}
 
 -- ---- the bits of a property word above the general category, by their names in `UnicodeProps`

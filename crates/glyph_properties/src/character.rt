@@ -4,7 +4,7 @@ ghost use Rattle.unicode.specs.GeneralCategory.{general_category};
 ghost use Rattle.unicode_chars.specs.Category.{category_number};
 ghost use Rattle.glyph_properties.specs.Properties.{bit_if, is_hidden_character, is_mark_character, properties_of, text_properties_of, character_class, scratch_flags_of};
 
-use glyph_types::flags::UnicodeProps;
+use glyph_lists::flags::UnicodeProps;
 use shaping_text::constants::{
     HB_BUFFER_SCRATCH_FLAG_HAS_CGJ, HB_BUFFER_SCRATCH_FLAG_HAS_DEFAULT_IGNORABLES,
     HB_BUFFER_SCRATCH_FLAG_HAS_NON_ASCII, hb_buffer_scratch_flags_t,
@@ -85,7 +85,7 @@ fn flag_if(b: bool, flag: hb_buffer_scratch_flags_t) -> hb_buffer_scratch_flags_
 }
 
 /// The number of a character's general category.
-#[tactic(auto, using(crate::proofs::Categories::category_fits))]
+#[tactic(auto, using(crate::proofs::PropertyWords::category_fits))]
 fn category_of(u: char) -> u16
     ensures value { result ≡ category_number (general_category u) }
     ensures below { result < 32 }

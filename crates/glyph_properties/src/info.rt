@@ -5,8 +5,8 @@ ghost use Rattle.std.specs.Int.RustNames.{bit_or};
 ghost use Rattle.glyph_properties.specs.Properties.{scratch_flags_of, with_text_properties, without_continuation};
 
 use crate::character::{character_class, scratch_flags_of, text_properties_of};
-use glyph_types::flags::UnicodeProps;
-use glyph_types::info::hb_glyph_info_t;
+use glyph_lists::flags::UnicodeProps;
+use glyph_lists::info::hb_glyph_info_t;
 use shaping_text::constants::hb_buffer_scratch_flags_t;
 use unicode_tables::UnicodeTables;
 

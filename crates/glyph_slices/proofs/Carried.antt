@@ -5,18 +5,18 @@ use borrow.Rule.Slice.PartMut.{put_mid}
 use Rattle.std.proofs.lemmas.Grind.{common_steps}
 use Rattle.std.proofs.lemmas.List.{map-append, take-take, take_more, drop-take, drop-drop, drop_more, length-append, length-map, length-take-le, length-drop, take-append-drop}
 use Rattle.std.proofs.Math.Seq.{take-append_seam, drop-append_seam}
-use Rattle.glyph_types.specs.declared.info.hb_glyph_info_t.{hb_glyph_info_t as Glyph}
+use Rattle.glyph_lists.specs.declared.info.hb_glyph_info_t.{hb_glyph_info_t as Glyph}
 use Rattle.glyph_lists.specs.Items.{clusters, without_flags}
 use Rattle.glyph_lists.specs.Parts.{stretch}
 use Rattle.glyph_lists.specs.Order.{IsFalling, IsRising, IsOrdered, IsInOrder, IsChain, has_number}
 use Rattle.glyph_lists.specs.Merges.{least_number, merged}
 use Rattle.glyph_lists.specs.Glyphs.{in_cluster, glyphs_merged, glyphs_merged_at, is_marked_at}
-use Rattle.glyph_types.specs.declared.level.BufferClusterLevel.{BufferClusterLevel as Level}
-use Rattle.glyph_types.specs.declared.level.BufferClusterLevel.TheVariants.{MonotoneGraphemes, MonotoneCharacters, Characters}
+use Rattle.glyph_lists.specs.declared.level.BufferClusterLevel.{BufferClusterLevel as Level}
+use Rattle.glyph_lists.specs.declared.level.BufferClusterLevel.TheVariants.{MonotoneGraphemes, MonotoneCharacters, Characters}
 use Rattle.glyph_lists.specs.Levels.{IsMonotone}
 use Rattle.std.specs.List.{list_all}
-use Rattle.glyph_clusters.specs.Merging.{direction_merged}
-use Rattle.glyph_clusters.specs.Deleting.{IsEndRun}
+use Rattle.glyph_lists.specs.Merging.{direction_merged}
+use Rattle.glyph_lists.specs.Deleting.{IsEndRun}
 use Rattle.glyph_lists.specs.Lemmas.Ends.{from_first}
 use Rattle.glyph_lists.specs.Lemmas.Glyphs.{without_flags_again, cut_out, stretch_is, cluster_in_cluster, same_cluster}
 use Rattle.glyph_lists.specs.Lemmas.Merges.{least_number_is, chain_left, chain_right, chain_across, merged_in}

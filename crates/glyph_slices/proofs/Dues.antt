@@ -4,7 +4,7 @@ use Rattle.std.specs.List.{list_all}
 use Rattle.std.proofs.lemmas.Grind.{common_steps}
 use Rattle.std.proofs.lemmas.List.{length-map}
 use Rattle.std.specs.Int.RustNames.{bit_and}
-use Rattle.glyph_types.specs.declared.info.hb_glyph_info_t.{hb_glyph_info_t as Glyph}
+use Rattle.glyph_lists.specs.declared.info.hb_glyph_info_t.{hb_glyph_info_t as Glyph}
 use Rattle.glyph_lists.specs.Items.{clusters}
 use Rattle.glyph_lists.specs.Parts.{last_of, last_from}
 use Rattle.glyph_lists.specs.Order.{IsOrdered}
@@ -13,10 +13,10 @@ use Rattle.glyph_lists.specs.Lemmas.Parts.{Stands, stands_self}
 use Rattle.glyph_lists.specs.Lemmas.Ends.{to_last}
 use Rattle.glyph_lists.specs.Lemmas.Merges.{chain_left, chain_across}
 use Rattle.glyph_lists.specs.Lemmas.Deletions.{last_is}
-use Rattle.glyph_clusters.specs.Deleting.{recast, end_recast_from, end_recast}
-use Rattle.glyph_clusters.specs.Deleted.{recast_cluster, flags_put}
+use Rattle.glyph_lists.specs.Deleting.{recast, end_recast_from, end_recast}
+use Rattle.glyph_lists.specs.Deleted.{recast_cluster, flags_put}
 use Rattle.glyph_slices.specs.DeletionWalk.{IsDue, settled}
-use Rattle.glyph_clusters.specs.OneDeleted.{has_last}
+use Rattle.glyph_lists.specs.OneDeleted.{has_last}
 use Rattle.glyph_slices.proofs.Walking.{last_recast}
 
 equal_test : (m n : ℕ) → m ≡ n → (m == n) ≡ true

@@ -1,7 +1,7 @@
 -- What is meant while a walk merges, and turns parts round.
 use Rattle.std.proofs.Common.{ℕ, ◌≡◌, ◌≤◌, Bool, true, false, List, length, drop, arith, refl}
-use Rattle.glyph_types.specs.declared.info.hb_glyph_info_t.{hb_glyph_info_t as Glyph}
-use Rattle.glyph_types.specs.declared.level.BufferClusterLevel.{BufferClusterLevel as Level}
+use Rattle.glyph_lists.specs.declared.info.hb_glyph_info_t.{hb_glyph_info_t as Glyph}
+use Rattle.glyph_lists.specs.declared.level.BufferClusterLevel.{BufferClusterLevel as Level}
 use Rattle.glyph_slices.specs.declared.due.falling.Stretch.{Stretch}
 use Rattle.glyph_slices.specs.declared.due.Due.{Due}
 use Rattle.glyph_slices.specs.declared.due.Due.TheVariants.{Nothing, Falling}

@@ -1,13 +1,13 @@
 -- A walk of deletions passes one glyph.
 use Rattle.std.proofs.Common.{ℕ, suc, ◌≡◌, ◌≤◌, ◌<◌, ◌+◌, ◌-◌, ◌||◌, Bool, true, false, if◌then◌else◌, List, [], ◌∷◌, ◌++◌, Option, Some, None, length, take, drop, get_or, arith, refl, ap, sym, subst, ◌∙◌, append_assoc}
 use Rattle.std.proofs.lemmas.List.{drop_more, map-append, take-append-drop, drop-drop}
-use Rattle.glyph_types.specs.declared.info.hb_glyph_info_t.{hb_glyph_info_t as Glyph}
-use Rattle.glyph_types.specs.declared.level.BufferClusterLevel.{BufferClusterLevel as Level}
+use Rattle.glyph_lists.specs.declared.info.hb_glyph_info_t.{hb_glyph_info_t as Glyph}
+use Rattle.glyph_lists.specs.declared.level.BufferClusterLevel.{BufferClusterLevel as Level}
 use Rattle.glyph_lists.specs.Items.{Position, clusters}
 use Rattle.glyph_lists.specs.Order.{IsOrdered}
 use Rattle.glyph_slices.specs.declared.deletion.walk.Walk.{Walk}
-use Rattle.glyph_clusters.specs.OneDeleted.{left_clusters, ordered_deleted}
-use Rattle.glyph_clusters.specs.Deleting.{Deletes}
+use Rattle.glyph_lists.specs.OneDeleted.{left_clusters, ordered_deleted}
+use Rattle.glyph_lists.specs.Deleting.{Deletes}
 use Rattle.glyph_slices.specs.DeletionWalk.{IsDue, IsWalk, Passed, all_passed, many_passed, settled, passed_at, passed_of, first_passed, with_glyph, without_glyph}
 use Rattle.glyph_slices.specs.Lemmas.Neighbours.{no_glyph}
 

@@ -11,8 +11,8 @@ use Rattle.std.proofs.lemmas.List.{drop_more, drop-drop, take_more, map-append, 
 use Rattle.std.proofs.Math.Seq.{set-append_seam, map-set_same}
 use Rattle.glyph_lists.specs.Items.{clusters}
 use Rattle.glyph_lists.specs.Lists.{seen_at}
-use Rattle.glyph_types.specs.declared.info.hb_glyph_info_t.{hb_glyph_info_t as Glyph}
-use Rattle.glyph_types.specs.declared.level.BufferClusterLevel.{BufferClusterLevel as Level}
+use Rattle.glyph_lists.specs.declared.info.hb_glyph_info_t.{hb_glyph_info_t as Glyph}
+use Rattle.glyph_lists.specs.declared.level.BufferClusterLevel.{BufferClusterLevel as Level}
 use Rattle.glyph_slices.specs.declared.sorting.Keyed.{Keyed}
 use Rattle.glyph_slices.specs.Sorting.{keyed_from, places_by_key, is_seam, Spanned, span_merged, spans_merged, range_spanned, range_merged, range_sorted, glyph_at, put_in_order}
 

@@ -5,15 +5,15 @@ use Rattle.std.proofs.lemmas.Grind.{common_steps}
 use Rattle.std.proofs.lemmas.List.{drop_more, drop-drop, length-take-le, length-map, take_more_set, drop-set-lt}
 use Rattle.std.proofs.Math.Seq.{take-append_seam, drop-append-add}
 use Rattle.std.specs.List.{list_all}
-use Rattle.glyph_types.specs.declared.info.hb_glyph_info_t.{hb_glyph_info_t as Glyph}
+use Rattle.glyph_lists.specs.declared.info.hb_glyph_info_t.{hb_glyph_info_t as Glyph}
 use Rattle.glyph_lists.specs.Items.{clusters}
 use Rattle.glyph_lists.specs.Parts.{last_of}
 use Rattle.glyph_lists.specs.Deletions.{end_renumbered}
 use Rattle.glyph_lists.specs.Lemmas.Drawn.{last_more}
-use Rattle.glyph_clusters.specs.Deleting.{end_recast}
-use Rattle.glyph_clusters.specs.Deleted.{end_clusters, end_length}
+use Rattle.glyph_lists.specs.Deleting.{end_recast}
+use Rattle.glyph_lists.specs.Deleted.{end_clusters, end_length}
 use Rattle.glyph_slices.specs.DeletionWalk.{settled}
-use Rattle.glyph_clusters.specs.OneDeleted.{has_last}
+use Rattle.glyph_lists.specs.OneDeleted.{has_last}
 
 pub settled_put : (kept : ℕ) (g : Glyph) (gs range : List Glyph) → range ≡ end_recast g (take kept gs) → put_mid 0 kept gs range ≡ end_recast g (take kept gs) ++ drop kept gs
 settled_put kept g gs range e = rw e refl

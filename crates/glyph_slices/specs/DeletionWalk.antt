@@ -2,13 +2,13 @@
 use Rattle.std.specs.Prelude.{ℕ, zero, suc, ◌≡◌, ◌<◌, ◌≤◌, ◌||◌, Bool, true, false, if◌then◌else◌, List, [], ◌∷◌, ◌++◌, Option, Some, None, length, take, drop}
 use Rattle.std.specs.Fn.{Shared, FnReturnsAt}
 use denote.Ref.{Bor}
-use Rattle.glyph_types.specs.declared.info.hb_glyph_info_t.{hb_glyph_info_t}
-use Rattle.glyph_types.specs.declared.level.BufferClusterLevel.{BufferClusterLevel}
+use Rattle.glyph_lists.specs.declared.info.hb_glyph_info_t.{hb_glyph_info_t}
+use Rattle.glyph_lists.specs.declared.level.BufferClusterLevel.{BufferClusterLevel}
 use Rattle.glyph_lists.specs.Items.{Position, clusters}
 use Rattle.glyph_lists.specs.Order.{IsOrdered}
 use Rattle.glyph_lists.specs.Lemmas.Numbers.{Has}
 use Rattle.glyph_slices.specs.declared.deletion.walk.Walk.{Walk}
-use Rattle.glyph_clusters.specs.Deleting.{end_recast, glyphs_deleted, deletion_marks}
+use Rattle.glyph_lists.specs.Deleting.{end_recast, glyphs_deleted, deletion_marks}
 
 -- each answer that a test of a glyph may give is that of p
 abbrev pub Tells : {F : Type 0} → Shared F (Bor hb_glyph_info_t × Unit {0}) Bool → F → (hb_glyph_info_t → Bool) → Type 0

@@ -1,7 +1,7 @@
 -- What merges left to be carried out.
 use Rattle.std.specs.Prelude.{ℕ, ◌≤◌, List}
-use Rattle.glyph_types.specs.declared.info.hb_glyph_info_t.{hb_glyph_info_t}
-use Rattle.glyph_types.specs.declared.level.BufferClusterLevel.{BufferClusterLevel}
+use Rattle.glyph_lists.specs.declared.info.hb_glyph_info_t.{hb_glyph_info_t}
+use Rattle.glyph_lists.specs.declared.level.BufferClusterLevel.{BufferClusterLevel}
 use Rattle.glyph_lists.specs.Levels.{IsMonotone}
 use Rattle.glyph_slices.specs.declared.due.Due.{Due}
 use Rattle.glyph_slices.specs.declared.due.Due.TheVariants.{Nothing, Falling}

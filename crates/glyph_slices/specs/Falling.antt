@@ -1,6 +1,6 @@
 -- Merges over falling clusters, of which the last is still to be carried out.
 use Rattle.std.specs.Prelude.{ℕ, ◌≡◌, ◌⊎◌, ◌≤◌, ◌<◌, List, ◌++◌, map, take, drop, slice_range}
-use Rattle.glyph_types.specs.declared.info.hb_glyph_info_t.{hb_glyph_info_t}
+use Rattle.glyph_lists.specs.declared.info.hb_glyph_info_t.{hb_glyph_info_t}
 use Rattle.glyph_lists.specs.Items.{clusters}
 use Rattle.glyph_lists.specs.Order.{IsFalling}
 use Rattle.glyph_lists.specs.Glyphs.{in_cluster}

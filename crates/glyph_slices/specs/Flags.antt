@@ -1,6 +1,6 @@
 -- The glyph flags of runs of clusters.
 use Rattle.std.specs.Prelude.{ℕ, List, [], ◌∷◌, Option, Some, None}
-use Rattle.glyph_types.specs.declared.info.hb_glyph_info_t.{hb_glyph_info_t}
+use Rattle.glyph_lists.specs.declared.info.hb_glyph_info_t.{hb_glyph_info_t}
 use Rattle.glyph_lists.specs.Origins.{Asks, Origin, origin_of, origins, run_flags, settled, spread_flags}
 use Rattle.glyph_slices.specs.declared.flags.AskedFlags.{AskedFlags}
 

@@ -2,7 +2,7 @@
 use Rattle.std.specs.Prelude.{ℕ, suc, ◌≡◌, Bool, if◌then◌else◌, List, [], ◌∷◌}
 use Rattle.std.specs.Fn.{Shared, FnReturnsAtPair}
 use denote.Ref.{Bor}
-use Rattle.glyph_types.specs.declared.info.hb_glyph_info_t.{hb_glyph_info_t}
+use Rattle.glyph_lists.specs.declared.info.hb_glyph_info_t.{hb_glyph_info_t}
 
 -- each answer that a test of two glyphs may give is that of p
 abbrev pub Decides : {F : Type 0} → Shared F (Bor hb_glyph_info_t × (Bor hb_glyph_info_t × Unit {0})) Bool → F → (hb_glyph_info_t → hb_glyph_info_t → Bool) → Type 0

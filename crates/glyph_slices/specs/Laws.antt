@@ -1,12 +1,12 @@
 -- What holds of each deletion, of groups and of walks.
 use Rattle.std.specs.Prelude.{ℕ, ◌≡◌, ◌≤◌, ◌↔◌, Bool, true, IsTrue, List, [], ◌∷◌, ◌++◌, length, map, take, drop, reverse, slice_range}
 use Rattle.std.specs.List.{All, flat_map}
-use Rattle.glyph_types.specs.declared.info.hb_glyph_info_t.{hb_glyph_info_t}
-use Rattle.glyph_types.specs.declared.level.BufferClusterLevel.{BufferClusterLevel}
+use Rattle.glyph_lists.specs.declared.info.hb_glyph_info_t.{hb_glyph_info_t}
+use Rattle.glyph_lists.specs.declared.level.BufferClusterLevel.{BufferClusterLevel}
 use Rattle.glyph_lists.specs.Items.{Item, Position, item_of, strip}
 use Rattle.glyph_lists.specs.Origins.{Asks, origins, origins_deleted}
 use Rattle.glyph_lists.specs.Events.{Sort, origins_after, IsPlain}
-use Rattle.glyph_clusters.specs.Deleting.{glyphs_deleted}
+use Rattle.glyph_lists.specs.Deleting.{glyphs_deleted}
 use Rattle.glyph_slices.specs.Turning.{groups, groups_turned, turned}
 use Rattle.glyph_slices.specs.DeletionWalk.{all_passed}
 use Rattle.glyph_slices.specs.Events.{deletions, groups_reversed, order_of}

@@ -2,7 +2,7 @@
 use Rattle.std.specs.Prelude.{ℕ, suc, ◌==◌, not, Bool, List, [], ◌∷◌}
 use Rattle.std.specs.List.{prefix_len}
 use Rattle.std.specs.Int.RustNames.{bit_and}
-use Rattle.glyph_types.specs.declared.info.hb_glyph_info_t.{hb_glyph_info_t}
+use Rattle.glyph_lists.specs.declared.info.hb_glyph_info_t.{hb_glyph_info_t}
 
 -- how many elements from the front on have the key of the first
 abbrev pub run_length : {X : Type 0} → (X → ℕ) → List X → ℕ

@@ -1,8 +1,8 @@
 -- The groups of a list in turned order.
 use Rattle.std.specs.Prelude.{ℕ, zero, suc, ◌||◌, Bool, true, false, if◌then◌else◌, List, [], ◌∷◌, ◌++◌, length, take, drop, reverse, slice_range}
 use Rattle.std.specs.List.{flat_map}
-use Rattle.glyph_types.specs.declared.info.hb_glyph_info_t.{hb_glyph_info_t}
-use Rattle.glyph_types.specs.declared.level.BufferClusterLevel.{BufferClusterLevel}
+use Rattle.glyph_lists.specs.declared.info.hb_glyph_info_t.{hb_glyph_info_t}
+use Rattle.glyph_lists.specs.declared.level.BufferClusterLevel.{BufferClusterLevel}
 use Rattle.glyph_lists.specs.Items.{Position, clusters}
 use Rattle.glyph_lists.specs.Parts.{stretch}
 use Rattle.glyph_lists.specs.Glyphs.{glyphs_merged_at, beside_merged, is_marked_at}

@@ -1,5 +1,5 @@
 ghost use Rattle.std.specs.Prelude.{◌≡◌, ◌≤◌, true, Bool, length, take};
-ghost use Rattle.glyph_types.specs.declared.info.hb_glyph_info_t.{hb_glyph_info_t as Glyph};
+ghost use Rattle.glyph_lists.specs.declared.info.hb_glyph_info_t.{hb_glyph_info_t as Glyph};
 ghost use Rattle.glyph_lists.specs.Items.{clusters};
 ghost use Rattle.glyph_lists.specs.Order.{IsOrdered};
 ghost use Rattle.glyph_slices.specs.DeletionWalk.{Tells, all_passed};
@@ -7,9 +7,9 @@ ghost use Rattle.glyph_slices.specs.DeletionWalk.{Tells, all_passed};
 mod walk;
 
 use self::walk::{Walk, pass_glyph, settle};
-use glyph_types::info::hb_glyph_info_t;
-use glyph_types::level::BufferClusterLevel;
-use glyph_types::position::GlyphPosition;
+use glyph_lists::info::hb_glyph_info_t;
+use glyph_lists::level::BufferClusterLevel;
+use glyph_lists::position::GlyphPosition;
 
 /// Deletes the glyphs that `filter` picks, from the left, and answers how many stay and whether a merge marked one. Those
 /// that stay stand at the front of both slices, positions beside their glyphs; what is behind them has no meaning. A glyph

@@ -1,5 +1,5 @@
 ghost use Rattle.std.specs.Prelude.{◌≡◌, ◌≤◌, ◌<◌, ◌||◌, true, false, length};
-ghost use Rattle.glyph_types.specs.declared.level.BufferClusterLevel.{BufferClusterLevel as Level};
+ghost use Rattle.glyph_lists.specs.declared.level.BufferClusterLevel.{BufferClusterLevel as Level};
 ghost use Rattle.glyph_lists.specs.Items.{clusters};
 ghost use Rattle.glyph_lists.specs.Order.{IsOrdered};
 ghost use Rattle.glyph_lists.specs.Levels.{IsMonotone};
@@ -10,9 +10,9 @@ ghost use Rattle.glyph_slices.specs.Due.{IsWithin, MayBeDue, MayBeRound, meant};
 mod falling;
 
 use self::falling::{Stretch, carry_out, ends_lower, merge_falling};
-use glyph_clusters::ranges::merge_at;
-use glyph_types::info::hb_glyph_info_t;
-use glyph_types::level::BufferClusterLevel;
+use glyph_lists::info::hb_glyph_info_t;
+use glyph_lists::level::BufferClusterLevel;
+use glyph_lists::ranges::merge_at;
 
 /// What merges left to be carried out. Where clusters fall, a merge at once may rename the same glyphs again and again; so
 /// they are renamed once it is known what they become.

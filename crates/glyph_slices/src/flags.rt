@@ -5,7 +5,7 @@ ghost use Rattle.glyph_lists.specs.Origins.{concat_settled, origins, origins_spr
 ghost use Rattle.glyph_slices.specs.Flags.{asks_of, cluster_flags};
 
 use crate::groups::front_of_cluster;
-use glyph_types::info::{
+use glyph_lists::info::{
     DEFINED, SAFE_TO_INSERT_TATWEEL, UNSAFE_TO_BREAK, UNSAFE_TO_CONCAT, hb_glyph_info_t, hb_mask_t,
 };
 

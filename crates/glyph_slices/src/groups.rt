@@ -1,11 +1,11 @@
 ghost use Rattle.std.specs.Prelude.{◌≡◌, ◌+◌, ◌<◌, ◌≤◌, ◌==◌, Bool, length, drop};
 ghost use Rattle.std.specs.List.{prefix_len};
-ghost use Rattle.glyph_types.specs.declared.info.hb_glyph_info_t.{hb_glyph_info_t as Glyph};
+ghost use Rattle.glyph_lists.specs.declared.info.hb_glyph_info_t.{hb_glyph_info_t as Glyph};
 ghost use Rattle.glyph_slices.specs.Groups.{Decides, group_length};
 ghost use Rattle.glyph_slices.specs.Runs.{run_length, continues, grapheme_length};
 
-use glyph_types::flags::UnicodeProps;
-use glyph_types::info::hb_glyph_info_t;
+use glyph_lists::flags::UnicodeProps;
+use glyph_lists::info::hb_glyph_info_t;
 
 /// Where the group that begins at `start` ends: the first index after it at which the test of two neighbours fails, or
 /// the length.

@@ -1,7 +1,7 @@
 ghost use Rattle.glyph_slices.specs.Laws.{DeletesOneItem, DeletionIsEvent, DeletionsAreEvents, EventsArePlain, GroupsAreAll, GroupsAreEvents, SeamParts, SortIsEvent, TurnsGroups};
 
 /// The deletion of a glyph is the event of that name.
-#[tactic(auto, using(glyph_clusters::specs::DeletedOrigins::deleted_behind))]
+#[tactic(auto, using(glyph_lists::specs::DeletedOrigins::deleted_behind))]
 pub fn deletion_is_event()
     ensures { DeletionIsEvent }
 {}

@@ -1,6 +1,6 @@
 ghost use Rattle.std.specs.Prelude.{◌≡◌, ◌+◌, ◌-◌, ◌<◌, ◌≤◌, ◌↔◌, ◌++◌, ℕ, Bool, IsTrue, true, take, drop, length, map, vec_len, IfOk, OnOk, OnErr, slice_range};
 ghost use Rattle.std.specs.List.{All};
-ghost use Rattle.glyph_types.specs.declared.info.hb_glyph_info_t.{hb_glyph_info_t as Glyph};
+ghost use Rattle.glyph_lists.specs.declared.info.hb_glyph_info_t.{hb_glyph_info_t as Glyph};
 ghost use Rattle.glyph_lists.specs.Items.{clusters};
 ghost use Rattle.glyph_lists.specs.Order.{IsInOrder, IsOrdered};
 ghost use Rattle.stable_order.specs.Keys.{key_order};
@@ -8,8 +8,8 @@ ghost use Rattle.glyph_slices.specs.Due.{MayBeDue, meant};
 ghost use Rattle.glyph_slices.specs.Sorting.{Gives, Spanned, glyph_at, keyed_from, put_in_order, range_merged, range_sorted, range_spanned, span_merged};
 
 use crate::due::{Merges, merge_next, no_merges, settle};
-use glyph_types::info::hb_glyph_info_t;
-use glyph_types::level::BufferClusterLevel;
+use glyph_lists::info::hb_glyph_info_t;
+use glyph_lists::level::BufferClusterLevel;
 use std::alloc::{AllocError, Global};
 
 /// Puts the glyphs from `start` up to before `end` in stable order by the keys that they have, and merges each smallest

@@ -10,9 +10,9 @@ use Rattle.std.specs.Int.{w32}
 use Rattle.std.specs.Int.RustNames.{FitsSigned}
 use Rattle.std.specs.List.{All, AllByRecursion, join_with_byte, zip}
 use Rattle.std.specs.Ordering.{int_eq}
-use Rattle.glyph_types.specs.declared.info.hb_glyph_info_t.{hb_glyph_info_t}
-use Rattle.glyph_types.specs.declared.names.hb_glyph_extents_t.{hb_glyph_extents_t}
-use Rattle.glyph_types.specs.declared.position.GlyphPosition.{GlyphPosition}
+use Rattle.glyph_lists.specs.declared.info.hb_glyph_info_t.{hb_glyph_info_t}
+use Rattle.glyph_lists.specs.declared.names.hb_glyph_extents_t.{hb_glyph_extents_t}
+use Rattle.glyph_lists.specs.declared.position.GlyphPosition.{GlyphPosition}
 use Rattle.glyph_text.specs.Pen.{pen_after}
 use Rattle.glyph_text.specs.Printed.{name_text, cluster_text, offset_text, advance_text, position_text, flag_text, extents_text, glyph_text, glyph_texts, printed_text}
 use Rattle.glyph_text.specs.Shown.{Shown, shown_of, numbers_and_flags, HasTypedNumbers, EqualTextsShowEqualRuns}

@@ -5,10 +5,10 @@ use Rattle.std.proofs.lemmas.List.{map-append, take_more}
 use Rattle.std.proofs.lemmas.Int.{ints}
 use Rattle.std.proofs.lemmas.List.Sums.{fold-append}
 use Rattle.std.specs.List.{join_with_byte}
-use Rattle.glyph_types.specs.declared.flags.SerializeFlags.{SerializeFlags}
-use Rattle.glyph_types.specs.declared.info.hb_glyph_info_t.{hb_glyph_info_t}
-use Rattle.glyph_types.specs.declared.names.hb_glyph_extents_t.{hb_glyph_extents_t}
-use Rattle.glyph_types.specs.declared.position.GlyphPosition.{GlyphPosition}
+use Rattle.glyph_lists.specs.declared.flags.SerializeFlags.{SerializeFlags}
+use Rattle.glyph_lists.specs.declared.info.hb_glyph_info_t.{hb_glyph_info_t}
+use Rattle.glyph_lists.specs.declared.names.hb_glyph_extents_t.{hb_glyph_extents_t}
+use Rattle.glyph_lists.specs.declared.position.GlyphPosition.{GlyphPosition}
 use Rattle.glyph_text.specs.declared.pen.Pen.{Pen}
 use Rattle.glyph_text.specs.Pen.{IsWithin, drops_advances, moved_pen, shifted_pen, pen_after}
 use Rattle.glyph_text.specs.Printed.{glyph_text, glyph_texts, separator}

@@ -1,7 +1,7 @@
 -- Where the pen stands in a run of glyphs.
 use Rattle.std.specs.Prelude.{ℕ, if◌then◌else◌, List, map, fold, ℤ, pos, ◌+ℤ◌, neg_ℤ, ◌≤ℤ◌, ◌==◌, Bool, bit_and}
-use Rattle.glyph_types.specs.declared.flags.SerializeFlags.{SerializeFlags}
-use Rattle.glyph_types.specs.declared.position.GlyphPosition.{GlyphPosition}
+use Rattle.glyph_lists.specs.declared.flags.SerializeFlags.{SerializeFlags}
+use Rattle.glyph_lists.specs.declared.position.GlyphPosition.{GlyphPosition}
 use Rattle.glyph_text.specs.declared.pen.Pen.{Pen}
 
 -- NO_ADVANCES: the advances are not printed, and offsets are counted from the start of the run

@@ -2,9 +2,9 @@
 use Rattle.std.specs.Prelude.{◌≡◌, ℕ, ◌^◌, ◌<◌, List, map, ℤ, FitsSigned, bit_and, All}
 use Rattle.std.specs.Int.{w32}
 use Rattle.std.specs.List.{zip}
-use Rattle.glyph_types.specs.declared.flags.SerializeFlags.{SerializeFlags}
-use Rattle.glyph_types.specs.declared.info.hb_glyph_info_t.{hb_glyph_info_t}
-use Rattle.glyph_types.specs.declared.position.GlyphPosition.{GlyphPosition}
+use Rattle.glyph_lists.specs.declared.flags.SerializeFlags.{SerializeFlags}
+use Rattle.glyph_lists.specs.declared.info.hb_glyph_info_t.{hb_glyph_info_t}
+use Rattle.glyph_lists.specs.declared.position.GlyphPosition.{GlyphPosition}
 use Rattle.glyph_text.specs.Printed.{Names, Boxes, printed_text}
 
 -- NO_GLYPH_NAMES and GLYPH_FLAGS

@@ -2,8 +2,8 @@ ghost use Rattle.std.specs.Prelude.{◌≡◌, ℕ, ◌+◌, ◌^◌, ◌+ℤ◌
 ghost use Rattle.glyph_text.specs.Pen.{IsNear, IsWithin, moved_pen, shifted_pen};
 
 use bitflags::Flags;
-use glyph_types::flags::SerializeFlags;
-use glyph_types::position::GlyphPosition;
+use glyph_lists::flags::SerializeFlags;
+use glyph_lists::position::GlyphPosition;
 
 /// Where the pen stands, in font units.
 #[derive(Clone, Copy, PartialEq, Eq, Debug, Default)]

@@ -5,10 +5,10 @@ ghost use Rattle.glyph_text.specs.Printed.{drops_names, shows_extents, name_text
 
 use crate::pen::Pen;
 use bitflags::Flags;
-use glyph_types::flags::SerializeFlags;
-use glyph_types::info::{DEFINED, hb_glyph_info_t};
-use glyph_types::names::{GlyphId, GlyphNames, hb_glyph_extents_t};
-use glyph_types::position::GlyphPosition;
+use glyph_lists::flags::SerializeFlags;
+use glyph_lists::info::{DEFINED, hb_glyph_info_t};
+use glyph_lists::names::{GlyphId, GlyphNames, hb_glyph_extents_t};
+use glyph_lists::position::GlyphPosition;
 use std::alloc::AllocError;
 
 /// The name of a glyph; a number that no glyph can have has none.

@@ -4,10 +4,10 @@ ghost use Rattle.glyph_text.specs.Printed.{glyph_text, printed_text, separator};
 
 use crate::pen::Pen;
 use crate::pieces::{push_cluster, push_extents, push_glyph_flags, push_name, push_position};
-use glyph_types::flags::SerializeFlags;
-use glyph_types::info::hb_glyph_info_t;
-use glyph_types::names::GlyphNames;
-use glyph_types::position::GlyphPosition;
+use glyph_lists::flags::SerializeFlags;
+use glyph_lists::info::hb_glyph_info_t;
+use glyph_lists::names::GlyphNames;
+use glyph_lists::position::GlyphPosition;
 use std::alloc::{AllocError, Global};
 
 /// Appends `|`, unless the glyph is the first.

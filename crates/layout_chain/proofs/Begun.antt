@@ -2,14 +2,14 @@
 use Rattle.std.proofs.Common.{ℕ, ◌≡◌, ◌≤◌, ◌<◌, ◌-◌, inl, inr, true, false, Bool, List, [], length, take, drop, min, Ok, Err, Some, None, slice_get, refl, sym, ap, subst, ◌∙◌, arith, if◌then◌else◌}
 use Rattle.std.specs.Prelude.{nat_lt, ◌&&◌}
 use Rattle.std.proofs.lemmas.List.{length-map, length-take, length-drop, take-append-drop}
-use Rattle.glyph_types.specs.declared.cause.ShapeCause.{ShapeCause}
-use Rattle.glyph_types.specs.declared.cause.ShapeCause.TheVariants.{TooLong}
+use Rattle.glyph_lists.specs.declared.cause.ShapeCause.{ShapeCause}
+use Rattle.glyph_lists.specs.declared.cause.ShapeCause.TheVariants.{TooLong}
 use Rattle.glyph_lists.specs.Items.{item_of}
 use Rattle.glyph_buffer.specs.Sides.{Sides}
 use Rattle.layout_contexts.specs.declared.context.SequenceLookupRecord.{SequenceLookupRecord}
-use Rattle.layout_rules.specs.Actions.{Cut, Action, Acts, Refuses, whole}
-use Rattle.layout_rules.specs.Buffers.{cut_of}
-use Rattle.layout_rules.specs.Performing.{cut_with}
+use Rattle.stage_rules.specs.Actions.{Cut, Action, Acts, Refuses, whole}
+use Rattle.stage_rules.specs.Buffers.{cut_of}
+use Rattle.stage_rules.specs.Performing.{cut_with}
 use Rattle.layout_chain.specs.Lemmas.Lengths.{front_length}
 use Rattle.layout_chain.specs.Lemmas.Steps.{then_left}
 use Rattle.layout_chain.specs.Nested.{Walks, Stops, cut_at, cut_behind, by_place, has_budget, holds, nested_at, nested_there, one_record, spent}

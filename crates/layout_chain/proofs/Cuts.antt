@@ -3,16 +3,16 @@ use Rattle.std.proofs.Common.{ℕ, ◌≡◌, ◌≤◌, ◌+◌, ◌-◌, inl, 
 use Rattle.std.specs.Prelude.{ℤ, pos, ◌-ℤ◌}
 use Rattle.std.proofs.lemmas.List.{length-map, length-append, take-map, drop-map, map-append, take-append-drop}
 use Rattle.std.proofs.lemmas.Bool.Decides.{nat_tests}
-use Rattle.glyph_types.specs.declared.cause.ShapeCause.{ShapeCause}
-use Rattle.glyph_types.specs.declared.cause.ShapeCause.TheVariants.{OutOfMemory, TooLong}
+use Rattle.glyph_lists.specs.declared.cause.ShapeCause.{ShapeCause}
+use Rattle.glyph_lists.specs.declared.cause.ShapeCause.TheVariants.{OutOfMemory, TooLong}
 use Rattle.glyph_lists.specs.Items.{Item, item_of, strip}
 use Rattle.glyph_lists.specs.Origins.{origins}
 use Rattle.glyph_buffer.specs.Sides.{Sides, all_glyphs}
 use Rattle.glyph_buffer.specs.Moving.{moved_to, fits_moved}
 use Rattle.glyph_buffer.specs.Settings.{with_max_ops}
-use Rattle.layout_rules.specs.Actions.{whole}
-use Rattle.layout_rules.specs.Buffers.{cut_of, are_glyphs}
-use Rattle.layout_rules.specs.Performing.{cut_with}
+use Rattle.stage_rules.specs.Actions.{whole}
+use Rattle.stage_rules.specs.Buffers.{cut_of, are_glyphs}
+use Rattle.stage_rules.specs.Performing.{cut_with}
 use Rattle.layout_chain.specs.Lemmas.Lengths.{whole_length}
 use Rattle.layout_chain.specs.Nested.{cut_at, holds}
 use Rattle.layout_chain.specs.Records.{IsMoved, IsMoveRefusal, IsSpent}

@@ -8,7 +8,7 @@ use Rattle.glyph_lists.specs.Events.{Break}
 use Rattle.layout_match.specs.Applied.{Applied, own_search, context_search}
 use Rattle.layout_match.specs.Matches.{input_end, input_indices, lookahead_end, backtrack_end}
 use Rattle.layout_match.specs.Sequences.{test_at}
-use Rattle.layout_rules.specs.Actions.{Cut, Passes, Action, at_first, later, attempt_around}
+use Rattle.stage_rules.specs.Actions.{Cut, Passes, Action, at_first, later, attempt_around}
 use Rattle.layout_chain.specs.Nested.{each_nested, cut_behind}
 use Rattle.layout_chain.specs.Chains.{Chain, begins, by_backtrack, by_input, by_lookahead, chain_at, chain_rule}
 

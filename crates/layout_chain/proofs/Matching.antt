@@ -3,11 +3,11 @@ use Rattle.std.proofs.Common.{ℕ, ◌≡◌, ◌≤◌, ◌+◌, ◌-◌, false
 use Rattle.glyph_lists.specs.Events.{Break, Concat}
 use Rattle.glyph_buffer.specs.Sides.{Sides}
 use Rattle.layout_match.specs.Applied.{Applied}
-use Rattle.layout_rules.specs.Actions.{Cut, Outcome, Passes, Action, later, whole, attempt_around}
-use Rattle.layout_rules.specs.Buffers.{cut_of, IsPassed}
-use Rattle.layout_rules.specs.Performing.{cut_with}
-use Rattle.layout_rules.specs.Lemmas.Performed.{same_with}
-use Rattle.layout_rules.specs.Lemmas.Does.{passed_same}
+use Rattle.stage_rules.specs.Actions.{Cut, Outcome, Passes, Action, later, whole, attempt_around}
+use Rattle.stage_rules.specs.Buffers.{cut_of, IsPassed}
+use Rattle.stage_rules.specs.Performing.{cut_with}
+use Rattle.stage_rules.specs.Lemmas.Performed.{same_with}
+use Rattle.stage_rules.specs.Lemmas.Does.{passed_same}
 use Rattle.layout_chain.specs.Chains.{Chain, chain_rule}
 use Rattle.layout_chain.specs.Nested.{each_nested, cut_behind}
 use Rattle.layout_chain.specs.Nesting.{Nests}

@@ -11,7 +11,7 @@ use Rattle.layout_contexts.specs.declared.context.ContextSubtable.TheVariants.{G
 use Rattle.layout_match.specs.Applied.{Applied, own_search, context_search}
 use Rattle.layout_match.specs.Matches.{input_end, input_indices, lookahead_end, backtrack_end}
 use Rattle.layout_match.specs.Sequences.{is_glyph, is_of_class, is_covered_by}
-use Rattle.layout_rules.specs.Actions.{Cut, Outcome, Passes, Action, later, first_rule, at_first, attempt_around}
+use Rattle.stage_rules.specs.Actions.{Cut, Outcome, Passes, Action, later, first_rule, at_first, attempt_around}
 use Rattle.layout_chain.specs.Nested.{each_nested, cut_behind}
 
 -- what a rule asks of the items before its input, the nearest first, of its input with the first item, and of those after it; and the lookups that it then applies

@@ -1,13 +1,13 @@
 -- How a rule matches where it is tried, and what is left to do then.
 use Rattle.std.specs.Prelude.{ℕ, ◌≡◌, ◌≤◌, ◌<◌, ◌+◌, ◌-◌, Bool, false, List, [], ◌∷◌, length, map, Option, Some, None, Result, Ok}
-use Rattle.glyph_types.specs.declared.cause.ShapeCause.{ShapeCause}
+use Rattle.glyph_lists.specs.declared.cause.ShapeCause.{ShapeCause}
 use Rattle.glyph_lists.specs.Events.{Break}
 use Rattle.glyph_buffer.specs.Sides.{Sides}
 use Rattle.layout_match.specs.Applied.{Applied}
 use Rattle.layout_match.specs.Sequences.{tests_of}
-use Rattle.layout_rules.specs.Actions.{Cut, Passes, Action, later, whole, attempt_around}
-use Rattle.layout_rules.specs.Buffers.{cut_of, IsStill}
-use Rattle.layout_rules.specs.Performing.{cut_with}
+use Rattle.stage_rules.specs.Actions.{Cut, Passes, Action, later, whole, attempt_around}
+use Rattle.stage_rules.specs.Buffers.{cut_of, IsStill}
+use Rattle.stage_rules.specs.Performing.{cut_with}
 use Rattle.layout_chain.specs.declared.chain.ChainRule.{ChainRule}
 use Rattle.layout_chain.specs.declared.chain.ChainFit.{ChainFit}
 use Rattle.layout_chain.specs.declared.chain.ChainFit.TheVariants.{NoAttempt, Fails, Fits}

@@ -1,10 +1,10 @@
 -- Lookups that a rule applies at the places of its match, one after another (OpenType, chapter 2, sequence lookup records).
 use Rattle.std.specs.Prelude.{ℕ, ◌+◌, ◌-◌, ◌-ℤ◌, pos, int_lt, min, nat_le, nat_lt, Bool, ◌&&◌, if◌then◌else◌, List, [], ◌∷◌, ◌++◌, length, take, drop, Option, Some, None, slice_get}
-use Rattle.glyph_types.specs.declared.cause.ShapeCause.{ShapeCause}
-use Rattle.glyph_types.specs.declared.cause.ShapeCause.TheVariants.{TooLong}
+use Rattle.glyph_lists.specs.declared.cause.ShapeCause.{ShapeCause}
+use Rattle.glyph_lists.specs.declared.cause.ShapeCause.TheVariants.{TooLong}
 use Rattle.glyph_lists.specs.Events.{Event}
 use Rattle.layout_contexts.specs.declared.context.SequenceLookupRecord.{SequenceLookupRecord}
-use Rattle.layout_rules.specs.Actions.{Cut, whole, Outcome, Passes, Acts, Refuses, Action}
+use Rattle.stage_rules.specs.Actions.{Cut, whole, Outcome, Passes, Acts, Refuses, Action}
 use Rattle.layout_chain.specs.Shifts.{resized, moved_end}
 
 -- what became of a list on the way over some records: how it is cut, the places and the end of the match

@@ -1,12 +1,12 @@
 -- What calls that apply nested lookups do to a buffer whose output is open.
 use Rattle.std.specs.Prelude.{ℕ, ◌≡◌, ◌≢◌, Bool, true, false, List, Result, Ok, Err}
-use Rattle.glyph_types.specs.declared.cause.ShapeCause.{ShapeCause}
-use Rattle.glyph_types.specs.declared.cause.ShapeCause.TheVariants.{OutOfMemory}
+use Rattle.glyph_lists.specs.declared.cause.ShapeCause.{ShapeCause}
+use Rattle.glyph_lists.specs.declared.cause.ShapeCause.TheVariants.{OutOfMemory}
 use Rattle.glyph_lists.specs.Events.{Event}
 use Rattle.glyph_buffer.specs.Sides.{Sides, items_of}
-use Rattle.layout_rules.specs.Actions.{Cut, Outcome, Passes, Acts, Refuses}
-use Rattle.layout_rules.specs.Buffers.{are_glyphs, IsStill, Happened, IsPassed}
-use Rattle.layout_rules.specs.Performing.{cut_with}
+use Rattle.stage_rules.specs.Actions.{Cut, Outcome, Passes, Acts, Refuses}
+use Rattle.stage_rules.specs.Buffers.{are_glyphs, IsStill, Happened, IsPassed}
+use Rattle.stage_rules.specs.Performing.{cut_with}
 use Rattle.layout_chain.specs.Nested.{Walked, Walks, Stops}
 
 -- a buffer became another cut, with a random state beside it, and so much happened to where its glyphs come from; the cursor may be anywhere

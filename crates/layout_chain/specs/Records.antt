@@ -1,12 +1,12 @@
 -- What is done for one record of a rule before its lookup is applied.
 use Rattle.std.specs.Prelude.{ℕ, ◌≡◌, ◌≢◌, ◌<◌, ◌⊎◌, false, List, [], length, Option, Some, None, Result, Ok, Err, slice_get}
-use Rattle.glyph_types.specs.declared.cause.ShapeCause.{ShapeCause}
-use Rattle.glyph_types.specs.declared.cause.ShapeCause.TheVariants.{OutOfMemory, TooLong}
+use Rattle.glyph_lists.specs.declared.cause.ShapeCause.{ShapeCause}
+use Rattle.glyph_lists.specs.declared.cause.ShapeCause.TheVariants.{OutOfMemory, TooLong}
 use Rattle.glyph_buffer.specs.Sides.{Sides}
 use Rattle.layout_contexts.specs.declared.context.SequenceLookupRecord.{SequenceLookupRecord}
-use Rattle.layout_rules.specs.Actions.{Cut, Action, whole}
-use Rattle.layout_rules.specs.Buffers.{cut_of}
-use Rattle.layout_rules.specs.Performing.{cut_with}
+use Rattle.stage_rules.specs.Actions.{Cut, Action, whole}
+use Rattle.stage_rules.specs.Buffers.{cut_of}
+use Rattle.stage_rules.specs.Performing.{cut_with}
 use Rattle.layout_chain.specs.Nested.{Walks, Stops, cut_at, holds, nested_there, one_record, spent}
 use Rattle.layout_chain.specs.Nesting.{IsLeft}
 

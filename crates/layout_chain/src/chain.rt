@@ -1,7 +1,7 @@
 ghost use Rattle.std.specs.Prelude.{◌≡◌, ◌<◌, drop, length};
 ghost use Rattle.layout_match.specs.Applied.{applied_of};
 ghost use Rattle.layout_match.specs.Sequences.{tests_of};
-ghost use Rattle.layout_rules.specs.Performing.{cut_with};
+ghost use Rattle.stage_rules.specs.Performing.{cut_with};
 ghost use Rattle.layout_chain.specs.Fitting.{IsInside, Matched, Says, chain_of};
 
 use crate::counts::backtrack_len;

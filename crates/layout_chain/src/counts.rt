@@ -1,6 +1,6 @@
 ghost use Rattle.std.specs.Prelude.{◌≡◌, ◌<◌, ◌^◌, length};
-ghost use Rattle.layout_rules.specs.Actions.{whole};
-ghost use Rattle.layout_rules.specs.Buffers.{cut_of};
+ghost use Rattle.stage_rules.specs.Actions.{whole};
+ghost use Rattle.stage_rules.specs.Buffers.{cut_of};
 
 use glyph_buffer::buffer::hb_buffer_t;
 

@@ -1,7 +1,7 @@
 ghost use Rattle.std.specs.Prelude.{◌≡◌, ◌≤◌, ◌<◌, ◌+◌, ◌^◌, [], ℕ, true, false, length, slice_get, Some, OnOk, IfErr};
-ghost use Rattle.layout_rules.specs.Actions.{whole};
-ghost use Rattle.layout_rules.specs.Buffers.{cut_of};
-ghost use Rattle.layout_rules.specs.Performing.{cut_with};
+ghost use Rattle.stage_rules.specs.Actions.{whole};
+ghost use Rattle.stage_rules.specs.Buffers.{cut_of};
+ghost use Rattle.stage_rules.specs.Performing.{cut_with};
 ghost use Rattle.layout_chain.specs.Nested.{Walks, cut_behind, has_budget, holds};
 ghost use Rattle.layout_chain.specs.Nesting.{Nests};
 ghost use Rattle.layout_chain.specs.Places.{AreRising};
@@ -11,7 +11,7 @@ ghost use Rattle.layout_chain.specs.Shifts.{moved_end, resized};
 use crate::counts::glyph_count;
 use crate::places::settle_places;
 use glyph_buffer::buffer::hb_buffer_t;
-use glyph_types::cause::ShapeCause;
+use glyph_lists::cause::ShapeCause;
 use layout_contexts::context::SequenceLookupRecord;
 use layout_match::MatchPositions;
 

@@ -5,7 +5,7 @@ ghost use Rattle.layout_chain.specs.Fitting.{chain_of};
 ghost use Rattle.layout_chain.specs.Rules.{chains_of, is_tried_at};
 
 use crate::chain::ChainRule;
-use glyph_types::info::hb_glyph_info_t;
+use glyph_lists::info::hb_glyph_info_t;
 use layout_common::coverage::Coverage;
 use layout_contexts::context::{ClassRules, ContextSubtable, SequenceRule};
 use layout_match::{MatchSequence, match_coverage};

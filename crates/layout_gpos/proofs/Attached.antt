@@ -1,6 +1,6 @@
 -- Marks attached at the cursor.
 use Rattle.std.proofs.Common.{ℕ, ◌≡◌, ◌<◌, ◌≤◌, ◌+◌, ◌-◌, ◌⊎◌, inl, inr, Bool, true, false, if◌then◌else◌, List, [], ◌∷◌, Option, Some, None, Result, Ok, length, reverse, arith, refl, sym, ap, subst, ◌∙◌, slice_get}
-use Rattle.glyph_types.specs.declared.info.hb_glyph_info_t.{hb_glyph_info_t}
+use Rattle.glyph_lists.specs.declared.info.hb_glyph_info_t.{hb_glyph_info_t}
 use Rattle.glyph_lists.specs.Items.{Position, item_of}
 use Rattle.glyph_lists.specs.Events.{Break}
 use Rattle.glyph_buffer.specs.Sides.{Sides, moved_on, told_of}
@@ -12,16 +12,16 @@ use Rattle.layout_common.specs.Rows.{value_of}
 use Rattle.layout_match.specs.Applied.{Applied}
 use Rattle.layout_positions.specs.declared.mark.MarkBasePos.{MarkBasePos}
 use Rattle.layout_positions.specs.declared.mark.MarkRecord.{MarkRecord}
-use Rattle.layout_rules.specs.Actions.{Cut, Outcome, Passes, at_first, attempt_around}
-use Rattle.layout_rules.specs.Buffers.{IsPassed, cut_of}
-use Rattle.layout_rules.specs.Performing.{Performed, cut_with}
-use Rattle.layout_rules.specs.Lemmas.Frames.{same_lengths}
-use Rattle.layout_rules.specs.Lemmas.Performed.{passes_nothing}
+use Rattle.stage_rules.specs.Actions.{Cut, Outcome, Passes, at_first, attempt_around}
+use Rattle.stage_rules.specs.Buffers.{IsPassed, cut_of}
+use Rattle.stage_rules.specs.Performing.{Performed, cut_with}
+use Rattle.stage_rules.specs.Lemmas.Frames.{same_lengths}
+use Rattle.stage_rules.specs.Lemmas.Performed.{passes_nothing}
 use Rattle.layout_gpos.specs.Anchors.{is_near, mark_hung, told_if}
 use Rattle.layout_gpos.specs.Moving.{break_around}
 use Rattle.layout_gpos.specs.Marks.{attach, attach_if, base_before, is_there, mark_on_base, mark_to_base, on_base, with_found}
 use Rattle.layout_gpos.specs.Lemmas.Placed.{break_passed, front_count}
-use Rattle.layout_rules.specs.Lemmas.Glyphs.{first_item}
+use Rattle.stage_rules.specs.Lemmas.Glyphs.{first_item}
 use Rattle.layout_gpos.specs.Lemmas.Performed.{found_is, marked_told, told_same}
 
 pub attach_acted : (r back at parent : ℕ) (base mark : Anchor) (near : Bool) (s mid new : Sides) → IsPassed (Break (length s.behind - (back + 1)) (length s.behind + 1) ∷ []) s mid → at ≡ length s.behind → 0 < length s.ahead

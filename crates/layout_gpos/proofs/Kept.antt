@@ -10,9 +10,9 @@ use Rattle.layout_match.specs.declared.search.match_t.TheVariants.{MATCH, SKIP, 
 use Rattle.layout_match.specs.Applied.{Applied, own_search}
 use Rattle.layout_match.specs.Matches.{by_answer, nearest, nearest_from}
 use Rattle.layout_match.specs.Searches.{Search}
-use Rattle.layout_rules.specs.Actions.{Action}
-use Rattle.layout_rules.specs.Buffers.{cut_of}
-use Rattle.layout_rules.specs.Performing.{Performed, cut_with}
+use Rattle.stage_rules.specs.Actions.{Action}
+use Rattle.stage_rules.specs.Buffers.{cut_of}
+use Rattle.stage_rules.specs.Performing.{Performed, cut_with}
 use Rattle.layout_gpos.specs.declared.bases.LastSearch.{LastSearch}
 use Rattle.layout_gpos.specs.declared.bases.Sought.{Sought}
 use Rattle.layout_gpos.specs.Bases.{IsKept, any_sought, asked, farther}

@@ -1,6 +1,6 @@
 -- Marks attached to ligatures at the cursor.
 use Rattle.std.proofs.Common.{ℕ, ◌≡◌, ◌+◌, Bool, false, List, Option, Some, None, Result, Ok, reverse, sym, ap, subst, ◌∙◌, slice_get}
-use Rattle.glyph_types.specs.declared.info.hb_glyph_info_t.{hb_glyph_info_t}
+use Rattle.glyph_lists.specs.declared.info.hb_glyph_info_t.{hb_glyph_info_t}
 use Rattle.glyph_lists.specs.Items.{Item, item_of}
 use Rattle.glyph_buffer.specs.Sides.{Sides}
 use Rattle.layout_common.specs.Rows.{value_of}
@@ -9,11 +9,11 @@ use Rattle.layout_positions.specs.Marks.{component_anchor, component_count}
 use Rattle.layout_positions.specs.declared.mark.LigatureRow.{LigatureRow}
 use Rattle.layout_positions.specs.declared.mark.MarkLigPos.{MarkLigPos}
 use Rattle.layout_positions.specs.declared.mark.MarkRecord.{MarkRecord}
-use Rattle.layout_rules.specs.Actions.{Outcome, at_first, attempt_around}
-use Rattle.layout_rules.specs.Buffers.{cut_of}
-use Rattle.layout_rules.specs.Performing.{Performed, cut_with}
-use Rattle.layout_rules.specs.Lemmas.Glyphs.{first_item}
-use Rattle.layout_rules.specs.Lemmas.Performed.{passes_nothing}
+use Rattle.stage_rules.specs.Actions.{Outcome, at_first, attempt_around}
+use Rattle.stage_rules.specs.Buffers.{cut_of}
+use Rattle.stage_rules.specs.Performing.{Performed, cut_with}
+use Rattle.stage_rules.specs.Lemmas.Glyphs.{first_item}
+use Rattle.stage_rules.specs.Lemmas.Performed.{passes_nothing}
 use Rattle.layout_gpos.specs.Marks.{attach_if, component_in, item_before, mark_on_ligature, mark_to_ligature, on_component, on_ligature, with_found, without_marks}
 use Rattle.layout_gpos.specs.Lemmas.Performed.{found_is}
 

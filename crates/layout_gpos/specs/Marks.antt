@@ -12,12 +12,12 @@ use Rattle.layout_positions.specs.declared.mark.MarkBasePos.{MarkBasePos}
 use Rattle.layout_positions.specs.declared.mark.MarkLigPos.{MarkLigPos}
 use Rattle.layout_positions.specs.declared.mark.MarkRecord.{MarkRecord}
 use Rattle.layout_match.specs.Applied.{Applied, own_search}
-use Rattle.layout_match.specs.LigatureWords.{is_mark, is_multiplied, lig_comp, lig_id}
+use Rattle.glyph_lists.specs.LigatureWords.{is_mark, is_multiplied, lig_comp, lig_id}
 use Rattle.layout_match.specs.Matches.{nearest_from}
 use Rattle.layout_match.specs.Searches.{Search, answer, is_skippable}
 use Rattle.layout_match.specs.declared.search.match_t.{match_t}
 use Rattle.layout_match.specs.declared.search.match_t.TheVariants.{MATCH, SKIP, NOT_MATCH}
-use Rattle.layout_rules.specs.Actions.{Cut, Action, Passes, Acts, at_first, attempt_around}
+use Rattle.stage_rules.specs.Actions.{Cut, Action, Passes, Acts, at_first, attempt_around}
 use Rattle.layout_gpos.specs.Anchors.{mark_hung, is_near, told_if}
 use Rattle.layout_gpos.specs.Moving.{break_around, placed_past}
 

@@ -2,7 +2,7 @@
 use Rattle.std.specs.Prelude.{ℕ, ◌≡◌, ◌+◌, ◌-◌, List, [], ◌∷◌, ◌++◌, length, take, drop}
 use Rattle.glyph_lists.specs.Items.{Position}
 use Rattle.glyph_lists.specs.Events.{Event, Break}
-use Rattle.layout_rules.specs.Actions.{Cut, Outcome, Passes, Acts, Refuses, Action, whole}
+use Rattle.stage_rules.specs.Actions.{Cut, Outcome, Passes, Acts, Refuses, Action, whole}
 
 -- so many items more are done, and the positions are these
 abbrev pub placed_past : ℕ → List Position → Cut → Cut

@@ -14,7 +14,7 @@ use Rattle.layout_positions.specs.declared.pair.PairPos.TheVariants.{Glyphs, Cla
 use Rattle.layout_match.specs.Applied.{Applied, own_search}
 use Rattle.layout_match.specs.Searches.{answer, is_skippable}
 use Rattle.layout_match.specs.Matches.{nearest_from}
-use Rattle.layout_rules.specs.Actions.{Cut, Action, Passes, Acts, at_first, attempt_around}
+use Rattle.stage_rules.specs.Actions.{Cut, Action, Passes, Acts, at_first, attempt_around}
 use Rattle.layout_gpos.specs.Values.{adjusted_at, is_zero}
 use Rattle.layout_gpos.specs.Moving.{placed_past, break_around}
 

@@ -5,7 +5,7 @@ use Rattle.glyph_lists.specs.Parts.{first_of}
 use Rattle.layout_common.specs.Rows.{value_of}
 use Rattle.layout_common.specs.declared.glyph_row.GlyphRow.{GlyphRow}
 use Rattle.layout_positions.specs.declared.value.ValueRecord.{ValueRecord}
-use Rattle.layout_rules.specs.Actions.{Action, Passes, Acts, at_first}
+use Rattle.stage_rules.specs.Actions.{Action, Passes, Acts, at_first}
 use Rattle.layout_gpos.specs.Values.{adjusted_at}
 use Rattle.layout_gpos.specs.Moving.{placed_past}
 

@@ -2,7 +2,7 @@
 ghost use Rattle.std.specs.Prelude.{◌≡◌, ◌<◌, ◌-ℤ◌, true, length};
 ghost use Rattle.layout_gpos.specs.Anchors.{anchored, is_near, link_to, mark_hung};
 
-use glyph_types::position::GlyphPosition;
+use glyph_lists::position::GlyphPosition;
 use layout_positions::value::Anchor;
 
 /// Whether a link may lead from one index to the other: over at most 32,767 glyphs.

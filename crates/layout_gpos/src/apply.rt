@@ -2,9 +2,9 @@
 ghost use Rattle.std.specs.Prelude.{ℕ, ◌≡◌, ◌<◌, Ok, true, false, [], length};
 ghost use Rattle.glyph_buffer.specs.Sides.{all_glyphs, items_of};
 ghost use Rattle.layout_match.specs.Applied.{Applied, applied_of};
-ghost use Rattle.layout_rules.specs.Actions.{Action};
-ghost use Rattle.layout_rules.specs.Buffers.{are_glyphs};
-ghost use Rattle.layout_rules.specs.Performing.{Performed, cut_with};
+ghost use Rattle.stage_rules.specs.Actions.{Action};
+ghost use Rattle.stage_rules.specs.Buffers.{are_glyphs};
+ghost use Rattle.stage_rules.specs.Performing.{Performed, cut_with};
 ghost use Rattle.shaping_text.specs.declared.direction.Direction.{Direction};
 
 use glyph_buffer::buffer::hb_buffer_t;

@@ -5,13 +5,13 @@ ghost use Rattle.glyph_lists.specs.Items.{Item, item_of, strip};
 ghost use Rattle.layout_match.specs.Applied.{Applied, applied_of, own_search};
 ghost use Rattle.layout_match.specs.Searches.{search_of};
 ghost use Rattle.layout_match.specs.declared.search.match_t.{match_t};
-ghost use Rattle.layout_rules.specs.Buffers.{cut_of};
+ghost use Rattle.stage_rules.specs.Buffers.{cut_of};
 ghost use Rattle.layout_gpos.specs.Bases.{AreKept, IsKept, any_sought, asked, farther};
 ghost use Rattle.layout_gpos.specs.Marks.{nearest_before, without_marks};
 
 use crate::search::{base_answer, glyph_before, is_later_component, without_marks};
 use glyph_buffer::buffer::hb_buffer_t;
-use glyph_types::info::hb_glyph_info_t;
+use glyph_lists::info::hb_glyph_info_t;
 use layout_match::search::GlyphSearch;
 use layout_match::{hb_ot_apply_context_t, match_t};
 

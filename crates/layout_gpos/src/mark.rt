@@ -3,8 +3,8 @@ ghost use Rattle.std.specs.Prelude.{ℕ, ◌≡◌, ◌<◌, ◌≤◌, IfErr, I
 ghost use Rattle.glyph_buffer.specs.Sides.{all_glyphs, items_of};
 ghost use Rattle.sorted_rows.specs.Keys.{row_of};
 ghost use Rattle.layout_match.specs.Applied.{applied_of};
-ghost use Rattle.layout_rules.specs.Buffers.{are_glyphs};
-ghost use Rattle.layout_rules.specs.Performing.{Performed, cut_with};
+ghost use Rattle.stage_rules.specs.Buffers.{are_glyphs};
+ghost use Rattle.stage_rules.specs.Performing.{Performed, cut_with};
 ghost use Rattle.layout_gpos.specs.Anchors.{is_near, mark_hung, told_if};
 ghost use Rattle.layout_gpos.specs.Bases.{IsKept, any_sought};
 ghost use Rattle.layout_gpos.specs.declared.bases.Sought.TheVariants.{Base};
@@ -137,7 +137,7 @@ pub fn attach_to_base(
 /// nearest glyph before it that is neither a mark nor a later component of a multiple substitution, anchor on anchor. It
 /// tells whether it acted; where it didn't, it changed glyph flags alone. The search for the base goes on from the last one
 /// of the same lookup on these glyphs.
-#[tactic(auto, using(layout_rules::specs::Lemmas::Glyphs::number_ahead, crate::proofs::Attached::no_base_mark, crate::proofs::Attached::base_mark))]
+#[tactic(auto, using(stage_rules::specs::Lemmas::Glyphs::number_ahead, crate::proofs::Attached::no_base_mark, crate::proofs::Attached::base_mark))]
 pub fn apply_mark_base_pos(
     subtable: &MarkBasePos,
     ctx: &hb_ot_apply_context_t,

@@ -4,8 +4,8 @@ ghost use Rattle.glyph_buffer.specs.Sides.{all_glyphs, items_of};
 ghost use Rattle.glyph_lists.specs.Items.{item_of};
 ghost use Rattle.layout_positions.specs.Marks.{component_count};
 ghost use Rattle.layout_match.specs.Applied.{applied_of};
-ghost use Rattle.layout_rules.specs.Buffers.{are_glyphs};
-ghost use Rattle.layout_rules.specs.Performing.{Performed, cut_with};
+ghost use Rattle.stage_rules.specs.Buffers.{are_glyphs};
+ghost use Rattle.stage_rules.specs.Performing.{Performed, cut_with};
 ghost use Rattle.layout_gpos.specs.Bases.{IsKept, any_sought};
 ghost use Rattle.layout_gpos.specs.declared.bases.Sought.TheVariants.{Ligature};
 ghost use Rattle.layout_gpos.specs.Marks.{component_in, component_of, mark_to_ligature, on_ligature, with_found};
@@ -16,9 +16,9 @@ use crate::mark::attach_if;
 use crate::marking::mark_attempt;
 use crate::search::glyph_before;
 use glyph_buffer::buffer::hb_buffer_t;
-use glyph_types::info::hb_glyph_info_t;
+use glyph_lists::info::hb_glyph_info_t;
+use glyph_lists::ligature_words::{_hb_glyph_info_get_lig_comp, _hb_glyph_info_get_lig_id};
 use layout_match::hb_ot_apply_context_t;
-use layout_match::ligature_words::{_hb_glyph_info_get_lig_comp, _hb_glyph_info_get_lig_id};
 use layout_positions::mark::{MarkLigPos, MarkRecord};
 
 /// Of so many components of a ligature, the first being 0, the mark's own where it belongs to the ligature; else the last.
@@ -109,7 +109,7 @@ fn attach_ligature_found(
 /// the nearest glyph before it that is no mark: on the component of that ligature that it belongs to, or on the last, anchor
 /// on anchor. It tells whether it acted; where it didn't, it changed glyph flags alone. The search for the ligature goes on
 /// from the last one of the same lookup on these glyphs.
-#[tactic(auto, using(layout_rules::specs::Lemmas::Glyphs::number_ahead, crate::proofs::MarkLig::no_ligature_mark))]
+#[tactic(auto, using(stage_rules::specs::Lemmas::Glyphs::number_ahead, crate::proofs::MarkLig::no_ligature_mark))]
 pub fn apply_mark_lig_pos(
     subtable: &MarkLigPos,
     ctx: &hb_ot_apply_context_t,

@@ -3,26 +3,26 @@ ghost use Rattle.std.specs.Prelude.{ℕ, ◌≡◌, ◌<◌, ◌≤◌, ◌&&◌
 ghost use Rattle.glyph_buffer.specs.Sides.{all_glyphs, items_of};
 ghost use Rattle.glyph_lists.specs.Items.{item_of};
 ghost use Rattle.layout_match.specs.Applied.{applied_of};
-ghost use Rattle.layout_match.specs.LigatureWords.{is_mark};
-ghost use Rattle.layout_rules.specs.Buffers.{are_glyphs};
-ghost use Rattle.layout_rules.specs.Performing.{Performed, cut_with};
+ghost use Rattle.glyph_lists.specs.LigatureWords.{is_mark};
+ghost use Rattle.stage_rules.specs.Buffers.{are_glyphs};
+ghost use Rattle.stage_rules.specs.Performing.{Performed, cut_with};
 ghost use Rattle.layout_gpos.specs.Marks.{belong_together, is_own_ligature, mark_to_mark, on_mark, with_found};
 
 use crate::mark::attach_to_base;
 use crate::marking::mark_attempt;
 use crate::search::{among_marks, glyph_before, item_before};
 use glyph_buffer::buffer::hb_buffer_t;
-use glyph_types::info::hb_glyph_info_t;
-use layout_match::hb_ot_apply_context_t;
-use layout_match::ligature_words::{
+use glyph_lists::info::hb_glyph_info_t;
+use glyph_lists::ligature_words::{
     _hb_glyph_info_get_lig_comp, _hb_glyph_info_get_lig_id, _hb_glyph_info_is_mark,
 };
+use layout_match::hb_ot_apply_context_t;
 use layout_positions::mark::{MarkBasePos, MarkRecord};
 
 /// Mark to mark attachment (OpenType, GPOS lookup type 6): where the subtable covers the mark at the cursor, it hangs on the
 /// mark before it, no class being passed over, where both belong to one base or to one component of a ligature, or one is
 /// itself a ligature. It tells whether it acted; where it didn't, it changed glyph flags alone.
-#[tactic(auto, using(layout_rules::specs::Lemmas::Glyphs::number_ahead, crate::proofs::MarkMark::no_mark_mark, crate::proofs::MarkMark::mark_mark))]
+#[tactic(auto, using(stage_rules::specs::Lemmas::Glyphs::number_ahead, crate::proofs::MarkMark::no_mark_mark, crate::proofs::MarkMark::mark_mark))]
 pub fn apply_mark_mark_pos(
     subtable: &MarkBasePos,
     ctx: &hb_ot_apply_context_t,

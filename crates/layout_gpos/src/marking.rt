@@ -1,7 +1,7 @@
 //! Stretches that a rule marks around the cursor.
 ghost use Rattle.std.specs.Prelude.{◌≡◌, ◌≤◌, ◌+◌, ◌-◌, ◌∷◌, [], length};
 ghost use Rattle.glyph_lists.specs.Events.{Break, Concat};
-ghost use Rattle.layout_rules.specs.Buffers.{IsPassed};
+ghost use Rattle.stage_rules.specs.Buffers.{IsPassed};
 
 use glyph_buffer::buffer::hb_buffer_t;
 

@@ -4,8 +4,8 @@ ghost use Rattle.std.specs.List.{list_any};
 ghost use Rattle.glyph_buffer.specs.Sides.{all_glyphs, items_of};
 ghost use Rattle.glyph_lists.specs.Items.{strip};
 ghost use Rattle.layout_match.specs.Applied.{applied_of};
-ghost use Rattle.layout_rules.specs.Buffers.{IsPassed, are_glyphs, cut_of};
-ghost use Rattle.layout_rules.specs.Performing.{Performed, cut_with};
+ghost use Rattle.stage_rules.specs.Buffers.{IsPassed, are_glyphs, cut_of};
+ghost use Rattle.stage_rules.specs.Performing.{Performed, cut_with};
 ghost use Rattle.layout_gpos.specs.Values.{is_zero};
 ghost use Rattle.layout_gpos.specs.Pairs.{begins_pair, has_no_effect, next_item, pair_adjusted, pair_events, pair_length, pair_of, pair_second, pair_subtable, pair_values};
 
@@ -138,7 +138,7 @@ fn apply_values(values: Option<PairValues>, apart: usize, buffer: &mut hb_buffer
 impl Apply for PairPos {
     ghost action = { λ s d a. pair_subtable d a s };
 
-    #[tactic(auto, using(layout_rules::specs::Lemmas::Glyphs::number_ahead, crate::proofs::Paired::pair_begun, crate::proofs::Paired::pair_not_begun))]
+    #[tactic(auto, using(stage_rules::specs::Lemmas::Glyphs::number_ahead, crate::proofs::Paired::pair_begun, crate::proofs::Paired::pair_not_begun))]
     fn apply(&self, ctx: &hb_ot_apply_context_t, buffer: &mut hb_buffer_t) -> bool {
         let first = buffer.cur(0).as_glyph().0;
         begins_pair(self, first) && apply_from(self, first, ctx, buffer)

@@ -2,15 +2,15 @@
 ghost use Rattle.std.specs.Prelude.{◌≡◌, ◌<◌, ◌≤◌, ◌+◌, IfErr, IfOk, Some, length, reverse, slice_get};
 ghost use Rattle.glyph_lists.specs.Items.{item_of};
 ghost use Rattle.layout_match.specs.Applied.{applied_of};
-ghost use Rattle.layout_rules.specs.Buffers.{cut_of};
+ghost use Rattle.stage_rules.specs.Buffers.{cut_of};
 ghost use Rattle.layout_gpos.specs.Marks.{among_marks, base_answer, is_later_component, item_before, without_marks};
 
 use glyph_buffer::buffer::hb_buffer_t;
-use glyph_types::info::hb_glyph_info_t;
-use layout_common::flags::{IGNORE_FLAGS, IGNORE_MARKS};
-use layout_match::ligature_words::{
+use glyph_lists::info::hb_glyph_info_t;
+use glyph_lists::ligature_words::{
     _hb_glyph_info_get_lig_comp, _hb_glyph_info_get_lig_id, _hb_glyph_info_multiplied,
 };
+use layout_common::flags::{IGNORE_FLAGS, IGNORE_MARKS};
 use layout_match::{hb_ot_apply_context_t, match_t, skipping_iterator_t};
 
 /// With what a lookup is applied, marks being passed over in place of its flag.

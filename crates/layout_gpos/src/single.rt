@@ -14,7 +14,7 @@ use layout_positions::single::SinglePos;
 impl Apply for SinglePos {
     ghost action = { λ s d a. single_subtable d s.rows };
 
-    #[tactic(auto, using(layout_rules::specs::Lemmas::Glyphs::number_ahead, crate::specs::Lemmas::Placed::single_acted, crate::specs::Lemmas::Placed::single_passed))]
+    #[tactic(auto, using(stage_rules::specs::Lemmas::Glyphs::number_ahead, crate::specs::Lemmas::Placed::single_acted, crate::specs::Lemmas::Placed::single_passed))]
     fn apply(&self, _ctx: &hb_ot_apply_context_t, buffer: &mut hb_buffer_t) -> bool {
         let Some(value) = self.value(buffer.cur(0).as_glyph().0) else {
             return false;

@@ -2,7 +2,7 @@
 ghost use Rattle.std.specs.Prelude.{◌≡◌, ◌<◌, length};
 ghost use Rattle.layout_gpos.specs.Values.{adjusted, adjusted_at, advanced, is_zero, moved};
 
-use glyph_types::position::GlyphPosition;
+use glyph_lists::position::GlyphPosition;
 use layout_links::sums::{minus, plus};
 use layout_positions::value::ValueRecord;
 use shaping_text::direction::Direction;

@@ -2,14 +2,14 @@
 use Rattle.std.proofs.Common.{ℕ, ◌≡◌, ◌≤◌, ◌+◌, ◌-◌, List, [], ◌∷◌, length, take, drop, refl, sym, ap, subst, ◌∙◌, arith, Ok, Err, Some, slice_get}
 use Rattle.std.specs.Prelude.{Result, Bool, Option}
 use Rattle.std.proofs.lemmas.List.{take_all}
-use Rattle.glyph_types.specs.declared.cause.ShapeCause.{ShapeCause}
-use Rattle.glyph_types.specs.declared.info.hb_glyph_info_t.{hb_glyph_info_t}
+use Rattle.glyph_lists.specs.declared.cause.ShapeCause.{ShapeCause}
+use Rattle.glyph_lists.specs.declared.info.hb_glyph_info_t.{hb_glyph_info_t}
 use Rattle.glyph_buffer.specs.Sides.{Sides}
 use Rattle.layout_font.specs.Layout.{LigatureSetTable, ligature_set_of}
 use Rattle.layout_match.specs.Applied.{Applied}
 use Rattle.layout_match.specs.Searches.{Search}
-use Rattle.layout_rules.specs.Actions.{Outcome}
-use Rattle.layout_rules.specs.Performing.{cut_with, Performs}
+use Rattle.stage_rules.specs.Actions.{Outcome}
+use Rattle.stage_rules.specs.Performing.{cut_with, Performs}
 use Rattle.layout_gsub.specs.Ligating.{ligature_subst, ligatures_over}
 use Rattle.layout_gsub.proofs.Tested.{first_tried}
 use Rattle.glyph_lists.specs.Items.{Item}

@@ -3,9 +3,9 @@ use Rattle.std.proofs.Common.{ℕ, zero, suc, ◌≡◌, ◌≤◌, ◌<◌, ◌
 use Rattle.std.specs.Prelude.{slice_range}
 use Rattle.std.proofs.lemmas.List.{map-append, length-append, length-map, drop-map, take-append-drop}
 use Rattle.std.proofs.lemmas.Bool.Decides.{nat_tests}
-use Rattle.glyph_types.specs.declared.cause.ShapeCause.{ShapeCause}
-use Rattle.glyph_types.specs.declared.cause.ShapeCause.TheVariants.{TooLong}
-use Rattle.glyph_types.specs.declared.info.hb_glyph_info_t.{hb_glyph_info_t}
+use Rattle.glyph_lists.specs.declared.cause.ShapeCause.{ShapeCause}
+use Rattle.glyph_lists.specs.declared.cause.ShapeCause.TheVariants.{TooLong}
+use Rattle.glyph_lists.specs.declared.info.hb_glyph_info_t.{hb_glyph_info_t}
 use Rattle.glyph_lists.specs.Items.{Item, item_of, strip, clusters}
 use Rattle.glyph_lists.specs.Levels.{InList}
 use Rattle.glyph_lists.specs.Origins.{origin_of, origins}
@@ -15,13 +15,13 @@ use Rattle.glyph_buffer.specs.Sides.{Sides, all_glyphs, items_of, origins_of, or
 use Rattle.glyph_buffer.specs.Merging.{index_in_all, with_merged}
 use Rattle.glyph_buffer.specs.Settings.{next_lig_id, with_lig_id}
 use Rattle.font_face.specs.declared.parts.GlyphDefinition.{GlyphDefinition}
-use Rattle.layout_match.specs.LigatureWords.{lig_comp, lig_id, lig_num_comps, ligature_word}
-use Rattle.layout_rules.specs.Actions.{Cut, Acts, Refuses}
-use Rattle.layout_rules.specs.Buffers.{cut_of, are_glyphs, frame_of, Happened}
-use Rattle.layout_rules.specs.Performing.{cut_with, Performed}
-use Rattle.layout_rules.specs.Lemmas.Attempts.{cut_with_glyphs}
-use Rattle.layout_rules.specs.Lemmas.Frames.{then_happened, still_settings, still_limit}
-use Rattle.layout_rules.specs.Lemmas.Glyphs.{and_both, all_of_both, all_of_front, all_of_back, all_taken, all_dropped}
+use Rattle.glyph_lists.specs.LigatureWords.{lig_comp, lig_id, lig_num_comps, ligature_word}
+use Rattle.stage_rules.specs.Actions.{Cut, Acts, Refuses}
+use Rattle.stage_rules.specs.Buffers.{cut_of, are_glyphs, frame_of, Happened}
+use Rattle.stage_rules.specs.Performing.{cut_with, Performed}
+use Rattle.stage_rules.specs.Lemmas.Attempts.{cut_with_glyphs}
+use Rattle.stage_rules.specs.Lemmas.Frames.{then_happened, still_settings, still_limit}
+use Rattle.stage_rules.specs.Lemmas.Glyphs.{and_both, all_of_both, all_of_front, all_of_back, all_taken, all_dropped}
 use Rattle.layout_gsub.specs.Ligating.{after_parts, are_marks, component_count, following_items, items_at, last_given, last_place, ligated_over, ligature_category, ligature_item, ligature_props, own_number, parts_gone, passed_item, passed_items, has_own_number, components_at, with_component}
 use Rattle.layout_gsub.specs.Uniting.{AreUnited, IsMerged, IsRenumbered, end_of}
 use Rattle.layout_gsub.proofs.Replaced.{acts_within, refuses_past}

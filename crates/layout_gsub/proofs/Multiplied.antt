@@ -4,8 +4,8 @@ use Rattle.std.proofs.lemmas.List.{map-append, length-append, length-map, replic
 use Rattle.std.proofs.Math.Seq.{take-append_seam, drop-append_seam, drop-append-add}
 use Rattle.std.proofs.lemmas.Bool.Decides.{nat_tests}
 use Rattle.std.specs.List.{list_all}
-use Rattle.glyph_types.specs.declared.cause.ShapeCause.TheVariants.{TooLong}
-use Rattle.glyph_types.specs.declared.info.hb_glyph_info_t.{hb_glyph_info_t}
+use Rattle.glyph_lists.specs.declared.cause.ShapeCause.TheVariants.{TooLong}
+use Rattle.glyph_lists.specs.declared.info.hb_glyph_info_t.{hb_glyph_info_t}
 use Rattle.glyph_lists.specs.Items.{Item, item_of, strip, clusters}
 use Rattle.glyph_lists.specs.Parts.{first_of, replaced_among}
 use Rattle.glyph_lists.specs.Origins.{Origin, origin_of, origins, merged_as, manner, InList}
@@ -14,12 +14,12 @@ use Rattle.glyph_buffer.specs.Sides.{Sides, items_of, origins_of, origins_by, ha
 use Rattle.glyph_buffer.specs.Merging.{with_put, with_skipped}
 use Rattle.glyph_buffer.specs.Told.{told_telling}
 use Rattle.glyph_buffer.specs.Grouping.{with_deleted}
-use Rattle.glyph_clusters.specs.Deleting.{deletion_marks}
+use Rattle.glyph_lists.specs.Deleting.{deletion_marks}
 use Rattle.font_face.specs.declared.parts.GlyphDefinition.{GlyphDefinition}
-use Rattle.layout_rules.specs.Actions.{Acts, Refuses}
-use Rattle.layout_rules.specs.Buffers.{are_glyphs, frame_of, IsStill}
-use Rattle.layout_rules.specs.Performing.{cut_with, Performed}
-use Rattle.layout_rules.specs.Lemmas.Glyphs.{and_both, all_of_both, all_of_front, all_of_back, all_dropped, first_item}
+use Rattle.stage_rules.specs.Actions.{Acts, Refuses}
+use Rattle.stage_rules.specs.Buffers.{are_glyphs, frame_of, IsStill}
+use Rattle.stage_rules.specs.Performing.{cut_with, Performed}
+use Rattle.stage_rules.specs.Lemmas.Glyphs.{and_both, all_of_both, all_of_front, all_of_back, all_dropped, first_item}
 use Rattle.layout_gsub.specs.Putting.{IsPut}
 use Rattle.layout_gsub.specs.Multiples.{component_item, component_items, multiplied_item, multiplied, multiplied_cut, deleted}
 use Rattle.layout_gsub.proofs.Replaced.{acts_within, refuses_past}

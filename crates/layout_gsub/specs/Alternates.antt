@@ -7,7 +7,7 @@ use Rattle.glyph_lists.specs.Events.{Break}
 use Rattle.font_face.specs.declared.parts.GlyphDefinition.{GlyphDefinition}
 use Rattle.layout_substitutions.specs.declared.sequence.SequenceRow.{SequenceRow}
 use Rattle.layout_substitutions.specs.Substitutions.{glyphs_of}
-use Rattle.layout_rules.specs.Actions.{Passes, Action, whole, later, at_first}
+use Rattle.stage_rules.specs.Actions.{Passes, Action, whole, later, at_first}
 use Rattle.layout_match.specs.Applied.{drawn}
 use Rattle.layout_gsub.specs.Replacements.{substituted}
 

@@ -10,10 +10,10 @@ use Rattle.glyph_buffer.specs.Settings.{next_lig_id}
 use Rattle.font_face.specs.declared.parts.GlyphDefinition.{GlyphDefinition}
 use Rattle.layout_font.specs.Layout.{LigatureTable, LigatureSetTable, ligature_set_of}
 use Rattle.layout_match.specs.Applied.{Applied, own_search}
-use Rattle.layout_match.specs.LigatureWords.{component_word, is_base_glyph, is_mark, lig_comp, lig_id, lig_num_comps, ligature_word}
+use Rattle.glyph_lists.specs.LigatureWords.{component_word, is_base_glyph, is_mark, lig_comp, lig_id, lig_num_comps, ligature_word}
 use Rattle.layout_match.specs.Matches.{input_end, input_indices}
 use Rattle.layout_match.specs.Sequences.{is_glyph}
-use Rattle.layout_rules.specs.Actions.{Passes, Acts, Action, at_first, first_rule, within_limit, attempt_around}
+use Rattle.stage_rules.specs.Actions.{Passes, Acts, Action, at_first, first_rule, within_limit, attempt_around}
 use Rattle.layout_gsub.specs.Replacements.{glyph_props_of, substituted}
 
 -- ---- parts

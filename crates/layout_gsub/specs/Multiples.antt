@@ -7,8 +7,8 @@ use Rattle.glyph_lists.specs.Events.{Replace, Delete}
 use Rattle.font_face.specs.declared.parts.GlyphDefinition.{GlyphDefinition}
 use Rattle.layout_substitutions.specs.declared.sequence.SequenceRow.{SequenceRow}
 use Rattle.layout_substitutions.specs.Substitutions.{glyphs_of}
-use Rattle.layout_match.specs.LigatureWords.{component_word, is_ligature, lig_id}
-use Rattle.layout_rules.specs.Actions.{Cut, Passes, Acts, Action, at_first, within_limit}
+use Rattle.glyph_lists.specs.LigatureWords.{component_word, is_ligature, lig_id}
+use Rattle.stage_rules.specs.Actions.{Cut, Passes, Acts, Action, at_first, within_limit}
 use Rattle.layout_gsub.specs.Replacements.{glyph_props_of, substituted}
 
 -- the properties of one of several glyphs that come in for one: it is marked as substituted and as one of several, and keeps the marks of what became of

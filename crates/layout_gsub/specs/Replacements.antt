@@ -8,7 +8,7 @@ use Rattle.layout_common.specs.Rows.{value_of}
 use Rattle.layout_common.specs.declared.glyph_row.GlyphRow.{GlyphRow}
 use Rattle.font_face.specs.Glyphs.{glyph_class}
 use Rattle.font_face.specs.declared.parts.GlyphDefinition.{GlyphDefinition}
-use Rattle.layout_rules.specs.Actions.{Cut, Passes, Acts, Action, at_first, within_limit}
+use Rattle.stage_rules.specs.Actions.{Cut, Passes, Acts, Action, at_first, within_limit}
 
 -- the properties that GDEF gives a glyph: the bit of its class, of a mark its attachment class in the second byte too
 abbrev pub props_of_class : ℕ → ℕ → ℕ

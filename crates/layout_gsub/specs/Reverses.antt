@@ -9,7 +9,7 @@ use Rattle.layout_substitutions.specs.declared.reverse.ReverseChainSubst.{Revers
 use Rattle.layout_match.specs.Applied.{Applied, context_search}
 use Rattle.layout_match.specs.Matches.{backtrack_end, lookahead_end}
 use Rattle.layout_match.specs.Sequences.{is_covered_by}
-use Rattle.layout_rules.specs.Actions.{Cut, Outcome, Passes, Acts, Action, at_first, attempt_around}
+use Rattle.stage_rules.specs.Actions.{Cut, Outcome, Passes, Acts, Action, at_first, attempt_around}
 use Rattle.layout_gsub.specs.Replacements.{substituted_item}
 
 -- the item at the cut has another glyph, and is not passed

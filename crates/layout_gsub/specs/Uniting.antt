@@ -5,7 +5,7 @@ use Rattle.glyph_lists.specs.Levels.{InList}
 use Rattle.glyph_lists.specs.Origins.{origins}
 use Rattle.glyph_lists.specs.Events.{Merge}
 use Rattle.glyph_buffer.specs.Sides.{Sides, origins_of, origins_by}
-use Rattle.layout_rules.specs.Buffers.{cut_of, Happened, IsStill}
+use Rattle.stage_rules.specs.Buffers.{cut_of, Happened, IsStill}
 use Rattle.layout_gsub.specs.Ligating.{parts_gone}
 
 -- indices that rise from one on, each behind the one before it

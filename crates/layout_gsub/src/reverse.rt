@@ -1,5 +1,5 @@
 ghost use Rattle.std.specs.Prelude.{◌≡◌, ◌<◌, ◌≤◌, ◌+◌, ◌-◌, ◌∷◌, true, Some, [], length, map, slice_get};
-ghost use Rattle.glyph_types.specs.declared.info.hb_glyph_info_t.{hb_glyph_info_t as Glyph};
+ghost use Rattle.glyph_lists.specs.declared.info.hb_glyph_info_t.{hb_glyph_info_t as Glyph};
 ghost use Rattle.glyph_buffer.specs.Lending.{with_glyph_ahead};
 ghost use Rattle.glyph_lists.specs.Events.{Break, Concat};
 ghost use Rattle.glyph_lists.specs.Items.{strip};
@@ -7,14 +7,14 @@ ghost use Rattle.glyph_buffer.specs.Sides.{items_of};
 ghost use Rattle.layout_match.specs.Applied.{applied_of, context_search};
 ghost use Rattle.layout_match.specs.Matches.{backtrack_end};
 ghost use Rattle.layout_match.specs.Sequences.{is_covered_by};
-ghost use Rattle.layout_rules.specs.Actions.{Acts};
-ghost use Rattle.layout_rules.specs.Buffers.{IsPassed, are_glyphs, cut_of};
-ghost use Rattle.layout_rules.specs.Performing.{PerformsInPlace};
+ghost use Rattle.stage_rules.specs.Actions.{Acts};
+ghost use Rattle.stage_rules.specs.Buffers.{IsPassed, are_glyphs, cut_of};
+ghost use Rattle.stage_rules.specs.Performing.{PerformsInPlace};
 ghost use Rattle.layout_gsub.specs.Reverses.{put_before, put_in_place, reverse_subtable};
 
 use crate::replacement::substituted_props;
 use glyph_buffer::buffer::hb_buffer_t;
-use glyph_types::flags::GlyphPropsFlags;
+use glyph_lists::flags::GlyphPropsFlags;
 use layout_common::coverage::Coverage;
 use layout_match::{MatchSequence, hb_ot_apply_context_t, match_backtrack, match_lookahead};
 use layout_substitutions::reverse::ReverseChainSubst;
@@ -97,7 +97,7 @@ fn apply_backtrack(
 /// Reverse chaining single substitution (OpenType, GSUB lookup type 8) at the cursor of a buffer, in place: where the subtable
 /// covers the glyph there, and its sets follow and precede it, its substitute takes its place. It tells whether it did;
 /// where it didn't, it changed glyph flags alone. It takes no memory.
-#[tactic(auto, using(layout_rules::specs::Lemmas::Glyphs::number_ahead))]
+#[tactic(auto, using(stage_rules::specs::Lemmas::Glyphs::number_ahead))]
 pub fn apply_reverse_chain_single_subst(
     subtable: &ReverseChainSubst,
     ctx: &hb_ot_apply_context_t,

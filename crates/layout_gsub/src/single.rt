@@ -3,7 +3,7 @@ ghost use Rattle.layout_gsub.specs.Replacements.{single_subtable};
 use crate::apply::Apply;
 use crate::replacement::replace_glyph;
 use glyph_buffer::buffer::hb_buffer_t;
-use glyph_types::cause::ShapeCause;
+use glyph_lists::cause::ShapeCause;
 use layout_match::hb_ot_apply_context_t;
 use layout_substitutions::single::SingleSubst;
 
@@ -12,7 +12,7 @@ use layout_substitutions::single::SingleSubst;
 impl Apply for SingleSubst {
     ghost action = { λ s a. single_subtable a.font.gdef s.rows };
 
-    #[tactic(auto, using(layout_rules::specs::Lemmas::Glyphs::number_ahead))]
+    #[tactic(auto, using(stage_rules::specs::Lemmas::Glyphs::number_ahead))]
     fn apply(
         &self,
         ctx: &mut hb_ot_apply_context_t,

@@ -5,10 +5,10 @@ use Rattle.std.proofs.lemmas.List.{take_at, length-map, length-set}
 use Rattle.std.proofs.lemmas.Nat.{and_assoc}
 use Rattle.glyph_lists.specs.Items.{Position}
 use Rattle.glyph_lists.specs.Lists.{map_step}
-use Rattle.glyph_lists.specs.Readings.{View, Read, always, with_events, Follows}
+use Rattle.glyph_buffer.specs.Readings.{View, Read, always, with_events, Follows}
 use Rattle.glyph_buffer.specs.Lending.{refilled, with_positions_refilled}
 use Rattle.glyph_buffer.specs.Sides.{Sides, run_of, zero_position, told_of, view_of}
-use Rattle.layout_rules.specs.Ready.{IsDone, IsReady}
+use Rattle.stage_rules.specs.Ready.{IsDone, IsReady}
 use Rattle.layout_links.specs.Links.{finished, position_at}
 use Rattle.layout_links.specs.Finishing.{has_attachments, all_drawn, drawn_if, links_followed}
 use Rattle.layout_links.specs.Starting.{links_cleared, unattached}

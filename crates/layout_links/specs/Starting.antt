@@ -1,7 +1,7 @@
 -- Positions before positioning.
 use Rattle.std.specs.Prelude.{pos, [], map}
 use Rattle.glyph_lists.specs.Items.{Position}
-use Rattle.glyph_lists.specs.Readings.{View, Read, with_events}
+use Rattle.glyph_buffer.specs.Readings.{View, Read, with_events}
 
 -- a position that hangs on nothing
 abbrev pub unattached : Position → Position

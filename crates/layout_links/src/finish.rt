@@ -1,13 +1,13 @@
 //! Positioning begun and ended, on the buffer.
 ghost use Rattle.std.specs.Prelude.{◌≡◌, map};
-ghost use Rattle.glyph_lists.specs.Readings.{always};
-ghost use Rattle.layout_rules.specs.Ready.{IsDone, IsReady};
+ghost use Rattle.glyph_buffer.specs.Readings.{always};
+ghost use Rattle.stage_rules.specs.Ready.{IsDone, IsReady};
 ghost use Rattle.layout_links.specs.Finishing.{all_drawn, links_followed};
 ghost use Rattle.layout_links.specs.Starting.{links_cleared, unattached};
 
 use crate::links::finish_offsets;
 use glyph_buffer::buffer::hb_buffer_t;
-use glyph_types::position::GlyphPosition;
+use glyph_lists::position::GlyphPosition;
 use shaping_text::constants::HB_BUFFER_SCRATCH_FLAG_HAS_GPOS_ATTACHMENT;
 
 /// Before positioning: no glyph hangs on another. It takes linear time and no memory.

@@ -7,7 +7,7 @@ ghost use Rattle.layout_links.specs.Sums.{drawn_by_sums, mark_by_sums, pen_befor
 ghost use Rattle.layout_links.specs.Walks.{IsComing, Stops, Goes, CameFrom, GoesBack, are_shut, is_open, opened, shut};
 
 use crate::sums::{PEN_DOWN, Pen, pen_of, pen_way, sum_up, take_apart};
-use glyph_types::position::GlyphPosition;
+use glyph_lists::position::GlyphPosition;
 use position_sums::sums::{minus, plus};
 use shaping_text::direction::Direction;
 

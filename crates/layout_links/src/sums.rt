@@ -3,7 +3,7 @@ ghost use Rattle.std.specs.Prelude.{◌≡◌};
 ghost use Rattle.layout_links.specs.Links.{kinds_tested, kind_tested, has_kind};
 ghost use Rattle.layout_links.specs.Sums.{AllFit, Fits, pen_down, pen_behind, pen_of, pen_way, with_pen, summed, taken_apart};
 
-use glyph_types::position::GlyphPosition;
+use glyph_lists::position::GlyphPosition;
 pub use position_sums::sums::{minus, plus};
 
 /// Where the pen stands, in font units from the beginning of the line, modulo 2^32.

@@ -1,6 +1,6 @@
 -- The syllable of the glyph at the cursor.
 use Rattle.std.proofs.Common.{◌≡◌, true, List, [], ◌∷◌, Some, slice_get, refl}
-use Rattle.glyph_types.specs.declared.info.hb_glyph_info_t.{hb_glyph_info_t}
+use Rattle.glyph_lists.specs.declared.info.hb_glyph_info_t.{hb_glyph_info_t}
 use Rattle.glyph_lists.specs.Items.{strip}
 use Rattle.layout_match.specs.Applied.{Applied, own_syllable}
 

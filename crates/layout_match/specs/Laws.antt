@@ -3,7 +3,7 @@ use Rattle.std.specs.Prelude.{ℕ, ◌≡◌, ◌≤◌, ◌<◌, ◌+◌, ◌-�
 use Rattle.glyph_lists.specs.Items.{Item}
 use Rattle.layout_match.specs.declared.search.match_t.{match_t}
 use Rattle.layout_match.specs.declared.search.match_t.TheVariants.{MATCH, SKIP, NOT_MATCH}
-use Rattle.layout_match.specs.LigatureWords.{component_bound, component_word, is_ligature, lig_comp, lig_id, lig_num_comps, ligature_word}
+use Rattle.glyph_lists.specs.LigatureWords.{component_bound, component_word, is_ligature, lig_comp, lig_id, lig_num_comps, ligature_word}
 use Rattle.layout_match.specs.Matches.{nearest_from, reached, indices}
 
 -- an item is there, and this is said of it

@@ -3,5 +3,4 @@ pub mod Searches
 pub mod Matches
 pub mod Applied
 pub mod Walks
-pub mod LigatureWords
 pub mod Laws

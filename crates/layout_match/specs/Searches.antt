@@ -1,6 +1,7 @@
 -- What a search for the glyphs of a rule says of an item (OpenType, chapter 2, lookupFlag; GDEF).
 use Rattle.std.specs.Prelude.{ℕ, ◌==◌, ◌/◌, ◌&&◌, ◌||◌, Bool, not, true, if◌then◌else◌, List, Option, Some, None, bit_and}
 use Rattle.glyph_lists.specs.Items.{Item}
+use Rattle.glyph_lists.specs.LigatureWords.{has_bits}
 use Rattle.font_face.specs.Glyphs.{has_mark}
 use Rattle.layout_match.specs.Sequences.{is_number, test_at, tests_of}
 use Rattle.layout_match.specs.declared.sequence.MatchSequence.{MatchSequence}
@@ -24,9 +25,6 @@ pub record Search : Type 0 where
 
 abbrev pub search_of : GlyphSearch → Search
 search_of s = record { props = s.lookup_props; sets = s.face.now.gdef.sets; zwnj = s.ignore_zwnj; zwj = s.ignore_zwj; hidden = s.ignore_hidden; mask = s.mask; syllable = s.syllable }
-
-abbrev pub has_bits : ℕ → ℕ → Bool
-has_bits bits n = not (bit_and n bits == 0)
 
 -- a mark that the lookup leaves out: one outside its filtering set, or else of another attachment class than the one it names
 abbrev pub is_other_mark : ℕ → List (List ℕ) → Item → Bool

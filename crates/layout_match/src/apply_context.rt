@@ -6,7 +6,7 @@ ghost use Rattle.layout_match.specs.Applied.{applied_of, context_search, drawn, 
 use crate::search::{GlyphSearch, is_left_out};
 use font_face::Face;
 use glyph_buffer::buffer::hb_buffer_t;
-use glyph_types::info::hb_glyph_info_t;
+use glyph_lists::info::hb_glyph_info_t;
 use map_features::per_table::TableIndex;
 
 /// With what a lookup is applied.

@@ -3,7 +3,6 @@
 
 pub mod apply_context;
 pub mod laws;
-pub mod ligature_words;
 pub mod matching;
 pub mod search;
 pub mod sequence;

@@ -11,7 +11,7 @@ use crate::search::{GlyphSearch, match_t};
 use crate::sequence::MatchSequence;
 use arrayvec::ArrayVec;
 use glyph_buffer::buffer::hb_buffer_t;
-use glyph_types::info::hb_glyph_info_t;
+use glyph_lists::info::hb_glyph_info_t;
 
 /// How many glyphs a rule may ask for, its first among them.
 pub const MAX_CONTEXT_LENGTH: usize = 64;

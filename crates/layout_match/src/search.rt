@@ -4,8 +4,8 @@ ghost use Rattle.layout_match.specs.Searches.{answer, has_mask, is_ignorable, is
 
 use crate::sequence::MatchSequence;
 use font_face::Face;
-use glyph_types::flags::{GlyphPropsFlags, UnicodeProps};
-use glyph_types::info::{DEFINED, hb_glyph_info_t};
+use glyph_lists::flags::{GlyphPropsFlags, UnicodeProps};
+use glyph_lists::info::{DEFINED, hb_glyph_info_t};
 use layout_common::flags::{IGNORE_FLAGS, MARK_ATTACHMENT_TYPE_MASK, USE_MARK_FILTERING_SET};
 
 /// What a search says of a glyph.

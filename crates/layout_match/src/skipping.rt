@@ -10,7 +10,7 @@ use crate::matching::{nearest_ahead, nearest_behind};
 use crate::search::{GlyphSearch, match_t};
 use crate::sequence::MatchSequence;
 use glyph_buffer::buffer::hb_buffer_t;
-use glyph_types::info::hb_glyph_info_t;
+use glyph_lists::info::hb_glyph_info_t;
 
 /// A walk from glyph to glyph, ahead or back from the cursor, over those that a lookup passes over. It holds no buffer: each
 /// call is given it.

@@ -2,16 +2,16 @@
 use Rattle.std.proofs.Common.{ℕ, ◌≡◌, ◌++◌, Bool, false, Option, None, append_assoc, List, [], take, drop, length, min, Ok, Err, sym, ap, subst, ◌∙◌}
 use Rattle.std.specs.Prelude.{Result, OnOk}
 use Rattle.std.proofs.lemmas.List.{take-append-drop, map-append}
-use Rattle.glyph_types.specs.declared.cause.ShapeCause.{ShapeCause}
+use Rattle.glyph_lists.specs.declared.cause.ShapeCause.{ShapeCause}
 use Rattle.glyph_lists.specs.Items.{Item, item_of, strip}
 use Rattle.glyph_buffer.specs.Sides.{Sides, all_glyphs, items_of, moved_on}
 use Rattle.layout_contexts.specs.declared.context.SequenceLookupRecord.{SequenceLookupRecord}
-use Rattle.layout_lookups.specs.declared.positioning.PositioningLookup.{PositioningLookup}
-use Rattle.layout_lookups.specs.declared.positioning.PositioningSubtables.{PositioningSubtables}
+use Rattle.font_face.specs.declared.positioning.PositioningLookup.{PositioningLookup}
+use Rattle.font_face.specs.declared.positioning.PositioningSubtables.{PositioningSubtables}
 use Rattle.layout_match.specs.Applied.{Applied}
-use Rattle.layout_rules.specs.Actions.{Cut, whole, Action, Outcome, Passes, Acts, Refuses}
-use Rattle.layout_rules.specs.Performing.{Performed, Performs, cut_with}
-use Rattle.layout_rules.specs.Lemmas.Frames.{same_numbers}
+use Rattle.stage_rules.specs.Actions.{Cut, whole, Action, Outcome, Passes, Acts, Refuses}
+use Rattle.stage_rules.specs.Performing.{Performed, Performs, cut_with}
+use Rattle.stage_rules.specs.Lemmas.Frames.{same_numbers}
 use Rattle.layout_chain.specs.Chains.{Chain, chain_rule}
 use Rattle.layout_chain.specs.Fitting.{IsMatched, Matched}
 use Rattle.layout_chain.specs.Nested.{Walks, cut_at, cut_behind, holds, spent}

@@ -1,3 +1,6 @@
+pub mod Linked
+pub mod Turned
+pub mod Joined
 pub mod Passed
 pub mod Levels
 pub mod Over

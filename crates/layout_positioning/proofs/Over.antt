@@ -3,18 +3,18 @@ use Rattle.std.proofs.Common.{ℕ, suc, ◌≡◌, ◌≤◌, ◌<◌, ◌+◌, 
 use Rattle.std.proofs.lemmas.Bool.Decides.{nat_tests}
 use Rattle.std.proofs.lemmas.List.{take-append-drop, length-map, length-append}
 use Rattle.shaping_text.specs.declared.direction.Direction.{Direction}
-use Rattle.glyph_types.specs.declared.cause.ShapeCause.{ShapeCause}
+use Rattle.glyph_lists.specs.declared.cause.ShapeCause.{ShapeCause}
 use Rattle.glyph_lists.specs.Items.{item_of, strip}
 use Rattle.glyph_lists.specs.Origins.{origins}
-use Rattle.glyph_lists.specs.Readings.{Run, Follows, read_of}
-use Rattle.glyph_lists.specs.Steps.{follows_from}
+use Rattle.glyph_buffer.specs.Readings.{Run, Follows, read_of}
+use Rattle.glyph_buffer.specs.Steps.{follows_from}
 use Rattle.glyph_buffer.specs.Sides.{Sides, all_glyphs, run_of, settings_of}
 use Rattle.glyph_buffer.specs.Moving.{moved_to}
-use Rattle.layout_rules.specs.Actions.{Cut, uncut_placed, Action}
-use Rattle.layout_rules.specs.Buffers.{are_glyphs, IsStill}
-use Rattle.layout_rules.specs.Performing.{cut_with}
-use Rattle.layout_rules.specs.Ready.{IsReady, IsDoneFrom, run_with}
-use Rattle.layout_rules.specs.Lemmas.Frames.{still_settings, still_open, still_refused, still_direction}
+use Rattle.stage_rules.specs.Actions.{Cut, uncut_placed, Action}
+use Rattle.stage_rules.specs.Buffers.{are_glyphs, IsStill}
+use Rattle.stage_rules.specs.Performing.{cut_with}
+use Rattle.stage_rules.specs.Ready.{IsReady, IsDoneFrom, run_with}
+use Rattle.stage_rules.specs.Lemmas.Frames.{still_settings, still_open, still_refused, still_direction}
 use Rattle.layout_walks.specs.Trying.{tried}
 use Rattle.layout_walks.specs.Steps.{IsGivenUp, IsStep}
 use Rattle.layout_walks.specs.Lemmas.Passage.{IsUnderway, ended_view, gone_on}

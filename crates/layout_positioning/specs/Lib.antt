@@ -1,2 +1,4 @@
+pub mod Cursive
+pub mod Joins
 pub mod Lookups
 pub mod Positioning

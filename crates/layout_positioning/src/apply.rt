@@ -1,17 +1,17 @@
 ghost use Rattle.std.specs.Prelude.{◌≡◌, ◌≢◌, true, Err, slice_get, IfErr, OnOk};
-ghost use Rattle.glyph_lists.specs.Readings.{read_of};
+ghost use Rattle.glyph_buffer.specs.Readings.{read_of};
 ghost use Rattle.glyph_buffer.specs.Sides.{items_of};
 ghost use Rattle.layout_match.specs.Applied.{applied_of};
-ghost use Rattle.layout_rules.specs.Buffers.{are_glyphs};
-ghost use Rattle.layout_rules.specs.Ready.{IsDoneFrom, IsReady, run_with};
+ghost use Rattle.stage_rules.specs.Buffers.{are_glyphs};
+ghost use Rattle.stage_rules.specs.Ready.{IsDoneFrom, IsReady, run_with};
 ghost use Rattle.layout_positioning.specs.Lookups.{applied_by, lookup_stage};
 ghost use Rattle.layout_positioning.specs.Positioning.{lookups_stage};
 
 use crate::forward::apply_forward;
 use font_face::Face;
+use font_face::positioning::{PositioningLookup, PositioningTable};
 use glyph_buffer::buffer::hb_buffer_t;
-use glyph_types::cause::ShapeCause;
-use layout_lookups::positioning::{PositioningLookup, PositioningTable};
+use glyph_lists::cause::ShapeCause;
 use layout_match::hb_ot_apply_context_t;
 use map_features::lookup::lookup_map_t;
 use map_features::per_table::TableIndex;

@@ -1,19 +1,19 @@
 ghost use Rattle.std.specs.Prelude.{◌≡◌, ◌≢◌, true, false, Err, IfErr, OnOk};
-ghost use Rattle.glyph_lists.specs.Readings.{read_of};
+ghost use Rattle.glyph_buffer.specs.Readings.{read_of};
 ghost use Rattle.glyph_buffer.specs.Sides.{items_of};
 ghost use Rattle.layout_match.specs.Applied.{applied_of};
-ghost use Rattle.layout_rules.specs.Buffers.{are_glyphs};
-ghost use Rattle.layout_rules.specs.Ready.{IsDoneFrom, IsReady, run_with};
+ghost use Rattle.stage_rules.specs.Buffers.{are_glyphs};
+ghost use Rattle.stage_rules.specs.Ready.{IsDoneFrom, IsReady, run_with};
 ghost use Rattle.layout_walks.specs.Steps.{IsGivenUp, IsStep};
 ghost use Rattle.layout_gpos.specs.Bases.{AreKept};
 ghost use Rattle.layout_positioning.specs.Lookups.{looked_over, lookup_action};
 
 use crate::lookup::apply_lookup;
+use font_face::positioning::{PositioningLookup, PositioningTable};
 use glyph_buffer::buffer::hb_buffer_t;
-use glyph_types::cause::ShapeCause;
+use glyph_lists::cause::ShapeCause;
 use layout_gpos::bases::LastSearches;
 use layout_gpos::placing::pass;
-use layout_lookups::positioning::{PositioningLookup, PositioningTable};
 use layout_match::hb_ot_apply_context_t;
 
 /// Tries a lookup at the cursor, and goes on over the glyph where it doesn't act; at the end it does nothing.

@@ -1,17 +1,17 @@
 ghost use Rattle.std.specs.Prelude.{◌≡◌, ◌<◌, true, false, OnOk, length};
 ghost use Rattle.glyph_buffer.specs.Sides.{items_of};
 ghost use Rattle.layout_match.specs.Applied.{applied_of};
-ghost use Rattle.layout_rules.specs.Buffers.{are_glyphs};
-ghost use Rattle.layout_rules.specs.Performing.{Performs, cut_with};
+ghost use Rattle.stage_rules.specs.Buffers.{are_glyphs};
+ghost use Rattle.stage_rules.specs.Performing.{Performs, cut_with};
 ghost use Rattle.layout_gpos.specs.Bases.{AreKept};
 ghost use Rattle.layout_positioning.specs.Lookups.{lookup_action};
 
 use crate::nested::apply_subtables;
+use font_face::positioning::{PositioningLookup, PositioningTable};
 use glyph_buffer::buffer::hb_buffer_t;
-use glyph_types::cause::ShapeCause;
+use glyph_lists::cause::ShapeCause;
 use layout_chain::MAX_NESTING_LEVEL;
 use layout_gpos::bases::LastSearches;
-use layout_lookups::positioning::{PositioningLookup, PositioningTable};
 use layout_match::hb_ot_apply_context_t;
 use layout_walks::lookup::meets;
 

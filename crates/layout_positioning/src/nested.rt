@@ -10,23 +10,23 @@ ghost use Rattle.layout_chain.specs.Places.{AreRising};
 ghost use Rattle.layout_chain.specs.Rules.{chains_of};
 ghost use Rattle.layout_gpos.specs.Bases.{AreKept};
 ghost use Rattle.layout_match.specs.Applied.{applied_of};
-ghost use Rattle.layout_rules.specs.Actions.{first_rule, whole};
-ghost use Rattle.layout_rules.specs.Buffers.{are_glyphs, cut_of};
-ghost use Rattle.layout_rules.specs.Performing.{Performs, cut_with};
+ghost use Rattle.stage_rules.specs.Actions.{first_rule, whole};
+ghost use Rattle.stage_rules.specs.Buffers.{are_glyphs, cut_of};
+ghost use Rattle.stage_rules.specs.Performing.{Performs, cut_with};
 ghost use Rattle.layout_positioning.specs.Lookups.{first_subtable, nested, nested_act, nested_lookup, under_flag};
 
 use crate::subtables::{
     apply_first, apply_first_base, apply_first_cursive, apply_first_ligature, apply_first_mark,
 };
+use font_face::positioning::{PositioningLookup, PositioningSubtables, PositioningTable};
 use glyph_buffer::buffer::hb_buffer_t;
-use glyph_types::cause::ShapeCause;
+use glyph_lists::cause::ShapeCause;
 use layout_chain::{
     ChainRule, begin_record, glyph_count, go_behind, is_tried_at, match_chain, rule_at, rule_count,
     settle_match,
 };
 use layout_contexts::context::{ContextSubtable, SequenceLookupRecord};
 use layout_gpos::bases::LastSearches;
-use layout_lookups::positioning::{PositioningLookup, PositioningSubtables, PositioningTable};
 use layout_match::{MatchPositions, hb_ot_apply_context_t};
 
 /// With what a lookup is applied that is nested in another: its own flag, and all else as that one.
@@ -119,7 +119,7 @@ pub(crate) fn apply_subtables(
 
 /// Does what the first of some contexts does that acts.
 #[cycle(nested)]
-#[tactic(auto, using(layout_rules::specs::Lemmas::Performed::passed_first, crate::proofs::Passed::passed_closed, layout_rules::specs::Lemmas::Performed::passed_unrefused, layout_rules::specs::Lemmas::Performed::passed_numbers))]
+#[tactic(auto, using(stage_rules::specs::Lemmas::Performed::passed_first, crate::proofs::Passed::passed_closed, stage_rules::specs::Lemmas::Performed::passed_unrefused, stage_rules::specs::Lemmas::Performed::passed_numbers))]
 fn apply_contexts(
     table: &PositioningTable,
     depth: u32,
@@ -177,7 +177,7 @@ fn apply_context(
 
 /// Does what the first of a context's rules does that matches at the cursor.
 #[cycle(nested)]
-#[tactic(auto, using(layout_rules::specs::Lemmas::Performed::passed_first, crate::proofs::Passed::passed_closed, layout_rules::specs::Lemmas::Performed::passed_unrefused, layout_rules::specs::Lemmas::Performed::passed_numbers))]
+#[tactic(auto, using(stage_rules::specs::Lemmas::Performed::passed_first, crate::proofs::Passed::passed_closed, stage_rules::specs::Lemmas::Performed::passed_unrefused, stage_rules::specs::Lemmas::Performed::passed_numbers))]
 fn apply_rules(
     table: &PositioningTable,
     depth: u32,

@@ -6,24 +6,24 @@ use Rattle.glyph_lists.specs.Items.{Item, item_of, strip}
 use Rattle.glyph_lists.specs.Origins.{origins}
 use Rattle.glyph_lists.specs.Events.{Event, origins_after}
 use Rattle.glyph_lists.specs.Parts.{first_of}
-use Rattle.glyph_lists.specs.Readings.{View, Reading, Run, Follows, then_reading, with_events, read_of}
-use Rattle.glyph_lists.specs.Steps.{follows_happened, follows_from}
+use Rattle.glyph_buffer.specs.Readings.{View, Reading, Run, Follows, then_reading, with_events, read_of}
+use Rattle.glyph_buffer.specs.Steps.{follows_happened, follows_from}
 use Rattle.glyph_buffer.specs.Sides.{Sides, all_glyphs, run_of, items_of, settings_of, asks_of}
 use Rattle.glyph_buffer.specs.Moving.{moved_to}
 use Rattle.layout_common.specs.Rows.{value_of}
-use Rattle.layout_lookups.specs.declared.substitution.SubstLookup.{SubstLookup}
-use Rattle.layout_lookups.specs.declared.substitution.SubstitutionSubtables.{SubstitutionSubtables}
-use Rattle.layout_lookups.specs.declared.substitution.SubstitutionSubtables.TheVariants.{Single, Multiple, Alternate, Ligature, Context, ChainContext, ReverseChainSingle}
+use Rattle.font_face.specs.declared.substitution.SubstLookup.{SubstLookup}
+use Rattle.font_face.specs.declared.substitution.SubstitutionSubtables.{SubstitutionSubtables}
+use Rattle.font_face.specs.declared.substitution.SubstitutionSubtables.TheVariants.{Single, Multiple, Alternate, Ligature, Context, ChainContext, ReverseChainSingle}
 use Rattle.layout_substitutions.specs.declared.reverse.ReverseChainSubst.{ReverseChainSubst}
 use Rattle.layout_match.specs.Applied.{Applied, context_search}
 use Rattle.layout_match.specs.Matches.{backtrack_end, lookahead_end}
 use Rattle.layout_match.specs.Sequences.{is_covered_by}
-use Rattle.layout_rules.specs.Actions.{Cut, view_at, uncut_placed, Outcome, Passes, Acts, Refuses, Action}
-use Rattle.layout_rules.specs.Buffers.{cut_of, are_glyphs, IsStill, Happened}
-use Rattle.layout_rules.specs.Performing.{cut_with, PerformsInPlace}
-use Rattle.layout_rules.specs.Ready.{IsReady, IsDoneFrom, run_with}
-use Rattle.layout_rules.specs.Lemmas.Frames.{still_settings, still_refused, still_direction, still_open, same_level, same_asks, same_numbers}
-use Rattle.layout_rules.specs.Lemmas.Performed.{same_with}
+use Rattle.stage_rules.specs.Actions.{Cut, view_at, uncut_placed, Outcome, Passes, Acts, Refuses, Action}
+use Rattle.stage_rules.specs.Buffers.{cut_of, are_glyphs, IsStill, Happened}
+use Rattle.stage_rules.specs.Performing.{cut_with, PerformsInPlace}
+use Rattle.stage_rules.specs.Ready.{IsReady, IsDoneFrom, run_with}
+use Rattle.stage_rules.specs.Lemmas.Frames.{still_settings, still_refused, still_direction, still_open, same_level, same_asks, same_numbers}
+use Rattle.stage_rules.specs.Lemmas.Performed.{same_with}
 use Rattle.layout_gsub.specs.Reverses.{put_after, put_around, put_before, reverse_subtable}
 use Rattle.layout_walks.specs.Trying.{after_outcome, meets, at_met}
 use Rattle.layout_stages.specs.Lookups.{cut_at, tried_back, looked_back, reverse_action, first_reverse}

@@ -3,7 +3,7 @@ use Rattle.std.proofs.Common.{ℕ, ◌≡◌, List, [], ◌∷◌, refl, ap, ◌
 use Rattle.std.specs.Prelude.{Option, Some, None}
 use Rattle.glyph_lists.specs.Items.{Item}
 use Rattle.glyph_lists.specs.Events.{Event}
-use Rattle.layout_rules.specs.Actions.{Cut, Outcome, Passes, Acts, Refuses, Action, later, or_else, first_rule, at_first}
+use Rattle.stage_rules.specs.Actions.{Cut, Outcome, Passes, Acts, Refuses, Action, later, or_else, first_rule, at_first}
 
 -- a cut with another state
 abbrev pub drawing : ℕ → Cut → Cut

@@ -1,17 +1,17 @@
 -- What a lookup makes of the glyph at the cursor.
 use Rattle.std.proofs.Common.{ℕ, ◌≡◌, true, false, List, refl, sym, subst, slice_get, Some}
 use Rattle.std.specs.Prelude.{Bool, Result}
-use Rattle.glyph_types.specs.declared.cause.ShapeCause.{ShapeCause}
-use Rattle.glyph_types.specs.declared.info.hb_glyph_info_t.{hb_glyph_info_t}
+use Rattle.glyph_lists.specs.declared.cause.ShapeCause.{ShapeCause}
+use Rattle.glyph_lists.specs.declared.info.hb_glyph_info_t.{hb_glyph_info_t}
 use Rattle.glyph_lists.specs.Items.{item_of}
 use Rattle.glyph_buffer.specs.Sides.{Sides}
-use Rattle.layout_lookups.specs.declared.substitution.SubstLookup.{SubstLookup}
+use Rattle.font_face.specs.declared.substitution.SubstLookup.{SubstLookup}
 use Rattle.layout_match.specs.Applied.{Applied}
-use Rattle.layout_rules.specs.Actions.{Outcome}
-use Rattle.layout_rules.specs.Buffers.{cut_of}
-use Rattle.layout_rules.specs.Performing.{cut_with, Performed, Performs, PerformsInPlace}
-use Rattle.layout_rules.specs.Lemmas.Does.{passed_same}
-use Rattle.layout_rules.specs.Lemmas.Performed.{passes_nothing}
+use Rattle.stage_rules.specs.Actions.{Outcome}
+use Rattle.stage_rules.specs.Buffers.{cut_of}
+use Rattle.stage_rules.specs.Performing.{cut_with, Performed, Performs, PerformsInPlace}
+use Rattle.stage_rules.specs.Lemmas.Does.{passed_same}
+use Rattle.stage_rules.specs.Lemmas.Performed.{passes_nothing}
 use Rattle.layout_walks.specs.Trying.{meets}
 use Rattle.layout_stages.specs.Lookups.{lookup_action, reverse_action, first_subtable, first_reverse, nested}
 use Rattle.layout_walks.specs.Lemmas.Met.{met, unmet}

@@ -3,11 +3,11 @@ use Rattle.std.proofs.Common.{ℕ, ◌≡◌, ◌≤◌, ◌<◌, ◌+◌, true,
 use Rattle.std.proofs.lemmas.List.{drop_more, drop_all}
 use Rattle.glyph_lists.specs.Events.{Event}
 use Rattle.glyph_buffer.specs.Sides.{Sides, items_of}
-use Rattle.layout_rules.specs.Actions.{Cut, Outcome, Passes, Acts, Refuses, Action, later, first_rule}
-use Rattle.layout_rules.specs.Buffers.{cut_of, are_glyphs, IsPassed}
-use Rattle.layout_rules.specs.Performing.{IsPutInPlace, PerformsInPlace}
-use Rattle.layout_rules.specs.Lemmas.Does.{passed_same, then_passed}
-use Rattle.layout_rules.specs.Lemmas.Frames.{still_settings, then_happened, same_lengths, same_numbers}
+use Rattle.stage_rules.specs.Actions.{Cut, Outcome, Passes, Acts, Refuses, Action, later, first_rule}
+use Rattle.stage_rules.specs.Buffers.{cut_of, are_glyphs, IsPassed}
+use Rattle.stage_rules.specs.Performing.{IsPutInPlace, PerformsInPlace}
+use Rattle.stage_rules.specs.Lemmas.Does.{passed_same, then_passed}
+use Rattle.stage_rules.specs.Lemmas.Frames.{still_settings, then_happened, same_lengths, same_numbers}
 
 then_put : (es fs : List Event) (cut : Cut) (a b c : Sides) → IsPassed es a b → IsPutInPlace cut fs b c → IsPutInPlace cut (es ++ fs) a c
 then_put es fs cut a b c f g = record {

@@ -1,14 +1,14 @@
 -- Lookups nested in others, level by level.
 use Rattle.std.proofs.Common.{ℕ, zero, suc, ◌≡◌, ◌≢◌, ◌-◌, Ok, false, Bool, List, Option, Some, None, refl, sym, ap, subst, arith}
 use Rattle.std.specs.Prelude.{Result}
-use Rattle.glyph_types.specs.declared.cause.ShapeCause.{ShapeCause}
+use Rattle.glyph_lists.specs.declared.cause.ShapeCause.{ShapeCause}
 use Rattle.glyph_buffer.specs.Sides.{Sides}
-use Rattle.layout_lookups.specs.Lookups.{props_of}
-use Rattle.layout_lookups.specs.declared.substitution.SubstLookup.{SubstLookup}
+use Rattle.font_face.specs.Lookups.{props_of}
+use Rattle.font_face.specs.declared.substitution.SubstLookup.{SubstLookup}
 use Rattle.layout_match.specs.Applied.{Applied}
-use Rattle.layout_rules.specs.Actions.{Action}
-use Rattle.layout_rules.specs.Performing.{cut_with, Performs}
-use Rattle.layout_rules.specs.Lemmas.Performed.{passes_nothing}
+use Rattle.stage_rules.specs.Actions.{Action}
+use Rattle.stage_rules.specs.Performing.{cut_with, Performs}
+use Rattle.stage_rules.specs.Lemmas.Performed.{passes_nothing}
 use Rattle.layout_stages.specs.Lookups.{first_subtable, nested, nested_act, nested_lookup}
 
 pub no_depth : (table : List SubstLookup) (depth : ℕ) (a : Applied) → depth ≡ 0 → nested table depth a ≡ None

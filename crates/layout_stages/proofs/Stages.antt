@@ -2,16 +2,16 @@
 use Rattle.std.proofs.Common.{ℕ, ◌≡◌, ◌≤◌, ◌<◌, ◌+◌, List, [], ◌∷◌, length, drop, get_or, true, false, Err, refl, sym, subst, ◌∙◌}
 use Rattle.std.specs.Prelude.{slice_get, None, Option, Bool, if◌then◌else◌}
 use Rattle.std.proofs.lemmas.List.{drop_more, drop_all}
-use Rattle.glyph_types.specs.declared.cause.ShapeCause.{ShapeCause}
-use Rattle.glyph_lists.specs.Readings.{View, Run, Stage, Follows, read_of, always, with_events}
-use Rattle.glyph_lists.specs.Steps.{follows_then, follows_same, refused_first, refused_then}
+use Rattle.glyph_lists.specs.declared.cause.ShapeCause.{ShapeCause}
+use Rattle.glyph_buffer.specs.Readings.{View, Run, Stage, Follows, read_of, always, with_events}
+use Rattle.glyph_buffer.specs.Steps.{follows_then, follows_same, refused_first, refused_then}
 use Rattle.glyph_buffer.specs.Sides.{Sides, settings_of, items_of, run_of}
 use Rattle.font_face.specs.declared.parts.FaceParts.{FaceParts}
-use Rattle.layout_lookups.specs.declared.substitution.SubstLookup.{SubstLookup}
+use Rattle.font_face.specs.declared.substitution.SubstLookup.{SubstLookup}
 use Rattle.map_features.specs.declared.lookup.lookup_map_t.{lookup_map_t}
-use Rattle.layout_rules.specs.Buffers.{are_glyphs}
-use Rattle.layout_rules.specs.Ready.{IsReady, IsDone, IsDoneFrom, run_with}
-use Rattle.layout_walks.specs.Pauses.{with_own_random}
+use Rattle.stage_rules.specs.Buffers.{are_glyphs}
+use Rattle.stage_rules.specs.Ready.{IsReady, IsDone, IsDoneFrom, run_with}
+use Rattle.stage_rules.specs.Pauses.{with_own_random}
 use Rattle.layout_stages.specs.Lookups.{lookup_stage, lookups_stage}
 
 -- one of two stages

@@ -2,21 +2,21 @@
 use Rattle.std.proofs.Common.{ℕ, ◌≡◌, ◌≤◌, ◌<◌, ◌+◌, List, [], ◌∷◌, length, drop, get_or, Err, Option, None, refl, sym, subst}
 use Rattle.std.proofs.lemmas.List.{drop_more, drop_all}
 use Rattle.std.specs.Option.{option_map_or}
-use Rattle.layout_lookups.specs.declared.substitution.SubstitutionTable.{SubstitutionTable}
-use Rattle.glyph_types.specs.declared.cause.ShapeCause.{ShapeCause}
-use Rattle.glyph_lists.specs.Readings.{read_of}
-use Rattle.glyph_lists.specs.Steps.{follows_then, follows_same, refused_first}
+use Rattle.font_face.specs.declared.substitution.SubstitutionTable.{SubstitutionTable}
+use Rattle.glyph_lists.specs.declared.cause.ShapeCause.{ShapeCause}
+use Rattle.glyph_buffer.specs.Readings.{read_of}
+use Rattle.glyph_buffer.specs.Steps.{follows_then, follows_same, refused_first}
 use Rattle.glyph_buffer.specs.Sides.{Sides}
-use Rattle.map_stages.specs.declared.stages.StageMap.{StageMap}
+use Rattle.map_builder.specs.declared.stages.StageMap.{StageMap}
 use Rattle.font_face.specs.declared.parts.FaceParts.{FaceParts}
-use Rattle.layout_lookups.specs.declared.substitution.SubstLookup.{SubstLookup}
+use Rattle.font_face.specs.declared.substitution.SubstLookup.{SubstLookup}
 use Rattle.map_features.specs.declared.lookup.lookup_map_t.{lookup_map_t}
 use Rattle.map_builder.specs.Compiled.{TableStages, lookups_of_stage}
-use Rattle.layout_rules.specs.Ready.{IsReady, IsDoneFrom, run_with}
+use Rattle.stage_rules.specs.Ready.{IsReady, IsDoneFrom, run_with}
 use Rattle.layout_stages.specs.Lookups.{lookup_stage, lookups_stage}
-use Rattle.layout_walks.specs.Pauses.{Pauses, pause_stage}
+use Rattle.stage_rules.specs.Pauses.{Pauses, pause_stage}
 use Rattle.layout_stages.specs.Substituting.{substitution_lookups, table_stage, table_stages}
-use Rattle.layout_walks.specs.Lemmas.Ways.{AreStagesDone, both_done, first_refused, next_done, nothing_done, second_refused}
+use Rattle.stage_rules.specs.Lemmas.Ways.{AreStagesDone, both_done, first_refused, next_done, nothing_done, second_refused}
 
 -- lookups of a font without a table
 pub no_lookups : (font : FaceParts) (maps : List lookup_map_t) (r : ℕ) (s : Sides) → IsReady s → IsDoneFrom r r (lookups_stage font [] maps) s s

@@ -1,15 +1,15 @@
 -- A lookup by the type of its subtables, tried at each index of a list, and the lookups of a stage (OpenType, chapter 2).
 use Rattle.std.specs.Prelude.{ℕ, suc, zero, if◌then◌else◌, List, [], ◌∷◌, length, take, drop, Option, Some, None, Ok, slice_get}
-use Rattle.glyph_lists.specs.Readings.{View, Reading, Stage, and_then, with_events, as_it_is}
+use Rattle.glyph_buffer.specs.Readings.{View, Reading, Stage, and_then, with_events, as_it_is}
 use Rattle.font_face.specs.declared.parts.FaceParts.{FaceParts}
-use Rattle.layout_lookups.specs.Lookups.{props_of, is_reverse}
-use Rattle.layout_lookups.specs.declared.substitution.SubstLookup.{SubstLookup}
-use Rattle.layout_lookups.specs.declared.substitution.SubstitutionSubtables.{SubstitutionSubtables}
-use Rattle.layout_lookups.specs.declared.substitution.SubstitutionSubtables.TheVariants.{Single, Multiple, Alternate, Ligature, Context, ChainContext, ReverseChainSingle}
+use Rattle.font_face.specs.Lookups.{props_of, is_reverse}
+use Rattle.font_face.specs.declared.substitution.SubstLookup.{SubstLookup}
+use Rattle.font_face.specs.declared.substitution.SubstitutionSubtables.{SubstitutionSubtables}
+use Rattle.font_face.specs.declared.substitution.SubstitutionSubtables.TheVariants.{Single, Multiple, Alternate, Ligature, Context, ChainContext, ReverseChainSingle}
 use Rattle.map_features.specs.declared.lookup.lookup_map_t.{lookup_map_t}
 use Rattle.map_features.specs.declared.per_table.TableIndex.TheVariants.{GSUB}
 use Rattle.layout_match.specs.Applied.{Applied}
-use Rattle.layout_rules.specs.Actions.{Cut, whole, view_at, uncut_placed, Passes, Action, first_rule}
+use Rattle.stage_rules.specs.Actions.{Cut, whole, view_at, uncut_placed, Passes, Action, first_rule}
 use Rattle.layout_chain.specs.Chains.{context_subtable}
 use Rattle.layout_gsub.specs.Alternates.{alternate_subtable}
 use Rattle.layout_gsub.specs.Ligating.{ligature_subst}

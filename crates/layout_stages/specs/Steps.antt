@@ -1,10 +1,10 @@
 -- What one step of a lookup over a buffer leaves.
 use Rattle.std.specs.Prelude.{ℕ, suc, ◌≡◌, true, length}
-use Rattle.glyph_lists.specs.Readings.{View, Run, Follows}
+use Rattle.glyph_buffer.specs.Readings.{View, Run, Follows}
 use Rattle.glyph_buffer.specs.Sides.{Sides, all_glyphs, items_of, run_of}
-use Rattle.layout_rules.specs.Actions.{Action}
-use Rattle.layout_rules.specs.Buffers.{are_glyphs, IsStill}
-use Rattle.layout_rules.specs.Performing.{cut_with}
+use Rattle.stage_rules.specs.Actions.{Action}
+use Rattle.stage_rules.specs.Buffers.{are_glyphs, IsStill}
+use Rattle.stage_rules.specs.Performing.{cut_with}
 use Rattle.layout_stages.specs.Lookups.{tried_back}
 
 -- a rule was tried in place at an index; whatever follows from here at those before it does so from before

@@ -1,12 +1,12 @@
 -- The lookups of substitution, stage after stage, each stage ended by its pause.
 use Rattle.std.specs.Prelude.{ℕ, ◌+◌, List, [], ◌∷◌, Option}
 use Rattle.std.specs.Option.{option_map_or}
-use Rattle.glyph_lists.specs.Readings.{Stage, and_then, as_it_is}
+use Rattle.glyph_buffer.specs.Readings.{Stage, and_then, as_it_is}
 use Rattle.font_face.specs.declared.parts.FaceParts.{FaceParts}
-use Rattle.layout_lookups.specs.declared.substitution.SubstLookup.{SubstLookup}
-use Rattle.map_stages.specs.declared.stages.StageMap.{StageMap}
+use Rattle.font_face.specs.declared.substitution.SubstLookup.{SubstLookup}
+use Rattle.map_builder.specs.declared.stages.StageMap.{StageMap}
 use Rattle.map_builder.specs.Compiled.{OtMapValue, TableStages, lookups_of_stage}
-use Rattle.layout_walks.specs.Pauses.{Pauses, pause_stage, with_own_random}
+use Rattle.stage_rules.specs.Pauses.{Pauses, pause_stage, with_own_random}
 use Rattle.layout_stages.specs.Lookups.{lookups_stage}
 
 -- the lookups of a stage, then its pause

@@ -1,19 +1,19 @@
 ghost use Rattle.std.specs.Prelude.{◌≡◌, ◌≢◌, true, Err, slice_get, IfErr, OnOk};
-ghost use Rattle.glyph_lists.specs.Readings.{read_of};
+ghost use Rattle.glyph_buffer.specs.Readings.{read_of};
 ghost use Rattle.glyph_buffer.specs.Sides.{items_of, run_of};
 ghost use Rattle.map_features.specs.declared.per_table.TableIndex.TheVariants.{GSUB};
 ghost use Rattle.layout_match.specs.Applied.{applied_of};
-ghost use Rattle.layout_rules.specs.Buffers.{are_glyphs};
-ghost use Rattle.layout_rules.specs.Ready.{IsDone, IsDoneFrom, IsReady, run_with};
-ghost use Rattle.layout_walks.specs.Pauses.{with_own_random};
+ghost use Rattle.stage_rules.specs.Buffers.{are_glyphs};
+ghost use Rattle.stage_rules.specs.Ready.{IsDone, IsDoneFrom, IsReady, run_with};
+ghost use Rattle.stage_rules.specs.Pauses.{with_own_random};
 ghost use Rattle.layout_stages.specs.Lookups.{applied_by, lookup_applied, lookup_stage, lookups_stage};
 
 use crate::backward::apply_backward;
 use crate::forward::apply_forward;
 use font_face::Face;
+use font_face::substitution::{SubstLookup, SubstitutionTable};
 use glyph_buffer::buffer::hb_buffer_t;
-use glyph_types::cause::ShapeCause;
-use layout_lookups::substitution::{SubstLookup, SubstitutionTable};
+use glyph_lists::cause::ShapeCause;
 use layout_match::hb_ot_apply_context_t;
 use map_features::lookup::lookup_map_t;
 use map_features::per_table::TableIndex;

@@ -1,14 +1,14 @@
 ghost use Rattle.std.specs.Prelude.{ℕ, ◌≡◌, ◌<◌, true, false, length};
 ghost use Rattle.glyph_buffer.specs.Sides.{all_glyphs, items_of};
 ghost use Rattle.layout_match.specs.Applied.{applied_of};
-ghost use Rattle.layout_rules.specs.Buffers.{are_glyphs};
-ghost use Rattle.layout_rules.specs.Ready.{IsDoneFrom, IsReady};
+ghost use Rattle.stage_rules.specs.Buffers.{are_glyphs};
+ghost use Rattle.stage_rules.specs.Ready.{IsDoneFrom, IsReady};
 ghost use Rattle.layout_stages.specs.Lookups.{looked_back, reverse_action};
 ghost use Rattle.layout_stages.specs.Steps.{IsStepBack};
 
 use crate::lookup::apply_reverse_lookup;
+use font_face::substitution::SubstLookup;
 use glyph_buffer::buffer::hb_buffer_t;
-use layout_lookups::substitution::SubstLookup;
 use layout_match::hb_ot_apply_context_t;
 
 /// Tries a lookup of reverse chaining in place at an index.

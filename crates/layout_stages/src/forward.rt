@@ -1,17 +1,17 @@
 ghost use Rattle.std.specs.Prelude.{◌≡◌, ◌≢◌, true, false, Err, IfErr, OnOk};
-ghost use Rattle.glyph_lists.specs.Readings.{read_of};
+ghost use Rattle.glyph_buffer.specs.Readings.{read_of};
 ghost use Rattle.glyph_buffer.specs.Sides.{items_of};
 ghost use Rattle.layout_match.specs.Applied.{applied_of};
-ghost use Rattle.layout_rules.specs.Buffers.{are_glyphs};
-ghost use Rattle.layout_rules.specs.Ready.{IsDoneFrom, IsReady, run_with};
+ghost use Rattle.stage_rules.specs.Buffers.{are_glyphs};
+ghost use Rattle.stage_rules.specs.Ready.{IsDoneFrom, IsReady, run_with};
 ghost use Rattle.layout_walks.specs.Trying.{looked_up};
 ghost use Rattle.layout_stages.specs.Lookups.{lookup_action};
 ghost use Rattle.layout_walks.specs.Steps.{IsGivenUp, IsStep};
 
 use crate::lookup::apply_lookup;
+use font_face::substitution::{SubstLookup, SubstitutionTable};
 use glyph_buffer::buffer::hb_buffer_t;
-use glyph_types::cause::ShapeCause;
-use layout_lookups::substitution::{SubstLookup, SubstitutionTable};
+use glyph_lists::cause::ShapeCause;
 use layout_match::hb_ot_apply_context_t;
 
 /// Tries a lookup at the cursor, and goes on over the glyph where it doesn't act; at the end it does nothing.

@@ -1,18 +1,18 @@
 ghost use Rattle.std.specs.Prelude.{◌≡◌, ◌<◌, true, false, length};
 ghost use Rattle.glyph_buffer.specs.Sides.{items_of};
 ghost use Rattle.layout_match.specs.Applied.{applied_of};
-ghost use Rattle.layout_rules.specs.Actions.{first_rule};
-ghost use Rattle.layout_rules.specs.Buffers.{are_glyphs, cut_of};
-ghost use Rattle.layout_rules.specs.Performing.{Performs, PerformsInPlace, cut_with};
+ghost use Rattle.stage_rules.specs.Actions.{first_rule};
+ghost use Rattle.stage_rules.specs.Buffers.{are_glyphs, cut_of};
+ghost use Rattle.stage_rules.specs.Performing.{Performs, PerformsInPlace, cut_with};
 ghost use Rattle.layout_gsub.specs.Reverses.{reverse_subtable};
 ghost use Rattle.layout_stages.specs.Lookups.{first_reverse, lookup_action, reverse_action};
 
 use crate::nested::apply_subtables;
+use font_face::substitution::{SubstLookup, SubstitutionSubtables, SubstitutionTable};
 use glyph_buffer::buffer::hb_buffer_t;
-use glyph_types::cause::ShapeCause;
+use glyph_lists::cause::ShapeCause;
 use layout_chain::MAX_NESTING_LEVEL;
 use layout_gsub::reverse::apply_reverse_chain_single_subst;
-use layout_lookups::substitution::{SubstLookup, SubstitutionSubtables, SubstitutionTable};
 use layout_match::hb_ot_apply_context_t;
 use layout_substitutions::reverse::ReverseChainSubst;
 use layout_walks::lookup::meets;

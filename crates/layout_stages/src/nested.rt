@@ -9,20 +9,20 @@ ghost use Rattle.layout_chain.specs.Nesting.{Walking};
 ghost use Rattle.layout_chain.specs.Places.{AreRising};
 ghost use Rattle.layout_chain.specs.Rules.{chains_of};
 ghost use Rattle.layout_match.specs.Applied.{applied_of};
-ghost use Rattle.layout_rules.specs.Actions.{first_rule, whole};
-ghost use Rattle.layout_rules.specs.Buffers.{are_glyphs, cut_of};
-ghost use Rattle.layout_rules.specs.Performing.{Performs, cut_with};
+ghost use Rattle.stage_rules.specs.Actions.{first_rule, whole};
+ghost use Rattle.stage_rules.specs.Buffers.{are_glyphs, cut_of};
+ghost use Rattle.stage_rules.specs.Performing.{Performs, cut_with};
 ghost use Rattle.layout_stages.specs.Lookups.{first_subtable, nested, nested_act, nested_lookup};
 
+use font_face::substitution::{SubstitutionSubtables, SubstitutionTable};
 use glyph_buffer::buffer::hb_buffer_t;
-use glyph_types::cause::ShapeCause;
+use glyph_lists::cause::ShapeCause;
 use layout_chain::{
     ChainRule, begin_record, glyph_count, go_behind, is_tried_at, match_chain, rule_at, rule_count,
     settle_match,
 };
 use layout_contexts::context::{ContextSubtable, SequenceLookupRecord};
 use layout_gsub::apply::apply_first;
-use layout_lookups::substitution::{SubstitutionSubtables, SubstitutionTable};
 use layout_match::{MatchPositions, hb_ot_apply_context_t};
 
 /// Applies the lookup at an index of the table at the cursor, nested in another: with its own flag, and without asking
@@ -95,7 +95,7 @@ pub(crate) fn apply_subtables(
 
 /// Does what the first of some contexts does that acts.
 #[cycle(nested)]
-#[tactic(auto, using(layout_rules::specs::Lemmas::Performed::passed_first, layout_rules::specs::Lemmas::Performed::passed_open, layout_rules::specs::Lemmas::Performed::passed_unrefused, layout_rules::specs::Lemmas::Performed::passed_numbers))]
+#[tactic(auto, using(stage_rules::specs::Lemmas::Performed::passed_first, stage_rules::specs::Lemmas::Performed::passed_open, stage_rules::specs::Lemmas::Performed::passed_unrefused, stage_rules::specs::Lemmas::Performed::passed_numbers))]
 fn apply_contexts(
     table: &SubstitutionTable,
     depth: u32,
@@ -148,7 +148,7 @@ fn apply_context(
 
 /// Does what the first of a context's rules does that matches at the cursor.
 #[cycle(nested)]
-#[tactic(auto, using(layout_rules::specs::Lemmas::Performed::passed_first, layout_rules::specs::Lemmas::Performed::passed_open, layout_rules::specs::Lemmas::Performed::passed_unrefused, layout_rules::specs::Lemmas::Performed::passed_numbers))]
+#[tactic(auto, using(stage_rules::specs::Lemmas::Performed::passed_first, stage_rules::specs::Lemmas::Performed::passed_open, stage_rules::specs::Lemmas::Performed::passed_unrefused, stage_rules::specs::Lemmas::Performed::passed_numbers))]
 fn apply_rules(
     table: &SubstitutionTable,
     depth: u32,

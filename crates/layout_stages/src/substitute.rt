@@ -1,24 +1,24 @@
 //! Substitution, stage after stage.
 ghost use Rattle.std.specs.Prelude.{ℕ, ◌≡◌, ◌≢◌, true, Err, IfErr, OnOk};
 ghost use Rattle.std.specs.Option.{option_map_or, option_map};
-ghost use Rattle.glyph_lists.specs.Readings.{read_of};
+ghost use Rattle.glyph_buffer.specs.Readings.{read_of};
 ghost use Rattle.glyph_buffer.specs.Sides.{items_of, run_of};
 ghost use Rattle.map_features.specs.declared.per_table.TableIndex.TheVariants.{GSUB};
-ghost use Rattle.layout_rules.specs.Buffers.{are_glyphs};
-ghost use Rattle.layout_rules.specs.Ready.{IsDone, IsDoneFrom, IsReady, run_with};
+ghost use Rattle.stage_rules.specs.Buffers.{are_glyphs};
+ghost use Rattle.stage_rules.specs.Ready.{IsDone, IsDoneFrom, IsReady, run_with};
 ghost use Rattle.layout_stages.specs.Lookups.{lookups_stage};
-ghost use Rattle.layout_walks.specs.Settings.{text_settings};
+ghost use Rattle.stage_rules.specs.Settings.{text_settings};
 ghost use Rattle.layout_stages.specs.Substituting.{substituted_by, substitution_lookups, table_stage, table_stages};
 
 use crate::apply::apply_all;
 use font_face::Face;
 use glyph_buffer::buffer::hb_buffer_t;
-use glyph_types::cause::ShapeCause;
+use glyph_lists::cause::ShapeCause;
 use layout_match::hb_ot_apply_context_t;
-use layout_walks::pause::{Pause, run_pause};
 use map_builder::map::hb_ot_map_t;
 use map_features::lookup::lookup_map_t;
 use map_features::per_table::TableIndex;
+use stage_rules::pause::{Pause, run_pause};
 
 /// Does the lookups of a stage one after another; a font without a table of substitution has none.
 fn apply_stage(

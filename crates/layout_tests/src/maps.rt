@@ -1,18 +1,18 @@
 //! Maps that builders compile: features with their bits, and the lookups of stages.
 use Asked::{Feature, Pause};
+use font_face::positioning::{PositioningLookup, PositioningSubtables, PositioningTable};
+use font_face::substitution::{SubstLookup, SubstitutionSubtables, SubstitutionTable};
 use layout_common::array::Array;
 use layout_font::is_rising;
 use layout_font::script::{LangSys, LangSysRecord, ScriptRecord};
 use layout_font::table::{FeatureRecord, LayoutTable};
-use layout_lookups::positioning::{PositioningLookup, PositioningSubtables, PositioningTable};
-use layout_lookups::substitution::{SubstLookup, SubstitutionSubtables, SubstitutionTable};
 use map_builder::builder::hb_ot_map_builder_t;
 use map_builder::features::feature_map_t;
 use map_builder::map::hb_ot_map_t;
+use map_builder::stages::StageMap;
 use map_features::flags::{F_GLOBAL_HAS_FALLBACK, F_HAS_FALLBACK};
 use map_features::lookup::lookup_map_t;
 use map_features::per_table::TableIndex;
-use map_stages::stages::StageMap;
 use shaping_text::tag::Tag;
 use std::alloc::{AllocError, Global};
 use std::process::Abort;

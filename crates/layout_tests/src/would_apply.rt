@@ -1,11 +1,11 @@
 //! What contexts would do, by their rules.
+use font_face::substitution::{SubstLookup, SubstitutionSubtables};
 use layout_common::array::Array;
 use layout_common::class_definition::ClassDefinition;
 use layout_common::coverage::Coverage;
 use layout_common::glyph_row::GlyphRow;
 use layout_contexts::context::{ClassRules, ContextSubtable, SequenceRule};
 use layout_gsub::would_apply::WouldApplyContext;
-use layout_lookups::substitution::{SubstLookup, SubstitutionSubtables};
 use layout_would_apply::lookup::{context_would_apply, would_apply};
 use sorted_rows::SortedRows;
 use std::alloc::Global;

@@ -1,5 +1,4 @@
--- Lemmas for what stands above: rules tried over a buffer, and stages one after another.
+-- Lemmas for what stands above: rules tried over a buffer.
 pub mod Met
 pub mod Passage
 pub mod Steps
-pub mod Ways

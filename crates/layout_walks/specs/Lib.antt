@@ -1,5 +1,3 @@
 pub mod Trying
 pub mod Steps
-pub mod Settings
-pub mod Pauses
 pub mod Lemmas

@@ -1,11 +1,11 @@
 -- What one step of a lookup over a buffer leaves.
 use Rattle.std.specs.Prelude.{ℕ, suc, ◌≡◌, ◌≤◌, ◌-◌, true, length, Err}
-use Rattle.glyph_types.specs.declared.cause.ShapeCause.{ShapeCause}
-use Rattle.glyph_lists.specs.Readings.{View, Run, Follows}
+use Rattle.glyph_lists.specs.declared.cause.ShapeCause.{ShapeCause}
+use Rattle.glyph_buffer.specs.Readings.{View, Run, Follows}
 use Rattle.glyph_buffer.specs.Sides.{Sides, items_of, run_of}
-use Rattle.layout_rules.specs.Actions.{Action}
-use Rattle.layout_rules.specs.Buffers.{are_glyphs, IsStill}
-use Rattle.layout_rules.specs.Performing.{cut_with}
+use Rattle.stage_rules.specs.Actions.{Action}
+use Rattle.stage_rules.specs.Buffers.{are_glyphs, IsStill}
+use Rattle.stage_rules.specs.Performing.{cut_with}
 use Rattle.layout_walks.specs.Trying.{tried}
 
 -- a rule was tried at the cursor, which went on where it could, from one random state to another; whatever follows, or is refused, from here does so from before

@@ -1,14 +1,14 @@
 -- A rule tried at each index of a list, from the left, where its lookup meets the item (OpenType, chapter 2).
 use Rattle.std.specs.Prelude.{ℕ, suc, zero, ◌&&◌, Bool, not, nat_le, if◌then◌else◌, List, [], ◌∷◌, length, Ok, Err}
-use Rattle.glyph_types.specs.declared.cause.ShapeCause.TheVariants.{TooLong}
+use Rattle.glyph_lists.specs.declared.cause.ShapeCause.TheVariants.{TooLong}
 use Rattle.glyph_lists.specs.Items.{Item}
 use Rattle.glyph_lists.specs.Parts.{first_of}
-use Rattle.glyph_lists.specs.Readings.{View, Read, Reading, Stage, then_reading, and_then, with_events}
+use Rattle.glyph_buffer.specs.Readings.{View, Read, Reading, Stage, then_reading, and_then, with_events}
 use Rattle.glyph_buffer.specs.Sides.{zero_positions}
 use Rattle.layout_match.specs.Applied.{Applied}
 use Rattle.layout_match.specs.Searches.{is_left_out}
-use Rattle.layout_rules.specs.Masks.{shares_mask}
-use Rattle.layout_rules.specs.Actions.{Cut, view_at, uncut, past_item, Outcome, Passes, Acts, Refuses, Action, at_first, within_limit}
+use Rattle.stage_rules.specs.Masks.{shares_mask}
+use Rattle.stage_rules.specs.Actions.{Cut, view_at, uncut, past_item, Outcome, Passes, Acts, Refuses, Action, at_first, within_limit}
 
 -- ---- at a cut
 

@@ -1,5 +1,4 @@
-// A lookup on its way over the glyphs of a buffer, and what runs between the stages of lookups.
+// A lookup on its way over the glyphs of a buffer.
 #![tactic(auto)]
 
 pub mod lookup;
-pub mod pause;

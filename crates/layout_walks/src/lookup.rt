@@ -3,9 +3,9 @@ ghost use Rattle.glyph_lists.specs.Items.{item_of};
 ghost use Rattle.layout_match.specs.Applied.{applied_of};
 ghost use Rattle.layout_walks.specs.Trying.{meets};
 
-use glyph_types::info::hb_glyph_info_t;
+use glyph_lists::info::hb_glyph_info_t;
 use layout_match::hb_ot_apply_context_t;
-use layout_rules::mask::shares_mask;
+use stage_rules::mask::shares_mask;
 
 /// Whether a lookup meets a glyph: it has a bit of the lookup's mask, and the lookup's flag doesn't leave it out.
 pub fn meets(ctx: &hb_ot_apply_context_t, info: &hb_glyph_info_t) -> bool

@@ -9,8 +9,8 @@ use Rattle.layout_contexts.specs.declared.context.ClassRules.{ClassRules}
 use Rattle.layout_contexts.specs.declared.context.ContextSubtable.{ContextSubtable}
 use Rattle.layout_contexts.specs.declared.context.ContextSubtable.TheVariants.{Glyphs, Classes, Coverage}
 use Rattle.layout_gsub.specs.Woulds.{ligature_would, sequence_would, single_would}
-use Rattle.layout_lookups.specs.declared.substitution.SubstitutionSubtables.{SubstitutionSubtables}
-use Rattle.layout_lookups.specs.declared.substitution.SubstitutionSubtables.TheVariants.{Single, Multiple, Alternate, Ligature, Context, ChainContext, ReverseChainSingle}
+use Rattle.font_face.specs.declared.substitution.SubstitutionSubtables.{SubstitutionSubtables}
+use Rattle.font_face.specs.declared.substitution.SubstitutionSubtables.TheVariants.{Single, Multiple, Alternate, Ligature, Context, ChainContext, ReverseChainSingle}
 
 -- with nothing around the glyphs a rule doesn't count that asks for something there
 abbrev pub counts : {I : Type 0} → Bool → SequenceRule I → Bool

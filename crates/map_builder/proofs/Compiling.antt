@@ -6,7 +6,7 @@ use Rattle.map_features.specs.declared.per_table.TableIndex.TheVariants.{GSUB, G
 use Rattle.map_features.specs.declared.request.MergedRequest.{MergedRequest}
 use Rattle.map_features.specs.Fields.{global_bit, kept_fields}
 use Rattle.map_features.specs.Requests.{merged_requests}
-use Rattle.map_stages.specs.declared.feature.feature_map_t.{feature_map_t}
+use Rattle.map_builder.specs.declared.chosen_feature.feature_map_t.{feature_map_t}
 use Rattle.map_builder.specs.Compiled.{MapRequests, TableStages, compiled, stages_with}
 use Rattle.map_builder.specs.Features.{feature_with, wanted_requests}
 

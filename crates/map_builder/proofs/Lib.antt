@@ -1,3 +1,5 @@
+pub mod StageSteps
+pub mod Listed
 pub mod StageEnds
 pub mod Sorted
 pub mod Compiling

@@ -12,8 +12,8 @@ use Rattle.map_features.specs.declared.per_table.PerTable.{PerTable}
 use Rattle.map_features.specs.declared.request.MergedRequest.{MergedRequest}
 use Rattle.map_features.specs.Entering.{RisesFrom}
 use Rattle.map_features.specs.Fields.{field_among, kept_if, kept_fields}
-use Rattle.map_stages.specs.declared.feature.feature_map_t.{feature_map_t}
-use Rattle.map_stages.specs.Chosen.{ChosenTable}
+use Rattle.map_builder.specs.declared.chosen_feature.feature_map_t.{feature_map_t}
+use Rattle.map_builder.specs.Chosen.{ChosenTable}
 use Rattle.map_builder.specs.Features.{feature_with}
 
 abbrev tag_of : feature_map_t → ℕ

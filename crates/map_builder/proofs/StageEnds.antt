@@ -4,8 +4,8 @@ use Rattle.std.specs.List.{flat_map}
 use Rattle.std.proofs.lemmas.Bool.Decides.{nat_tests}
 use Rattle.std.proofs.lemmas.List.{length-append}
 use Rattle.map_features.specs.declared.lookup.lookup_map_t.{lookup_map_t}
-use Rattle.map_stages.specs.declared.stages.StageMap.{StageMap}
-use Rattle.map_stages.specs.Lookups.{Stage, stage_ends}
+use Rattle.map_builder.specs.declared.stages.StageMap.{StageMap}
+use Rattle.map_builder.specs.Lookups.{Stage, stage_ends}
 use Rattle.map_builder.specs.Compiled.{are_ends, stage_start, stage_end}
 
 both : (a b : Bool) → (a && b) ≡ true → (a ≡ true) × (b ≡ true)

@@ -4,8 +4,8 @@ use Rattle.std.specs.Int.RustNames.{bit_and}
 use Rattle.std.specs.List.{flat_map}
 use Rattle.std.specs.Option.{option_map_or}
 use Rattle.shaping_text.specs.declared.tag.Tag.{Tag}
-use Rattle.layout_lookups.specs.declared.substitution.SubstitutionTable.{SubstitutionTable}
-use Rattle.layout_lookups.specs.declared.positioning.PositioningTable.{PositioningTable}
+use Rattle.font_face.specs.declared.substitution.SubstitutionTable.{SubstitutionTable}
+use Rattle.font_face.specs.declared.positioning.PositioningTable.{PositioningTable}
 use Rattle.map_features.specs.declared.per_table.TableIndex.{TableIndex}
 use Rattle.map_features.specs.declared.per_table.TableIndex.TheVariants.{GSUB, GPOS}
 use Rattle.map_features.specs.declared.per_table.PerTable.{PerTable}
@@ -13,12 +13,12 @@ use Rattle.map_features.specs.declared.request.FeatureRequest.{FeatureRequest}
 use Rattle.map_features.specs.declared.request.MergedRequest.{MergedRequest}
 use Rattle.map_features.specs.Tables.{for_table}
 use Rattle.map_features.specs.Requests.{merged_requests}
-use Rattle.map_stages.specs.declared.feature.feature_map_t.{feature_map_t}
+use Rattle.map_builder.specs.declared.chosen_feature.feature_map_t.{feature_map_t}
 use Rattle.map_features.specs.declared.lookup.lookup_map_t.{lookup_map_t}
-use Rattle.map_stages.specs.declared.stages.StageMap.{StageMap}
-use Rattle.map_stages.specs.Chosen.{ChosenTable, chosen_substitution, chosen_positioning, is_script_found, script_tag}
+use Rattle.map_builder.specs.declared.stages.StageMap.{StageMap}
+use Rattle.map_builder.specs.Chosen.{ChosenTable, chosen_substitution, chosen_positioning, is_script_found, script_tag}
 use Rattle.map_builder.specs.Features.{wanted_requests, kept_features, global_mask, required_in}
-use Rattle.map_stages.specs.Lookups.{Stage, stage_lookups, stages_from, stage_ends}
+use Rattle.map_builder.specs.Lookups.{Stage, stage_lookups, stages_from, stage_ends}
 
 -- ---- the builder
 

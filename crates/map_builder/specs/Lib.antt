@@ -1,3 +1,5 @@
+pub mod Chosen
+pub mod Lookups
 pub mod Features
 pub mod Compiled
 pub mod Laws

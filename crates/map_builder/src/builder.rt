@@ -2,24 +2,24 @@ ghost use Rattle.std.specs.Prelude.{◌≡◌, OnOk, OnErr, IfOk};
 ghost use Rattle.std.specs.Int.RustNames.{bit_or};
 ghost use Rattle.std.specs.Option.{option_copied};
 ghost use Rattle.map_features.specs.Tables.{for_table};
-ghost use Rattle.map_stages.specs.Chosen.{script_tag};
+ghost use Rattle.map_builder.specs.Chosen.{script_tag};
 ghost use Rattle.map_builder.specs.Compiled.{compiled, no_requests, stages_with, with_gpos_pause, with_gsub_pause, with_request};
 ghost use Rattle.map_builder.specs.Features.{in_any, required_in, system_features};
 
+use crate::chosen::{ChosenTable, FontTables};
 use crate::features::{
     feature_map_t, features_with, global_mask, in_any, required_stage, system_features,
     wanted_requests,
 };
 use crate::map::{TableMap, hb_ot_map_t};
-use layout_lookups::positioning::PositioningTable;
-use layout_lookups::substitution::SubstitutionTable;
+use crate::stages::{RequiredFeature, TableFeatures, all_stages};
+use font_face::positioning::PositioningTable;
+use font_face::substitution::SubstitutionTable;
 use map_features::flags::{F_GLOBAL, hb_ot_map_feature_flags_t};
 use map_features::kept::kept_fields;
 use map_features::merge::merged_requests;
 use map_features::per_table::{PerTable, TableIndex};
 use map_features::request::{FeatureRequest, MergedRequest};
-use map_stages::chosen::{ChosenTable, FontTables};
-use map_stages::stages::{RequiredFeature, TableFeatures, all_stages};
 use shaping_text::tag::Tag;
 use std::alloc::{AllocError, Global};
 use std::marker::Model;

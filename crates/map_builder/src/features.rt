@@ -3,12 +3,12 @@ ghost use Rattle.std.specs.Prelude.{◌≡◌, ◌==◌, map, fold, find, bit_or
 ghost use Rattle.map_features.specs.Fields.{global_bit};
 ghost use Rattle.map_builder.specs.Features.{feature_index, feature_with, in_any, is_wanted, listed_features, stage_among, system_features, wanted_requests};
 
+use crate::chosen::FontTables;
+pub use crate::chosen_feature::feature_map_t;
 use map_features::field::GLOBAL_BIT;
 use map_features::kept::{KeptField, field_among};
 use map_features::per_table::{PerTable, TableIndex};
 use map_features::request::MergedRequest;
-use map_stages::chosen::FontTables;
-pub use map_stages::feature::feature_map_t;
 use shaping_text::tag::Tag;
 use std::alloc::{AllocError, Global};
 

@@ -7,9 +7,9 @@ ghost use Rattle.map_features.specs.Tables.{for_table};
 ghost use Rattle.map_builder.specs.Compiled.{IsApart, feature_at, lookups_of_stage, stage_end, stage_start};
 
 use crate::features::feature_map_t;
+use crate::stages::StageMap;
 use map_features::lookup::lookup_map_t;
 use map_features::per_table::TableIndex;
-use map_stages::stages::StageMap;
 use shaping_text::tag::Tag;
 use sorted_rows::find_row;
 use std::marker::Model;

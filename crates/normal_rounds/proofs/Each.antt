@@ -1,12 +1,12 @@
 -- A call at each of some items.
 use Rattle.std.proofs.Common.{ℕ, ◌≡◌, ◌<◌, ◌≤◌, ◌+◌, true, List, [], ◌∷◌, ◌++◌, length, map, take, drop, refl, sym, ap, subst, ◌∙◌, arith}
 use Rattle.std.proofs.lemmas.List.{take_all, drop_all, take-append-drop, map-append, length-map, length-drop}
-use Rattle.glyph_types.specs.declared.cause.ShapeCause.{ShapeCause}
-use Rattle.glyph_types.specs.declared.info.hb_glyph_info_t.{hb_glyph_info_t}
+use Rattle.glyph_lists.specs.declared.cause.ShapeCause.{ShapeCause}
+use Rattle.glyph_lists.specs.declared.info.hb_glyph_info_t.{hb_glyph_info_t}
 use Rattle.glyph_lists.specs.Items.{Item, item_of, strip}
 use Rattle.glyph_lists.specs.Lists.{take_next, drop_next}
 use Rattle.glyph_buffer.specs.Sides.{Sides}
-use Rattle.normal_forms.specs.Arranged.{Arranged, in_turn}
+use Rattle.glyph_properties.specs.Arranged.{Arranged, in_turn}
 use Rattle.normal_rounds.specs.Brought.{Brought, Overfills}
 use Rattle.normal_rounds.specs.Lemmas.Chain.{none_behind, brought_none, brought_more, overfills_after}
 

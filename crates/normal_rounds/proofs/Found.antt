@@ -3,9 +3,9 @@ use Rattle.std.proofs.Common.{ℕ, zero, suc, ◌≡◌, ◌<◌, ◌≤◌, ◌
 use Rattle.std.specs.Prelude.{slice_get}
 use Rattle.std.specs.List.{list_any}
 use Rattle.std.proofs.lemmas.List.{drop_all, length-map, length-take-le}
-use Rattle.glyph_types.specs.declared.info.hb_glyph_info_t.{hb_glyph_info_t}
+use Rattle.glyph_lists.specs.declared.info.hb_glyph_info_t.{hb_glyph_info_t}
 use Rattle.glyph_lists.specs.Items.{item_of, strip}
-use Rattle.normal_forms.specs.Characters.{is_selector}
+use Rattle.glyph_properties.specs.Characters.{is_selector}
 
 step_suc : (i count : ℕ) (g : hb_glyph_info_t) (gs : List hb_glyph_info_t) → i < count → slice_get gs i ≡ Some g
     → list_any is_selector (drop i (take count (strip gs))) ≡ (is_selector (item_of g) || list_any is_selector (drop (suc i) (take count (strip gs))))

@@ -2,11 +2,11 @@
 use Rattle.std.proofs.Common.{ℕ, ◌≡◌, ◌==◌, true, false, List, [], ◌∷◌, ◌++◌, Option, Some, None, refl, sym, ap, ◌∙◌, append_assoc}
 use Rattle.std.specs.Prelude.{slice_get, option_map}
 use Rattle.std.proofs.lemmas.List.{map-append}
-use Rattle.glyph_types.specs.declared.info.hb_glyph_info_t.{hb_glyph_info_t}
+use Rattle.glyph_lists.specs.declared.info.hb_glyph_info_t.{hb_glyph_info_t}
 use Rattle.glyph_buffer.specs.Sides.{Sides}
 use Rattle.unicode_tables.specs.Expansion.{followed_by}
-use Rattle.normal_forms.specs.Normalizer.{Normalizer, has_character}
-use Rattle.normal_forms.specs.SupportedExpansion.{by_supported}
+use Rattle.glyph_properties.specs.Normalizer.{Normalizer, has_character}
+use Rattle.glyph_properties.specs.SupportedExpansion.{by_supported}
 use Rattle.normal_rounds.specs.Glyphs.{part_glyph, part_glyphs, with_parts, Puts}
 
 parts_both : (c : Normalizer) (us vs : List ℕ) (o : Option hb_glyph_info_t) → part_glyphs c us o ++ part_glyphs c vs o ≡ part_glyphs c (us ++ vs) o

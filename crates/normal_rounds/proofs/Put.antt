@@ -3,21 +3,21 @@ use Rattle.std.proofs.Common.{ℕ, ◌≡◌, ◌≤◌, ◌+◌, ◌==◌, Bool
 use Rattle.std.specs.Prelude.{slice_get, replicate}
 use Rattle.std.proofs.lemmas.List.{map-append, length-map}
 use Rattle.std.proofs.Math.Seq.{take-append_seam, drop-append_seam, drop-append-add}
-use Rattle.glyph_types.specs.declared.cause.ShapeCause.{ShapeCause}
-use Rattle.glyph_types.specs.declared.info.hb_glyph_info_t.{hb_glyph_info_t}
+use Rattle.glyph_lists.specs.declared.cause.ShapeCause.{ShapeCause}
+use Rattle.glyph_lists.specs.declared.info.hb_glyph_info_t.{hb_glyph_info_t}
 use Rattle.glyph_lists.specs.Items.{Item, item_of, strip}
 use Rattle.glyph_lists.specs.Parts.{replaced_among}
 use Rattle.glyph_lists.specs.Origins.{Origin, origin_of, origins, InList, manner, Asks}
 use Rattle.glyph_lists.specs.Events.{Replace, origins_after}
-use Rattle.glyph_types.specs.declared.level.BufferClusterLevel.{BufferClusterLevel}
+use Rattle.glyph_lists.specs.declared.level.BufferClusterLevel.{BufferClusterLevel}
 use Rattle.glyph_buffer.specs.Sides.{Sides, all_glyphs, asks_of}
 use Rattle.glyph_buffer.specs.Merging.{with_put, with_skipped}
 use Rattle.normal_rounds.proofs.Alone.{merged_alone}
-use Rattle.normal_forms.specs.Arranged.{kept, replaced_by, shifted}
-use Rattle.normal_forms.specs.Normalizer.{Normalizer, has_character}
-use Rattle.normal_forms.specs.declared.mode.Reach.{Reach}
-use Rattle.normal_forms.specs.SupportedExpansion.{expansion}
-use Rattle.normal_forms.specs.Expanding.{whole_item, part_of, items_for, expanded_item, expanded}
+use Rattle.glyph_properties.specs.Arranged.{kept, replaced_by, shifted}
+use Rattle.glyph_properties.specs.Normalizer.{Normalizer, has_character}
+use Rattle.glyph_properties.specs.declared.normal_mode.Reach.{Reach}
+use Rattle.glyph_properties.specs.SupportedExpansion.{expansion}
+use Rattle.glyph_properties.specs.Expanding.{whole_item, part_of, items_for, expanded_item, expanded}
 use Rattle.normal_rounds.specs.Glyphs.{part_glyph, part_glyphs, Puts, count_of}
 use Rattle.normal_rounds.specs.Brought.{Brought, Overfills}
 use Rattle.normal_rounds.specs.Lemmas.Chain.{overfills_more}

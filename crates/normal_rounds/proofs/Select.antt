@@ -2,8 +2,8 @@
 use Rattle.std.proofs.Common.{ℕ, ◌≡◌, ◌<◌, ◌+◌, Bool, true, false, List, [], ◌∷◌, ◌++◌, Option, Some, None, length, drop, refl, sym, ap, ap₂, subst, ◌∙◌, arith}
 use Rattle.std.specs.Prelude.{slice_get, is_some, if◌then◌else◌}
 use Rattle.std.proofs.lemmas.List.{drop-map, map-append}
-use Rattle.glyph_types.specs.declared.cause.ShapeCause.{ShapeCause}
-use Rattle.glyph_types.specs.declared.info.hb_glyph_info_t.{hb_glyph_info_t}
+use Rattle.glyph_lists.specs.declared.cause.ShapeCause.{ShapeCause}
+use Rattle.glyph_lists.specs.declared.info.hb_glyph_info_t.{hb_glyph_info_t}
 use Rattle.glyph_lists.specs.Items.{Item, item_of, strip}
 use Rattle.glyph_lists.specs.Parts.{first_of, last_of, or}
 use Rattle.glyph_lists.specs.Replacements.{copied, glyph_numbered, item_numbered}
@@ -16,13 +16,13 @@ use Rattle.glyph_buffer.specs.Sides.{Sides, all_glyphs, asks_of, origins_of, ori
 use Rattle.glyph_buffer.specs.Told.{told_telling}
 use Rattle.glyph_buffer.specs.Merging.{with_merged, with_replaced}
 use Rattle.glyph_buffer.specs.Lending.{with_glyph_ahead}
-use Rattle.layout_rules.specs.Actions.{Cut}
-use Rattle.layout_rules.specs.Buffers.{cut_of}
-use Rattle.layout_rules.specs.Lemmas.Attempts.{cut_with_glyphs}
-use Rattle.normal_forms.specs.Arranged.{replaced_by, in_turn}
-use Rattle.normal_forms.specs.Characters.{is_selector, with_glyph, unjoined_selector}
-use Rattle.normal_forms.specs.Expanding.{unexpanded, selected, meets_selector, waiting}
-use Rattle.normal_forms.specs.Normalizer.{Normalizer}
+use Rattle.stage_rules.specs.Actions.{Cut}
+use Rattle.stage_rules.specs.Buffers.{cut_of}
+use Rattle.stage_rules.specs.Lemmas.Attempts.{cut_with_glyphs}
+use Rattle.glyph_properties.specs.Arranged.{replaced_by, in_turn}
+use Rattle.glyph_properties.specs.Characters.{is_selector, with_glyph, unjoined_selector}
+use Rattle.glyph_properties.specs.Expanding.{unexpanded, selected, meets_selector, waiting}
+use Rattle.glyph_properties.specs.Normalizer.{Normalizer}
 use Rattle.normal_rounds.specs.Brought.{Brought, Overfills, frame_of}
 use Rattle.normal_rounds.specs.Walking.{one_or_none, waits_after, brought_by, PutsWaiting, Selects, SelectsTooMany}
 use Rattle.normal_rounds.specs.Lemmas.Chain.{none_behind, brought_none, brought_then, overfills_behind}

@@ -2,15 +2,15 @@
 use Rattle.std.proofs.Common.{ℕ, suc, ◌≡◌, ◌≤◌, ◌<◌, ◌+◌, ◌-◌, Bool, true, false, List, [], ◌∷◌, ◌++◌, Option, Some, None, length, take, drop, refl, sym, ap, ap₂, subst, ◌∙◌, arith, append_assoc}
 use Rattle.std.specs.Prelude.{is_some, if◌then◌else◌}
 use Rattle.std.proofs.lemmas.List.{append-nil, length-map, length-drop}
-use Rattle.glyph_types.specs.declared.cause.ShapeCause.{ShapeCause}
-use Rattle.glyph_types.specs.declared.info.hb_glyph_info_t.{hb_glyph_info_t}
+use Rattle.glyph_lists.specs.declared.cause.ShapeCause.{ShapeCause}
+use Rattle.glyph_lists.specs.declared.info.hb_glyph_info_t.{hb_glyph_info_t}
 use Rattle.glyph_lists.specs.Items.{Item, item_of, strip}
 use Rattle.glyph_lists.specs.Lists.{drop_next}
 use Rattle.glyph_buffer.specs.Sides.{Sides}
-use Rattle.normal_forms.specs.Arranged.{Arranged, in_turn}
-use Rattle.normal_forms.specs.Characters.{is_selector}
-use Rattle.normal_forms.specs.Expanding.{waiting, meets_selector, selected_after}
-use Rattle.normal_forms.specs.Normalizer.{Normalizer}
+use Rattle.glyph_properties.specs.Arranged.{Arranged, in_turn}
+use Rattle.glyph_properties.specs.Characters.{is_selector}
+use Rattle.glyph_properties.specs.Expanding.{waiting, meets_selector, selected_after}
+use Rattle.glyph_properties.specs.Normalizer.{Normalizer}
 use Rattle.normal_rounds.specs.Brought.{Brought, Overfills}
 use Rattle.normal_rounds.specs.Walking.{one_or_none, waits_after, brought_by, PutsWaiting, Selects, SelectsTooMany, SelectsAll, SelectsAllTooMany}
 use Rattle.normal_rounds.specs.Lemmas.Chain.{brought_none, brought_both, overfills_after}

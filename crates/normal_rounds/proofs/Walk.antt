@@ -4,14 +4,14 @@ use Rattle.std.proofs.lemmas.List.{append-nil, length-map, length-append, take_a
 use Rattle.std.proofs.lemmas.Bool.{cond-true, cond-false}
 use Rattle.std.proofs.Math.Seq.{drop-append_seam}
 use Rattle.std.specs.List.{list_any}
-use Rattle.glyph_types.specs.declared.cause.ShapeCause.{ShapeCause}
-use Rattle.glyph_types.specs.declared.info.hb_glyph_info_t.{hb_glyph_info_t}
+use Rattle.glyph_lists.specs.declared.cause.ShapeCause.{ShapeCause}
+use Rattle.glyph_lists.specs.declared.info.hb_glyph_info_t.{hb_glyph_info_t}
 use Rattle.glyph_lists.specs.Items.{Item, item_of, strip}
 use Rattle.glyph_buffer.specs.Sides.{Sides}
-use Rattle.normal_forms.specs.Arranged.{Arranged, in_turn}
-use Rattle.normal_forms.specs.Characters.{is_mark, is_selector}
-use Rattle.normal_forms.specs.Expanding.{expanded, expanded_item, selected_after, expanded_group, expanded_groups, expanded_list}
-use Rattle.normal_forms.specs.Normalizer.{Normalizer, reach_alone, reach_with_marks}
+use Rattle.glyph_properties.specs.Arranged.{Arranged, in_turn}
+use Rattle.glyph_properties.specs.Characters.{is_mark, is_selector}
+use Rattle.glyph_properties.specs.Expanding.{expanded, expanded_item, selected_after, expanded_group, expanded_groups, expanded_list}
+use Rattle.glyph_properties.specs.Normalizer.{Normalizer, reach_alone, reach_with_marks}
 use Rattle.normal_rounds.specs.Brought.{Brought, Overfills}
 use Rattle.normal_rounds.specs.Walking.{SelectsAll, SelectsAllTooMany, Groups, GroupsTooMany, GoesOn, Walks, WalksTooMany, IsExpanded, ExpandsTooMany}
 use Rattle.normal_rounds.specs.Lemmas.Chain.{none_behind, brought_none, brought_both, overfills_after}

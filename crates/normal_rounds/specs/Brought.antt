@@ -1,13 +1,13 @@
 -- What a call that walks an open buffer brings behind the cursor.
 use Rattle.std.specs.Prelude.{ℕ, ◌≡◌, ◌≢◌, ◌<◌, ◌+◌, ◌++◌, List, [], length, map, nat_le, if◌then◌else◌, Ok, Err}
-use Rattle.glyph_types.specs.declared.cause.ShapeCause.{ShapeCause}
-use Rattle.glyph_types.specs.declared.cause.ShapeCause.TheVariants.{OutOfMemory, TooLong}
-use Rattle.glyph_lists.specs.Readings.{View, Read, Reading, with_events}
+use Rattle.glyph_lists.specs.declared.cause.ShapeCause.{ShapeCause}
+use Rattle.glyph_lists.specs.declared.cause.ShapeCause.TheVariants.{OutOfMemory, TooLong}
+use Rattle.glyph_buffer.specs.Readings.{View, Read, Reading, with_events}
 use Rattle.glyph_lists.specs.Items.{Item, strip}
 use Rattle.glyph_lists.specs.Origins.{origins}
 use Rattle.glyph_lists.specs.Events.{origins_after}
 use Rattle.glyph_buffer.specs.Sides.{Sides, all_glyphs, asks_of, told_of, zero_positions}
-use Rattle.normal_forms.specs.Arranged.{Arranged, shifted}
+use Rattle.glyph_properties.specs.Arranged.{Arranged, shifted}
 
 -- all of a buffer but its glyphs and how many were read
 abbrev pub frame_of : Sides → Sides

@@ -1,9 +1,9 @@
 -- Glyphs that come to stand for characters.
 use Rattle.std.specs.Prelude.{ℕ, Bool, ◌≡◌, ◌++◌, List, [], Option, Some, None, unwrap_or, map, slice_get, length, true, false}
-use Rattle.glyph_types.specs.declared.info.hb_glyph_info_t.{hb_glyph_info_t}
+use Rattle.glyph_lists.specs.declared.info.hb_glyph_info_t.{hb_glyph_info_t}
 use Rattle.glyph_properties.specs.Properties.{properties_of, character_class}
 use Rattle.glyph_buffer.specs.Sides.{Sides}
-use Rattle.normal_forms.specs.Normalizer.{Normalizer}
+use Rattle.glyph_properties.specs.Normalizer.{Normalizer}
 
 -- the glyph of a character of the font, made from that which it is a part of
 abbrev pub part_glyph : Normalizer → hb_glyph_info_t → ℕ → hb_glyph_info_t

@@ -2,8 +2,8 @@
 use Rattle.std.specs.Prelude.{ℕ, ◌≡◌, ◌+◌, ◌++◌, List, length, map}
 use Rattle.glyph_lists.specs.Items.{Item}
 use Rattle.glyph_buffer.specs.Sides.{Sides, items_of, origins_of, origins_by}
-use Rattle.layout_rules.specs.Ready.{IsReady}
-use Rattle.normal_forms.specs.Arranged.{Arranged, shifted}
+use Rattle.stage_rules.specs.Ready.{IsReady}
+use Rattle.glyph_properties.specs.Arranged.{Arranged, shifted}
 use Rattle.normal_rounds.specs.Brought.{frame_of}
 
 -- an arrangement stands between two stretches that stay, and all else stays

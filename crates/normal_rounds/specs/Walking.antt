@@ -1,12 +1,12 @@
 -- Groups of a character and its marks, on their way behind the cursor.
 use Rattle.std.specs.Prelude.{ℕ, ◌≡◌, ◌+◌, ◌++◌, Bool, true, false, List, [], ◌∷◌, length, Option, Some, None, is_some, if◌then◌else◌, take, drop}
-use Rattle.glyph_types.specs.declared.cause.ShapeCause.{ShapeCause}
+use Rattle.glyph_lists.specs.declared.cause.ShapeCause.{ShapeCause}
 use Rattle.glyph_lists.specs.Items.{Item, strip}
 use Rattle.glyph_buffer.specs.Sides.{Sides}
-use Rattle.normal_forms.specs.Arranged.{Arranged, in_turn}
-use Rattle.normal_forms.specs.Characters.{is_mark, is_selector}
-use Rattle.normal_forms.specs.Expanding.{expanded_group, expanded_groups, meets_selector, waiting, selected_after}
-use Rattle.normal_forms.specs.Normalizer.{Normalizer}
+use Rattle.glyph_properties.specs.Arranged.{Arranged, in_turn}
+use Rattle.glyph_properties.specs.Characters.{is_mark, is_selector}
+use Rattle.glyph_properties.specs.Expanding.{expanded_group, expanded_groups, meets_selector, waiting, selected_after}
+use Rattle.glyph_properties.specs.Normalizer.{Normalizer}
 use Rattle.normal_rounds.specs.Brought.{Brought, Overfills}
 
 -- ---- items with selectors among them

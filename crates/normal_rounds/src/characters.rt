@@ -1,8 +1,8 @@
 //! Characters of a buffer, with what normalising reads and writes of them.
 ghost use Rattle.std.specs.Prelude.{◌≡◌, ◌<◌, if◌then◌else◌, unwrap_or};
-ghost use Rattle.normal_forms.specs.Characters.{is_space, is_selector, mark_class, unjoined_selector, with_glyph, standing_for};
-ghost use Rattle.normal_forms.specs.Normalizer.{has_character};
-ghost use Rattle.normal_forms.specs.Expanding.{space_glyph, hyphen_glyph, whole_item, with_own_glyph};
+ghost use Rattle.glyph_properties.specs.Characters.{is_space, is_selector, mark_class, unjoined_selector, with_glyph, standing_for};
+ghost use Rattle.glyph_properties.specs.Normalizer.{has_character};
+ghost use Rattle.glyph_properties.specs.Expanding.{space_glyph, hyphen_glyph, whole_item, with_own_glyph};
 ghost use Rattle.glyph_lists.specs.Items.{item_of};
 ghost use Rattle.glyph_lists.specs.Origins.{origin_of};
 ghost use Rattle.glyph_properties.specs.Properties.{without_bits};
@@ -10,10 +10,10 @@ ghost use Rattle.unicode_chars.specs.Character.{space_fallback_of};
 ghost use Rattle.normal_rounds.specs.Glyphs.{part_glyph};
 
 use crate::normalizing::Normalizing;
+use glyph_lists::flags::UnicodeProps;
+use glyph_lists::info::hb_glyph_info_t;
+use glyph_properties::categories::is_mark;
 use glyph_properties::character::{character_class, properties_of};
-use glyph_types::flags::UnicodeProps;
-use glyph_types::info::hb_glyph_info_t;
-use text_stages::categories::is_mark;
 use unicode_chars::category::{
     RB_UNICODE_GENERAL_CATEGORY_FORMAT, RB_UNICODE_GENERAL_CATEGORY_SPACE_SEPARATOR,
 };

@@ -2,11 +2,11 @@
 ghost use Rattle.std.specs.Prelude.{◌≡◌, ◌<◌, ◌≤◌, ◌+◌, ◌++◌, ◌∷◌, [], List, false, length, map, take, true, IfOk, IfErr, OnOk};
 ghost use Rattle.std.specs.List.{list_any};
 ghost use Rattle.glyph_lists.specs.Items.{Item, strip};
-ghost use Rattle.normal_forms.specs.Arranged.{in_turn};
-ghost use Rattle.normal_forms.specs.Characters.{is_selector};
-ghost use Rattle.normal_forms.specs.Expanding.{expanded, expanded_item, expanded_list};
-ghost use Rattle.normal_forms.specs.Normalizer.{has_character, reach_alone, reach_with_marks};
-ghost use Rattle.normal_forms.specs.SupportedExpansion.{alone, by_supported, supported, expansion};
+ghost use Rattle.glyph_properties.specs.Arranged.{in_turn};
+ghost use Rattle.glyph_properties.specs.Characters.{is_selector};
+ghost use Rattle.glyph_properties.specs.Expanding.{expanded, expanded_item, expanded_list};
+ghost use Rattle.glyph_properties.specs.Normalizer.{has_character, reach_alone, reach_with_marks};
+ghost use Rattle.glyph_properties.specs.SupportedExpansion.{alone, by_supported, supported, expansion};
 ghost use Rattle.normal_rounds.specs.Brought.{Brought, Overfills};
 ghost use Rattle.normal_rounds.specs.Walking.{Groups, GroupsTooMany, Walks, WalksTooMany, IsExpanded, ExpandsTooMany};
 ghost use Rattle.normal_rounds.specs.Glyphs.{with_parts, Puts, count_of};
@@ -16,9 +16,9 @@ use crate::normalizing::Normalizing;
 use crate::placing::put_in_place;
 use crate::selecting::expand_selected;
 use glyph_buffer::buffer::hb_buffer_t;
-use glyph_types::cause::ShapeCause;
-use normal_forms::{NormalizationMode, Reach};
-use text_stages::categories::is_mark;
+use glyph_lists::cause::ShapeCause;
+use glyph_properties::categories::is_mark;
+use glyph_properties::{NormalizationMode, Reach};
 
 /// Puts a character of the font behind the output.
 fn put_part<N: Normalizing>(by: &N, u: char, buffer: &mut hb_buffer_t) -> Result<(), ShapeCause>
@@ -123,7 +123,7 @@ fn put_in_parts<N: Normalizing>(
 }
 
 /// Puts what takes the place of a character behind the output, where it doesn't stay whole.
-#[tactic(auto, unfolding(normal_forms::specs::SupportedExpansion::in_parts))]
+#[tactic(auto, unfolding(glyph_properties::specs::SupportedExpansion::in_parts))]
 fn put_expansion<N: Normalizing>(
     by: &N,
     reach: Reach,

@@ -2,12 +2,12 @@
 ghost use Rattle.std.specs.Prelude.{◌≡◌, ◌≤◌, List, length};
 ghost use Rattle.glyph_lists.specs.Items.{Item};
 ghost use Rattle.glyph_buffer.specs.Sides.{all_glyphs};
-ghost use Rattle.layout_rules.specs.Ready.{IsReady};
-ghost use Rattle.normal_forms.specs.Normalizer.{Normalizer};
+ghost use Rattle.stage_rules.specs.Ready.{IsReady};
+ghost use Rattle.glyph_properties.specs.Normalizer.{Normalizer};
 ghost use Rattle.normal_rounds.specs.Rearranged.{Rearranges};
 
 use glyph_buffer::buffer::hb_buffer_t;
-use normal_forms::NormalizationMode;
+use glyph_properties::NormalizationMode;
 use unicode_tables::UnicodeTables;
 
 /// A font, tables and a shaper's preference and hooks. What is no character has no glyph, no parts and composes to nothing.

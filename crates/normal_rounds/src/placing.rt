@@ -4,8 +4,8 @@ ghost use Rattle.glyph_buffer.specs.Merging.{with_put, with_skipped};
 ghost use Rattle.normal_rounds.specs.Brought.{Overfills};
 
 use glyph_buffer::buffer::hb_buffer_t;
-use glyph_types::cause::ShapeCause;
-use glyph_types::info::hb_glyph_info_t;
+use glyph_lists::cause::ShapeCause;
+use glyph_lists::info::hb_glyph_info_t;
 
 /// Puts a glyph in the place of the one at the cursor, behind it.
 pub(crate) fn put_in_place(

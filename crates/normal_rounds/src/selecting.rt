@@ -2,9 +2,9 @@
 ghost use Rattle.std.specs.Prelude.{◌≡◌, ◌<◌, ◌++◌, ◌∷◌, [], List, true, false, if◌then◌else◌, length, is_some, Some, None, IfOk, IfErr, OnOk};
 ghost use Rattle.glyph_buffer.specs.Lending.{with_glyph_ahead};
 ghost use Rattle.glyph_lists.specs.Items.{Item, strip};
-ghost use Rattle.normal_forms.specs.Arranged.{in_turn, replaced_by};
-ghost use Rattle.normal_forms.specs.Characters.{unjoined_selector, with_glyph};
-ghost use Rattle.normal_forms.specs.Expanding.{unexpanded, selected};
+ghost use Rattle.glyph_properties.specs.Arranged.{in_turn, replaced_by};
+ghost use Rattle.glyph_properties.specs.Characters.{unjoined_selector, with_glyph};
+ghost use Rattle.glyph_properties.specs.Expanding.{unexpanded, selected};
 ghost use Rattle.normal_rounds.specs.Brought.{Brought, Overfills};
 ghost use Rattle.normal_rounds.specs.Walking.{PutsWaiting, Selects, SelectsTooMany, SelectsAll, SelectsAllTooMany};
 
@@ -12,8 +12,8 @@ use crate::characters::{is_selector, unjoined, with_own_glyph};
 use crate::normalizing::Normalizing;
 use crate::placing::put_in_place;
 use glyph_buffer::buffer::hb_buffer_t;
-use glyph_types::cause::ShapeCause;
-use glyph_types::info::hb_glyph_info_t;
+use glyph_lists::cause::ShapeCause;
+use glyph_lists::info::hb_glyph_info_t;
 
 /// Puts the character at the cursor behind it, with the font's glyph or glyph 0.
 #[tactic(auto, using(crate::proofs::Put::placed_brought))]

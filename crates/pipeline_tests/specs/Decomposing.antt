@@ -1,6 +1,6 @@
 -- A shaper that wants characters split as far as may be.
 use Rattle.std.specs.Prelude.{true, None}
-use Rattle.normal_forms.specs.declared.mode.NormalizationMode.TheVariants as mode
+use Rattle.glyph_properties.specs.declared.normal_mode.NormalizationMode.TheVariants as mode
 use Rattle.shape_plan.specs.Traits.{ShaperTraits}
 use Rattle.shape_plan.specs.declared.planned.TheConstants.{HB_OT_SHAPE_ZERO_WIDTH_MARKS_BY_GDEF_LATE}
 

@@ -1,16 +1,16 @@
 //! A shaper that wants characters split as far as may be, and has no hooks: its laws can be met outside the stack.
 use font_face::Face;
 use glyph_buffer::buffer::hb_buffer_t;
-use glyph_types::cause::ShapeCause;
+use glyph_lists::cause::ShapeCause;
+use glyph_properties::NormalizationMode;
 use map_builder::builder::hb_ot_map_builder_t;
 use map_builder::map::hb_ot_map_t;
-use normal_forms::NormalizationMode;
 use script_syllables::SyllableSpans;
+use shape_plan::hb_ot_shaper_t;
 use shape_plan::plan::hb_script_plan_t;
 use shape_plan::planned::{
     HB_OT_SHAPE_ZERO_WIDTH_MARKS_BY_GDEF_LATE, PlannedShaper, hb_ot_shape_zero_width_marks_type_t,
 };
-use shape_shaper::hb_ot_shaper_t;
 use shaping_text::script::Script;
 use shaping_text::tag::Tag;
 use std::alloc::{AllocError, Global};
@@ -78,8 +78,8 @@ impl PlannedShaper for DecomposingShaper {
 impl hb_ot_shaper_t for DecomposingShaper {
     ghost use Rattle.std.specs.Prelude.{refl, true};
     ghost use Rattle.unicode_tables.specs.Tables.{split_of};
-    ghost use Rattle.shape_shaper.specs.Rules.{plain_rules};
-    ghost use Rattle.shape_shaper.specs.Lemmas.Unchanged.{nine_splits, plain_order};
+    ghost use Rattle.shape_plan.specs.Rules.{plain_rules};
+    ghost use Rattle.shape_plan.specs.Lemmas.Unchanged.{nine_splits, plain_order};
 
     ghost rules = { λ _ _. plain_rules };
 
@@ -120,7 +120,7 @@ impl hb_ot_shaper_t for DecomposingShaper {
         unicode_tables::compose(tables, a, b)
     }
 
-    #[tactic(auto, using(shape_shaper::specs::Lemmas::Unchanged::unchanged_run))]
+    #[tactic(auto, using(shape_plan::specs::Lemmas::Unchanged::unchanged_run))]
     fn reorder_marks(
         &self,
         _plan: &hb_script_plan_t<()>,

@@ -1,6 +1,6 @@
 //! Rows of tests: fields apart by semicolons, lists by spaces, and numbers by commas.
-use glyph_types::flags::SerializeFlags;
-use glyph_types::level::BufferClusterLevel;
+use glyph_lists::flags::SerializeFlags;
+use glyph_lists::level::BufferClusterLevel;
 use std::alloc::Global;
 use std::test::Fail;
 use text_buffers::unicode_buffer::UnicodeBuffer;

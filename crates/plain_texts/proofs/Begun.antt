@@ -13,7 +13,7 @@ use Rattle.font_face.specs.declared.parts.FaceParts.{FaceParts}
 use Rattle.font_face.specs.Glyphs.{nominal_glyph}
 use Rattle.glyph_properties.specs.Properties.{bit_if, properties_of, scratch_flags_of, without_bits}
 use Rattle.glyph_lists.specs.Items.{Item, item_masked}
-use Rattle.glyph_lists.specs.Readings.{Read, Stage, View, always, as_it_is, with_events}
+use Rattle.glyph_buffer.specs.Readings.{Read, Stage, View, always, as_it_is, with_events}
 use Rattle.glyph_buffer.specs.Settings.{length_limit}
 use Rattle.shape_masks.specs.Masks.{with_one_mask}
 use Rattle.shape_text.specs.declared.graphemes.Before.{Before}
@@ -22,12 +22,12 @@ use Rattle.shape_text.specs.Properties.{met, prepared, prepared_item, told_by, w
 use Rattle.shape_text.specs.Circle.{DOTTED_CIRCLE, asks_circle, begins_with_mark, first_circle, with_circle}
 use Rattle.shape_text.specs.Clusters.{with_clusters}
 use Rattle.shape_direction.specs.NativeOrder.{is_number_text, is_turned, native_order, ordered, runs_against, script_direction, turned_text, with_numbers, without_continuation}
-use Rattle.shape_reading.specs.Characters.{text_begun}
-use Rattle.shape_reading.specs.Limits.{begun}
-use Rattle.shape_reading.specs.Shaping.{Shaping}
+use Rattle.shape_pipeline.specs.Characters.{text_begun}
+use Rattle.shape_pipeline.specs.Limits.{begun}
+use Rattle.shape_pipeline.specs.Shaping.{Shaping}
 use Rattle.plain_texts.specs.PlainTexts.{IsPlainShaping}
 use Rattle.plain_texts.proofs.Texts.{Are, IsPlain, Leads, Stands, always_leads, are_many, are_mapped, both_lead, last_leads}
-use Rattle.normal_forms.specs.Characters.{is_mark_number}
+use Rattle.glyph_properties.specs.Characters.{is_mark_number}
 use Rattle.plain_texts.proofs.Words.{word_alone, word_mark}
 
 -- a character as it was added

@@ -15,31 +15,31 @@ use Rattle.font_face.specs.declared.parts.FaceParts.{FaceParts}
 use Rattle.font_face.specs.Glyphs.{nominal_glyph}
 use Rattle.glyph_properties.specs.Properties.{properties_of}
 use Rattle.glyph_lists.specs.Items.{Item, Position}
-use Rattle.glyph_lists.specs.Readings.{Read, View, always, as_it_is, with_events}
+use Rattle.glyph_buffer.specs.Readings.{Read, View, always, as_it_is, with_events}
 use Rattle.glyph_buffer.specs.Masks.{items_set}
 use Rattle.glyph_buffer.specs.Sides.{zero_positions}
 use Rattle.map_builder.specs.Compiled.{OtMapValue}
-use Rattle.normal_forms.specs.declared.mode.NormalizationMode.{NormalizationMode}
-use Rattle.normal_forms.specs.declared.mode.NormalizationMode.TheVariants as mode
-use Rattle.normal_forms.specs.Arranged.{in_turn}
-use Rattle.normal_forms.specs.Characters.{is_mark, is_mark_number, shown, with_glyph}
-use Rattle.normal_forms.specs.Expanding.{expanded, expanded_groups, expanded_item, expanded_list, items_for, whole_item, with_found_glyph}
-use Rattle.normal_forms.specs.Normalizer.{Normalizer, has_character, reach_alone}
-use Rattle.normal_forms.specs.NormalizedList.{arranged_marks, has_later_mark, normalized}
-use Rattle.normal_forms.specs.Ordering.{joiner_between, joiners_shown, keeps_nothing_apart, with_joiners_shown}
-use Rattle.normal_forms.specs.declared.mode.Reach.TheVariants.{Least}
-use Rattle.normal_forms.specs.SupportedExpansion.{in_parts}
+use Rattle.glyph_properties.specs.declared.normal_mode.NormalizationMode.{NormalizationMode}
+use Rattle.glyph_properties.specs.declared.normal_mode.NormalizationMode.TheVariants as mode
+use Rattle.glyph_properties.specs.Arranged.{in_turn}
+use Rattle.glyph_properties.specs.Characters.{is_mark, is_mark_number, shown, with_glyph}
+use Rattle.glyph_properties.specs.Expanding.{expanded, expanded_groups, expanded_item, expanded_list, items_for, whole_item, with_found_glyph}
+use Rattle.glyph_properties.specs.Normalizer.{Normalizer, has_character, reach_alone}
+use Rattle.glyph_properties.specs.NormalizedList.{arranged_marks, has_later_mark, normalized}
+use Rattle.glyph_properties.specs.Ordering.{joiner_between, joiners_shown, keeps_nothing_apart, with_joiners_shown}
+use Rattle.glyph_properties.specs.declared.normal_mode.Reach.TheVariants.{Least}
+use Rattle.glyph_properties.specs.SupportedExpansion.{in_parts}
 use Rattle.normal_rounds.specs.Brought.{within_limit, with_arranged}
 use Rattle.shape_direction.specs.Rotation.{rotated}
 use Rattle.shape_masks.specs.Ranges.{bits_of, placed_value, with_all_ranges, with_range}
 use Rattle.shape_normalize.specs.Rounds.{normalization}
 use Rattle.shape_fractions.specs.Fractions.{with_fractions}
-use Rattle.shape_shaper.specs.Rules.{ShaperRules}
-use Rattle.shape_reading.specs.Chains.{only_if}
-use Rattle.shape_reading.specs.Characters.{characters_chosen, normalizer, turned_to_line}
-use Rattle.shape_reading.specs.Laws.{have_no_ranges}
-use Rattle.shape_reading.specs.Masks.{fraction_masks, masks_set, ranges_set}
-use Rattle.shape_reading.specs.Shaping.{Shaping, preprocessed, shaper_masks_set}
+use Rattle.shape_plan.specs.Rules.{ShaperRules}
+use Rattle.shape_pipeline.specs.Chains.{only_if}
+use Rattle.shape_pipeline.specs.Characters.{characters_chosen, normalizer, turned_to_line}
+use Rattle.shape_pipeline.specs.ReadingLaws.{have_no_ranges}
+use Rattle.shape_pipeline.specs.Masks.{fraction_masks, masks_set, ranges_set}
+use Rattle.shape_pipeline.specs.Shaping.{Shaping, preprocessed, shaper_masks_set}
 use Rattle.plain_texts.specs.PlainTexts.{IsPlainShaping, glyph_of}
 use Rattle.plain_texts.proofs.Texts.{Are, IsPlain, Leads, Stands, always_leads, are_many, are_mapped, both_lead, its_glyph, last_leads, leads_as, rests, skipped}
 use Rattle.plain_texts.proofs.Begun.{Ordered}

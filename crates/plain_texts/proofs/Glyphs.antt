@@ -7,23 +7,23 @@ use Rattle.unicode_chars.specs.Category.{category_number}
 use Rattle.font_face.specs.declared.parts.FaceParts.{FaceParts}
 use Rattle.glyph_properties.specs.Properties.{properties_of}
 use Rattle.glyph_lists.specs.Items.{Item, Position}
-use Rattle.glyph_lists.specs.Readings.{Read, Stage, View, always, and_then, as_it_is, then_read, then_reading, with_events}
-use Rattle.layout_lookups.specs.declared.substitution.SubstitutionTable.{SubstitutionTable}
+use Rattle.glyph_buffer.specs.Readings.{Read, Stage, View, always, and_then, as_it_is, then_read, then_reading, with_events}
+use Rattle.font_face.specs.declared.substitution.SubstitutionTable.{SubstitutionTable}
 use Rattle.map_features.specs.declared.lookup.lookup_map_t.{lookup_map_t}
-use Rattle.map_stages.specs.declared.stages.StageMap.{StageMap}
+use Rattle.map_builder.specs.declared.stages.StageMap.{StageMap}
 use Rattle.map_builder.specs.Compiled.{TableStages, lookups_of_stage}
 use Rattle.layout_stages.specs.Lookups.{lookup_stage, lookups_stage}
 use Rattle.layout_stages.specs.Substituting.{substituted_by, table_stage, table_stages}
-use Rattle.layout_walks.specs.Pauses.{Pauses, pause_stage, with_own_random}
-use Rattle.normal_forms.specs.Characters.{is_mark_number}
-use Rattle.text_stages.specs.Categories.{is_nonspacing_mark}
+use Rattle.stage_rules.specs.Pauses.{Pauses, pause_stage, with_own_random}
+use Rattle.glyph_properties.specs.Characters.{is_mark_number}
+use Rattle.glyph_properties.specs.Categories.{is_nonspacing_mark}
 use Rattle.shape_fallback.specs.Classes.{fallback_class, recategorized, with_places}
 use Rattle.shape_glyphs.specs.Classes.{begun, with_font_classes}
 use Rattle.shape_glyphs.specs.Glyphs.{as_glyph, classified, glyph_or_missing, with_glyphs, with_synthesized_classes}
-use Rattle.shape_shaper.specs.Rules.{ShaperRules}
-use Rattle.shape_reading.specs.Chains.{only_if}
-use Rattle.shape_reading.specs.Glyphs.{glyphs_substituted, glyphs_taken}
-use Rattle.shape_reading.specs.Shaping.{Shaping, pauses_of}
+use Rattle.shape_plan.specs.Rules.{ShaperRules}
+use Rattle.shape_pipeline.specs.Chains.{only_if}
+use Rattle.shape_pipeline.specs.Glyphs.{glyphs_substituted, glyphs_taken}
+use Rattle.shape_pipeline.specs.Shaping.{Shaping, pauses_of}
 use Rattle.plain_texts.specs.PlainTexts.{IsPlainShaping, glyph_of}
 use Rattle.plain_texts.proofs.Texts.{IsPlain, Leads, acted, always_leads, are_mapped, both_lead, either, its_number, last_leads}
 use Rattle.plain_texts.proofs.Chosen.{Chosen, Placed}

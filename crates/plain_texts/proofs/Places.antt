@@ -12,26 +12,26 @@ use Rattle.font_face.specs.declared.parts.FaceParts.{FaceParts}
 use Rattle.glyph_properties.specs.Properties.{properties_of}
 use Rattle.glyph_lists.specs.Items.{Item, Position}
 use Rattle.glyph_lists.specs.Events.{Reverse}
-use Rattle.glyph_lists.specs.Readings.{View, always, with_events}
+use Rattle.glyph_buffer.specs.Readings.{View, always, with_events}
 use Rattle.glyph_buffer.specs.Graphemes.{is_default_ignorable}
 use Rattle.glyph_buffer.specs.Sides.{zero_position, zero_positions}
 use Rattle.layout_links.specs.Finishing.{drawn_if, has_attachments, links_followed}
 use Rattle.layout_links.specs.Starting.{links_cleared, unattached}
-use Rattle.layout_match.specs.LigatureWords as ligatures
+use Rattle.glyph_lists.specs.LigatureWords as ligatures
 use Rattle.layout_positioning.specs.Positioning.{positioned_by}
 use Rattle.default_positions.specs.Advances.{default_position, on_line, with_default_positions}
-use Rattle.normal_forms.specs.Characters.{is_mark, is_mark_number, is_space}
-use Rattle.text_stages.specs.Places.{placed, placed_by}
+use Rattle.glyph_properties.specs.Characters.{is_mark, is_mark_number, is_space}
+use Rattle.stage_rules.specs.Places.{placed, placed_by}
 use Rattle.shape_fallback.specs.Spaces.{is_own_space, space_position, spaced, with_spaces}
 use Rattle.shape_fallback.specs.Zeroing.{mark_zeroed, zeroed}
 use Rattle.shape_glyphs.specs.Widths.{ignorable_position, keeps_widths, widthless, zero_widths}
 use Rattle.fallback_marks.specs.Marks.{components_direction}
 use Rattle.fallback_marks.specs.Lemmas.Unmarked.{unmarked_stay}
 use Rattle.shape_plan.specs.declared.planned.TheConstants.{HB_OT_SHAPE_ZERO_WIDTH_MARKS_BY_GDEF_EARLY, HB_OT_SHAPE_ZERO_WIDTH_MARKS_BY_GDEF_LATE}
-use Rattle.shape_reading.specs.Chains.{only_if}
-use Rattle.shape_reading.specs.Places.{adjusts_marks, drawn_order, marks_placed, marks_zeroed, positions_adjusted, positions_begun, positions_ended, with_nothing, zeroes_marks}
-use Rattle.shape_reading.specs.Reading.{positioned}
-use Rattle.shape_reading.specs.Shaping.{Shaping, pauses_of}
+use Rattle.shape_pipeline.specs.Chains.{only_if}
+use Rattle.shape_pipeline.specs.Places.{adjusts_marks, drawn_order, marks_placed, marks_zeroed, positions_adjusted, positions_begun, positions_ended, with_nothing, zeroes_marks}
+use Rattle.shape_pipeline.specs.Reading.{positioned}
+use Rattle.shape_pipeline.specs.Shaping.{Shaping, pauses_of}
 use Rattle.plain_texts.specs.PlainTexts.{IsPlainShaping, glyph_of, place_of}
 use Rattle.plain_texts.proofs.Texts.{Are, IsPlain, Leads, always_leads, are_many, both_lead, either, its_number, last_leads, skipped}
 use Rattle.plain_texts.proofs.Chosen.{Placed}

@@ -10,8 +10,8 @@ use Rattle.font_face.specs.declared.parts.FaceParts.{FaceParts}
 use Rattle.font_face.specs.Glyphs.{nominal_glyph}
 use Rattle.glyph_properties.specs.Properties.{is_mark_character}
 use Rattle.glyph_lists.specs.Items.{Item}
-use Rattle.glyph_lists.specs.Readings.{Read, Stage, View, always, and_then, as_it_is, then_read, then_reading, with_events}
-use Rattle.shape_reading.specs.Chains.{in_order, only_if}
+use Rattle.glyph_buffer.specs.Readings.{Read, Stage, View, always, and_then, as_it_is, then_read, then_reading, with_events}
+use Rattle.shape_pipeline.specs.Chains.{in_order, only_if}
 use Rattle.plain_texts.specs.PlainTexts.{glyph_of, has_glyph, is_plain, is_space_character}
 
 -- ---- plain characters

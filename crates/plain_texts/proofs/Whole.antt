@@ -5,23 +5,23 @@ use Rattle.std.specs.List.{list_all}
 use Rattle.std.proofs.lemmas.Bool.{and_parts}
 use Rattle.font_face.specs.declared.parts.FaceParts.{FaceParts}
 use Rattle.glyph_lists.specs.Items.{Item, Position, item_masked}
-use Rattle.glyph_lists.specs.Readings.{View, always, as_it_is, with_events}
+use Rattle.glyph_buffer.specs.Readings.{View, always, as_it_is, with_events}
 use Rattle.glyph_buffer.specs.Graphemes.{is_default_ignorable}
 use Rattle.glyph_buffer.specs.Sides.{zero_positions}
 use Rattle.glyph_slices.specs.Facts.{items_kept, positions_kept}
-use Rattle.text_stages.specs.Places.{placed_by}
+use Rattle.stage_rules.specs.Places.{placed_by}
 use Rattle.shape_glyphs.specs.Flags.{with_flags_spread}
 use Rattle.shape_glyphs.specs.Ignorables.{hidden, hidden_by, hidden_item, invisible_glyph, preserves_ignorables}
 use Rattle.shape_glyphs.specs.Selectors.{is_marked_selector, selector_position, shown_selector, with_selectors}
 use Rattle.shape_glyphs.specs.Widths.{widthless}
-use Rattle.shape_shaper.specs.Rules.{ShaperRules}
-use Rattle.shape_reading.specs.Characters.{characters_chosen, text_begun}
-use Rattle.shape_reading.specs.Endings.{text_ended}
-use Rattle.shape_reading.specs.Glyphs.{glyphs_substituted, glyphs_taken}
-use Rattle.shape_reading.specs.Limits.{ended}
-use Rattle.shape_reading.specs.Masks.{masks_set, ranges_set}
-use Rattle.shape_reading.specs.Reading.{after_ranges, before_ranges, clusters_after, positioned, reading, shaped}
-use Rattle.shape_reading.specs.Shaping.{Shaping, postprocessed}
+use Rattle.shape_plan.specs.Rules.{ShaperRules}
+use Rattle.shape_pipeline.specs.Characters.{characters_chosen, text_begun}
+use Rattle.shape_pipeline.specs.Endings.{text_ended}
+use Rattle.shape_pipeline.specs.Glyphs.{glyphs_substituted, glyphs_taken}
+use Rattle.shape_pipeline.specs.Limits.{ended}
+use Rattle.shape_pipeline.specs.Masks.{masks_set, ranges_set}
+use Rattle.shape_pipeline.specs.Reading.{after_ranges, before_ranges, clusters_after, positioned, reading, shaped}
+use Rattle.shape_pipeline.specs.Shaping.{Shaping, postprocessed}
 use Rattle.plain_texts.specs.PlainTexts.{IsPlainShaping, PlainTextsShowGlyphs, characters, glyph_of, is_plain, place_of}
 use Rattle.plain_texts.proofs.Texts.{Are, Leads, Stands, always_leads, are_same, both_lead, last_leads, leads_as, plain_facts, rests}
 use Rattle.plain_texts.proofs.Begun.{Given, IsText, Ordered, begun_leads}

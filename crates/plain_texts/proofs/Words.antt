@@ -10,7 +10,7 @@ use Rattle.unicode.specs.GeneralCategory.{general_category}
 use Rattle.unicode_chars.specs.Category.{category_number, is_mark_category}
 use Rattle.unicode_chars.specs.Character.{is_default_ignorable_character}
 use Rattle.glyph_properties.specs.Properties.{bit_if, is_hidden_character, is_mark_character, properties_of, without_bits}
-use Rattle.normal_forms.specs.Characters.{is_mark_number}
+use Rattle.glyph_properties.specs.Characters.{is_mark_number}
 use Rattle.shape_text.specs.Properties.{word_of}
 
 mark_number : (g : GeneralCategory) → is_mark_number (category_number g) ≡ is_mark_category g

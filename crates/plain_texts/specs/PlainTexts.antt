@@ -12,14 +12,14 @@ use Rattle.font_face.specs.declared.parts.FaceParts.{FaceParts}
 use Rattle.font_face.specs.Glyphs.{nominal_glyph, width_of}
 use Rattle.glyph_properties.specs.Properties.{is_mark_character}
 use Rattle.glyph_lists.specs.Items.{Item, Position}
-use Rattle.glyph_lists.specs.Readings.{Read, Run}
+use Rattle.glyph_buffer.specs.Readings.{Read, Run}
 use Rattle.glyph_buffer.specs.Sides.{zero_position}
-use Rattle.normal_forms.specs.declared.mode.NormalizationMode.TheVariants as mode
+use Rattle.glyph_properties.specs.declared.normal_mode.NormalizationMode.TheVariants as mode
 use Rattle.shape_direction.specs.NativeOrder.{script_direction}
-use Rattle.shape_shaper.specs.Rules.{plain_rules}
-use Rattle.shape_reading.specs.Laws.{have_no_ranges}
-use Rattle.shape_reading.specs.Reading.{reading}
-use Rattle.shape_reading.specs.Shaping.{Shaping}
+use Rattle.shape_plan.specs.Rules.{plain_rules}
+use Rattle.shape_pipeline.specs.ReadingLaws.{have_no_ranges}
+use Rattle.shape_pipeline.specs.Reading.{reading}
+use Rattle.shape_pipeline.specs.Shaping.{Shaping}
 
 abbrev pub is_space_character : ℕ → Bool
 is_space_character u = category_number (general_category u) == category_number SpaceSeparator

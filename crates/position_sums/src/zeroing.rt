@@ -3,7 +3,7 @@ ghost use Rattle.std.specs.Prelude.{◌≡◌};
 ghost use Rattle.position_sums.specs.Zeroing.{set_back, without_advances, zeroed};
 
 use crate::sums::minus;
-use glyph_types::position::GlyphPosition;
+use glyph_lists::position::GlyphPosition;
 
 /// A position without its advances; where it is adjusted, it goes back by them first.
 pub fn zeroed(adjust: bool, position: GlyphPosition) -> GlyphPosition

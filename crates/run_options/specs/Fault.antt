@@ -3,8 +3,8 @@ use Rattle.std.specs.Prelude.{ℕ, List, codes}
 use Rattle.json_values.specs.declared.fault.JsonFault.{JsonFault}
 use Rattle.json_values.specs.Fault as json_values
 use Rattle.run_options.specs.declared.fault.RunFault.{RunFault}
-use Rattle.glyph_types.specs.declared.cause.ShapeCause.{ShapeCause}
-use Rattle.glyph_types.specs.declared.cause.ShapeCause.TheVariants as cause
+use Rattle.glyph_lists.specs.declared.cause.ShapeCause.{ShapeCause}
+use Rattle.glyph_lists.specs.declared.cause.ShapeCause.TheVariants as cause
 use Rattle.json_values.specs.declared.fault.JsonFault.TheVariants as json
 use Rattle.run_options.specs.declared.fault.RunFault.TheVariants as run
 

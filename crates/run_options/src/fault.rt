@@ -1,7 +1,7 @@
 ghost use Rattle.std.specs.Prelude.{◌≡◌};
 ghost use Rattle.run_options.specs.Fault.{name_of, status_of};
 
-use glyph_types::cause::ShapeCause;
+use glyph_lists::cause::ShapeCause;
 use json_values::fault::JsonFault;
 use std::alloc::{AllocError, AllocFailed};
 use std::error::Error;

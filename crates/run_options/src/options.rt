@@ -1,6 +1,6 @@
 use feature_text::feature::Feature;
-use glyph_types::flags::SerializeFlags;
-use glyph_types::level::BufferClusterLevel;
+use glyph_lists::flags::SerializeFlags;
+use glyph_lists::level::BufferClusterLevel;
 use shaping_text::constants::BufferFlags;
 use shaping_text::direction::Direction;
 use shaping_text::language::Language;

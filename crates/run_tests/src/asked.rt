@@ -1,8 +1,8 @@
 //! Lines by what the words ask: of clusters and their flags, and of what is printed of a glyph.
 use crate::lines::LIGATURES;
 use crate::memory::{options, ran};
-use glyph_types::flags::SerializeFlags;
-use glyph_types::level::BufferClusterLevel;
+use glyph_lists::flags::SerializeFlags;
+use glyph_lists::level::BufferClusterLevel;
 use run_options::options::Options;
 use shaping_text::constants::BufferFlags;
 use shaping_text::direction::Direction;

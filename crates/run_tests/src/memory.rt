@@ -1,7 +1,7 @@
 //! Runs over memory.
 use feature_text::feature::Feature;
-use glyph_types::flags::SerializeFlags;
-use glyph_types::level::BufferClusterLevel;
+use glyph_lists::flags::SerializeFlags;
+use glyph_lists::level::BufferClusterLevel;
 use run_options::fault::RunFault;
 use run_options::options::Options;
 use shape_run::run::run;

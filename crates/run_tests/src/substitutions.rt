@@ -1,7 +1,7 @@
 //! Substitution from bytes to the line: a font for each kind of lookup.
 use crate::lines::{LIGATURES, Line, is_printed};
 use crate::memory::{options, ran};
-use glyph_types::cause::ShapeCause;
+use glyph_lists::cause::ShapeCause;
 use run_options::fault::RunFault;
 use shaping_text::direction::Direction;
 use shaping_text::script::THAANA;

@@ -2,7 +2,7 @@
 use Rattle.std.proofs.Common.{ℕ, ◌≡◌, ◌*◌, ◌/◌, ◌==◌, Bool, true, false, if◌then◌else◌, arith, refl, ap, sym, ◌∙◌}
 use Rattle.std.specs.Prelude.{bit_and, bit_or}
 use Rattle.std.proofs.lemmas.Nat.{and_mask, or_shr, and_or_apart}
-use Rattle.glyph_types.specs.declared.info.hb_glyph_info_t.{hb_glyph_info_t}
+use Rattle.glyph_lists.specs.declared.info.hb_glyph_info_t.{hb_glyph_info_t}
 use Rattle.glyph_lists.specs.Items.{item_of, without_flags}
 use Rattle.glyph_lists.specs.Origins.{origin_of}
 use Rattle.script_hangul.specs.declared.masks.JamoMasks.{JamoMasks}

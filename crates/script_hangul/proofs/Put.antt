@@ -2,18 +2,18 @@
 use Rattle.std.proofs.Common.{ℕ, ◌≡◌, ◌<◌, ◌+◌, ◌-◌, Bool, true, false, if◌then◌else◌, List, [], ◌∷◌, ◌++◌, Some, length, take, drop, arith, refl, ap, ap₂, sym, subst, ◌∙◌, append_assoc}
 use Rattle.std.specs.Prelude.{slice_get}
 use Rattle.std.proofs.lemmas.List.{append-nil, drop-drop, length-append, length-drop, length-map, length-take-le, take-append-le, drop-append-le}
-use Rattle.glyph_types.specs.declared.cause.ShapeCause.{ShapeCause}
-use Rattle.glyph_lists.specs.Readings.{View}
-use Rattle.glyph_types.specs.declared.info.hb_glyph_info_t.{hb_glyph_info_t}
+use Rattle.glyph_lists.specs.declared.cause.ShapeCause.{ShapeCause}
+use Rattle.glyph_buffer.specs.Readings.{View}
+use Rattle.glyph_lists.specs.declared.info.hb_glyph_info_t.{hb_glyph_info_t}
 use Rattle.glyph_lists.specs.Items.{Item, item_of, strip}
 use Rattle.glyph_lists.specs.Levels.{InOutput}
 use Rattle.glyph_lists.specs.Events.{Event, Move, Replace}
 use Rattle.glyph_lists.specs.Replacements.{item_numbered}
 use Rattle.glyph_buffer.specs.Sides.{Sides, Settings}
-use Rattle.script_moves.specs.Moves.{moved, order_of_move}
-use Rattle.script_moves.specs.Walks.{Exceeds, Walked, renumbered_first}
-use Rattle.script_moves.specs.Lemmas.Moved.{moved_length}
-use Rattle.script_moves.specs.Lemmas.Walked.{both_walked}
+use Rattle.stage_rules.specs.Moves.{moved, order_of_move}
+use Rattle.stage_rules.specs.Walks.{Exceeds, Walked, renumbered_first}
+use Rattle.stage_rules.specs.Lemmas.Moved.{moved_length}
+use Rattle.stage_rules.specs.Lemmas.Walked.{both_walked}
 use Rattle.script_hangul.specs.declared.jamo.Letters.{Letters}
 use Rattle.script_hangul.specs.declared.jamo.Letters.TheVariants.{Two, Three}
 use Rattle.script_hangul.specs.Steps.{apart, before_syllable, circle_for, circled, composed, grapheme_merged, kept, letters_from, numbers_of, parted, placed, put_before, split, with_circle}

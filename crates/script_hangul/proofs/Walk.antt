@@ -2,19 +2,19 @@
 use Rattle.std.proofs.Common.{ℕ, zero, suc, ◌≡◌, ◌≢◌, ◌<◌, ◌≤◌, ◌+◌, ◌-◌, ◌&&◌, inl, inr, not, Bool, true, false, nat_le, nat_lt, if◌then◌else◌, List, [], ◌∷◌, ◌++◌, Option, Some, None, Err, length, take, drop, refl, sym, ap, subst, ◌∙◌, append_assoc, arith}
 use Rattle.std.proofs.lemmas.Bool.Decides.{nat_tests}
 use Rattle.std.proofs.lemmas.List.{append-nil, length-append, length-map, length-drop}
-use Rattle.glyph_types.specs.declared.cause.ShapeCause.{ShapeCause}
-use Rattle.glyph_types.specs.declared.cause.ShapeCause.TheVariants.{OutOfMemory, TooLong}
-use Rattle.glyph_types.specs.declared.info.hb_glyph_info_t.{hb_glyph_info_t}
+use Rattle.glyph_lists.specs.declared.cause.ShapeCause.{ShapeCause}
+use Rattle.glyph_lists.specs.declared.cause.ShapeCause.TheVariants.{OutOfMemory, TooLong}
+use Rattle.glyph_lists.specs.declared.info.hb_glyph_info_t.{hb_glyph_info_t}
 use Rattle.shaping_text.specs.declared.constants.BufferFlags.{BufferFlags}
 use Rattle.font_face.specs.declared.parts.FaceParts.{FaceParts}
 use Rattle.glyph_lists.specs.Items.{Item, item_of, strip}
 use Rattle.glyph_lists.specs.Events.{Event}
-use Rattle.glyph_lists.specs.Readings.{View, read_of}
+use Rattle.glyph_buffer.specs.Readings.{View, read_of}
 use Rattle.glyph_buffer.specs.Sides.{Sides, Settings, all_glyphs, items_of, run_of, with_output, synced, fits_joined}
-use Rattle.layout_rules.specs.Ready.{IsReady}
-use Rattle.text_stages.specs.Stages.{IsFollowed}
-use Rattle.script_moves.specs.Walks.{Exceeds, Walked, renumbered_first}
-use Rattle.script_moves.specs.Lemmas.Walked.{both_walked, nothing_walked, walked_followed}
+use Rattle.stage_rules.specs.Ready.{IsReady}
+use Rattle.stage_rules.specs.Stages.{IsFollowed}
+use Rattle.stage_rules.specs.Walks.{Exceeds, Walked, renumbered_first}
+use Rattle.stage_rules.specs.Lemmas.Walked.{both_walked, nothing_walked, walked_followed}
 use Rattle.script_hangul.specs.declared.actions.Action.{Action}
 use Rattle.script_hangul.specs.declared.actions.Action.TheVariants.{Keep, Apart, Compose, Split}
 use Rattle.script_hangul.specs.Jamo.{is_tone}

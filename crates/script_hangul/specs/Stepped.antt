@@ -1,9 +1,9 @@
 -- A step through a text of Hangul in an open output.
 use Rattle.std.specs.Prelude.{ℕ, ◌≡◌, ◌<◌, ◌⊎◌, ◌+◌, ◌&&◌, Bool, true, false, nat_le, nat_lt, if◌then◌else◌, drop, length}
-use Rattle.glyph_types.specs.declared.cause.ShapeCause.{ShapeCause}
+use Rattle.glyph_lists.specs.declared.cause.ShapeCause.{ShapeCause}
 use Rattle.glyph_lists.specs.Items.{strip}
 use Rattle.glyph_buffer.specs.Sides.{Sides}
-use Rattle.script_moves.specs.Walks.{Exceeds, Walked}
+use Rattle.stage_rules.specs.Walks.{Exceeds, Walked}
 use Rattle.script_hangul.specs.declared.jamo.Letters.{Letters}
 use Rattle.script_hangul.specs.declared.jamo.Letters.TheVariants.{Two, Three}
 use Rattle.script_hangul.specs.declared.actions.Action.{Action}

@@ -3,15 +3,15 @@ ghost use Rattle.std.specs.Prelude.{◌≡◌};
 ghost use Rattle.std.specs.Int.RustNames.{bit_and};
 ghost use Rattle.glyph_lists.specs.Items.{item_of};
 ghost use Rattle.glyph_lists.specs.Origins.{origin_of};
-ghost use Rattle.glyph_lists.specs.Readings.{always};
-ghost use Rattle.layout_rules.specs.Ready.{IsReady};
+ghost use Rattle.glyph_buffer.specs.Readings.{always};
+ghost use Rattle.stage_rules.specs.Ready.{IsReady};
 ghost use Rattle.script_hangul.specs.Masks.{AreFlagless, mask_of, with_place_mask};
-ghost use Rattle.text_stages.specs.Stages.{IsFollowed, mapped};
+ghost use Rattle.stage_rules.specs.Stages.{IsFollowed, mapped};
 
 use crate::performing::{LJMO, TJMO, VJMO};
 use glyph_buffer::buffer::hb_buffer_t;
-use glyph_types::info::{hb_glyph_info_t, hb_mask_t};
-use text_stages::glyphs::map_glyphs;
+use glyph_lists::info::{hb_glyph_info_t, hb_mask_t};
+use stage_rules::glyphs::map_glyphs;
 
 /// The masks of the features for the letters of a syllable, by their places in it.
 #[derive(Clone, Copy, PartialEq, Eq, Debug)]

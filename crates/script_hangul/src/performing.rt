@@ -6,15 +6,15 @@ ghost use Rattle.glyph_lists.specs.Replacements.{item_numbered};
 ghost use Rattle.glyph_lists.specs.Events.{Replace};
 ghost use Rattle.script_hangul.specs.Steps.{apart, composed, grapheme_merged, kept, letters_from, numbers_of, parted, performed, placed, split};
 ghost use Rattle.script_hangul.specs.Stepped.{Refuses, Stepped, fits_ahead};
-ghost use Rattle.script_moves.specs.Walks.{Exceeds, Walked};
+ghost use Rattle.stage_rules.specs.Walks.{Exceeds, Walked};
 
 use crate::actions::Action;
 use crate::jamo::Letters;
 use glyph_buffer::buffer::hb_buffer_t;
-use glyph_types::cause::ShapeCause;
-use glyph_types::info::hb_glyph_info_t;
-use glyph_types::level::BufferClusterLevel;
-use script_moves::walks::{advance, advance_as, merge_behind, replace_current, replace_front};
+use glyph_lists::cause::ShapeCause;
+use glyph_lists::info::hb_glyph_info_t;
+use glyph_lists::level::BufferClusterLevel;
+use stage_rules::walks::{advance, advance_as, merge_behind, replace_current, replace_front};
 
 /// What the letters of a syllable are marked with: their places in it.
 pub const LJMO: u8 = 1;

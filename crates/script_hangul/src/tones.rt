@@ -8,11 +8,11 @@ ghost use Rattle.script_hangul.specs.Stepped.{Refuses, Stepped};
 use crate::performing::keep;
 use font_face::Face;
 use glyph_buffer::buffer::hb_buffer_t;
+use glyph_lists::cause::ShapeCause;
+use glyph_lists::flags::UnicodeProps;
+use glyph_lists::info::hb_glyph_info_t;
 use glyph_properties::character::properties_of;
-use glyph_types::cause::ShapeCause;
-use glyph_types::flags::UnicodeProps;
-use glyph_types::info::hb_glyph_info_t;
-use script_moves::walks::{advance, move_behind, replace_current};
+use stage_rules::walks::{advance, move_behind, replace_current};
 
 const DOTTED_CIRCLE: char = '\u{25CC}';
 

@@ -3,16 +3,16 @@ use Rattle.std.proofs.Common.{ℕ, zero, suc, ◌≡◌, ◌≤◌, ◌<◌, ◌
 use Rattle.std.proofs.lemmas.List.{append-nil, at_drop_more, drop_all, length-set, take_all}
 use Rattle.unicode_tables.specs.Tables.{Tables}
 use Rattle.font_face.specs.declared.parts.FaceParts.{FaceParts}
-use Rattle.glyph_types.specs.declared.info.hb_glyph_info_t.{hb_glyph_info_t}
+use Rattle.glyph_lists.specs.declared.info.hb_glyph_info_t.{hb_glyph_info_t}
 use Rattle.glyph_lists.specs.Items.{item_of, strip}
 use Rattle.glyph_lists.specs.Origins.{origin_of, origins}
-use Rattle.glyph_lists.specs.Readings.{always}
+use Rattle.glyph_buffer.specs.Readings.{always}
 use Rattle.glyph_lists.specs.Replacements.{glyph_numbered, item_numbered}
 use Rattle.glyph_buffer.specs.Sides.{Sides, all_glyphs, items_of}
 use Rattle.glyph_buffer.specs.Lending.{with_refilled}
-use Rattle.layout_rules.specs.Ready.{IsReady}
-use Rattle.text_stages.specs.Stages.{IsFollowed}
-use Rattle.text_stages.specs.Lemmas.Written.{becomes_followed, written_becomes}
+use Rattle.stage_rules.specs.Ready.{IsReady}
+use Rattle.stage_rules.specs.Stages.{IsFollowed}
+use Rattle.stage_rules.specs.Lemmas.Written.{becomes_followed, written_becomes}
 use Rattle.script_hebrew_thai.specs.declared.thai_private.Consonant.TheVariants.{NotConsonant}
 use Rattle.script_hebrew_thai.specs.declared.thai_private.Mark.{Mark}
 use Rattle.script_hebrew_thai.specs.declared.thai_private.Mark.TheVariants.{AV, BV, T, NotMark}

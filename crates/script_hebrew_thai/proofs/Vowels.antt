@@ -2,18 +2,18 @@
 use Rattle.std.proofs.Common.{ℕ, ◌≡◌, ◌≢◌, ◌<◌, ◌≤◌, ◌+◌, ◌-◌, ◌&&◌, not, Bool, true, false, nat_le, if◌then◌else◌, List, [], ◌∷◌, ◌++◌, Err, length, refl, sym, ap, subst, ◌∙◌, append_assoc, arith}
 use Rattle.std.proofs.lemmas.Bool.Decides.{nat_tests}
 use Rattle.std.proofs.lemmas.List.{append-nil, length-append, length-map}
-use Rattle.glyph_types.specs.declared.cause.ShapeCause.{ShapeCause}
-use Rattle.glyph_types.specs.declared.cause.ShapeCause.TheVariants.{OutOfMemory, TooLong}
-use Rattle.glyph_types.specs.declared.info.hb_glyph_info_t.{hb_glyph_info_t}
-use Rattle.glyph_types.specs.declared.level.BufferClusterLevel.{BufferClusterLevel}
+use Rattle.glyph_lists.specs.declared.cause.ShapeCause.{ShapeCause}
+use Rattle.glyph_lists.specs.declared.cause.ShapeCause.TheVariants.{OutOfMemory, TooLong}
+use Rattle.glyph_lists.specs.declared.info.hb_glyph_info_t.{hb_glyph_info_t}
+use Rattle.glyph_lists.specs.declared.level.BufferClusterLevel.{BufferClusterLevel}
 use Rattle.glyph_lists.specs.Items.{Item, item_of, strip}
 use Rattle.glyph_lists.specs.Events.{Event}
-use Rattle.glyph_lists.specs.Readings.{View, read_of}
+use Rattle.glyph_buffer.specs.Readings.{View, read_of}
 use Rattle.glyph_buffer.specs.Sides.{Sides, Settings, all_glyphs, items_of, run_of, with_output, synced, fits_joined}
-use Rattle.layout_rules.specs.Ready.{IsReady}
-use Rattle.text_stages.specs.Stages.{IsFollowed}
-use Rattle.script_moves.specs.Walks.{Exceeds, Walked}
-use Rattle.script_moves.specs.Lemmas.Walked.{both_walked, nothing_walked, walked_followed}
+use Rattle.stage_rules.specs.Ready.{IsReady}
+use Rattle.stage_rules.specs.Stages.{IsFollowed}
+use Rattle.stage_rules.specs.Walks.{Exceeds, Walked}
+use Rattle.stage_rules.specs.Lemmas.Walked.{both_walked, nothing_walked, walked_followed}
 use Rattle.script_hebrew_thai.proofs.Vowel.{vowel_long}
 use Rattle.script_hebrew_thai.specs.ThaiVowel.{is_sara_am, with_vowel, with_character, split_behind, events_of_character, events_behind, vowels_split}
 

@@ -2,10 +2,10 @@
 use Rattle.std.specs.Prelude.{ℕ, ◌+◌, ◌==◌, ◌&&◌, ◌||◌, Bool, false, if◌then◌else◌, List, [], ◌∷◌, Option, None, Some, find, slice_range}
 use Rattle.std.specs.Option.{option_map, option_or}
 use Rattle.unicode_tables.specs.Tables.{Tables, pair_of}
-use Rattle.normal_forms.specs.Characters.{mark_class}
+use Rattle.glyph_properties.specs.Characters.{mark_class}
 use Rattle.glyph_lists.specs.Items.{Item}
-use Rattle.glyph_lists.specs.Readings.{View, Read, with_events}
-use Rattle.script_moves.specs.Moves.{with_move}
+use Rattle.glyph_buffer.specs.Readings.{View, Read, with_events}
+use Rattle.stage_rules.specs.Moves.{with_move}
 
 -- a letter, a point, and the form that stands for both
 abbrev pub presentation_forms : List (ℕ × ℕ × ℕ)

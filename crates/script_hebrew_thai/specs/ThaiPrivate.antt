@@ -8,7 +8,7 @@ use Rattle.font_face.specs.declared.parts.FaceParts.{FaceParts}
 use Rattle.font_face.specs.Glyphs.{nominal_glyph}
 use Rattle.script_constants.specs.declared.thai_action.TheConstants as action
 use Rattle.glyph_lists.specs.Items.{Item}
-use Rattle.glyph_lists.specs.Readings.{View, Read, with_events}
+use Rattle.glyph_buffer.specs.Readings.{View, Read, with_events}
 use Rattle.glyph_lists.specs.Replacements.{item_numbered}
 use Rattle.script_hebrew_thai.specs.declared.thai_private.Consonant.{Consonant}
 use Rattle.script_hebrew_thai.specs.declared.thai_private.Consonant.TheVariants.{NC, AC, RC, DC, NotConsonant}

@@ -4,17 +4,17 @@ use Rattle.std.specs.Int.RustNames.{bit_or}
 use Rattle.std.specs.List.{list_any, prefix_len}
 use Rattle.ucd_category.specs.declared.GeneralCategory.TheVariants.{NonspacingMark}
 use Rattle.unicode_chars.specs.Category.{category_number}
-use Rattle.normal_forms.specs.Characters.{with_category}
+use Rattle.glyph_properties.specs.Characters.{with_category}
 use Rattle.glyph_properties.specs.Properties.{CONTINUATION, without_bits}
-use Rattle.glyph_types.specs.declared.cause.ShapeCause.TheVariants.{TooLong}
-use Rattle.glyph_types.specs.declared.level.BufferClusterLevel.{BufferClusterLevel}
-use Rattle.glyph_types.specs.declared.level.BufferClusterLevel.TheVariants.{MonotoneGraphemes, MonotoneCharacters, Characters}
+use Rattle.glyph_lists.specs.declared.cause.ShapeCause.TheVariants.{TooLong}
+use Rattle.glyph_lists.specs.declared.level.BufferClusterLevel.{BufferClusterLevel}
+use Rattle.glyph_lists.specs.declared.level.BufferClusterLevel.TheVariants.{MonotoneGraphemes, MonotoneCharacters, Characters}
 use Rattle.glyph_lists.specs.Items.{Item}
 use Rattle.glyph_lists.specs.Levels.{InOutput}
 use Rattle.glyph_lists.specs.Events.{Event, Merge, Move, Replace}
-use Rattle.glyph_lists.specs.Readings.{Stage}
+use Rattle.glyph_buffer.specs.Readings.{Stage}
 use Rattle.glyph_buffer.specs.Sides.{zero_positions}
-use Rattle.script_moves.specs.Moves.{order_of_move}
+use Rattle.stage_rules.specs.Moves.{order_of_move}
 
 -- a character of Thai, or that of Lao which stands at the same place of its block
 abbrev pub thai_or_lao : ℕ → ℕ

@@ -2,18 +2,18 @@
 ghost use Rattle.std.specs.Prelude.{◌≡◌, ◌≤◌, ◌+◌, ◌<◌, ◌==◌, ◌&&◌, ◌^◌, find, length, slice_range};
 ghost use Rattle.std.specs.Option.{option_map};
 ghost use Rattle.glyph_lists.specs.Items.{item_of, strip};
-ghost use Rattle.glyph_lists.specs.Readings.{always};
+ghost use Rattle.glyph_buffer.specs.Readings.{always};
 ghost use Rattle.glyph_buffer.specs.Sides.{all_glyphs, items_of};
-ghost use Rattle.layout_rules.specs.Ready.{IsReady};
-ghost use Rattle.normal_forms.specs.Characters.{mark_class};
+ghost use Rattle.stage_rules.specs.Ready.{IsReady};
+ghost use Rattle.glyph_properties.specs.Characters.{mark_class};
 ghost use Rattle.script_hebrew_thai.specs.Hebrew.{begins_with_three, first_three, hebrew_pair, is_meteg_or_below, is_patah_or_qamats, is_sheva_or_hiriq, marks_reordered, presentation_form, with_swapped};
 ghost use Rattle.script_hebrew_thai.specs.Places.{IsThreeWithin};
-ghost use Rattle.text_stages.specs.Stages.{IsFollowed};
+ghost use Rattle.stage_rules.specs.Stages.{IsFollowed};
 
 use glyph_buffer::buffer::hb_buffer_t;
-use glyph_types::info::hb_glyph_info_t;
-use script_moves::moves::move_back;
-use text_stages::categories::is_mark;
+use glyph_lists::info::hb_glyph_info_t;
+use glyph_properties::categories::is_mark;
+use stage_rules::moves::move_back;
 use unicode_tables::UnicodeTables;
 
 /// A letter, a point, and the form that stands for both.

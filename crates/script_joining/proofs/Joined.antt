@@ -3,15 +3,15 @@ use Rattle.std.proofs.Common.{ℕ, zero, suc, ◌≡◌, ◌/◌, ◌*◌, Bool,
 use Rattle.std.specs.Prelude.{bit_and, bit_or, find, unwrap_or}
 use Rattle.std.proofs.lemmas.List.{length-map}
 use Rattle.std.proofs.lemmas.Nat.{and_mask, or_shr, and_or_apart}
-use Rattle.glyph_types.specs.declared.info.hb_glyph_info_t.{hb_glyph_info_t}
+use Rattle.glyph_lists.specs.declared.info.hb_glyph_info_t.{hb_glyph_info_t}
 use Rattle.glyph_lists.specs.Items.{Item, item_of, strip, without_flags}
 use Rattle.glyph_lists.specs.Origins.{Origin, origin_of, origins}
 use Rattle.glyph_lists.specs.Events.{Event, origins_after}
-use Rattle.glyph_lists.specs.Readings.{Run, View, always}
+use Rattle.glyph_buffer.specs.Readings.{Run, View, always}
 use Rattle.glyph_buffer.specs.Sides.{Sides, all_glyphs, items_of, origins_by, origins_of, view_of}
 use Rattle.glyph_buffer.specs.Lending.{with_refilled}
-use Rattle.text_stages.specs.Stages.{Happens, IsFollowed, mapped}
-use Rattle.text_stages.specs.Lemmas.Written.{happened_followed, written_becomes}
+use Rattle.stage_rules.specs.Stages.{Happens, IsFollowed, mapped}
+use Rattle.stage_rules.specs.Lemmas.Written.{happened_followed, written_becomes}
 use Rattle.unicode_tables.specs.Tables.{Tables}
 use Rattle.script_constants.specs.declared.joining_types.hb_arabic_joining_type_t.TheVariants.{U, L, R, D, GroupAlaph, GroupDalathRish, T, X}
 use Rattle.script_joining.specs.Types.{JoiningType, type_of_item}

@@ -2,18 +2,18 @@
 use Rattle.std.proofs.Common.{ℕ, zero, suc, ◌≡◌, ◌<◌, ◌≤◌, ◌+◌, Bool, true, false, if◌then◌else◌, List, [], ◌∷◌, ◌++◌, Option, Some, None, length, drop, map, slice_get, get_or, arith, add-one, refl, sym, ap, subst, ◌∙◌, append_assoc}
 use Rattle.std.specs.Prelude.{nat_lt}
 use Rattle.std.proofs.lemmas.List.{append-nil, drop_all, length-map}
-use Rattle.glyph_types.specs.declared.info.hb_glyph_info_t.{hb_glyph_info_t}
+use Rattle.glyph_lists.specs.declared.info.hb_glyph_info_t.{hb_glyph_info_t}
 use Rattle.glyph_lists.specs.Items.{Item, clusters, item_of, strip}
 use Rattle.glyph_lists.specs.Glyphs.{glyphs_flagged, glyphs_marked, tells_apart}
 use Rattle.glyph_lists.specs.Parts.{stretch}
 use Rattle.glyph_lists.specs.Events.{Event, Concat, Tatweel}
-use Rattle.glyph_lists.specs.Readings.{View}
+use Rattle.glyph_buffer.specs.Readings.{View}
 use Rattle.glyph_buffer.specs.Sides.{Sides, all_glyphs, items_of, origins_by, origins_of, view_of}
 use Rattle.glyph_buffer.specs.Merging.{index_in_all}
 use Rattle.glyph_buffer.specs.Marking.{asks_concat, asks_tatweel, concat_marked, end_in_all, flagged_range, marked_range, start_in_all, tatweel_marked}
-use Rattle.layout_rules.specs.Ready.{IsReady}
-use Rattle.text_stages.specs.Stages.{Happens}
-use Rattle.text_stages.specs.Lemmas.Happened.{both_happen, call_happens, nothing_happens}
+use Rattle.stage_rules.specs.Ready.{IsReady}
+use Rattle.stage_rules.specs.Stages.{Happens}
+use Rattle.stage_rules.specs.Lemmas.Happened.{both_happen, call_happens, nothing_happens}
 use Rattle.script_joining.specs.declared.flags.Letter.{Letter}
 use Rattle.script_joining.specs.Types.{JoiningType}
 use Rattle.script_joining.specs.Joining.{event_at, is_letter, letter_behind, nearest_behind, neighbour_events}

@@ -4,7 +4,7 @@ use Rattle.script_constants.specs.declared.joining_types.hb_arabic_joining_type_
 use Rattle.unicode_tables.specs.Tables.{Tables}
 use Rattle.glyph_lists.specs.Items.{Item, without_flags}
 use Rattle.glyph_lists.specs.Events.{Event, Concat, Tatweel}
-use Rattle.glyph_lists.specs.Readings.{View, Read, with_events}
+use Rattle.glyph_buffer.specs.Readings.{View, Read, with_events}
 use Rattle.script_joining.specs.declared.flags.Letter.{Letter}
 use Rattle.script_joining.specs.Types.{JoiningType, type_of_item, type_of_character}
 use Rattle.script_joining.specs.Forms.{letter_form}

@@ -10,7 +10,7 @@ use Rattle.unicode_tables.specs.Tables.{Tables, joining_of}
 use Rattle.script_constants.specs.declared.joining_types.hb_arabic_joining_type_t.{hb_arabic_joining_type_t}
 use Rattle.script_constants.specs.declared.joining_types.hb_arabic_joining_type_t.TheVariants.{U, T}
 use Rattle.script_constants.specs.Joining.{joining_types}
-use Rattle.normal_forms.specs.Characters.{category_of}
+use Rattle.glyph_properties.specs.Characters.{category_of}
 use Rattle.glyph_lists.specs.Items.{Item}
 
 abbrev pub JoiningType : Type 0

@@ -1,12 +1,12 @@
 //! Where a text may be stretched between two letters, or may not be put together.
 ghost use Rattle.std.specs.Prelude.{◌≡◌, ◌<◌, ◌+◌, ◌^◌, ◌==◌, not, None, Some, [], ◌∷◌, length, map, slice_get};
 ghost use Rattle.glyph_buffer.specs.Sides.{all_glyphs, items_of};
-ghost use Rattle.layout_rules.specs.Ready.{IsReady};
+ghost use Rattle.stage_rules.specs.Ready.{IsReady};
 ghost use Rattle.script_constants.specs.declared.joining_types.hb_arabic_joining_type_t.TheVariants.{U};
 ghost use Rattle.script_joining.specs.Flagged.{IsBehind, type_of_typed};
 ghost use Rattle.script_joining.specs.Forms.{letter_form};
 ghost use Rattle.script_joining.specs.Joining.{event_at, letter_behind, neighbour_events, neighbours_event};
-ghost use Rattle.text_stages.specs.Stages.{Happens};
+ghost use Rattle.stage_rules.specs.Stages.{Happens};
 
 use crate::forms::letter_form;
 use crate::types::{is_letter, nearest_behind, type_kept};
@@ -68,7 +68,7 @@ fn letter_behind(
 }
 
 /// Flags a letter and the one before it in the text, if there is one.
-#[tactic(auto, using(text_stages::specs::Lemmas::Happened::nothing_happens))]
+#[tactic(auto, using(stage_rules::specs::Lemmas::Happened::nothing_happens))]
 fn flag_behind(
     last: Option<Letter>,
     joining: hb_arabic_joining_type_t,
@@ -89,7 +89,7 @@ fn flag_behind(
     }
 }
 
-#[tactic(auto, using(crate::proofs::Marked::concat_happens, crate::proofs::Marked::tatweel_happens, text_stages::specs::Lemmas::Happened::end_of_input))]
+#[tactic(auto, using(crate::proofs::Marked::concat_happens, crate::proofs::Marked::tatweel_happens, stage_rules::specs::Lemmas::Happened::end_of_input))]
 fn flag_between(
     letter: Letter,
     joining: hb_arabic_joining_type_t,

@@ -8,7 +8,7 @@ ghost use Rattle.script_joining.specs.Joining.{form_behind, is_letter, is_mongol
 
 use crate::forms::letter_form;
 use crate::types::{is_letter, nearest_behind, type_kept};
-use glyph_types::info::{hb_glyph_info_t, hb_mask_t};
+use glyph_lists::info::{hb_glyph_info_t, hb_mask_t};
 use script_constants::hb_arabic_joining_type_t;
 
 /// Gives glyphs that keep how they join their forms, between the nearest letters before and after them, and the masks of

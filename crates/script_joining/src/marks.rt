@@ -2,19 +2,19 @@
 ghost use Rattle.std.specs.Prelude.{◌≡◌, ◌≤◌, ◌+◌, ◌<◌, ◌^◌, length, map, nat_lt, slice_range};
 ghost use Rattle.std.specs.List.{prefix_len};
 ghost use Rattle.glyph_lists.specs.Items.{item_of, strip};
-ghost use Rattle.glyph_lists.specs.Readings.{always};
+ghost use Rattle.glyph_buffer.specs.Readings.{always};
 ghost use Rattle.glyph_lists.specs.Origins.{changed_within};
 ghost use Rattle.glyph_buffer.specs.Sides.{all_glyphs, items_of};
-ghost use Rattle.layout_rules.specs.Ready.{IsReady};
-ghost use Rattle.normal_forms.specs.Characters.{mark_class};
+ghost use Rattle.stage_rules.specs.Ready.{IsReady};
+ghost use Rattle.glyph_properties.specs.Characters.{mark_class};
 ghost use Rattle.script_joining.specs.Marks.{count_below, count_leading, is_modifier_of, led, marks_reordered, with_leading};
 ghost use Rattle.script_joining.specs.Classed.{glyph_classed};
-ghost use Rattle.text_stages.specs.Stages.{IsFollowed};
+ghost use Rattle.stage_rules.specs.Stages.{IsFollowed};
 
 use glyph_buffer::buffer::hb_buffer_t;
-use glyph_types::info::hb_glyph_info_t;
-use script_moves::moves::move_back;
-use text_stages::categories::is_mark;
+use glyph_lists::info::hb_glyph_info_t;
+use glyph_properties::categories::is_mark;
+use stage_rules::moves::move_back;
 
 /// The class that modifier marks below come to have.
 const CCC22: u8 = 25;

@@ -1,18 +1,18 @@
 //! The masks of the features that give letters their forms.
 ghost use Rattle.std.specs.Prelude.{◌≡◌};
-ghost use Rattle.glyph_lists.specs.Readings.{always};
-ghost use Rattle.layout_rules.specs.Ready.{IsReady};
+ghost use Rattle.glyph_buffer.specs.Readings.{always};
+ghost use Rattle.stage_rules.specs.Ready.{IsReady};
 ghost use Rattle.script_joining.specs.Glyphs.{AreFlagless, item_typed};
 ghost use Rattle.script_joining.specs.Joining.{joined};
-ghost use Rattle.text_stages.specs.Stages.{IsFollowed, mapped};
+ghost use Rattle.stage_rules.specs.Stages.{IsFollowed, mapped};
 
 use crate::flags::flag_neighbours;
 use crate::letters::join;
 use crate::types::{nearest_in_context, typed};
 use glyph_buffer::buffer::hb_buffer_t;
-use glyph_types::info::hb_mask_t;
+use glyph_lists::info::hb_mask_t;
 use shaping_text::script::Script;
-use text_stages::glyphs::map_glyphs;
+use stage_rules::glyphs::map_glyphs;
 use unicode_tables::UnicodeTables;
 
 /// Gives each letter of a text its form, as its `auxiliary`, and the mask of the form's feature: `masks` has those of ISOL,

@@ -7,7 +7,7 @@ ghost use Rattle.script_joining.specs.Joining.{is_letter, nearest, nearest_behin
 ghost use Rattle.script_joining.specs.Types.{joining_type, listed_type, type_of_category, type_of_character, type_of_item};
 ghost use Rattle.glyph_lists.specs.Origins.{origin_of};
 
-use glyph_types::info::hb_glyph_info_t;
+use glyph_lists::info::hb_glyph_info_t;
 use script_constants::{hb_arabic_joining_type_t, joining_type_of_number};
 use unicode::properties::GeneralCategory;
 use unicode_chars::{CharExt, GeneralCategoryExt};

@@ -4,14 +4,14 @@ use Rattle.std.specs.Prelude.{slice_range, bit_and, Bool, ◌==◌}
 use Rattle.script_constants.specs.declared.ot_category_t.TheConstants as category
 use Rattle.script_constants.specs.declared.shaper.hb_ot_script_shaper_t.TheVariants.{KHMER_SHAPER}
 use Rattle.script_constants.specs.Shapers.{is_reordered}
-use Rattle.layout_rules.specs.Ready.{IsReady}
+use Rattle.stage_rules.specs.Ready.{IsReady}
 use Rattle.glyph_lists.specs.Items.{Item}
 use Rattle.glyph_buffer.specs.Sides.{Sides, all_glyphs, items_of}
-use Rattle.script_walks.specs.Rewriting.{Rewritten, kept, then_rule, within}
-use Rattle.script_walks.specs.Buffers.{IsRewritten}
-use Rattle.script_walks.specs.Lemmas.Rewritings.{rewritten_next, rewritten_same, rewritten_count, counted}
-use Rattle.script_walks.specs.Parts.{masked_all, first_to_back}
-use Rattle.script_walks.specs.Lemmas.Parts.{rewritten_part, range_size, masked_size, moved_size}
+use Rattle.stage_rules.specs.Rewriting.{Rewritten, kept, then_rule, within}
+use Rattle.stage_rules.specs.SyllableBuffers.{IsRewritten}
+use Rattle.stage_rules.specs.Lemmas.Rewritings.{rewritten_next, rewritten_same, rewritten_count, counted}
+use Rattle.stage_rules.specs.Parts.{masked_all, first_to_back}
+use Rattle.stage_rules.specs.Lemmas.Parts.{rewritten_part, range_size, masked_size, moved_size}
 use Rattle.script_khmer_myanmar.specs.declared.khmer.KhmerMasks.{KhmerMasks}
 use Rattle.script_khmer_myanmar.specs.Khmer.{Step, passed, is_coeng, coeng_met, vowel_met, khmer_at, coeng_moved, vowel_moved, khmer_reordered, khmer_syllable}
 use Rattle.script_khmer_myanmar.specs.Lemmas.KhmerSize.{coeng_pref_size, coeng_moved_size}

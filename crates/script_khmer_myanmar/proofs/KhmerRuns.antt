@@ -11,15 +11,15 @@ use Rattle.script_constants.specs.declared.ot_category_t.TheConstants as categor
 use Rattle.glyph_lists.specs.Items.{Item, without_flags}
 use Rattle.glyph_lists.specs.Levels.{InList}
 use Rattle.glyph_lists.specs.Events.{Event, Move}
-use Rattle.script_moves.specs.Moves.{FrontMove, all_moved, move_events, moved, order_of_move}
-use Rattle.script_moves.specs.Fronts.{front_moves, fronts, stayed}
-use Rattle.script_walks.specs.Rewriting.{Rewritten, kept, shifted, then_rule, within}
-use Rattle.script_walks.specs.Parts.{fronts_moved, masked, masked_all}
-use Rattle.script_walks.specs.Lemmas.Fronts.{shift_moves}
+use Rattle.stage_rules.specs.Moves.{FrontMove, all_moved, move_events, moved, order_of_move}
+use Rattle.stage_rules.specs.Fronts.{front_moves, fronts, stayed}
+use Rattle.stage_rules.specs.Rewriting.{Rewritten, kept, shifted, then_rule, within}
+use Rattle.stage_rules.specs.Parts.{fronts_moved, masked, masked_all}
+use Rattle.stage_rules.specs.Lemmas.Fronts.{shift_moves}
 use Rattle.script_khmer_myanmar.specs.declared.khmer.KhmerMasks.{KhmerMasks}
 use Rattle.script_khmer_myanmar.specs.Khmer.{Step, is_coeng, khmer_at, khmer_walk, passed, vowel_moved}
 use Rattle.script_khmer_myanmar.specs.Runs.{IsPlain, IsRun, forms_masked, forms_moved, is_vowel, together}
-use Rattle.script_moves.specs.Lemmas.Fronted.{all_moved_fronts, moved_one, moved_two, moves_seen}
+use Rattle.stage_rules.specs.Lemmas.Fronted.{all_moved_fronts, moved_one, moved_two, moves_seen}
 use Rattle.script_khmer_myanmar.proofs.KhmerSteps.{at_form, at_other, coeng_turned, front_turned, got_behind, got_next, met_if, within_at}
 
 abbrev kind : Item → ℕ

@@ -6,20 +6,20 @@ use Rattle.std.proofs.lemmas.Bool.Decides.{nat_tests}
 use Rattle.std.proofs.lemmas.Grind.{common_steps}
 use Rattle.std.proofs.lemmas.List.{drop_all, drop-map, length-drop, length-map, take-append-drop}
 use Rattle.script_constants.specs.declared.ot_category_t.TheConstants as category
-use Rattle.glyph_types.specs.declared.info.hb_glyph_info_t.{hb_glyph_info_t}
+use Rattle.glyph_lists.specs.declared.info.hb_glyph_info_t.{hb_glyph_info_t}
 use Rattle.glyph_lists.specs.Items.{Item, clusters, item_of, strip}
 use Rattle.glyph_lists.specs.Origins.{numbers, origin_of, origins}
 use Rattle.glyph_lists.specs.Lemmas.Origins.{numbers_origins}
 use Rattle.glyph_buffer.specs.Sides.{Sides, all_glyphs, items_of}
 use Rattle.glyph_buffer.specs.Lending.{with_refilled}
-use Rattle.layout_rules.specs.Ready.{IsReady}
-use Rattle.script_moves.specs.Moves.{FrontMove, reach}
-use Rattle.script_moves.specs.Fronts.{front_moves, pair_seen}
-use Rattle.script_walks.specs.Rewriting.{kept}
-use Rattle.script_walks.specs.Parts.{glyph_masked, masked}
-use Rattle.script_walks.specs.Buffers.{IsRewritten}
-use Rattle.script_walks.specs.Lemmas.Parts.{item_masked_is, origin_masked_is, part_clusters, part_written, range_seen}
-use Rattle.script_walks.specs.Lemmas.Rewritings.{middle}
+use Rattle.stage_rules.specs.Ready.{IsReady}
+use Rattle.stage_rules.specs.Moves.{FrontMove, reach}
+use Rattle.stage_rules.specs.Fronts.{front_moves, pair_seen}
+use Rattle.stage_rules.specs.Rewriting.{kept}
+use Rattle.stage_rules.specs.Parts.{glyph_masked, masked}
+use Rattle.stage_rules.specs.SyllableBuffers.{IsRewritten}
+use Rattle.stage_rules.specs.Lemmas.Parts.{item_masked_is, origin_masked_is, part_clusters, part_written, range_seen}
+use Rattle.stage_rules.specs.Lemmas.Rewritings.{middle}
 use Rattle.script_khmer_myanmar.specs.Runs.{IsRun, ends_run, forms_masked, is_vowel, run_length, taken, together}
 use Rattle.script_khmer_myanmar.specs.Lemmas.Forms.{ra_no_coeng}
 

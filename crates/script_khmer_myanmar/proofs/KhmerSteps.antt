@@ -7,9 +7,9 @@ use Rattle.script_constants.specs.declared.ot_category_t.TheConstants as categor
 use Rattle.glyph_lists.specs.Items.{Item}
 use Rattle.glyph_lists.specs.Levels.{InList}
 use Rattle.glyph_lists.specs.Events.{Event, Move}
-use Rattle.script_moves.specs.Moves.{order_of_move}
-use Rattle.script_walks.specs.Rewriting.{Rewritten, shifted, then_rule, within}
-use Rattle.script_walks.specs.Parts.{first_to_back, masked, masked_all}
+use Rattle.stage_rules.specs.Moves.{order_of_move}
+use Rattle.stage_rules.specs.Rewriting.{Rewritten, shifted, then_rule, within}
+use Rattle.stage_rules.specs.Parts.{first_to_back, masked, masked_all}
 use Rattle.script_khmer_myanmar.specs.declared.khmer.KhmerMasks.{KhmerMasks}
 use Rattle.script_khmer_myanmar.specs.Khmer.{Step, coeng_met, coeng_moved, is_coeng, khmer_at, passed, met, vowel_met, vowel_moved}
 

@@ -7,7 +7,7 @@ use Rattle.std.proofs.lemmas.List.Folds.{list_all-append}
 use Rattle.std.proofs.lemmas.List.FromFn.{length-range_with_len}
 use Rattle.std.proofs.lemmas.Bool.Decides.{nat_tests}
 use Rattle.std.proofs.lemmas.Grind.{common_steps}
-use Rattle.glyph_types.specs.declared.info.hb_glyph_info_t.{hb_glyph_info_t}
+use Rattle.glyph_lists.specs.declared.info.hb_glyph_info_t.{hb_glyph_info_t}
 use Rattle.script_constants.specs.declared.ot_position_t.TheConstants as position
 use Rattle.script_constants.specs.declared.shaper.hb_ot_script_shaper_t.TheVariants.{MYANMAR_SHAPER}
 use Rattle.script_constants.specs.Shapers.{is_reordered}
@@ -20,22 +20,22 @@ use Rattle.glyph_lists.specs.Items.{Item, clusters, item_of, strip}
 use Rattle.glyph_lists.specs.Levels.{InList}
 use Rattle.glyph_lists.specs.Origins.{arranged, manner, merged_as, origin_of, origins}
 use Rattle.glyph_lists.specs.Events.{Merge, Sort}
-use Rattle.glyph_lists.specs.Readings.{View}
+use Rattle.glyph_buffer.specs.Readings.{View}
 use Rattle.buffer_lists.specs.declared.order.KnownOrder.{KnownOrder}
 use Rattle.buffer_lists.specs.Known.{HasOrder}
 use Rattle.glyph_buffer.specs.Sides.{Sides, all_glyphs, items_of, origins_by, origins_of, settings_of, view_of}
 use Rattle.glyph_buffer.specs.Sorting.{with_range_sorted}
 use Rattle.glyph_buffer.specs.Told.{told_telling}
 use Rattle.glyph_buffer.specs.Lending.{with_refilled}
-use Rattle.layout_rules.specs.Ready.{IsReady}
-use Rattle.text_stages.specs.Stages.{Happens}
-use Rattle.text_stages.specs.Lemmas.Written.{written_all, written_ready}
-use Rattle.script_moves.specs.Moves.{are_one_cluster}
-use Rattle.script_moves.specs.Lemmas.Ordered.{clusters_among}
-use Rattle.script_walks.specs.Rewriting.{Rewritten, kept, then_rule, within}
-use Rattle.script_walks.specs.Buffers.{IsRewritten}
-use Rattle.script_walks.specs.Lemmas.Rewritings.{counted, rewritten_count, rewritten_next, rewritten_same}
-use Rattle.script_walks.specs.Lemmas.Parts.{order_put, part_clusters, part_written, range_size, rewritten_part}
+use Rattle.stage_rules.specs.Ready.{IsReady}
+use Rattle.stage_rules.specs.Stages.{Happens}
+use Rattle.stage_rules.specs.Lemmas.Written.{written_all, written_ready}
+use Rattle.stage_rules.specs.Moves.{are_one_cluster}
+use Rattle.stage_rules.specs.Lemmas.Ordered.{clusters_among}
+use Rattle.stage_rules.specs.Rewriting.{Rewritten, kept, then_rule, within}
+use Rattle.stage_rules.specs.SyllableBuffers.{IsRewritten}
+use Rattle.stage_rules.specs.Lemmas.Rewritings.{counted, rewritten_count, rewritten_next, rewritten_same}
+use Rattle.stage_rules.specs.Lemmas.Parts.{order_put, part_clusters, part_written, range_size, rewritten_part}
 use Rattle.script_khmer_myanmar.specs.Myanmar.{all_placed, groups_reversed, has_two_matras, is_left_at, is_left_matra, matras_of, matras_reversed, myanmar_places, myanmar_reordered, myanmar_syllable, same_group, sorted_by_place, with_place, with_places}
 use Rattle.script_khmer_myanmar.specs.Turned.{glyphs_at, leading_turned}
 use Rattle.script_khmer_myanmar.specs.Lemmas.MyanmarSize.{all_placed_size, sorted_size}

@@ -5,7 +5,7 @@ use borrow.Rule.Slice.PartMut.{mid_of, put_mid}
 use Rattle.std.proofs.Math.Seq.{take-append_seam, drop-append_seam}
 use Rattle.std.specs.List.{list_any, position_or_len}
 use Rattle.std.proofs.lemmas.List.{length-append, length-map, length-replicate, drop_all, drop_more, take_all, append-nil, take-append-drop, length-take-le, drop-map}
-use Rattle.glyph_types.specs.declared.info.hb_glyph_info_t.{hb_glyph_info_t}
+use Rattle.glyph_lists.specs.declared.info.hb_glyph_info_t.{hb_glyph_info_t}
 use Rattle.script_constants.specs.declared.ot_position_t.TheConstants as position
 use Rattle.script_khmer_myanmar.specs.Myanmar.{base_of, from_base, is_base, place_behind, place_of, places_behind}
 use Rattle.script_khmer_myanmar.specs.Turned.{glyph_at, glyphs_at}

@@ -7,8 +7,8 @@ use Rattle.script_constants.specs.Shapers.{is_reordered}
 use Rattle.unicode_tables.specs.Tables.{Tables, split_of}
 use Rattle.glyph_lists.specs.Items.{Item}
 use Rattle.syllable_lists.specs.Pieces.{ArePermuted}
-use Rattle.script_walks.specs.Rewriting.{Rewritten, kept, then_rule, within, in_syllables, by_syllable}
-use Rattle.script_walks.specs.Parts.{masked_all, first_to_back}
+use Rattle.stage_rules.specs.Rewriting.{Rewritten, kept, then_rule, within, in_syllables, by_syllable}
+use Rattle.stage_rules.specs.Parts.{masked_all, first_to_back}
 use Rattle.script_khmer_myanmar.specs.declared.khmer.KhmerMasks.{KhmerMasks}
 
 -- ---- vowels that split

@@ -12,7 +12,7 @@ use Rattle.glyph_lists.specs.Items.{Item}
 use Rattle.glyph_lists.specs.Levels.{InList}
 use Rattle.glyph_lists.specs.Events.{Move, Sort}
 use Rattle.syllable_lists.specs.Pieces.{ArePermuted}
-use Rattle.script_walks.specs.Rewriting.{Rewritten, kept, then_rule, within, in_syllables, by_syllable}
+use Rattle.stage_rules.specs.Rewriting.{Rewritten, kept, then_rule, within, in_syllables, by_syllable}
 
 -- ---- places, by the categories of a syllable's items
 

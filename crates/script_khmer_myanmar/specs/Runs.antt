@@ -3,10 +3,10 @@ use Rattle.std.specs.Prelude.{ℕ, ◌≡◌, ◌+◌, ◌-◌, ◌==◌, ◌&&�
 use Rattle.script_constants.specs.declared.ot_category_t.TheConstants as category
 use Rattle.glyph_lists.specs.Items.{Item}
 use Rattle.glyph_buffer.specs.Sides.{Sides, all_glyphs, items_of}
-use Rattle.layout_rules.specs.Ready.{IsReady}
-use Rattle.script_walks.specs.Rewriting.{Rewritten, kept, then_rule, within}
-use Rattle.script_walks.specs.Buffers.{IsRewritten}
-use Rattle.script_walks.specs.Parts.{fronts_moved, masked, masked_all}
+use Rattle.stage_rules.specs.Ready.{IsReady}
+use Rattle.stage_rules.specs.Rewriting.{Rewritten, kept, then_rule, within}
+use Rattle.stage_rules.specs.SyllableBuffers.{IsRewritten}
+use Rattle.stage_rules.specs.Parts.{fronts_moved, masked, masked_all}
 use Rattle.script_khmer_myanmar.specs.declared.khmer.KhmerMasks.{KhmerMasks}
 use Rattle.script_khmer_myanmar.specs.Khmer.{khmer_walk}
 

@@ -1,23 +1,23 @@
 //! Khmer: vowels that split, and coeng forms and left vowels, which go to the start of their syllable.
 ghost use Rattle.std.specs.Prelude.{◌≡◌, ◌≤◌, ◌<◌, ◌+◌, ◌-◌, length, nat_le, slice_range, true, OnOk};
 ghost use Rattle.glyph_lists.specs.Items.{item_of};
-ghost use Rattle.glyph_lists.specs.Readings.{always};
+ghost use Rattle.glyph_buffer.specs.Readings.{always};
 ghost use Rattle.glyph_buffer.specs.Sides.{all_glyphs, items_of};
-ghost use Rattle.layout_rules.specs.Ready.{IsReady};
-ghost use Rattle.text_stages.specs.Stages.{IsFollowed};
-ghost use Rattle.script_walks.specs.Rewriting.{by_syllable};
-ghost use Rattle.script_walks.specs.Buffers.{IsRewritten, with_rule};
+ghost use Rattle.stage_rules.specs.Ready.{IsReady};
+ghost use Rattle.stage_rules.specs.Stages.{IsFollowed};
+ghost use Rattle.stage_rules.specs.Rewriting.{by_syllable};
+ghost use Rattle.stage_rules.specs.SyllableBuffers.{IsRewritten, with_rule};
 ghost use Rattle.script_khmer_myanmar.specs.Khmer.{coeng_met, coeng_moved, khmer_at, khmer_reordered, khmer_split, khmer_syllable, khmer_walk, vowel_met};
 ghost use Rattle.script_khmer_myanmar.specs.Runs.{IsRun, IsWalked, OpensForms};
 
 use crate::glyphs::glyph_in;
 use crate::runs::{move_forms, move_run, opens_forms, run_length};
 use glyph_buffer::buffer::hb_buffer_t;
-use glyph_types::info::{hb_glyph_info_t, hb_mask_t};
+use glyph_lists::info::{hb_glyph_info_t, hb_mask_t};
 use script_constants::hb_ot_script_shaper_t::KHMER_SHAPER;
 use script_constants::ot_category_t::{OT_H, OT_Ra, OT_VPre};
-use script_walks::parts::{add_mask, first_to_back};
-use script_walks::walk::{SyllableRule, each_syllable};
+use stage_rules::parts::{add_mask, first_to_back};
+use stage_rules::walk::{SyllableRule, each_syllable};
 use std::alloc::AllocError;
 use unicode_tables::UnicodeTables;
 

@@ -1,28 +1,28 @@
 //! Myanmar: the glyphs of a syllable go to their places around its base.
 ghost use Rattle.std.specs.Prelude.{◌≡◌, ◌≤◌, ◌++◌, ◌∷◌, [], false, ◌+◌, length, map, take, drop, reverse, slice_range, OnOk};
 ghost use Rattle.glyph_lists.specs.Items.{item_of, strip};
-ghost use Rattle.glyph_lists.specs.Readings.{always};
+ghost use Rattle.glyph_buffer.specs.Readings.{always};
 ghost use Rattle.glyph_buffer.specs.Sides.{all_glyphs, items_of, origins_by, origins_of};
 ghost use Rattle.glyph_buffer.specs.Sorting.{with_range_sorted};
 ghost use Rattle.glyph_lists.specs.Events.{Sort};
 ghost use Rattle.glyph_slices.specs.Events.{order_of};
 ghost use Rattle.stable_order.specs.Keys.{key_order};
-ghost use Rattle.layout_rules.specs.Ready.{IsReady};
-ghost use Rattle.text_stages.specs.Stages.{IsFollowed};
-ghost use Rattle.script_walks.specs.Rewriting.{by_syllable};
-ghost use Rattle.script_walks.specs.Buffers.{IsRewritten, with_rule};
+ghost use Rattle.stage_rules.specs.Ready.{IsReady};
+ghost use Rattle.stage_rules.specs.Stages.{IsFollowed};
+ghost use Rattle.stage_rules.specs.Rewriting.{by_syllable};
+ghost use Rattle.stage_rules.specs.SyllableBuffers.{IsRewritten, with_rule};
 ghost use Rattle.script_khmer_myanmar.specs.Myanmar.{all_placed, groups_reversed, has_two_matras, is_left_matra, matras_of, matras_reversed, myanmar_places, myanmar_reordered, myanmar_syllable, sorted_by_place};
 ghost use Rattle.script_khmer_myanmar.specs.Turned.{glyphs_at, leading_turned};
 
 use crate::glyphs::glyph_in;
 use crate::places::set_places;
 use glyph_buffer::buffer::hb_buffer_t;
-use glyph_types::info::hb_glyph_info_t;
+use glyph_lists::info::hb_glyph_info_t;
 use script_constants::hb_ot_script_shaper_t::MYANMAR_SHAPER;
 use script_constants::ot_category_t::OT_VPre;
 use script_constants::ot_position_t::POS_PRE_M;
-use script_moves::moves::order_kept;
-use script_walks::walk::{SyllableRule, each_syllable};
+use stage_rules::moves::order_kept;
+use stage_rules::walk::{SyllableRule, each_syllable};
 use std::alloc::{AllocError, Global};
 
 /// Reorders each Myanmar syllable that is one: its glyphs get their places around its base, as their `auxiliary`, and go in

@@ -1,11 +1,11 @@
 //! The places of the glyphs of a Myanmar syllable around its base.
 ghost use Rattle.std.specs.Prelude.{◌≡◌, ◌≤◌, length, map, replicate};
-ghost use Rattle.glyph_types.specs.declared.info.hb_glyph_info_t.{hb_glyph_info_t as Glyph};
+ghost use Rattle.glyph_lists.specs.declared.info.hb_glyph_info_t.{hb_glyph_info_t as Glyph};
 ghost use Rattle.script_constants.specs.declared.ot_position_t.TheConstants as position;
 ghost use Rattle.script_khmer_myanmar.specs.Myanmar.{base_of, based, from_base, is_base, kinzi, myanmar_places, place_behind, place_below, place_of, place_there, places_behind, stays_apart};
 ghost use Rattle.script_khmer_myanmar.specs.Turned.{glyph_at, glyphs_at};
 
-use glyph_types::info::hb_glyph_info_t;
+use glyph_lists::info::hb_glyph_info_t;
 use script_constants::ot_category_t::{
     Category, OT_A, OT_As, OT_C, OT_CS, OT_DOTTEDCIRCLE, OT_H, OT_MR, OT_PLACEHOLDER, OT_Ra, OT_V,
     OT_VBlw, OT_VPre, OT_VS,

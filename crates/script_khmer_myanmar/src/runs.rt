@@ -1,23 +1,23 @@
 //! Glyphs of a Khmer syllable that are walked at once: forms of a coeng with Ra, and left vowels.
 ghost use Rattle.std.specs.Prelude.{◌≡◌, ◌≤◌, ◌<◌, ◌+◌, ◌++◌, Bool, true, false, drop, length, map, slice_get, slice_range, take, Some};
-ghost use Rattle.glyph_types.specs.declared.info.hb_glyph_info_t.{hb_glyph_info_t as Glyph};
+ghost use Rattle.glyph_lists.specs.declared.info.hb_glyph_info_t.{hb_glyph_info_t as Glyph};
 ghost use Rattle.glyph_lists.specs.Items.{item_of, strip};
 ghost use Rattle.glyph_buffer.specs.Sides.{all_glyphs, items_of};
-ghost use Rattle.layout_rules.specs.Ready.{IsReady};
-ghost use Rattle.script_moves.specs.Moves.{reach};
-ghost use Rattle.script_moves.specs.Fronts.{front_moves, pair_seen};
-ghost use Rattle.script_walks.specs.Rewriting.{kept};
-ghost use Rattle.script_walks.specs.Parts.{fronts_moved, glyph_masked, masked};
-ghost use Rattle.script_walks.specs.Buffers.{IsRewritten};
+ghost use Rattle.stage_rules.specs.Ready.{IsReady};
+ghost use Rattle.stage_rules.specs.Moves.{reach};
+ghost use Rattle.stage_rules.specs.Fronts.{front_moves, pair_seen};
+ghost use Rattle.stage_rules.specs.Rewriting.{kept};
+ghost use Rattle.stage_rules.specs.Parts.{fronts_moved, glyph_masked, masked};
+ghost use Rattle.stage_rules.specs.SyllableBuffers.{IsRewritten};
 ghost use Rattle.script_khmer_myanmar.specs.Runs.{IsRun, OpensForms, ends_run, forms_masked, forms_moved, is_vowel, run_length, taken, together};
 
 use crate::khmer::KhmerMasks;
 use glyph_buffer::buffer::hb_buffer_t;
-use glyph_types::info::{hb_glyph_info_t, hb_mask_t};
+use glyph_lists::info::{hb_glyph_info_t, hb_mask_t};
 use script_constants::ot_category_t::{OT_H, OT_Ra, OT_VPre};
-use script_moves::fronts::FrontRule;
-use script_walks::fronts::move_fronts;
-use script_walks::parts::{add_mask, mask_within};
+use stage_rules::fronts::FrontRule;
+use stage_rules::parts::{add_mask, mask_within};
+use stage_rules::syllable_fronts::move_fronts;
 
 /// Whether a form stands at an index of a syllable, no more than two coengs were met, and the glyph before it is neither a
 /// coeng nor a left vowel, so that nothing happens when it is met again.

@@ -4,8 +4,8 @@ use Rattle.glyph_lists.specs.Items.{Item}
 use Rattle.glyph_lists.specs.Levels.{InList}
 use Rattle.glyph_lists.specs.Events.{Move, IsPlain}
 use Rattle.glyph_lists.specs.Origins.{changed_within}
-use Rattle.normal_forms.specs.Arranged.{Arranged, kept, shifted, and_arranged}
-use Rattle.script_moves.specs.Moves.{moved, order_of_move}
+use Rattle.glyph_properties.specs.Arranged.{Arranged, kept, shifted, and_arranged}
+use Rattle.stage_rules.specs.Moves.{moved, order_of_move}
 use Rattle.script_joining.specs.Marks.{classed, count_below, count_leading}
 use Rattle.script_hebrew_thai.specs.Hebrew.{first_three}
 

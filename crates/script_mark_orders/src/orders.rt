@@ -1,7 +1,7 @@
 //! A shaper's own order of a run of marks.
 ghost use Rattle.std.specs.Prelude.{◌≤◌, length};
 ghost use Rattle.glyph_buffer.specs.Sides.{all_glyphs};
-ghost use Rattle.layout_rules.specs.Ready.{IsReady};
+ghost use Rattle.stage_rules.specs.Ready.{IsReady};
 ghost use Rattle.normal_rounds.specs.Rearranged.{Rearranges};
 ghost use Rattle.script_mark_orders.specs.Orders.{arabic_order, hebrew_order};
 

@@ -5,8 +5,8 @@ use Rattle.script_constants.specs.declared.category.TheConstants as category
 use Rattle.script_constants.specs.declared.ot_category_t.TheConstants as ot_category
 use Rattle.unicode_tables.specs.Tables.{Tables, indic_of, universal_of}
 use Rattle.glyph_lists.specs.Items.{Item}
-use Rattle.glyph_lists.specs.Readings.{Stage, always}
-use Rattle.text_stages.specs.Stages.{mapped}
+use Rattle.glyph_buffer.specs.Readings.{Stage, always}
+use Rattle.stage_rules.specs.Stages.{mapped}
 
 abbrev pub category_or_none : Option (ℕ × ℕ) → ℕ
 category_or_none None = ot_category.OT_X

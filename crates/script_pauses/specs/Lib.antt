@@ -2,3 +2,11 @@ pub mod Quiet
 pub mod Syllables
 pub mod Categories
 pub mod Lemmas
+pub mod Tiles
+pub mod Words
+pub mod Runs
+pub mod Copies
+pub mod Laying
+pub mod Copying
+pub mod Stretch
+pub mod TileLaws

@@ -9,20 +9,20 @@ use Rattle.script_constants.specs.declared.syllable_kinds.khmer.TheConstants as 
 use Rattle.script_constants.specs.declared.syllable_kinds.myanmar.TheConstants as myanmar
 use Rattle.script_constants.specs.declared.syllable_kinds.universal.TheConstants as universal
 use Rattle.glyph_lists.specs.Items.{Item}
-use Rattle.glyph_lists.specs.Readings.{Stage, and_then, always, as_it_is}
-use Rattle.text_stages.specs.Stages.{mapped}
-use Rattle.script_walks.specs.Rewriting.{Rewritten, by_syllable}
-use Rattle.script_walks.specs.Buffers.{with_rule}
-use Rattle.script_circles.specs.declared.circles.CircleRule.{CircleRule}
-use Rattle.script_circles.specs.Circles.{circles_by}
-use Rattle.script_circles.specs.Rules.{circle_rule}
+use Rattle.glyph_buffer.specs.Readings.{Stage, and_then, always, as_it_is}
+use Rattle.stage_rules.specs.Stages.{mapped}
+use Rattle.stage_rules.specs.Rewriting.{Rewritten, by_syllable}
+use Rattle.stage_rules.specs.SyllableBuffers.{with_rule}
+use Rattle.syllable_stages.specs.declared.circles.CircleRule.{CircleRule}
+use Rattle.syllable_stages.specs.Circles.{circles_by}
+use Rattle.syllable_stages.specs.Rules.{circle_rule}
 use Rattle.script_khmer_myanmar.specs.declared.khmer.KhmerMasks.{KhmerMasks}
 use Rattle.script_khmer_myanmar.specs.Khmer.{khmer_syllable}
 use Rattle.script_khmer_myanmar.specs.Myanmar.{myanmar_syllable}
 use Rattle.script_universal.specs.Reordering.{universal_syllable}
-use Rattle.universal_syllables.specs.declared.forms.FormMasks.{FormMasks}
-use Rattle.universal_syllables.specs.Features.{rphf_masked, topography}
-use Rattle.universal_syllables.specs.Spans.{universal_set}
+use Rattle.syllable_stages.specs.declared.forms.FormMasks.{FormMasks}
+use Rattle.syllable_stages.specs.Features.{rphf_masked, topography}
+use Rattle.syllable_stages.specs.Spans.{universal_set}
 
 -- each syllable is rewritten by itself
 abbrev pub syllables_by : (List Item → Rewritten) → Stage

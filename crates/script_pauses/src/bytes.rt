@@ -1,17 +1,17 @@
 //! Where the syllables of Khmer and Myanmar stand.
 ghost use Rattle.std.specs.Prelude.{◌≡◌, ◌≢◌, false, Ok, Err, IfErr, OnOk};
-ghost use Rattle.glyph_lists.specs.Readings.{read_of};
+ghost use Rattle.glyph_buffer.specs.Readings.{read_of};
 ghost use Rattle.glyph_buffer.specs.Sides.{items_of, run_of};
-ghost use Rattle.layout_rules.specs.Ready.{IsDone, IsReady};
-ghost use Rattle.layout_walks.specs.Pauses.{BringsNoGlyph};
-ghost use Rattle.script_circles.specs.Bytes.{syllables_set};
+ghost use Rattle.stage_rules.specs.Ready.{IsDone, IsReady};
+ghost use Rattle.stage_rules.specs.Pauses.{BringsNoGlyph};
+ghost use Rattle.syllable_stages.specs.Bytes.{syllables_set};
 
 use glyph_buffer::buffer::hb_buffer_t;
-use glyph_types::cause::ShapeCause;
-use script_circles::syllables;
+use glyph_lists::cause::ShapeCause;
 use script_constants::hb_ot_script_shaper_t;
 use script_syllables::SyllableSpans;
 use std::alloc::Global;
+use syllable_stages::syllables;
 
 /// Gives the glyphs of each syllable its byte and marks it as unsafe to break. Answers false: no glyph came in.
 ///

@@ -2,15 +2,15 @@
 ghost use Rattle.std.specs.Prelude.{◌≡◌};
 ghost use Rattle.glyph_lists.specs.Items.{item_of};
 ghost use Rattle.glyph_lists.specs.Origins.{origin_of};
-ghost use Rattle.layout_rules.specs.Ready.{IsReady};
-ghost use Rattle.text_stages.specs.Stages.{IsFollowed};
+ghost use Rattle.stage_rules.specs.Ready.{IsReady};
+ghost use Rattle.stage_rules.specs.Stages.{IsFollowed};
 ghost use Rattle.script_pauses.specs.Categories.{categories_set, listed_category, ot_category_of, universal_category_of, with_category};
 
 use glyph_buffer::buffer::hb_buffer_t;
-use glyph_types::info::hb_glyph_info_t;
+use glyph_lists::info::hb_glyph_info_t;
 use script_constants::category;
 use script_constants::ot_category_t::OT_X;
-use text_stages::glyphs::map_glyphs;
+use stage_rules::glyphs::map_glyphs;
 use unicode_tables::UnicodeTables;
 
 /// Each character keeps its category for the universal shaper. It takes linear time and no memory.

@@ -1,20 +1,20 @@
 //! The pauses of the Khmer shaper.
 ghost use Rattle.std.specs.Prelude.{◌≡◌, ◌≢◌, true, false, Ok, Err, IfErr, OnOk};
-ghost use Rattle.glyph_lists.specs.Readings.{read_of};
+ghost use Rattle.glyph_buffer.specs.Readings.{read_of};
 ghost use Rattle.glyph_buffer.specs.Sides.{items_of, run_of};
-ghost use Rattle.layout_rules.specs.Buffers.{are_glyphs};
-ghost use Rattle.layout_rules.specs.Ready.{IsDone, IsReady};
-ghost use Rattle.layout_walks.specs.Pauses.{BringsNoGlyph};
-ghost use Rattle.layout_walks.specs.Settings.{text_settings};
+ghost use Rattle.stage_rules.specs.Buffers.{are_glyphs};
+ghost use Rattle.stage_rules.specs.Ready.{IsDone, IsReady};
+ghost use Rattle.stage_rules.specs.Pauses.{BringsNoGlyph};
+ghost use Rattle.stage_rules.specs.Settings.{text_settings};
 ghost use Rattle.script_pauses.specs.Syllables.{khmer_order};
 
 use font_face::Face;
 use glyph_buffer::buffer::hb_buffer_t;
-use glyph_types::cause::ShapeCause;
-use script_circles::circles::insert_dotted_circles;
+use glyph_lists::cause::ShapeCause;
 use script_constants::ot_category_t::{OT_DOTTEDCIRCLE, OT_Repha};
 use script_constants::syllable_kinds::khmer::BROKEN_CLUSTER;
 use script_khmer_myanmar::khmer::{self, KhmerMasks};
+use syllable_stages::circles::insert_dotted_circles;
 
 /// Puts a circle into each broken syllable and its glyphs in order. Answers whether circles came in.
 ///

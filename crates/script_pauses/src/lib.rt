@@ -1,9 +1,18 @@
-// What the shapers of syllables do between the stages of lookups, and the categories of their characters.
+// What the shapers of scripts do between the stages of lookups, and the categories of their characters; the tiles that Arabic
+// words are stretched over, and how they are laid.
 #![tactic(auto)]
 
 pub mod bytes;
 pub mod categories;
 pub mod clearing;
+pub mod copies;
+pub mod copying;
 pub mod khmer;
+pub mod laying;
 pub mod myanmar;
+pub mod runs;
+pub mod stretch;
+pub mod tile_laws;
+pub mod tiles;
 pub mod universal;
+pub mod words;

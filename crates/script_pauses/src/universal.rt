@@ -1,29 +1,29 @@
 //! The pauses of the universal shaper.
 ghost use Rattle.std.specs.Prelude.{◌≡◌, ◌≢◌, true, false, Ok, Err, IfErr, OnOk};
-ghost use Rattle.glyph_lists.specs.Readings.{read_of};
+ghost use Rattle.glyph_buffer.specs.Readings.{read_of};
 ghost use Rattle.glyph_buffer.specs.Sides.{items_of, run_of};
-ghost use Rattle.layout_rules.specs.Buffers.{are_glyphs};
-ghost use Rattle.layout_rules.specs.Ready.{IsDone, IsReady};
-ghost use Rattle.layout_walks.specs.Pauses.{BringsNoGlyph};
-ghost use Rattle.layout_walks.specs.Settings.{text_settings};
-ghost use Rattle.universal_syllables.specs.Features.{pref_recorded, rphf_recorded};
+ghost use Rattle.stage_rules.specs.Buffers.{are_glyphs};
+ghost use Rattle.stage_rules.specs.Ready.{IsDone, IsReady};
+ghost use Rattle.stage_rules.specs.Pauses.{BringsNoGlyph};
+ghost use Rattle.stage_rules.specs.Settings.{text_settings};
+ghost use Rattle.syllable_stages.specs.Features.{pref_recorded, rphf_recorded};
 ghost use Rattle.script_pauses.specs.Quiet.{IsQuiet};
 ghost use Rattle.script_pauses.specs.Syllables.{forms_set, syllables_by, universal_order, universal_syllables_set};
 
 use font_face::Face;
 use glyph_buffer::buffer::hb_buffer_t;
-use glyph_types::cause::ShapeCause;
-use glyph_types::info::hb_mask_t;
-use script_circles::circles::insert_dotted_circles;
+use glyph_lists::cause::ShapeCause;
+use glyph_lists::info::hb_mask_t;
 use script_constants::category::{B, R};
 use script_constants::syllable_kinds::universal::BROKEN_CLUSTER;
 use script_syllables::SyllableSpans;
 use script_universal::reorder;
 use std::alloc::Global;
-use universal_syllables::forms::{FormMasks, setup_topographical_masks};
-use universal_syllables::recording;
-use universal_syllables::rphf::setup_rphf_mask;
-use universal_syllables::spans::find_syllables;
+use syllable_stages::circles::insert_dotted_circles;
+use syllable_stages::forms::{FormMasks, setup_topographical_masks};
+use syllable_stages::recording;
+use syllable_stages::rphf::setup_rphf_mask;
+use syllable_stages::spans::find_syllables;
 
 /// Gives the glyphs of each syllable its byte, marks it as unsafe to break, and gives its glyphs the features rphf and, where
 /// letters of the script don't join, of its form. Answers false: no glyph came in.

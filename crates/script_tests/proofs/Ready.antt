@@ -4,7 +4,7 @@ use Rattle.std.proofs.lemmas.List.{length-append, length-drop, length-take-le}
 use Rattle.glyph_lists.specs.Items.{Position}
 use Rattle.glyph_buffer.specs.Sides.{Sides}
 use Rattle.glyph_buffer.specs.Lending.{refilled, with_positions_refilled}
-use Rattle.layout_rules.specs.Ready.{IsReady}
+use Rattle.stage_rules.specs.Ready.{IsReady}
 
 as_many : (new old : List Position) → length (refilled new old) ≡ length old
 as_many new old =

@@ -2,13 +2,13 @@
 use crate::numbers::Numbers;
 use crate::spans::SingleGlyphs;
 use glyph_buffer::buffer::hb_buffer_t;
-use glyph_types::cause::ShapeCause;
-use script_circles::syllables::setup_syllables;
+use glyph_lists::cause::ShapeCause;
 use script_constants::hb_ot_script_shaper_t::UNIVERSAL_SHAPER;
 use script_syllables::{Accept, Step, SyllableMachine, SyllableMachines, SyllableTable};
 use std::alloc::Global;
 use std::test::Fail;
-use universal_syllables::spans::find_syllables;
+use syllable_stages::spans::find_syllables;
+use syllable_stages::syllables::setup_syllables;
 
 fn machine(alloc: Global, row: &str) -> Result<SyllableMachine, Fail> {
     let mut numbers = Numbers::of(alloc, row)?;

@@ -1,6 +1,6 @@
 //! Arabic joining: the form and the mask of each character.
 use crate::numbers::Numbers;
-use glyph_types::info::hb_glyph_info_t;
+use glyph_lists::info::hb_glyph_info_t;
 use script_joining::setup_masks_inner;
 use std::alloc::Global;
 use std::test::Fail;

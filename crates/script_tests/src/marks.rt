@@ -1,6 +1,6 @@
 //! The order of marks on a range of a text.
 use crate::numbers::Numbers;
-use glyph_types::info::hb_glyph_info_t;
+use glyph_lists::info::hb_glyph_info_t;
 use std::alloc::Global;
 use std::test::Fail;
 

@@ -1,13 +1,13 @@
 //! Rows of numbers, read one after another.
 ghost use Rattle.std.specs.Prelude.{◌≡◌, false, IfOk, OnOk};
 ghost use Rattle.std.specs.Int.RustNames.{bit_and};
-ghost use Rattle.layout_rules.specs.Ready.{IsReady};
+ghost use Rattle.stage_rules.specs.Ready.{IsReady};
 
 use glyph_buffer::buffer::hb_buffer_t;
-use glyph_types::flags::{GlyphPropsFlags, UnicodeProps};
-use glyph_types::info::hb_glyph_info_t;
-use glyph_types::level::BufferClusterLevel;
-use glyph_types::position::GlyphPosition;
+use glyph_lists::flags::{GlyphPropsFlags, UnicodeProps};
+use glyph_lists::info::hb_glyph_info_t;
+use glyph_lists::level::BufferClusterLevel;
+use glyph_lists::position::GlyphPosition;
 use std::alloc::Global;
 use std::test::Fail;
 

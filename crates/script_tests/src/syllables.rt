@@ -1,22 +1,22 @@
 //! Syllables and tiles: a rule and numbers.
 ghost use Rattle.std.specs.Prelude.{◌≡◌, length, OnOk};
-ghost use Rattle.layout_rules.specs.Ready.{IsReady};
+ghost use Rattle.stage_rules.specs.Ready.{IsReady};
 
 use crate::numbers::Numbers;
 use glyph_buffer::buffer::hb_buffer_t;
-use glyph_types::cause::ShapeCause;
-use glyph_types::info::hb_glyph_info_t;
-use glyph_types::position::GlyphPosition;
+use glyph_lists::cause::ShapeCause;
+use glyph_lists::info::hb_glyph_info_t;
+use glyph_lists::position::GlyphPosition;
 use script_khmer_myanmar::khmer::{KhmerMasks, reorder_khmer};
 use script_khmer_myanmar::myanmar::reorder_myanmar;
 use script_pauses::clearing::_hb_clear_substitution_flags;
-use script_stretch::tiles::record_stch;
+use script_pauses::tiles::record_stch;
 use script_universal::reorder::reorder_use;
 use std::alloc::Global;
 use std::test::Fail;
-use universal_syllables::forms::{FormMasks, setup_topographical_masks};
-use universal_syllables::recording::{record_pref, record_rphf};
-use universal_syllables::rphf::setup_rphf_mask;
+use syllable_stages::forms::{FormMasks, setup_topographical_masks};
+use syllable_stages::recording::{record_pref, record_rphf};
+use syllable_stages::rphf::setup_rphf_mask;
 
 /// What a rule is given beside a font and a text.
 type Given = [u32; 6];

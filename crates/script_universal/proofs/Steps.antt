@@ -4,18 +4,18 @@ use Rattle.std.specs.Prelude.{bit_and, not, slice_range}
 use Rattle.std.specs.List.{prefix_len}
 use Rattle.std.proofs.lemmas.Option.{slice_get-get_or}
 use Rattle.std.proofs.lemmas.List.{length-map, drop_all, drop-map, get_or-take, get_or-drop, take-map}
-use Rattle.glyph_types.specs.declared.info.hb_glyph_info_t.{hb_glyph_info_t}
+use Rattle.glyph_lists.specs.declared.info.hb_glyph_info_t.{hb_glyph_info_t}
 use Rattle.script_constants.specs.declared.shaper.hb_ot_script_shaper_t.TheVariants.{UNIVERSAL_SHAPER}
 use Rattle.script_constants.specs.Shapers.{is_reordered}
 use Rattle.glyph_lists.specs.Items.{Item, item_of, strip}
 use Rattle.glyph_lists.specs.Lists.{seen_at}
 use Rattle.glyph_buffer.specs.Sides.{Sides, all_glyphs, items_of}
-use Rattle.layout_rules.specs.Ready.{IsReady}
-use Rattle.script_walks.specs.Rewriting.{Rewritten, kept, within}
-use Rattle.script_walks.specs.Parts.{first_to_back}
-use Rattle.script_walks.specs.Buffers.{IsRewritten}
-use Rattle.script_walks.specs.Lemmas.Rewritings.{counted, rewritten_count, rewritten_next, rewritten_same}
-use Rattle.script_walks.specs.Lemmas.Parts.{range_size, rewritten_part}
+use Rattle.stage_rules.specs.Ready.{IsReady}
+use Rattle.stage_rules.specs.Rewriting.{Rewritten, kept, within}
+use Rattle.stage_rules.specs.Parts.{first_to_back}
+use Rattle.stage_rules.specs.SyllableBuffers.{IsRewritten}
+use Rattle.stage_rules.specs.Lemmas.Rewritings.{counted, rewritten_count, rewritten_next, rewritten_same}
+use Rattle.stage_rules.specs.Lemmas.Parts.{range_size, rewritten_part}
 use Rattle.script_universal.specs.Reordering.{begins_with_reph, is_halant, left_walk, reph_end, reph_moved, stops_reph, universal_reordered, universal_syllable}
 use Rattle.script_universal.specs.Lemmas.Sizes.{reph_size}
 

@@ -6,24 +6,24 @@ use Rattle.std.proofs.lemmas.Bool.Decides.{nat_tests}
 use Rattle.std.proofs.lemmas.Grind.{common_steps}
 use Rattle.std.proofs.lemmas.List.{length-append, length-drop, length-map, length-take-le, drop-map, drop-drop, drop-take, take-map}
 use Rattle.std.proofs.lemmas.Option.{slice_get-get_or}
-use Rattle.glyph_types.specs.declared.info.hb_glyph_info_t.{hb_glyph_info_t}
+use Rattle.glyph_lists.specs.declared.info.hb_glyph_info_t.{hb_glyph_info_t}
 use Rattle.glyph_lists.specs.Items.{Item, item_of, strip}
 use Rattle.glyph_lists.specs.Levels.{InList}
 use Rattle.glyph_lists.specs.Events.{Event, Move}
 use Rattle.glyph_buffer.specs.Sides.{Sides, all_glyphs, items_of}
-use Rattle.layout_rules.specs.Ready.{IsReady}
-use Rattle.script_moves.specs.Moves.{FrontMove, all_moved, move_events, moved, order_of_move, reach}
-use Rattle.script_moves.specs.Fronts.{front_moves, gathered_behind}
-use Rattle.script_moves.specs.Lemmas.Fronted.{behind_length, moved_one, moves_alone, moves_grow, reach_fits}
-use Rattle.script_moves.specs.Lemmas.Nested.{reach_grows}
-use Rattle.script_walks.specs.Rewriting.{Rewritten, kept, shifted, then_rule, within}
+use Rattle.stage_rules.specs.Ready.{IsReady}
+use Rattle.stage_rules.specs.Moves.{FrontMove, all_moved, move_events, moved, order_of_move, reach}
+use Rattle.stage_rules.specs.Fronts.{front_moves, gathered_behind}
+use Rattle.stage_rules.specs.Lemmas.Fronted.{behind_length, moved_one, moves_alone, moves_grow, reach_fits}
+use Rattle.stage_rules.specs.Lemmas.Nested.{reach_grows}
+use Rattle.stage_rules.specs.Rewriting.{Rewritten, kept, shifted, then_rule, within}
 use Rattle.glyph_buffer.specs.Sides.{origins_by, view_of}
-use Rattle.script_moves.specs.Moves.{IsGrowing}
-use Rattle.script_walks.specs.Buffers.{IsRewritten}
-use Rattle.script_walks.specs.Parts.{first_to_back, fronts_moved}
-use Rattle.script_walks.specs.Lemmas.Fronts.{part_moves, shift_moves}
-use Rattle.script_walks.specs.Lemmas.Parts.{moved_range, range_size, rewritten_part, within_size}
-use Rattle.script_walks.specs.Lemmas.Rewritings.{counted, middle, rewritten_count, rewritten_next, rewritten_same, rewritten_slice, whole_cut}
+use Rattle.stage_rules.specs.Moves.{IsGrowing}
+use Rattle.stage_rules.specs.SyllableBuffers.{IsRewritten}
+use Rattle.stage_rules.specs.Parts.{first_to_back, fronts_moved}
+use Rattle.stage_rules.specs.Lemmas.Fronts.{part_moves, shift_moves}
+use Rattle.stage_rules.specs.Lemmas.Parts.{moved_range, range_size, rewritten_part, within_size}
+use Rattle.stage_rules.specs.Lemmas.Rewritings.{counted, middle, rewritten_count, rewritten_next, rewritten_same, rewritten_slice, whole_cut}
 use Rattle.script_universal.specs.Reordering.{Step, is_halant, is_left, left_at, left_walk}
 use Rattle.script_universal.specs.Walked.{IsWalked, together}
 

@@ -4,11 +4,11 @@ use Rattle.std.specs.List.{list_any, prefix_len}
 use Rattle.script_constants.specs.declared.category.TheConstants as category
 use Rattle.script_constants.specs.declared.shaper.hb_ot_script_shaper_t.TheVariants.{UNIVERSAL_SHAPER}
 use Rattle.script_constants.specs.Shapers.{is_reordered}
-use Rattle.layout_match.specs.LigatureWords.{is_ligated, lig_comp}
+use Rattle.glyph_lists.specs.LigatureWords.{is_ligated, lig_comp}
 use Rattle.glyph_lists.specs.Items.{Item}
 use Rattle.syllable_lists.specs.Pieces.{ArePermuted}
-use Rattle.script_walks.specs.Rewriting.{Rewritten, kept, then_rule, within, in_syllables, by_syllable}
-use Rattle.script_walks.specs.Parts.{first_to_back}
+use Rattle.stage_rules.specs.Rewriting.{Rewritten, kept, then_rule, within, in_syllables, by_syllable}
+use Rattle.stage_rules.specs.Parts.{first_to_back}
 
 -- categories of what stands behind a base: finals, medials, vowels, their modifiers and those of finals
 abbrev pub post_base_categories : List ℕ

@@ -2,9 +2,9 @@
 use Rattle.std.specs.Prelude.{ℕ, ◌≡◌, ◌-◌, Bool, false, length, slice_range}
 use Rattle.glyph_lists.specs.Items.{Item}
 use Rattle.glyph_buffer.specs.Sides.{Sides, all_glyphs, items_of}
-use Rattle.layout_rules.specs.Ready.{IsReady}
-use Rattle.script_moves.specs.Fronts.{StandApart}
-use Rattle.script_walks.specs.Buffers.{IsRewritten}
+use Rattle.stage_rules.specs.Ready.{IsReady}
+use Rattle.stage_rules.specs.Fronts.{StandApart}
+use Rattle.stage_rules.specs.SyllableBuffers.{IsRewritten}
 use Rattle.script_universal.specs.Reordering.{left_walk}
 
 -- two items never come to the front together

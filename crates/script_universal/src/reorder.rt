@@ -2,27 +2,27 @@
 ghost use Rattle.std.specs.Prelude.{◌≡◌, ◌≤◌, ◌<◌, ◌+◌, ◌-◌, length, nat_lt, not, ◌&&◌, slice_get, slice_range, false, true, OnOk, Some};
 ghost use Rattle.std.specs.List.{prefix_len};
 ghost use Rattle.glyph_lists.specs.Items.{item_of, strip};
-ghost use Rattle.glyph_lists.specs.Readings.{always};
+ghost use Rattle.glyph_buffer.specs.Readings.{always};
 ghost use Rattle.glyph_buffer.specs.Sides.{all_glyphs, items_of};
-ghost use Rattle.layout_rules.specs.Ready.{IsReady};
-ghost use Rattle.text_stages.specs.Stages.{IsFollowed};
-ghost use Rattle.script_walks.specs.Rewriting.{by_syllable};
-ghost use Rattle.script_walks.specs.Buffers.{IsRewritten, with_rule};
-ghost use Rattle.script_moves.specs.Moves.{reach};
-ghost use Rattle.script_moves.specs.Fronts.{front_moves};
-ghost use Rattle.script_walks.specs.Parts.{fronts_moved};
+ghost use Rattle.stage_rules.specs.Ready.{IsReady};
+ghost use Rattle.stage_rules.specs.Stages.{IsFollowed};
+ghost use Rattle.stage_rules.specs.Rewriting.{by_syllable};
+ghost use Rattle.stage_rules.specs.SyllableBuffers.{IsRewritten, with_rule};
+ghost use Rattle.stage_rules.specs.Moves.{reach};
+ghost use Rattle.stage_rules.specs.Fronts.{front_moves};
+ghost use Rattle.stage_rules.specs.Parts.{fronts_moved};
 ghost use Rattle.script_universal.specs.Walked.{IsWalked, together};
 ghost use Rattle.script_universal.specs.Reordering.{begins_with_reph, is_halant, is_left, left_walk, reph_end, reph_moved, stops_reph, universal_reordered, universal_syllable};
 
 use crate::categories::{is_halant, is_left, stops_reph};
 use glyph_buffer::buffer::hb_buffer_t;
-use glyph_types::info::hb_glyph_info_t;
+use glyph_lists::info::hb_glyph_info_t;
 use script_constants::category::R;
 use script_constants::hb_ot_script_shaper_t::UNIVERSAL_SHAPER;
-use script_moves::fronts::FrontRule;
-use script_walks::fronts::move_fronts;
-use script_walks::parts::first_to_back;
-use script_walks::walk::{SyllableRule, each_syllable};
+use stage_rules::fronts::FrontRule;
+use stage_rules::parts::first_to_back;
+use stage_rules::syllable_fronts::move_fronts;
+use stage_rules::walk::{SyllableRule, each_syllable};
 use std::alloc::AllocError;
 
 /// Reorders each syllable of a kind that is: a reph in front goes before the first glyph behind the base or halant that no

@@ -3,10 +3,10 @@ use Rattle.std.proofs.Common.{ℕ, ◌≡◌, ◌*◌, ◌/◌, Bool, true, fals
 use Rattle.std.specs.Prelude.{bit_or}
 use Rattle.std.proofs.lemmas.Nat.{and_mask, or_shr}
 use Rattle.glyph_lists.specs.Items.{Item, without_flags}
-use Rattle.glyph_lists.specs.Readings.{always, run_after, with_events}
+use Rattle.glyph_buffer.specs.Readings.{always, run_after, with_events}
 use Rattle.glyph_buffer.specs.Sides.{Sides, run_of, view_of}
-use Rattle.layout_rules.specs.Ready.{IsReady}
-use Rattle.text_stages.specs.Stages.{IsFollowed, mapped}
+use Rattle.stage_rules.specs.Ready.{IsReady}
+use Rattle.stage_rules.specs.Stages.{IsFollowed, mapped}
 use Rattle.shape_direction.specs.Rotation.{mapped_where}
 
 without_flags_is : (m : ℕ) → without_flags m ≡ m / 8 * 8

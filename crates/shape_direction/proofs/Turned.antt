@@ -2,12 +2,12 @@
 use Rattle.std.proofs.Common.{ℕ, zero, suc, ◌≡◌, ◌≤◌, ◌&&◌, Bool, true, false, not, if◌then◌else◌, List, [], ◌∷◌, Ok, Option, length, take, drop, arith, refl, sym, ap, ◌∙◌}
 use Rattle.std.specs.List.{list_any}
 use Rattle.std.proofs.lemmas.List.{length-append, length-drop, length-map, length-take}
-use Rattle.glyph_types.specs.declared.info.hb_glyph_info_t.{hb_glyph_info_t}
+use Rattle.glyph_lists.specs.declared.info.hb_glyph_info_t.{hb_glyph_info_t}
 use Rattle.shaping_text.specs.Direction.{opposite}
 use Rattle.shaping_text.specs.declared.script.Script.{Script}
 use Rattle.glyph_lists.specs.Items.{Item, Position, item_of, strip}
-use Rattle.glyph_lists.specs.Readings.{View, Read, always, run_after, then_read, with_events}
-use Rattle.glyph_lists.specs.Steps.{then_follows}
+use Rattle.glyph_buffer.specs.Readings.{View, Read, always, run_after, then_read, with_events}
+use Rattle.glyph_buffer.specs.Steps.{then_follows}
 use Rattle.glyph_slices.specs.Groups.{group_length}
 use Rattle.glyph_slices.specs.Turning.{Turning, groups_turned, turned}
 use Rattle.glyph_slices.specs.Facts.{group_lengths, positions_turned, stretches_turned}
@@ -18,10 +18,10 @@ use Rattle.glyph_buffer.specs.Merging.{telling_flags}
 use Rattle.glyph_buffer.specs.Told.{told_telling}
 use Rattle.glyph_buffer.specs.Segment.{with_segment}
 use Rattle.glyph_buffer.specs.Sides.{Sides, all_glyphs, items_of, origins_by, origins_of, run_of, settings_of, told_of, view_of}
-use Rattle.layout_rules.specs.Ready.{IsReady}
-use Rattle.text_stages.specs.Categories.{is_letter}
-use Rattle.text_stages.specs.Stages.{IsFollowed}
-use Rattle.text_stages.specs.Lemmas.Written.{read_followed}
+use Rattle.stage_rules.specs.Ready.{IsReady}
+use Rattle.glyph_properties.specs.Categories.{is_letter}
+use Rattle.stage_rules.specs.Stages.{IsFollowed}
+use Rattle.stage_rules.specs.Lemmas.Written.{read_followed}
 use Rattle.shape_direction.specs.NativeOrder.{goes_on, is_number_text, is_numeral, is_turned, merges_graphemes, ordered, turned_text}
 
 any_stripped : (p : Item → Bool) (gs : List hb_glyph_info_t) → list_any p (strip gs) ≡ list_any (λ (g : hb_glyph_info_t). p (item_of g)) gs

@@ -1,21 +1,21 @@
 -- The order in which a text's script is written.
 use Rattle.std.specs.Prelude.{◌&&◌, ◌||◌, Bool, true, false, not, if◌then◌else◌, List, [], unwrap_or, Option, Some, None}
 use Rattle.std.specs.List.{list_any}
-use Rattle.glyph_types.specs.declared.level.BufferClusterLevel.{BufferClusterLevel}
-use Rattle.glyph_types.specs.declared.level.BufferClusterLevel.TheVariants.{MonotoneGraphemes, MonotoneCharacters, Characters}
+use Rattle.glyph_lists.specs.declared.level.BufferClusterLevel.{BufferClusterLevel}
+use Rattle.glyph_lists.specs.declared.level.BufferClusterLevel.TheVariants.{MonotoneGraphemes, MonotoneCharacters, Characters}
 use Rattle.shaping_text.specs.Direction.{direction_of_script, opposite}
 use Rattle.shaping_text.specs.declared.direction.Direction.{Direction}
 use Rattle.shaping_text.specs.declared.direction.Direction.TheVariants.{Invalid, LeftToRight, RightToLeft, BottomToTop}
 use Rattle.shaping_text.specs.declared.script.Script.{Script}
 use Rattle.glyph_properties.specs.Properties.{CONTINUATION, without_bits}
 use Rattle.glyph_lists.specs.Items.{Item}
-use Rattle.glyph_lists.specs.Readings.{View, Read, then_read, with_events}
+use Rattle.glyph_buffer.specs.Readings.{View, Read, then_read, with_events}
 use Rattle.glyph_slices.specs.Turning.{groups_turned}
 use Rattle.glyph_slices.specs.Facts.{positions_turned}
 use Rattle.glyph_slices.specs.Events.{groups_reversed}
 use Rattle.glyph_buffer.specs.Graphemes.{continues}
-use Rattle.text_stages.specs.Categories.{is_letter, is_decimal_number}
-use Rattle.text_stages.specs.Stages.{mapped}
+use Rattle.glyph_properties.specs.Categories.{is_letter, is_decimal_number}
+use Rattle.stage_rules.specs.Stages.{mapped}
 use Rattle.shape_text.specs.Graphemes.{is_regional_indicator}
 
 -- decimal numbers and regional indicators run from left to right in every script

@@ -8,8 +8,8 @@ use Rattle.unicode_tables.specs.Tables.{Tables, counterpart_in}
 use Rattle.font_face.specs.declared.parts.FaceParts.{FaceParts}
 use Rattle.font_face.specs.Glyphs.{nominal_glyph}
 use Rattle.glyph_lists.specs.Items.{Item, without_flags}
-use Rattle.glyph_lists.specs.Readings.{View, Read, then_read, with_events}
-use Rattle.text_stages.specs.Stages.{mapped}
+use Rattle.glyph_buffer.specs.Readings.{View, Read, then_read, with_events}
+use Rattle.stage_rules.specs.Stages.{mapped}
 
 -- a character that the font has
 abbrev pub if_known : FaceParts → Option ℕ → Option ℕ

@@ -3,22 +3,22 @@ ghost use Rattle.std.specs.Prelude.{◌≡◌, false};
 ghost use Rattle.std.specs.List.{list_any};
 ghost use Rattle.glyph_lists.specs.Items.{item_of, strip};
 ghost use Rattle.glyph_lists.specs.Origins.{origin_of};
-ghost use Rattle.glyph_lists.specs.Readings.{always};
+ghost use Rattle.glyph_buffer.specs.Readings.{always};
 ghost use Rattle.glyph_buffer.specs.Graphemes.{continues};
 ghost use Rattle.glyph_buffer.specs.Sides.{items_of};
-ghost use Rattle.layout_rules.specs.Ready.{IsReady};
-ghost use Rattle.text_stages.specs.Categories.{is_letter};
-ghost use Rattle.text_stages.specs.Stages.{IsFollowed};
+ghost use Rattle.stage_rules.specs.Ready.{IsReady};
+ghost use Rattle.glyph_properties.specs.Categories.{is_letter};
+ghost use Rattle.stage_rules.specs.Stages.{IsFollowed};
 ghost use Rattle.shape_direction.specs.NativeOrder.{is_number_text, is_numeral, is_turned, merges_graphemes, native_order, ordered, runs_against, script_direction, turned_text, with_numbers, without_continuation};
 
 use glyph_buffer::buffer::hb_buffer_t;
-use glyph_types::flags::UnicodeProps;
-use glyph_types::info::hb_glyph_info_t;
-use glyph_types::level::BufferClusterLevel;
+use glyph_lists::flags::UnicodeProps;
+use glyph_lists::info::hb_glyph_info_t;
+use glyph_lists::level::BufferClusterLevel;
+use glyph_properties::categories::{is_decimal_number, is_letter};
 use shaping_text::direction::Direction;
 use shaping_text::script::Script;
-use text_stages::categories::{is_decimal_number, is_letter};
-use text_stages::glyphs::map_glyphs;
+use stage_rules::glyphs::map_glyphs;
 
 fn is_numeral(glyph: &hb_glyph_info_t) -> bool
     ensures { result ≡ is_numeral (item_of glyph.now) }

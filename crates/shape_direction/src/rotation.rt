@@ -3,17 +3,17 @@ ghost use Rattle.std.specs.Prelude.{◌≡◌, ◌&&◌, not};
 ghost use Rattle.std.specs.Int.RustNames.{bit_and};
 ghost use Rattle.glyph_lists.specs.Items.{item_of};
 ghost use Rattle.glyph_lists.specs.Origins.{origin_of};
-ghost use Rattle.glyph_lists.specs.Readings.{always};
-ghost use Rattle.layout_rules.specs.Ready.{IsReady};
+ghost use Rattle.glyph_buffer.specs.Readings.{always};
+ghost use Rattle.stage_rules.specs.Ready.{IsReady};
 ghost use Rattle.shaping_text.specs.Direction.{is_backward, is_vertical};
-ghost use Rattle.text_stages.specs.Stages.{IsFollowed};
+ghost use Rattle.stage_rules.specs.Stages.{IsFollowed};
 ghost use Rattle.shape_direction.specs.Rotation.{if_known, mapped_where, mirror_image, mirrored, rotated, upright, vertical_form};
 
 use font_face::Face;
 use glyph_buffer::buffer::hb_buffer_t;
-use glyph_types::info::{hb_glyph_info_t, hb_mask_t};
+use glyph_lists::info::{hb_glyph_info_t, hb_mask_t};
 use shaping_text::direction::Direction;
-use text_stages::glyphs::map_glyphs;
+use stage_rules::glyphs::map_glyphs;
 use unicode_tables::{CharTablesExt, UnicodeTables};
 
 /// What decides how a character stands in its line.

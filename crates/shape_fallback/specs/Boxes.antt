@@ -3,7 +3,7 @@ use Rattle.std.specs.Prelude.{ℕ, ℤ, pos, ◌&&◌, Bool, not, int_lt, if◌t
 use Rattle.std.specs.Int.RustNames.{int_div}
 use Rattle.shaping_text.specs.declared.direction.Direction.{Direction}
 use Rattle.shaping_text.specs.Direction.{is_forward, is_horizontal}
-use Rattle.glyph_types.specs.declared.names.hb_glyph_extents_t.{hb_glyph_extents_t}
+use Rattle.glyph_lists.specs.declared.names.hb_glyph_extents_t.{hb_glyph_extents_t}
 use Rattle.glyph_lists.specs.Items.{Position}
 use Rattle.position_sums.specs.Sums.{plus, minus}
 use Rattle.shape_fallback.specs.Classes.{is_one_of}

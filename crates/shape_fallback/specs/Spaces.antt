@@ -9,9 +9,9 @@ use Rattle.unicode_chars.specs.declared.space.TheConstants.{SPACE_EM, SPACE_EM_2
 use Rattle.font_face.specs.declared.parts.FaceParts.{FaceParts}
 use Rattle.font_face.specs.Glyphs.{nominal_glyph, width_of, height_of}
 use Rattle.glyph_lists.specs.Items.{Item, Position}
-use Rattle.glyph_lists.specs.Readings.{View, Read}
-use Rattle.normal_forms.specs.Characters.{is_space}
-use Rattle.text_stages.specs.Places.{placed}
+use Rattle.glyph_buffer.specs.Readings.{View, Read}
+use Rattle.glyph_properties.specs.Characters.{is_space}
+use Rattle.stage_rules.specs.Places.{placed}
 
 -- another advance along the line: a vertical line goes down
 abbrev pub advanced : Direction → ℤ → Position → Position

@@ -1,10 +1,10 @@
 -- Marks whose own width the line does not go on by.
 use Rattle.std.specs.Prelude.{Bool, if◌then◌else◌}
 use Rattle.glyph_lists.specs.Items.{Item, Position}
-use Rattle.glyph_lists.specs.Readings.{View, Read}
-use Rattle.layout_match.specs.LigatureWords.{is_mark}
+use Rattle.glyph_buffer.specs.Readings.{View, Read}
+use Rattle.glyph_lists.specs.LigatureWords.{is_mark}
 pub use Rattle.position_sums.specs.Zeroing.{zeroed}
-use Rattle.text_stages.specs.Places.{placed}
+use Rattle.stage_rules.specs.Places.{placed}
 
 -- glyphs of the class of marks
 abbrev pub mark_zeroed : Bool → Item → Position → Position

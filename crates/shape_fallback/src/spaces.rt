@@ -1,18 +1,18 @@
 //! The widths of spaces that the font need not have.
 ghost use Rattle.std.specs.Prelude.{◌≡◌, ◌<◌, ◌+◌, ◌*◌, ◌/◌, ◌^◌, true};
 ghost use Rattle.glyph_lists.specs.Items.{item_of};
-ghost use Rattle.glyph_lists.specs.Readings.{always};
-ghost use Rattle.layout_rules.specs.Ready.{IsDone, IsReady};
+ghost use Rattle.glyph_buffer.specs.Readings.{always};
+ghost use Rattle.stage_rules.specs.Ready.{IsDone, IsReady};
 ghost use Rattle.shape_fallback.specs.Spaces.{advanced, digits, first_glyph, half, is_own_space, is_part_of_em, of_found, of_glyph, of_length, space_position, spaced, stops, with_spaces};
 
 use font_face::Face;
 use glyph_buffer::buffer::hb_buffer_t;
-use glyph_types::flags::GlyphPropsFlags;
-use glyph_types::info::hb_glyph_info_t;
-use glyph_types::position::GlyphPosition;
+use glyph_lists::flags::GlyphPropsFlags;
+use glyph_lists::info::hb_glyph_info_t;
+use glyph_lists::position::GlyphPosition;
+use glyph_properties::categories::is_space;
 use shaping_text::direction::Direction;
-use text_stages::categories::is_space;
-use text_stages::positions::map_positions;
+use stage_rules::positions::map_positions;
 use unicode_chars::space::{
     SPACE_4_EM_18, SPACE_EM, SPACE_EM_2, SPACE_EM_3, SPACE_EM_4, SPACE_EM_5, SPACE_EM_6,
     SPACE_EM_16, SPACE_FIGURE, SPACE_NARROW, SPACE_PUNCTUATION, space_t,

@@ -1,10 +1,10 @@
 -- Numbers before a place and behind it.
 use Rattle.std.proofs.Common.{ℕ, ◌≡◌, ◌≤◌, ◌<◌, ◌+◌, ◌-◌, Bool, true, false, if◌then◌else◌, List, [], ◌∷◌, ◌++◌, length, reverse, take, drop, get_or, arith, refl, sym, ap, ◌∙◌}
 use Rattle.std.proofs.lemmas.List.{drop_all, drop_more, length-map, reverse-append}
-use Rattle.glyph_types.specs.declared.info.hb_glyph_info_t.{hb_glyph_info_t}
+use Rattle.glyph_lists.specs.declared.info.hb_glyph_info_t.{hb_glyph_info_t}
 use Rattle.glyph_lists.specs.Items.{Item, item_of, strip}
 use Rattle.glyph_lists.specs.Lists.{seen_at, take_next, take_one}
-use Rattle.text_stages.specs.Categories.{is_decimal_number}
+use Rattle.glyph_properties.specs.Categories.{is_decimal_number}
 use Rattle.shape_fractions.specs.Fractions.{digits, digits_before, digits_behind}
 
 one_more : (n : ℕ) (b : Bool) → b ≡ true → (if b then n + 1 else 0) ≡ n + 1

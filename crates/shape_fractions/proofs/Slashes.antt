@@ -9,19 +9,19 @@ use Rattle.std.proofs.lemmas.Option.{slice_get-get_or}
 use Rattle.std.proofs.Math.Numerals.{add-one}
 use Rattle.shaping_text.specs.declared.direction.Direction.{Direction}
 use Rattle.shaping_text.specs.Direction.{is_backward}
-use Rattle.glyph_types.specs.declared.info.hb_glyph_info_t.{hb_glyph_info_t}
+use Rattle.glyph_lists.specs.declared.info.hb_glyph_info_t.{hb_glyph_info_t}
 use Rattle.glyph_lists.specs.Items.{Item, item_of, strip}
 use Rattle.glyph_lists.specs.Events.{Break, Concat, Event}
 use Rattle.glyph_lists.specs.Glyphs.{glyphs_flagged}
-use Rattle.glyph_lists.specs.Readings.{Read, View, always, run_after, with_events}
-use Rattle.glyph_lists.specs.Steps.{follows_then}
+use Rattle.glyph_buffer.specs.Readings.{Read, View, always, run_after, with_events}
+use Rattle.glyph_buffer.specs.Steps.{follows_then}
 use Rattle.glyph_buffer.specs.Marking.{asks_concat, concat_marked, with_flagged}
 use Rattle.glyph_buffer.specs.Merging.{index_in_all}
 use Rattle.glyph_buffer.specs.Sides.{Sides, all_glyphs, items_of, origins_by, origins_of, run_of, settings_of, view_of}
-use Rattle.layout_rules.specs.Ready.{IsReady}
-use Rattle.text_stages.specs.Lemmas.Happened.{call_happens, nothing_happens}
-use Rattle.text_stages.specs.Lemmas.Written.{happened_followed, happens_followed}
-use Rattle.text_stages.specs.Stages.{Becomes, Happens, IsFollowed}
+use Rattle.stage_rules.specs.Ready.{IsReady}
+use Rattle.stage_rules.specs.Lemmas.Happened.{call_happens, nothing_happens}
+use Rattle.stage_rules.specs.Lemmas.Written.{happened_followed, happens_followed}
+use Rattle.stage_rules.specs.Stages.{Becomes, Happens, IsFollowed}
 use Rattle.shape_fractions.specs.declared.fractions.FractionMasks.{FractionMasks}
 use Rattle.shape_fractions.specs.Fractions.{around_slash, at_place, digits_before, digits_behind, first_mask, fraction_items, fractions_to, is_slash, is_slash_at, last_mask, with_features_within, with_fractions}
 use Rattle.shape_fractions.proofs.Stretches.{become_both, items_now}

@@ -3,17 +3,17 @@ use Rattle.std.proofs.Common.{ℕ, ◌≡◌, ◌≤◌, ◌-◌, ◌*◌, ◌/�
 use Rattle.std.specs.Prelude.{bit_and, bit_or, slice_range}
 use Rattle.std.proofs.lemmas.List.{drop-map, length-map, map-append, map-id, take-map}
 use Rattle.std.proofs.lemmas.Nat.{and_mask, and_or_apart, or_shr}
-use Rattle.glyph_types.specs.declared.info.hb_glyph_info_t.{hb_glyph_info_t}
+use Rattle.glyph_lists.specs.declared.info.hb_glyph_info_t.{hb_glyph_info_t}
 use Rattle.glyph_lists.specs.Items.{Item, item_of, strip, without_flags}
 use Rattle.glyph_lists.specs.Origins.{Origin, origin_of, origins}
-use Rattle.glyph_lists.specs.Readings.{View}
+use Rattle.glyph_buffer.specs.Readings.{View}
 use Rattle.glyph_lists.specs.Glyphs.{flagged, glyphs_flagged}
 use Rattle.glyph_lists.specs.Lemmas.Glyphs.{cut_out}
 use Rattle.glyph_buffer.specs.Lending.{with_refilled}
 use Rattle.glyph_buffer.specs.Sides.{Sides, all_glyphs, items_of, origins_of}
-use Rattle.layout_rules.specs.Ready.{IsReady}
-use Rattle.text_stages.specs.Lemmas.Written.{written_becomes}
-use Rattle.text_stages.specs.Stages.{Becomes}
+use Rattle.stage_rules.specs.Ready.{IsReady}
+use Rattle.stage_rules.specs.Lemmas.Written.{written_becomes}
+use Rattle.stage_rules.specs.Stages.{Becomes}
 use Rattle.shape_fractions.specs.Fractions.{with_features, with_features_within}
 
 without_flags_is : (m : ℕ) → without_flags m ≡ m / 8 * 8

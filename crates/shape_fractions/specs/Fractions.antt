@@ -6,8 +6,8 @@ use Rattle.shaping_text.specs.declared.direction.Direction.{Direction}
 use Rattle.shaping_text.specs.Direction.{is_backward}
 use Rattle.glyph_lists.specs.Items.{Item, without_flags}
 use Rattle.glyph_lists.specs.Events.{Break, Concat}
-use Rattle.glyph_lists.specs.Readings.{View, Read, then_read, with_events}
-use Rattle.text_stages.specs.Categories.{is_decimal_number}
+use Rattle.glyph_buffer.specs.Readings.{View, Read, then_read, with_events}
+use Rattle.glyph_properties.specs.Categories.{is_decimal_number}
 use Rattle.shape_fractions.specs.declared.fractions.FractionMasks.{FractionMasks}
 
 -- U+2044 FRACTION SLASH

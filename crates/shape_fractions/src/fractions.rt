@@ -2,17 +2,17 @@
 ghost use Rattle.std.specs.Prelude.{◌≡◌, ◌<◌, ◌≤◌, ◌+◌, ◌-◌, ◌==◌, ◌||◌, length};
 ghost use Rattle.std.specs.Int.RustNames.{bit_and};
 ghost use Rattle.glyph_lists.specs.Items.{item_of, strip};
-ghost use Rattle.glyph_lists.specs.Readings.{always};
+ghost use Rattle.glyph_buffer.specs.Readings.{always};
 ghost use Rattle.glyph_buffer.specs.Sides.{all_glyphs, items_of};
-ghost use Rattle.layout_rules.specs.Ready.{IsReady};
-ghost use Rattle.text_stages.specs.Stages.{Becomes, IsFollowed};
+ghost use Rattle.stage_rules.specs.Ready.{IsReady};
+ghost use Rattle.stage_rules.specs.Stages.{Becomes, IsFollowed};
 ghost use Rattle.shape_fractions.specs.Fractions.{around_slash, at_place, digits_before, digits_behind, first_mask, fraction_items, is_slash, last_mask, with_features_within, with_fractions};
 
 use glyph_buffer::buffer::hb_buffer_t;
-use glyph_clusters::marks::flag_within;
-use glyph_types::info::{hb_glyph_info_t, hb_mask_t};
+use glyph_lists::info::{hb_glyph_info_t, hb_mask_t};
+use glyph_lists::marks::flag_within;
+use glyph_properties::categories::is_decimal_number;
 use shaping_text::direction::Direction;
-use text_stages::categories::is_decimal_number;
 
 const FRACTION_SLASH: u32 = 0x2044;
 
@@ -126,7 +126,7 @@ fn is_alone(start: usize, at: usize, end: usize) -> bool
     at - start == 0 || end - (at + 1) == 0
 }
 
-#[tactic(auto, using(crate::proofs::Slashes::concat_happens, crate::proofs::Slashes::slash_alone, crate::proofs::Slashes::slash_between, crate::proofs::Slashes::happens_as_many, crate::proofs::Stretches::as_many_now, text_stages::specs::Lemmas::Happened::break_happens, text_stages::specs::Lemmas::Happened::end_of_input))]
+#[tactic(auto, using(crate::proofs::Slashes::concat_happens, crate::proofs::Slashes::slash_alone, crate::proofs::Slashes::slash_between, crate::proofs::Slashes::happens_as_many, crate::proofs::Stretches::as_many_now, stage_rules::specs::Lemmas::Happened::break_happens, stage_rules::specs::Lemmas::Happened::end_of_input))]
 fn mark_slash(masks: FractionMasks, start: usize, at: usize, end: usize, buffer: &mut hb_buffer_t)
     requires ready { IsReady buffer.old }
     requires frac { bit_and masks.frac 7 ≡ 0 }

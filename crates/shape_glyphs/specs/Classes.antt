@@ -3,8 +3,8 @@ use Rattle.std.specs.Prelude.{ℕ, nat_le, if◌then◌else◌}
 use Rattle.font_face.specs.declared.parts.FaceParts.{FaceParts}
 use Rattle.layout_gsub.specs.Replacements.{glyph_props_of}
 use Rattle.glyph_lists.specs.Items.{Item}
-use Rattle.glyph_lists.specs.Readings.{View, Read}
-use Rattle.text_stages.specs.Stages.{mapped}
+use Rattle.glyph_buffer.specs.Readings.{View, Read}
+use Rattle.stage_rules.specs.Stages.{mapped}
 
 -- a number that no glyph can have has no class
 abbrev pub first_props : FaceParts → ℕ → ℕ

@@ -6,11 +6,11 @@ use Rattle.shaping_text.specs.declared.constants.BufferFlags.{BufferFlags}
 use Rattle.font_face.specs.declared.parts.FaceParts.{FaceParts}
 use Rattle.font_face.specs.Glyphs.{nominal_glyph}
 use Rattle.glyph_lists.specs.Items.{Item}
-use Rattle.glyph_lists.specs.Readings.{View, Read, with_events}
+use Rattle.glyph_buffer.specs.Readings.{View, Read, with_events}
 use Rattle.glyph_slices.specs.Events.{deletions}
 use Rattle.glyph_slices.specs.Facts.{items_kept, positions_kept}
 use Rattle.glyph_buffer.specs.Graphemes.{is_default_ignorable}
-use Rattle.text_stages.specs.Stages.{mapped}
+use Rattle.stage_rules.specs.Stages.{mapped}
 
 -- whether ignorables keep their glyphs, or are to be taken out
 abbrev pub preserves_ignorables : BufferFlags → Bool

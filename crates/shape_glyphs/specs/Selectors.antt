@@ -5,9 +5,9 @@ use Rattle.ucd_category.specs.declared.GeneralCategory.TheVariants.{NonspacingMa
 use Rattle.unicode_chars.specs.Category.{category_number}
 use Rattle.glyph_properties.specs.Properties.{without_bits}
 use Rattle.glyph_lists.specs.Items.{Item, Position}
-use Rattle.glyph_lists.specs.Readings.{View, Read, with_events}
-use Rattle.normal_forms.specs.Characters.{with_category}
-use Rattle.text_stages.specs.Places.{placed_by}
+use Rattle.glyph_buffer.specs.Readings.{View, Read, with_events}
+use Rattle.glyph_properties.specs.Characters.{with_category}
+use Rattle.stage_rules.specs.Places.{placed_by}
 use Rattle.shape_glyphs.specs.Widths.{widthless}
 
 -- a selector that normalising marked, since the font has no glyph for it and the character before it

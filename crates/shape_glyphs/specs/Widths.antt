@@ -2,9 +2,9 @@
 use Rattle.std.specs.Prelude.{pos, ◌||◌, Bool, if◌then◌else◌, []}
 use Rattle.shaping_text.specs.declared.constants.BufferFlags.{BufferFlags}
 use Rattle.glyph_lists.specs.Items.{Item, Position}
-use Rattle.glyph_lists.specs.Readings.{View, Read, with_events}
+use Rattle.glyph_buffer.specs.Readings.{View, Read, with_events}
 use Rattle.glyph_buffer.specs.Graphemes.{is_default_ignorable}
-use Rattle.text_stages.specs.Places.{placed}
+use Rattle.stage_rules.specs.Places.{placed}
 use Rattle.shape_glyphs.specs.Ignorables.{preserves_ignorables, removes_ignorables}
 
 -- a position without advances and offsets; its link stays

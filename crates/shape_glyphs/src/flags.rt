@@ -1,6 +1,6 @@
 //! Glyph flags at the end of shaping.
-ghost use Rattle.glyph_lists.specs.Readings.{always};
-ghost use Rattle.layout_rules.specs.Ready.{IsDone, IsReady};
+ghost use Rattle.glyph_buffer.specs.Readings.{always};
+ghost use Rattle.stage_rules.specs.Ready.{IsDone, IsReady};
 ghost use Rattle.shape_glyphs.specs.Flags.{with_flags_spread};
 
 use glyph_buffer::buffer::hb_buffer_t;

@@ -2,7 +2,7 @@
 use Rattle.std.specs.Prelude.{ℕ, [], ◌∷◌, map}
 use Rattle.glyph_lists.specs.Items.{item_masked}
 use Rattle.glyph_lists.specs.Events.{Reset}
-use Rattle.glyph_lists.specs.Readings.{View, Read, with_events}
+use Rattle.glyph_buffer.specs.Readings.{View, Read, with_events}
 
 -- each item has one mask, and no glyph flag is set
 abbrev pub with_one_mask : ℕ → View → Read

@@ -3,10 +3,10 @@ use Rattle.std.specs.Prelude.{ℕ, ◌*◌, ◌^◌, ◌%◌, if◌then◌else�
 use Rattle.std.specs.Option.{option_map_or}
 use Rattle.feature_text.specs.declared.feature.Feature.{Feature}
 use Rattle.feature_text.specs.Feature.{is_global}
-use Rattle.map_stages.specs.declared.feature.feature_map_t.{feature_map_t}
+use Rattle.map_builder.specs.declared.chosen_feature.feature_map_t.{feature_map_t}
 use Rattle.map_builder.specs.Compiled.{OtMapValue, feature_at}
 use Rattle.glyph_lists.specs.Items.{Item}
-use Rattle.glyph_lists.specs.Readings.{View, Read, with_events}
+use Rattle.glyph_buffer.specs.Readings.{View, Read, with_events}
 use Rattle.glyph_buffer.specs.Masks.{items_set}
 
 -- the bits of a mask that stand for a feature, and the lowest of them; a map that lacks the feature has none

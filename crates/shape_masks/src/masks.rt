@@ -1,12 +1,12 @@
 //! Masks as shaping begins.
 ghost use Rattle.std.specs.Prelude.{◌≡◌};
 ghost use Rattle.std.specs.Int.RustNames.{bit_and};
-ghost use Rattle.glyph_lists.specs.Readings.{always};
-ghost use Rattle.layout_rules.specs.Ready.{IsDone, IsReady};
+ghost use Rattle.glyph_buffer.specs.Readings.{always};
+ghost use Rattle.stage_rules.specs.Ready.{IsDone, IsReady};
 ghost use Rattle.shape_masks.specs.Masks.{with_one_mask};
 
 use glyph_buffer::buffer::hb_buffer_t;
-use glyph_types::info::hb_mask_t;
+use glyph_lists::info::hb_mask_t;
 
 /// Gives each glyph the mask of the features that are on for all, and no glyph flag. It takes linear time and no memory.
 #[tactic(auto, using(crate::proofs::Begun::reset_done))]

@@ -1,10 +1,10 @@
 //! Features that are asked for on a part of a text.
 ghost use Rattle.std.specs.Prelude.{◌≡◌};
 ghost use Rattle.glyph_lists.specs.Items.{clusters};
-ghost use Rattle.glyph_lists.specs.Readings.{always};
+ghost use Rattle.glyph_buffer.specs.Readings.{always};
 ghost use Rattle.glyph_buffer.specs.Sides.{all_glyphs, items_of};
-ghost use Rattle.layout_rules.specs.Ready.{IsReady};
-ghost use Rattle.text_stages.specs.Stages.{Becomes, IsFollowed};
+ghost use Rattle.stage_rules.specs.Ready.{IsReady};
+ghost use Rattle.stage_rules.specs.Stages.{Becomes, IsFollowed};
 ghost use Rattle.shape_masks.specs.Ranges.{with_range, with_ranges};
 
 use feature_text::feature::Feature;

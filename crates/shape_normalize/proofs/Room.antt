@@ -6,7 +6,7 @@ use Rattle.std.proofs.lemmas.Bool.Decides.{nat_tests}
 use Rattle.std.proofs.lemmas.List.{length-append}
 use Rattle.glyph_buffer.specs.Sides.{Sides, all_glyphs, fits_joined, fits_next, has_output_room, has_room, with_output}
 use Rattle.glyph_buffer.specs.Moving.{fits_moved, side_holds, has_room_back}
-use Rattle.layout_rules.specs.Ready.{IsReady}
+use Rattle.stage_rules.specs.Ready.{IsReady}
 use Rattle.normal_rounds.specs.Brought.{frame_of}
 use Rattle.shape_normalize.specs.Composed.{HasRoom}
 

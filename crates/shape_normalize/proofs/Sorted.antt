@@ -7,7 +7,7 @@ use Rattle.std.proofs.lemmas.List.{map-append, length-append}
 use Rattle.glyph_slices.specs.Events.{order_of}
 use Rattle.stable_order.specs.Keys.{of_key, by_key, key_bound, key_order}
 use Rattle.unicode_tables.specs.ClassOrder.{run_order}
-use Rattle.normal_forms.specs.Ordering.{Indexed, indexed_from, sorted_order}
+use Rattle.glyph_properties.specs.Ordering.{Indexed, indexed_from, sorted_order}
 
 filter_through : {X Y : Type 0} (f : X → Y) (p : Y → Bool) (xs : List X) → filter p (map f xs) ≡ map f (filter (λ x. p (f x)) xs)
 filter_through f p [] = refl

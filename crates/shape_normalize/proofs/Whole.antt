@@ -3,23 +3,23 @@ use Rattle.std.proofs.Common.{◌≡◌, ◌≤◌, ◌<◌, ◌==◌, ◌||◌,
 use Rattle.std.specs.Prelude.{bit_and}
 use Rattle.std.specs.List.{list_any}
 use Rattle.std.proofs.lemmas.List.{append-nil, length-map, length-replicate}
-use Rattle.glyph_types.specs.declared.cause.ShapeCause.{ShapeCause}
-use Rattle.glyph_types.specs.declared.cause.ShapeCause.TheVariants.{TooLong}
-use Rattle.glyph_types.specs.declared.info.hb_glyph_info_t.{hb_glyph_info_t}
+use Rattle.glyph_lists.specs.declared.cause.ShapeCause.{ShapeCause}
+use Rattle.glyph_lists.specs.declared.cause.ShapeCause.TheVariants.{TooLong}
+use Rattle.glyph_lists.specs.declared.info.hb_glyph_info_t.{hb_glyph_info_t}
 use Rattle.glyph_lists.specs.Items.{Item, Position, item_of, strip}
 use Rattle.glyph_lists.specs.Events.{Event, origins_after}
-use Rattle.glyph_lists.specs.Readings.{View, read_of}
-use Rattle.glyph_lists.specs.Steps.{origins_after_both}
+use Rattle.glyph_buffer.specs.Readings.{View, read_of}
+use Rattle.glyph_lists.specs.Lemmas.Origins.{origins_after_both}
 use Rattle.glyph_buffer.specs.Sides.{Sides, Settings, all_glyphs, asks_of, items_of, origins_by, origins_of, run_of, settings_of, view_of, zero_position, zero_positions}
-use Rattle.text_stages.specs.Stages.{IsFollowed}
-use Rattle.text_stages.specs.Lemmas.Written.{happened_followed}
-use Rattle.normal_forms.specs.Arranged.{Arranged, kept}
-use Rattle.normal_forms.specs.Characters.{is_mark}
-use Rattle.normal_forms.specs.Composing.{composed_list}
-use Rattle.normal_forms.specs.Expanding.{expanded_list}
-use Rattle.normal_forms.specs.Normalizer.{Normalizer, is_composing}
-use Rattle.normal_forms.specs.NormalizedList.{arranged_marks, composed_if, has_later_mark, normalized}
-use Rattle.normal_forms.specs.Ordering.{joiners_shown, ordered_list}
+use Rattle.stage_rules.specs.Stages.{IsFollowed}
+use Rattle.stage_rules.specs.Lemmas.Written.{happened_followed}
+use Rattle.glyph_properties.specs.Arranged.{Arranged, kept}
+use Rattle.glyph_properties.specs.Characters.{is_mark}
+use Rattle.glyph_properties.specs.Composing.{composed_list}
+use Rattle.glyph_properties.specs.Expanding.{expanded_list}
+use Rattle.glyph_properties.specs.Normalizer.{Normalizer, is_composing}
+use Rattle.glyph_properties.specs.NormalizedList.{arranged_marks, composed_if, has_later_mark, normalized}
+use Rattle.glyph_properties.specs.Ordering.{joiners_shown, ordered_list}
 use Rattle.normal_rounds.specs.Brought.{with_arranged, within_limit}
 use Rattle.normal_rounds.specs.Rearranged.{IsRearranged}
 use Rattle.normal_rounds.specs.Lemmas.Chain.{all_shifted_none}

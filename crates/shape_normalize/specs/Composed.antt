@@ -1,6 +1,6 @@
 -- A mark and a glyph of the output that become one.
 use Rattle.std.specs.Prelude.{ℕ, ◌≡◌, ◌≤◌, ◌+◌, true, false, List, [], ◌∷◌, length, drop, slice_set}
-use Rattle.glyph_types.specs.declared.info.hb_glyph_info_t.{hb_glyph_info_t}
+use Rattle.glyph_lists.specs.declared.info.hb_glyph_info_t.{hb_glyph_info_t}
 use Rattle.glyph_lists.specs.Items.{Item, strip}
 use Rattle.glyph_lists.specs.Levels.{InOutput}
 use Rattle.glyph_lists.specs.Events.{Event, Merge, Replace}

@@ -1,12 +1,12 @@
 -- The normal form of a text as a stage of shaping, and what its rounds leave.
 use Rattle.std.specs.Prelude.{◌≡◌, length}
-use Rattle.glyph_lists.specs.Readings.{Stage}
+use Rattle.glyph_buffer.specs.Readings.{Stage}
 use Rattle.glyph_buffer.specs.Sides.{Sides, origins_by, origins_of, settings_of, view_of}
-use Rattle.layout_rules.specs.Ready.{IsReady}
-use Rattle.normal_forms.specs.Arranged.{Arranged}
-use Rattle.normal_forms.specs.Expanding.{expanded_list}
-use Rattle.normal_forms.specs.NormalizedList.{normalized}
-use Rattle.normal_forms.specs.Normalizer.{Normalizer}
+use Rattle.stage_rules.specs.Ready.{IsReady}
+use Rattle.glyph_properties.specs.Arranged.{Arranged}
+use Rattle.glyph_properties.specs.Expanding.{expanded_list}
+use Rattle.glyph_properties.specs.NormalizedList.{normalized}
+use Rattle.glyph_properties.specs.Normalizer.{Normalizer}
 use Rattle.normal_rounds.specs.Brought.{with_arranged, within_limit}
 
 -- the normalised list with its events, at positions of nothing; it gives up where the list that the characters expand to has

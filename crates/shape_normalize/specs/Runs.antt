@@ -3,11 +3,11 @@ use Rattle.std.specs.Prelude.{ℕ, Bool, ◌≡◌, ◌+◌, ◌==◌, ◌++◌,
 use Rattle.glyph_lists.specs.Items.{Item}
 use Rattle.glyph_lists.specs.Events.{Sort}
 use Rattle.glyph_buffer.specs.Sides.{Sides, items_of, origins_of}
-use Rattle.layout_rules.specs.Ready.{IsReady}
+use Rattle.stage_rules.specs.Ready.{IsReady}
 use Rattle.unicode_tables.specs.ClassOrder.{run_order}
-use Rattle.normal_forms.specs.Arranged.{Arranged}
-use Rattle.normal_forms.specs.Characters.{mark_class}
-use Rattle.normal_forms.specs.Ordering.{arranged_run, joiner_between, sorted_order}
+use Rattle.glyph_properties.specs.Arranged.{Arranged}
+use Rattle.glyph_properties.specs.Characters.{mark_class}
+use Rattle.glyph_properties.specs.Ordering.{arranged_run, joiner_between, sorted_order}
 use Rattle.normal_rounds.specs.Brought.{frame_of}
 use Rattle.normal_rounds.specs.Rearranged.{IsRearranged}
 

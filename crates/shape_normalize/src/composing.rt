@@ -4,13 +4,13 @@ ghost use Rattle.glyph_lists.specs.Items.{Item, strip};
 ghost use Rattle.glyph_buffer.specs.Sides.{all_glyphs, moved_on, origins_by, origins_of};
 ghost use Rattle.glyph_buffer.specs.Lending.{with_glyph_ahead};
 ghost use Rattle.glyph_buffer.specs.Moving.{moved_to};
-ghost use Rattle.normal_forms.specs.Characters.{standing_for, with_glyph};
+ghost use Rattle.glyph_properties.specs.Characters.{standing_for, with_glyph};
 ghost use Rattle.normal_rounds.specs.Brought.{frame_of};
 ghost use Rattle.shape_normalize.specs.Composed.{composition_events, HasRoom, IsComposed, IsWritten};
 
 use glyph_buffer::buffer::hb_buffer_t;
-use glyph_types::cause::ShapeCause;
-use glyph_types::info::hb_glyph_info_t;
+use glyph_lists::cause::ShapeCause;
+use glyph_lists::info::hb_glyph_info_t;
 use normal_rounds::characters::becoming;
 use normal_rounds::normalizing::Normalizing;
 

@@ -3,15 +3,15 @@ ghost use Rattle.std.specs.Prelude.{◌≡◌, ◌<◌, ◌≤◌, ◌+◌, ◌=
 ghost use Rattle.glyph_lists.specs.Items.{item_of};
 ghost use Rattle.glyph_lists.specs.Origins.{origin_of};
 ghost use Rattle.glyph_buffer.specs.Sides.{items_of};
-ghost use Rattle.layout_rules.specs.Ready.{IsReady};
-ghost use Rattle.normal_forms.specs.Characters.{shown};
-ghost use Rattle.normal_forms.specs.Ordering.{joiners_shown};
+ghost use Rattle.stage_rules.specs.Ready.{IsReady};
+ghost use Rattle.glyph_properties.specs.Characters.{shown};
+ghost use Rattle.glyph_properties.specs.Ordering.{joiners_shown};
 ghost use Rattle.shape_normalize.specs.Runs.{HasItems, ShowsAt};
 
 use crate::composing::write_ahead;
 use glyph_buffer::buffer::hb_buffer_t;
-use glyph_types::flags::UnicodeProps;
-use glyph_types::info::hb_glyph_info_t;
+use glyph_lists::flags::UnicodeProps;
+use glyph_lists::info::hb_glyph_info_t;
 use normal_rounds::characters::mark_class;
 
 /// COMBINING GRAPHEME JOINER.

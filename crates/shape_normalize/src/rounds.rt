@@ -1,15 +1,15 @@
 //! The first and the third round, each over an output of its own.
 ghost use Rattle.std.specs.Prelude.{◌≡◌, ◌≢◌, ◌≤◌, ◌<◌, length, IfErr, OnOk};
 ghost use Rattle.glyph_buffer.specs.Sides.{items_of, synced};
-ghost use Rattle.layout_rules.specs.Ready.{IsReady};
-ghost use Rattle.normal_forms.specs.Composing.{composed_list};
-ghost use Rattle.normal_forms.specs.Expanding.{expanded_list};
+ghost use Rattle.stage_rules.specs.Ready.{IsReady};
+ghost use Rattle.glyph_properties.specs.Composing.{composed_list};
+ghost use Rattle.glyph_properties.specs.Expanding.{expanded_list};
 ghost use Rattle.shape_normalize.specs.Composed.{HasRoom};
 ghost use Rattle.shape_normalize.specs.Rounds.{IsArranged};
 
 use crate::starters::compose_list;
 use glyph_buffer::buffer::hb_buffer_t;
-use glyph_types::cause::ShapeCause;
+use glyph_lists::cause::ShapeCause;
 use normal_rounds::expanding::expand_list;
 use normal_rounds::normalizing::Normalizing;
 

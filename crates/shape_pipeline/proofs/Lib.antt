@@ -1,2 +1,11 @@
+mod Alike
+mod Spread
+mod Sets
+mod Begun
+mod Placed
+mod Ended
+mod Phases
+mod Whole
+mod Numbers
 mod Shaped
 mod Texts

@@ -12,26 +12,26 @@ use Rattle.shaping_text.specs.declared.direction.Direction.{Direction}
 use Rattle.shaping_text.specs.declared.language.Language.{Language}
 use Rattle.shaping_text.specs.declared.script.Script.{Script}
 use Rattle.shaping_text.specs.declared.tag.Tag.{Tag}
-use Rattle.glyph_types.specs.declared.cause.ShapeCause.{ShapeCause}
-use Rattle.glyph_types.specs.declared.cause.ShapeCause.TheVariants.{OutOfMemory}
-use Rattle.glyph_types.specs.declared.info.hb_glyph_info_t.{hb_glyph_info_t}
+use Rattle.glyph_lists.specs.declared.cause.ShapeCause.{ShapeCause}
+use Rattle.glyph_lists.specs.declared.cause.ShapeCause.TheVariants.{OutOfMemory}
+use Rattle.glyph_lists.specs.declared.info.hb_glyph_info_t.{hb_glyph_info_t}
 use Rattle.feature_text.specs.declared.feature.Feature.{Feature}
 use Rattle.font_face.specs.declared.parts.FaceParts.{FaceParts}
 use Rattle.unicode_tables.specs.Tables.{Tables}
 use Rattle.glyph_lists.specs.Items.{item_of, strip}
-use Rattle.glyph_lists.specs.Readings.{Follows, Reading, with_events}
-use Rattle.glyph_lists.specs.Steps.{follows_same}
+use Rattle.glyph_buffer.specs.Readings.{Follows, Reading, with_events}
+use Rattle.glyph_buffer.specs.Steps.{follows_same}
 use Rattle.glyph_buffer.specs.Sides.{Sides, all_glyphs, items_of, run_of}
-use Rattle.layout_walks.specs.Settings.{TextSettings, text_settings}
+use Rattle.stage_rules.specs.Settings.{TextSettings, text_settings}
 use Rattle.any_shaper.specs.declared.any_shaper.hb_ot_any_shaper_t.{hb_ot_any_shaper_t}
 use Rattle.shape_plan.specs.declared.plan.hb_ot_shape_plan_t.{hb_ot_shape_plan_t}
 use Rattle.shape_plan.specs.Plans.{IsPlanned, text_plan}
 use Rattle.any_shaper.specs.Requests.{any_kind}
 use Rattle.any_shaper.specs.Shapers.{traits_of}
-use Rattle.shape_shaper.specs.Rules.{Spans}
+use Rattle.shape_plan.specs.Rules.{Spans}
 use Rattle.any_shaper.specs.Rules.{rules_of}
-use Rattle.shape_reading.specs.Reading.{reading}
-use Rattle.shape_reading.specs.Shaping.{Shaping}
+use Rattle.shape_pipeline.specs.Reading.{reading}
+use Rattle.shape_pipeline.specs.Shaping.{Shaping}
 use Rattle.shape_pipeline.specs.declared.shape.ShapeFault.{ShapeFault}
 use Rattle.shape_pipeline.specs.Shaped.{by_plan, by_shaper, by_text, language_tags, text_reading}
 

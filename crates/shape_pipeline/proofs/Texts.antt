@@ -11,20 +11,20 @@ use Rattle.shaping_text.specs.declared.tag.Tag.{Tag}
 use Rattle.feature_text.specs.declared.feature.Feature.{Feature}
 use Rattle.font_face.specs.declared.parts.FaceParts.{FaceParts}
 use Rattle.unicode_tables.specs.Tables.{Tables}
-use Rattle.glyph_types.specs.declared.info.hb_glyph_info_t.{hb_glyph_info_t}
+use Rattle.glyph_lists.specs.declared.info.hb_glyph_info_t.{hb_glyph_info_t}
 use Rattle.glyph_lists.specs.EventParts.{AreEvenRuns, HaveNoConcat}
 use Rattle.glyph_lists.specs.Items.{Item, item_of}
 use Rattle.glyph_lists.specs.Order.{BringsNone, has_number}
 use Rattle.glyph_lists.specs.Origins.{Origin, numbers, origins}
-use Rattle.glyph_lists.specs.Readings.{Follows, Reading, Run, View, as_it_is, run_after, with_events}
+use Rattle.glyph_buffer.specs.Readings.{Follows, Reading, Run, View, as_it_is, run_after, with_events}
 use Rattle.glyph_buffer.specs.Sides.{Sides, all_glyphs, asks_of, items_of, origins_of, run_of, view_of}
-use Rattle.layout_walks.specs.Settings.{TextSettings, text_settings}
+use Rattle.stage_rules.specs.Settings.{TextSettings, text_settings}
 use Rattle.shape_plan.specs.Plans.{planned_shaper, text_plan}
 use Rattle.any_shaper.specs.Requests.{any_kind}
-use Rattle.shape_reading.specs.Laws.{ReadingKeepsNumbers, ResultsAreEven, ResultsHaveNoConcat, RunsReadAlike, have_no_ranges}
-use Rattle.shape_reading.specs.Reading.{reading}
-use Rattle.shape_reading.specs.Shaping.{Shaping}
-use Rattle.shape_shaper.specs.Rules.{Spans}
+use Rattle.shape_pipeline.specs.ReadingLaws.{ReadingKeepsNumbers, ResultsAreEven, ResultsHaveNoConcat, RunsReadAlike, have_no_ranges}
+use Rattle.shape_pipeline.specs.Reading.{reading}
+use Rattle.shape_pipeline.specs.Shaping.{Shaping}
+use Rattle.shape_plan.specs.Rules.{Spans}
 use Rattle.shape_pipeline.specs.Laws.{AreAlike}
 use Rattle.shape_pipeline.specs.Shaped.{by_shaper, by_text, language_tags, text_reading}
 

@@ -7,18 +7,18 @@ use Rattle.unicode_tables.specs.Tables.{Tables}
 use Rattle.glyph_lists.specs.EventParts.{AreEvenRuns, HaveNoConcat}
 use Rattle.glyph_lists.specs.Order.{BringsNone}
 use Rattle.glyph_lists.specs.Origins.{numbers}
-use Rattle.glyph_lists.specs.Readings.{Follows, Run, as_it_is}
+use Rattle.glyph_buffer.specs.Readings.{Follows, Run, as_it_is}
 use Rattle.glyph_buffer.specs.Sides.{Sides, asks_of, origins_of, run_of, view_of}
-use Rattle.layout_walks.specs.Settings.{text_settings}
+use Rattle.stage_rules.specs.Settings.{text_settings}
 use Rattle.shape_plan.specs.declared.plan.hb_ot_shape_plan_t.{hb_ot_shape_plan_t}
 use Rattle.shape_plan.specs.Plans.{IsPlanned}
-use Rattle.shape_shaper.specs.Rules.{Spans}
+use Rattle.shape_plan.specs.Rules.{Spans}
 use Rattle.any_shaper.specs.declared.any_shaper.hb_ot_any_shaper_t.{hb_ot_any_shaper_t}
 use Rattle.any_shaper.specs.Requests.{any_kind}
 use Rattle.any_shaper.specs.Rules.{rules_of}
 use Rattle.any_shaper.specs.Shapers.{traits_of}
-use Rattle.shape_reading.specs.Laws.{have_no_ranges}
-use Rattle.shape_reading.specs.Shaping.{Shaping}
+use Rattle.shape_pipeline.specs.ReadingLaws.{have_no_ranges}
+use Rattle.shape_pipeline.specs.Shaping.{Shaping}
 use Rattle.shape_pipeline.specs.Shaped.{by_plan, by_text, language_tags, text_reading}
 
 -- a plan for a text's language, direction and script, made of the same font and features, shapes the text by what no plan shapes it by

@@ -1,3 +1,14 @@
+pub mod Chains
+pub mod Shaping
+pub mod Limits
+pub mod Characters
+pub mod Masks
+pub mod Glyphs
+pub mod Places
+pub mod Endings
+pub mod Reading
+pub mod ReadingLaws
+pub mod Lemmas
 pub mod Shaped
 pub mod Laws
 pub use Rattle.any_shaper.specs.Dispatch

@@ -5,20 +5,20 @@ use Rattle.shaping_text.specs.ScriptTags.{wanted_language_tags}
 use Rattle.feature_text.specs.declared.feature.Feature.{Feature}
 use Rattle.font_face.specs.declared.parts.FaceParts.{FaceParts}
 use Rattle.unicode_tables.specs.Tables.{Tables}
-use Rattle.glyph_lists.specs.Readings.{Reading, Run, with_events}
+use Rattle.glyph_buffer.specs.Readings.{Reading, Run, with_events}
 use Rattle.glyph_buffer.specs.Sides.{Sides}
-use Rattle.layout_walks.specs.Settings.{TextSettings, text_settings}
+use Rattle.stage_rules.specs.Settings.{TextSettings, text_settings}
 use Rattle.shape_plan.specs.declared.plan.hb_ot_shape_plan_t.{hb_ot_shape_plan_t}
 use Rattle.shape_plan.specs.declared.plan.hb_script_plan_t.{hb_script_plan_t}
 use Rattle.shape_plan.specs.Plans.{planned_shaper, text_plan}
 use Rattle.shape_plan.specs.Traits.{ShaperTraits}
-use Rattle.shape_shaper.specs.Rules.{ShaperRules, Spans}
+use Rattle.shape_plan.specs.Rules.{ShaperRules, Spans}
 use Rattle.any_shaper.specs.declared.any_shaper.hb_ot_any_shaper_t.{hb_ot_any_shaper_t}
 use Rattle.any_shaper.specs.Requests.{any_kind}
 use Rattle.any_shaper.specs.Rules.{rules_of}
 use Rattle.any_shaper.specs.Shapers.{traits_of}
-use Rattle.shape_reading.specs.Reading.{reading}
-use Rattle.shape_reading.specs.Shaping.{Shaping}
+use Rattle.shape_pipeline.specs.Reading.{reading}
+use Rattle.shape_pipeline.specs.Shaping.{Shaping}
 
 -- what a text is shaped by where its plan is of such parts, and its shaper has these traits and rules
 abbrev pub by_script_plan : {D : Type 0} → ShaperTraits → ShaperRules → hb_script_plan_t D → List Feature → FaceParts → Tables → Spans → TextSettings → Shaping

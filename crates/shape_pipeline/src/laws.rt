@@ -1,7 +1,7 @@
 //! Laws of all texts that are shaped.
 ghost use Rattle.shape_pipeline.specs.Laws.{EmptyTextsStay, PlansShapeAlike, ResultsAreOne, TextsAreEven, TextsHaveNoConcat, TextsKeepNumbers, TextsReadAlike};
 
-use shape_reading::laws::{
+use crate::reading_laws::{
     law_reading_keeps_numbers, law_results_are_even, law_results_have_no_concat,
     law_runs_read_alike,
 };

@@ -1,9 +1,20 @@
-// Shaping: a text and a font become placed glyphs.
+// Shaping: a text and a font become placed glyphs. The whole reading of a text; a text shaped by a plan, its stages in order
+// with those of the plan's shaper; and `shape`, with the shapers of the stack.
 #![tactic(auto)]
 
+mod characters;
+pub mod context;
 pub mod data;
+mod endings;
+mod glyphs;
 pub mod laws;
+mod masks;
+mod normalizing;
+mod pausing;
+mod places;
+pub mod reading_laws;
 pub mod shape;
+mod stages;
 
 pub use any_shaper::{hb_ot_any_shaper_t, script_waits};
 pub use data::hb_shape_data_t;

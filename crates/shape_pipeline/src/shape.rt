@@ -1,22 +1,22 @@
 //! Shaping of a text, with a plan or without one.
 ghost use Rattle.std.specs.Prelude.{◌≡◌, ◌≢◌, Err, IfErr, IfOk, true, false};
-ghost use Rattle.glyph_lists.specs.Readings.{Follows};
+ghost use Rattle.glyph_buffer.specs.Readings.{Follows};
 ghost use Rattle.glyph_buffer.specs.Segment.{guessed};
 ghost use Rattle.glyph_buffer.specs.Sides.{empty_buffer, items_of, run_of};
-ghost use Rattle.layout_walks.specs.Settings.{text_settings};
+ghost use Rattle.stage_rules.specs.Settings.{text_settings};
 ghost use Rattle.shape_text.specs.Properties.{are_characters};
 ghost use Rattle.shape_pipeline.specs.Shaped.{by_plan, by_text, text_reading};
 
+use crate::context::{Shaped, hb_ot_shape_context_t};
 use crate::data::hb_shape_data_t;
 use any_shaper::hb_ot_any_shaper_t;
 use feature_text::feature::Feature;
 use font_face::Face;
 use glyph_buffer::buffer::hb_buffer_t;
-use glyph_types::cause::ShapeCause;
-use ot_shape::context::{Shaped, hb_ot_shape_context_t};
+use glyph_lists::cause::ShapeCause;
 use script_syllables::SyllableSpans;
+use shape_plan::hb_ot_shaper_t;
 use shape_plan::plan::hb_ot_shape_plan_t;
-use shape_shaper::hb_ot_shaper_t;
 use shaping_text::language_tags::LanguageTags;
 use std::alloc::Global;
 use text_buffers::glyphs::GlyphBuffer;

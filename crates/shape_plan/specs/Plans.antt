@@ -9,7 +9,7 @@ use Rattle.shaping_text.specs.ScriptTags.{wanted_tags}
 use Rattle.feature_text.specs.declared.feature.Feature.{Feature}
 use Rattle.font_face.specs.declared.parts.FaceParts.{FaceParts}
 use Rattle.map_builder.specs.Compiled.{MapRequests, OtMapValue, compiled, feature_at, no_requests}
-use Rattle.map_stages.specs.Chosen.{script_tag}
+use Rattle.map_builder.specs.Chosen.{script_tag}
 use Rattle.shape_plan.specs.declared.planned.TheConstants.{HB_OT_SHAPE_ZERO_WIDTH_MARKS_NONE}
 use Rattle.shape_plan.specs.declared.plan.PlanChoices.{PlanChoices}
 use Rattle.shape_plan.specs.declared.plan.hb_ot_shape_plan_t.{hb_ot_shape_plan_t}

@@ -4,8 +4,8 @@ use Rattle.shaping_text.specs.declared.script.Script.{Script}
 use Rattle.shaping_text.specs.declared.direction.Direction.{Direction}
 use Rattle.feature_text.specs.declared.feature.Feature.{Feature}
 use Rattle.map_builder.specs.Compiled.{MapRequests}
-use Rattle.feature_requests.specs.Asks.{with_ask}
-use Rattle.feature_requests.specs.Common.{asked_first, asked_behind, ask_of}
+use Rattle.shape_plan.specs.Asks.{with_ask}
+use Rattle.shape_plan.specs.Common.{asked_first, asked_behind, ask_of}
 
 -- what a shaper asks, in two parts
 pub record Asking : Type 0 where

@@ -3,7 +3,7 @@ use Rattle.std.specs.Prelude.{ℕ, Bool, Option}
 use Rattle.shaping_text.specs.declared.tag.Tag.{Tag}
 use Rattle.shaping_text.specs.declared.script.Script.{Script}
 use Rattle.shaping_text.specs.declared.direction.Direction.{Direction}
-use Rattle.normal_forms.specs.declared.mode.NormalizationMode.{NormalizationMode}
+use Rattle.glyph_properties.specs.declared.normal_mode.NormalizationMode.{NormalizationMode}
 use Rattle.map_builder.specs.Compiled.{OtMapValue}
 use Rattle.shape_plan.specs.Requests.{Asking}
 

@@ -1,8 +1,8 @@
 //! What the planner asks of a shaper.
 
+use glyph_properties::NormalizationMode;
 use map_builder::builder::hb_ot_map_builder_t;
 use map_builder::map::hb_ot_map_t;
-use normal_forms::NormalizationMode;
 use shaping_text::direction::Direction;
 use shaping_text::script::Script;
 use shaping_text::tag::Tag;

@@ -9,7 +9,7 @@ ghost use Rattle.std.specs.Prelude.{OnOk};
 
 use crate::plan::{PlanChoices, hb_ot_shape_plan_t, hb_script_plan_t};
 use crate::planned::{CategorizedShaper, HB_OT_SHAPE_ZERO_WIDTH_MARKS_NONE, PlannedShaper};
-use feature_requests::{common, user};
+use crate::{common, user};
 use feature_text::feature::Feature;
 use font_face::Face;
 use map_builder::builder::hb_ot_map_builder_t;

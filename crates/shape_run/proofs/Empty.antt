@@ -6,7 +6,7 @@ use Rattle.shaping_text.specs.declared.script.Script.{Script}
 use Rattle.glyph_lists.specs.Parts.{or}
 use Rattle.shape_pipeline.specs.Dispatch.{script_waits}
 use Rattle.font_face.specs.declared.parts.FaceParts.{FaceParts}
-use Rattle.glyph_types.specs.declared.flags.SerializeFlags.{SerializeFlags}
+use Rattle.glyph_lists.specs.declared.flags.SerializeFlags.{SerializeFlags}
 use Rattle.glyph_text.specs.Printed.{printed_text}
 use Rattle.shape_pipeline.specs.Shaped.{text_reading}
 use Rattle.shape_run.specs.Answer.{printed_line}

@@ -8,9 +8,9 @@ use Rattle.shaping_text.specs.declared.script.TheConstants.{UNKNOWN}
 use Rattle.shape_pipeline.specs.Dispatch.{script_waits}
 use Rattle.run_options.specs.declared.options.Options.{Options}
 use Rattle.run_options.specs.Fault.{fault_of_cause}
-use Rattle.glyph_types.specs.declared.cause.ShapeCause.{ShapeCause}
-use Rattle.glyph_types.specs.declared.cause.ShapeCause.TheVariants.{OutOfMemory as NoMemory}
-use Rattle.glyph_lists.specs.Readings.{Reading}
+use Rattle.glyph_lists.specs.declared.cause.ShapeCause.{ShapeCause}
+use Rattle.glyph_lists.specs.declared.cause.ShapeCause.TheVariants.{OutOfMemory as NoMemory}
+use Rattle.glyph_buffer.specs.Readings.{Reading}
 use Rattle.shape_run.specs.Answer.{IsAnswer, IsUnshaped}
 use Rattle.run_readers.specs.Faults.{IsOfBytes}
 use Rattle.shape_run.specs.Run.{OnKnown}

@@ -16,7 +16,7 @@ use Rattle.feature_text.specs.declared.feature.Feature.{Feature}
 use Rattle.font_face.specs.declared.parts.FaceParts.{FaceParts}
 use Rattle.unicode_tables.specs.Tables.{Tables}
 use Rattle.glyph_buffer.specs.Sides.{Sides}
-use Rattle.shape_shaper.specs.Rules.{Spans}
+use Rattle.shape_plan.specs.Rules.{Spans}
 use Rattle.shape_pipeline.specs.Shaped.{by_tags, by_text}
 use Rattle.run_readers.specs.Tables.{language_of, language_tags}
 

@@ -2,11 +2,11 @@
 use Rattle.std.proofs.Common.{ℕ, ◌≡◌, ◌+◌, Bool, true, false, if◌then◌else◌, List, [], ◌∷◌, Ok, Err, refl, sym, ap, subst, ◌∙◌, arith}
 use Rattle.std.specs.Prelude.{bit_and}
 use Rattle.std.proofs.lemmas.Nat.{and_mask}
-use Rattle.glyph_types.specs.declared.info.hb_glyph_info_t.{hb_glyph_info_t}
-use Rattle.glyph_types.specs.declared.flags.SerializeFlags.{SerializeFlags}
+use Rattle.glyph_lists.specs.declared.info.hb_glyph_info_t.{hb_glyph_info_t}
+use Rattle.glyph_lists.specs.declared.flags.SerializeFlags.{SerializeFlags}
 use Rattle.glyph_lists.specs.Items.{item_of, strip, without_flags}
 use Rattle.glyph_lists.specs.Origins.{origin_of, origins}
-use Rattle.glyph_lists.specs.Readings.{Follows, Reading, Run}
+use Rattle.glyph_buffer.specs.Readings.{Follows, Reading, Run}
 use Rattle.glyph_buffer.specs.Text.{fits_text}
 use Rattle.shape_run.specs.Output.{glyph_of, glyphs_of}
 use Rattle.shape_pipeline.specs.Dispatch.{script_waits}

@@ -1,11 +1,11 @@
 -- What is printed for the bytes of tables, a font and a text, or the first fault that is found in them.
 use Rattle.std.specs.Prelude.{ℕ, Bool, true, false, ◌≡◌, ◌==◌, ◌-◌, if◌then◌else◌, List, [], ◌∷◌, ◌++◌, length, take, slice_index, Result, Ok, Err}
 use Rattle.std.specs.Str.{is_utf8}
-use Rattle.glyph_types.specs.declared.info.hb_glyph_info_t.{hb_glyph_info_t}
-use Rattle.glyph_types.specs.declared.flags.SerializeFlags.{SerializeFlags}
+use Rattle.glyph_lists.specs.declared.info.hb_glyph_info_t.{hb_glyph_info_t}
+use Rattle.glyph_lists.specs.declared.flags.SerializeFlags.{SerializeFlags}
 use Rattle.feature_text.specs.declared.feature.Feature.{Feature}
-use Rattle.glyph_types.specs.declared.cause.ShapeCause.{ShapeCause}
-use Rattle.glyph_types.specs.declared.cause.ShapeCause.TheVariants.{TooLong}
+use Rattle.glyph_lists.specs.declared.cause.ShapeCause.{ShapeCause}
+use Rattle.glyph_lists.specs.declared.cause.ShapeCause.TheVariants.{TooLong}
 use Rattle.run_options.specs.declared.fault.RunFault.{RunFault}
 use Rattle.run_options.specs.declared.fault.RunFault.TheVariants.{NotUtf8, NotYet, Shape}
 use Rattle.run_options.specs.declared.options.Options.{Options}
@@ -14,14 +14,14 @@ use Rattle.layout_common.specs.Rows.{value_of}
 use Rattle.font_face.specs.Glyphs.{name_of}
 use Rattle.font_face.specs.declared.parts.FaceParts.{FaceParts}
 use Rattle.shape_pipeline.specs.Dispatch.{script_waits}
-use Rattle.shape_reading.specs.Shaping.{Shaping}
+use Rattle.shape_pipeline.specs.Shaping.{Shaping}
 use Rattle.shape_pipeline.specs.Shaped.{by_text, text_reading}
 use Rattle.shape_run.specs.Asked.{text_buffer}
 use Rattle.run_readers.specs.Input.{IsInput, RunParts}
 use Rattle.run_readers.specs.Tables.{RunTables, language_tags}
 use Rattle.run_readers.specs.Values.{then_run}
 use Rattle.glyph_lists.specs.Items.{Position}
-use Rattle.glyph_lists.specs.Readings.{Reading, Run, run_after}
+use Rattle.glyph_buffer.specs.Readings.{Reading, Run, run_after}
 use Rattle.glyph_text.specs.Printed.{printed_text}
 use Rattle.glyph_buffer.specs.Sides.{Sides, empty_buffer, run_of}
 use Rattle.glyph_buffer.specs.Text.{fits_text}

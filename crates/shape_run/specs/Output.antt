@@ -1,6 +1,6 @@
 -- The glyphs of a reading, as they are printed.
 use Rattle.std.specs.Prelude.{◌+◌, List, [], ◌∷◌}
-use Rattle.glyph_types.specs.declared.info.hb_glyph_info_t.{hb_glyph_info_t}
+use Rattle.glyph_lists.specs.declared.info.hb_glyph_info_t.{hb_glyph_info_t}
 use Rattle.glyph_lists.specs.Items.{Item}
 use Rattle.glyph_lists.specs.Origins.{Origin}
 

@@ -9,8 +9,8 @@ ghost use Rattle.shape_run.specs.Asked.{asked_buffer, text_buffer};
 
 use crate::shape::shape;
 use font_face::Face;
-use glyph_types::cause::ShapeCause;
-use glyph_types::flags::SerializeFlags;
+use glyph_lists::cause::ShapeCause;
+use glyph_lists::flags::SerializeFlags;
 use run_options::fault::RunFault;
 use run_options::options::Options;
 use run_readers::input::read_input;

@@ -1,6 +1,6 @@
 //! Shaping of a text that doesn't wait.
 ghost use Rattle.std.specs.Prelude.{◌≡◌, ◌≢◌, false, IfOk, IfErr, OnOk};
-ghost use Rattle.glyph_lists.specs.Readings.{Follows};
+ghost use Rattle.glyph_buffer.specs.Readings.{Follows};
 ghost use Rattle.glyph_buffer.specs.Segment.{guessed};
 ghost use Rattle.glyph_buffer.specs.Sides.{run_of};
 ghost use Rattle.shape_pipeline.specs.Dispatch.{script_waits};

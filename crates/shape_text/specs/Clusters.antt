@@ -1,12 +1,12 @@
 -- The graphemes of a text, as clusters.
 use Rattle.std.specs.Prelude.{ℕ, ◌+◌, ◌==◌, not, Bool, if◌then◌else◌, List, [], ◌∷◌}
 use Rattle.std.specs.Int.RustNames.{bit_and}
-use Rattle.glyph_types.specs.declared.level.BufferClusterLevel.{BufferClusterLevel}
-use Rattle.glyph_types.specs.declared.level.BufferClusterLevel.TheVariants.{MonotoneGraphemes, MonotoneCharacters, Characters}
+use Rattle.glyph_lists.specs.declared.level.BufferClusterLevel.{BufferClusterLevel}
+use Rattle.glyph_lists.specs.declared.level.BufferClusterLevel.TheVariants.{MonotoneGraphemes, MonotoneCharacters, Characters}
 use Rattle.glyph_lists.specs.Items.{Item}
 use Rattle.glyph_lists.specs.Levels.{InList}
 use Rattle.glyph_lists.specs.Events.{Event, Merge, Break}
-use Rattle.glyph_lists.specs.Readings.{View, Read}
+use Rattle.glyph_buffer.specs.Readings.{View, Read}
 use Rattle.glyph_slices.specs.Facts.{group_lengths}
 use Rattle.glyph_buffer.specs.Graphemes.{continues}
 

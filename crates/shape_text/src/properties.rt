@@ -4,18 +4,18 @@ ghost use Rattle.std.specs.Char.{IsScalar};
 ghost use Rattle.glyph_properties.specs.Properties.{scratch_flags_of};
 ghost use Rattle.std.specs.Int.RustNames.{bit_or};
 ghost use Rattle.glyph_lists.specs.Items.{strip};
-ghost use Rattle.glyph_lists.specs.Readings.{always};
+ghost use Rattle.glyph_buffer.specs.Readings.{always};
 ghost use Rattle.glyph_buffer.specs.Sides.{items_of};
-ghost use Rattle.layout_rules.specs.Ready.{IsReady};
+ghost use Rattle.stage_rules.specs.Ready.{IsReady};
 ghost use Rattle.shape_text.specs.Properties.{are_characters, glyph_prepared, glyphs_prepared, glyphs_told, with_properties, word_of};
-ghost use Rattle.text_stages.specs.Stages.{IsFollowed};
+ghost use Rattle.stage_rules.specs.Stages.{IsFollowed};
 
 use crate::graphemes::{Before, continues};
 use glyph_buffer::buffer::hb_buffer_t;
+use glyph_lists::flags::UnicodeProps;
+use glyph_lists::info::hb_glyph_info_t;
 use glyph_properties::character::properties_of;
 use glyph_properties::info::init_unicode_props;
-use glyph_types::flags::UnicodeProps;
-use glyph_types::info::hb_glyph_info_t;
 use shaping_text::constants::hb_buffer_scratch_flags_t;
 use unicode_tables::UnicodeTables;
 

@@ -6,12 +6,12 @@ ghost use Rattle.shaping_text.specs.declared.direction.Direction.TheVariants.{In
 ghost use Rattle.shaping_text.specs.Language.{language_text};
 
 use feature_text::feature::Feature;
-use glyph_types::cause::ShapeCause;
-use glyph_types::flags::{GlyphPropsFlags, SerializeFlags, UnicodeProps};
-use glyph_types::info::hb_glyph_info_t;
-use glyph_types::level::BufferClusterLevel;
-use glyph_types::names::{GlyphId, hb_glyph_extents_t};
-use glyph_types::position::GlyphPosition;
+use glyph_lists::cause::ShapeCause;
+use glyph_lists::flags::{GlyphPropsFlags, SerializeFlags, UnicodeProps};
+use glyph_lists::info::hb_glyph_info_t;
+use glyph_lists::level::BufferClusterLevel;
+use glyph_lists::names::{GlyphId, hb_glyph_extents_t};
+use glyph_lists::position::GlyphPosition;
 use shaping_text::constants::BufferFlags;
 use shaping_text::direction::Direction;
 use shaping_text::language::Language;

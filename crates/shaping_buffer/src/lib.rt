@@ -8,20 +8,20 @@ pub use feature_text::feature::{
 };
 pub use feature_text::text_parser::TextParser;
 pub use glyph_buffer::buffer::hb_buffer_t;
-pub use glyph_text::serialize;
-pub use glyph_types::cause::ShapeCause;
-pub use glyph_types::flags::{GlyphPropsFlags, SerializeFlags, UnicodeProps};
-pub use glyph_types::info::{
+pub use glyph_lists::cause::ShapeCause;
+pub use glyph_lists::flags::{GlyphPropsFlags, SerializeFlags, UnicodeProps};
+pub use glyph_lists::info::{
     DEFINED, SAFE_TO_INSERT_TATWEEL, UNSAFE_TO_BREAK, UNSAFE_TO_CONCAT, hb_codepoint_t,
     hb_glyph_info_t, hb_mask_t,
 };
-pub use glyph_types::level::{
+pub use glyph_lists::level::{
     BufferClusterLevel, HB_BUFFER_CLUSTER_LEVEL_CHARACTERS, HB_BUFFER_CLUSTER_LEVEL_DEFAULT,
     HB_BUFFER_CLUSTER_LEVEL_MONOTONE_CHARACTERS, HB_BUFFER_CLUSTER_LEVEL_MONOTONE_GRAPHEMES,
     hb_buffer_cluster_level_t,
 };
-pub use glyph_types::names::{GlyphId, GlyphNames, hb_glyph_extents_t};
-pub use glyph_types::position::GlyphPosition;
+pub use glyph_lists::names::{GlyphId, GlyphNames, hb_glyph_extents_t};
+pub use glyph_lists::position::GlyphPosition;
+pub use glyph_text::serialize;
 pub use language_tables::language_table::{LanguageRow, LanguageTable};
 pub use shaping_text::constants::BufferFlags;
 pub use shaping_text::direction::{Direction, InvalidDirection};

@@ -2,14 +2,14 @@
 use Rattle.std.proofs.Common.{zero, suc, ℕ, ◌≡◌, ◌+◌, List, [], ◌∷◌, ◌++◌, length, set, refl, sym, ap, subst, ◌∙◌, arith}
 use Rattle.std.specs.Prelude.{slice_set}
 use Rattle.std.proofs.lemmas.List.{length-append, length-set}
-use Rattle.glyph_types.specs.declared.info.hb_glyph_info_t.{hb_glyph_info_t}
+use Rattle.glyph_lists.specs.declared.info.hb_glyph_info_t.{hb_glyph_info_t}
 use Rattle.glyph_lists.specs.Items.{Item, Position}
 use Rattle.glyph_buffer.specs.Sides.{Sides, with_added, zero_position}
 use Rattle.glyph_buffer.specs.Lending.{with_glyph_ahead, with_positions_refilled}
-use Rattle.layout_rules.specs.Ready.{IsReady}
-use Rattle.normal_forms.specs.Arranged.{kept}
+use Rattle.stage_rules.specs.Ready.{IsReady}
+use Rattle.glyph_properties.specs.Arranged.{kept}
 use Rattle.normal_rounds.specs.Rearranged.{Rearranges}
-use Rattle.text_stages.specs.Lemmas.Written.{refilled_whole}
+use Rattle.stage_rules.specs.Lemmas.Written.{refilled_whole}
 
 pub unchanged : (start end : ℕ) (s : Sides) → IsReady s → Rearranges (λ (run : List Item). kept run) start end s s
 unchanged start end s ready front run rest e len upto = record { items = e; happened = refl; frame = refl; ready = ready }

@@ -1,5 +1,5 @@
 //! Positions before and after their links are followed.
-use glyph_types::position::GlyphPosition;
+use glyph_lists::position::GlyphPosition;
 use layout_links::links::finish_offsets;
 use shaping_text::direction::Direction;
 use std::alloc::{AllocError, Global};

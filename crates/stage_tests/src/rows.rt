@@ -2,9 +2,9 @@
 ghost use Rattle.std.specs.Prelude.{◌≡◌};
 ghost use Rattle.std.specs.Int.RustNames.{bit_and};
 
-use glyph_types::flags::{GlyphPropsFlags, UnicodeProps};
-use glyph_types::info::hb_glyph_info_t;
-use glyph_types::position::GlyphPosition;
+use glyph_lists::flags::{GlyphPropsFlags, UnicodeProps};
+use glyph_lists::info::hb_glyph_info_t;
+use glyph_lists::position::GlyphPosition;
 use shaping_text::direction::Direction;
 use shaping_text::script::Script;
 use shaping_text::tag::Tag;

@@ -1,6 +1,6 @@
 //! Rows of stages.
 ghost use Rattle.std.specs.Prelude.{◌≡◌, false};
-ghost use Rattle.layout_rules.specs.Ready.{IsReady};
+ghost use Rattle.stage_rules.specs.Ready.{IsReady};
 
 use crate::buffers::{are_characters, are_glyphs, buffer_of};
 use crate::rows::{GLYPH_NUMBERS, direction_of, mask, number, part, script_of, seen};
@@ -8,8 +8,8 @@ use face_json::read_face;
 use fallback_marks::marks::{components_direction, position_marks};
 use font_face::Face;
 use glyph_buffer::buffer::hb_buffer_t;
-use glyph_types::info::hb_glyph_info_t;
-use glyph_types::position::GlyphPosition;
+use glyph_lists::info::hb_glyph_info_t;
+use glyph_lists::position::GlyphPosition;
 use serde_json::Value;
 use shape_direction::direction::ensure_native_direction;
 use shape_fallback::classes::_hb_ot_shape_fallback_mark_position_recategorize_marks;

@@ -7,7 +7,7 @@ use Rattle.std.proofs.lemmas.Str.{scalars-chars}
 use Rattle.std.proofs.lemmas.List.Elements.{All-nil, All-cons, All-append, All-head, All-tail}
 use Rattle.std.proofs.lemmas.List.{take-append-drop}
 use lib.Utf8.{scalar, scalars}
-use Rattle.glyph_types.specs.declared.info.hb_glyph_info_t.{hb_glyph_info_t}
+use Rattle.glyph_lists.specs.declared.info.hb_glyph_info_t.{hb_glyph_info_t}
 use Rattle.glyph_buffer.specs.Sides.{Sides, all_glyphs, with_added}
 use Rattle.glyph_buffer.specs.Settings.{glyphs_counted, most_cluster, with_counted}
 use Rattle.glyph_buffer.specs.Text.{added_glyph, added_from, added_text}

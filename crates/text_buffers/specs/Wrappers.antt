@@ -2,7 +2,7 @@
 use Rattle.std.specs.Prelude.{◌≡◌, false, IsTrue}
 use Rattle.std.specs.List.{All}
 use lib.Utf8.{scalar}
-use Rattle.glyph_types.specs.declared.info.hb_glyph_info_t.{hb_glyph_info_t}
+use Rattle.glyph_lists.specs.declared.info.hb_glyph_info_t.{hb_glyph_info_t}
 use Rattle.glyph_buffer.specs.Sides.{Sides, all_glyphs}
 use Rattle.glyph_buffer.specs.Text.{added_glyph}
 

@@ -4,11 +4,11 @@ ghost use Rattle.glyph_buffer.specs.Sides.{empty_buffer, all_glyphs};
 
 use crate::unicode_buffer::UnicodeBuffer;
 use glyph_buffer::buffer::hb_buffer_t;
+use glyph_lists::flags::SerializeFlags;
+use glyph_lists::info::hb_glyph_info_t;
+use glyph_lists::names::GlyphNames;
+use glyph_lists::position::GlyphPosition;
 use glyph_text::serialize;
-use glyph_types::flags::SerializeFlags;
-use glyph_types::info::hb_glyph_info_t;
-use glyph_types::names::GlyphNames;
-use glyph_types::position::GlyphPosition;
 use std::alloc::{AllocError, Global};
 use std::marker::Model;
 

@@ -11,7 +11,7 @@ ghost use Rattle.glyph_buffer.specs.Text.{added_glyph, added_text, fits_text};
 
 use glyph_buffer::buffer::hb_buffer_t;
 use glyph_buffer::buffer::segment::{first_script, guessed_direction};
-use glyph_types::level::BufferClusterLevel;
+use glyph_lists::level::BufferClusterLevel;
 use shaping_text::constants::BufferFlags;
 use shaping_text::direction::Direction;
 use shaping_text::language::Language;

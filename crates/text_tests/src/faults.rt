@@ -1,5 +1,5 @@
 //! The printed names of faults, and the statuses with which the program ends.
-use glyph_types::cause::ShapeCause;
+use glyph_lists::cause::ShapeCause;
 use json_values::fault::JsonFault;
 use run_options::fault::RunFault;
 use std::alloc::{AllocError, AllocFailed, Global};

@@ -1,11 +1,11 @@
 //! The printed text of runs of glyphs.
 ghost use Rattle.std.specs.Prelude.{Option, None, Some, codes, pos, negsuc, if◌then◌else◌, ◌==◌};
 
+use glyph_lists::flags::SerializeFlags;
+use glyph_lists::info::hb_glyph_info_t;
+use glyph_lists::names::{GlyphId, GlyphNames, hb_glyph_extents_t};
+use glyph_lists::position::GlyphPosition;
 use glyph_text::serialize;
-use glyph_types::flags::SerializeFlags;
-use glyph_types::info::hb_glyph_info_t;
-use glyph_types::names::{GlyphId, GlyphNames, hb_glyph_extents_t};
-use glyph_types::position::GlyphPosition;
 use std::alloc::{AllocError, Global};
 use std::process::Abort;
 use std::test::Fail;

@@ -1,6 +1,6 @@
 //! The words of a command line.
 use feature_text::feature::Feature;
-use glyph_types::flags::SerializeFlags;
+use glyph_lists::flags::SerializeFlags;
 use run_options::fault::RunFault;
 use shape_words::{CommandLine, parse_options};
 use shaping_text::direction::Direction;

@@ -4,7 +4,7 @@ ghost use Rattle.std.specs.Int.{int_wrap, w32};
 ghost use Rattle.tile_places.specs.Placing.{begins_at, copies_placed, copy_begin, laid, placed, tile_at};
 
 use crate::tile::Tile;
-use glyph_types::position::GlyphPosition;
+use glyph_lists::position::GlyphPosition;
 use std::alloc::{AllocFailed, Global};
 
 /// The positions of the glyphs and of their copies, in order. It takes linear time, and memory for them.

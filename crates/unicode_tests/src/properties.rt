@@ -1,8 +1,8 @@
 //! The property words of characters in their glyph records.
 ghost use Rattle.std.specs.Char.{IsScalar};
 
+use glyph_lists::info::hb_glyph_info_t;
 use glyph_properties::info::{clear_continuation, init_unicode_props};
-use glyph_types::info::hb_glyph_info_t;
 use shaping_text::constants::{
     HB_BUFFER_SCRATCH_FLAG_HAS_CGJ, HB_BUFFER_SCRATCH_FLAG_HAS_DEFAULT_IGNORABLES,
     HB_BUFFER_SCRATCH_FLAG_HAS_NON_ASCII,

@@ -6,24 +6,24 @@ use Rattle.unicode_tables.specs.Tables.{Tables}
 use Rattle.font_face.specs.declared.parts.FaceParts.{FaceParts}
 use Rattle.glyph_lists.specs.Items.{Item}
 use Rattle.glyph_lists.specs.Events.{IsPlain}
-use Rattle.glyph_lists.specs.Readings.{always, as_it_is}
+use Rattle.glyph_buffer.specs.Readings.{always, as_it_is}
 use Rattle.map_builder.specs.Compiled.{OtMapValue}
-use Rattle.layout_walks.specs.Settings.{TextSettings}
+use Rattle.stage_rules.specs.Settings.{TextSettings}
 use Rattle.shape_plan.specs.Plans.{has_mask, mask_at_one}
 use Rattle.shape_plan.specs.declared.plan.hb_script_plan_t.{hb_script_plan_t}
-use Rattle.shape_shaper.specs.Rules.{KeepsOrder, Spans, StaysPlain}
-use Rattle.shape_shaper.specs.Lemmas.Unchanged.{plain_order, unchanged_plain}
-use Rattle.feature_requests.specs.declared.pause.hb_script_pause_t.{hb_script_pause_t}
-use Rattle.feature_requests.specs.declared.pause.hb_script_pause_t.TheVariants.{RecordStch, SetupSyllables, ReorderKhmer, ReorderMyanmar, ClearSyllables, ClearSubstitutionFlags, RecordRphf, RecordPref, ReorderUse, InitialReordering, FinalReordering}
-use Rattle.feature_requests.specs.Pauses.{pause_of_number}
+use Rattle.shape_plan.specs.Rules.{KeepsOrder, Spans, StaysPlain}
+use Rattle.shape_plan.specs.Lemmas.Unchanged.{plain_order, unchanged_plain}
+use Rattle.shape_plan.specs.declared.pause.hb_script_pause_t.{hb_script_pause_t}
+use Rattle.shape_plan.specs.declared.pause.hb_script_pause_t.TheVariants.{RecordStch, SetupSyllables, ReorderKhmer, ReorderMyanmar, ClearSyllables, ClearSubstitutionFlags, RecordRphf, RecordPref, ReorderUse, InitialReordering, FinalReordering}
+use Rattle.shape_plan.specs.Pauses.{pause_of_number}
 use Rattle.script_constants.specs.declared.shaper.hb_ot_script_shaper_t.{hb_ot_script_shaper_t}
 use Rattle.script_constants.specs.declared.shaper.hb_ot_script_shaper_t.TheVariants.{ARABIC_SHAPER, HANGUL_SHAPER, HEBREW_SHAPER, INDIC_SHAPER, KHMER_SHAPER, MYANMAR_SHAPER, MYANMAR_ZAWGYI_SHAPER, THAI_SHAPER, UNIVERSAL_SHAPER}
 use Rattle.script_hebrew_thai.specs.ThaiPrivate.{with_private}
 use Rattle.script_hebrew_thai.specs.ThaiVowel.{vowels_split}
 use Rattle.script_mark_orders.specs.Lemmas.Counts.{orders_are_plain, orders_keep_count}
 use Rattle.script_pauses.specs.Categories.{ot_category_of}
-use Rattle.script_masks.specs.Masks.{form_masks, jamo_masks, khmer_masks}
-use Rattle.script_tiles.specs.Lemmas.Plain.{tiles_plain}
+use Rattle.any_shaper.specs.Masks.{form_masks, jamo_masks, khmer_masks}
+use Rattle.script_pauses.specs.Lemmas.Plain.{tiles_plain}
 use Rattle.any_shaper.specs.Lemmas.Plain.Events.{then_plain}
 use Rattle.any_shaper.specs.Lemmas.Plain.Masks.{either_plain, masks_leave_plain}
 use Rattle.any_shaper.specs.Lemmas.Plain.Orders.{orders_leave_plain}

@@ -5,7 +5,7 @@ use Rattle.std.specs.List.{list_any}
 use Rattle.unicode_tables.specs.Expansion.{EndWithin, ends_by, ends_within}
 use Rattle.unicode_tables.specs.Tables.{Tables, split_of}
 use Rattle.shape_plan.specs.declared.plan.hb_script_plan_t.{hb_script_plan_t}
-use Rattle.shape_shaper.specs.Lemmas.Unchanged.{by_more, nine_splits, none_more}
+use Rattle.shape_plan.specs.Lemmas.Unchanged.{by_more, nine_splits, none_more}
 use Rattle.script_constants.specs.declared.shaper.hb_ot_script_shaper_t.{hb_ot_script_shaper_t}
 use Rattle.script_constants.specs.declared.shaper.hb_ot_script_shaper_t.TheVariants.{ARABIC_SHAPER, HANGUL_SHAPER, HEBREW_SHAPER, INDIC_SHAPER, KHMER_SHAPER, MYANMAR_SHAPER, MYANMAR_ZAWGYI_SHAPER, THAI_SHAPER, UNIVERSAL_SHAPER}
 use Rattle.script_khmer_myanmar.specs.Khmer.{LEFT_PART, khmer_split, split_vowels}

@@ -1,8 +1,8 @@
 use buffer_lists::merges::{merge_input, merge_output};
 use buffer_lists::moves::put_in_front;
 use buffer_lists::order::KnownOrder;
-use glyph_types::info::hb_glyph_info_t;
-use glyph_types::level::BufferClusterLevel;
+use glyph_lists::info::hb_glyph_info_t;
+use glyph_lists::level::BufferClusterLevel;
 use std::alloc::{AllocError, Global};
 use std::test::Fail;
 

@@ -1,7 +1,7 @@
 use super::rows::{Row, are, glyph, glyphs_of, stand_in_order};
-use glyph_clusters::deletion::{recast_end, set_cluster};
-use glyph_clusters::ranges::merge_range;
-use glyph_types::level::BufferClusterLevel;
+use glyph_lists::deletion::{recast_end, set_cluster};
+use glyph_lists::level::BufferClusterLevel;
+use glyph_lists::ranges::merge_range;
 use std::alloc::{AllocError, Global};
 use std::test::Fail;
 

@@ -3,8 +3,8 @@ ghost use Rattle.glyph_lists.specs.Items.{clusters};
 ghost use Rattle.glyph_lists.specs.Order.{IsOrdered};
 
 use buffer_lists::order::KnownOrder;
-use glyph_types::info::hb_glyph_info_t;
-use glyph_types::position::GlyphPosition;
+use glyph_lists::info::hb_glyph_info_t;
+use glyph_lists::position::GlyphPosition;
 use std::alloc::{AllocError, Global};
 
 /// A glyph by number, cluster and mask.

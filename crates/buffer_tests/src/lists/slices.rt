@@ -1,12 +1,12 @@
 use super::rows::{Row, are, glyphs_of, have_advances, positions_of, stand_in_order};
+use glyph_lists::flags::UnicodeProps;
+use glyph_lists::info::hb_glyph_info_t;
+use glyph_lists::level::BufferClusterLevel;
 use glyph_slices::deletion::delete_within;
 use glyph_slices::flags::{AskedFlags, propagate_flags};
 use glyph_slices::groups::{group_end, next_cluster, next_grapheme, next_syllable};
 use glyph_slices::reversal::reverse_groups;
 use glyph_slices::sorting::{Sorted, sort};
-use glyph_types::flags::UnicodeProps;
-use glyph_types::info::hb_glyph_info_t;
-use glyph_types::level::BufferClusterLevel;
 use std::alloc::{AllocError, Global};
 use std::test::Fail;
 

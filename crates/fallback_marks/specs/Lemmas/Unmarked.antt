@@ -4,8 +4,8 @@ use Rattle.std.specs.List.{list_any}
 use Rattle.shaping_text.specs.declared.direction.Direction.{Direction}
 use Rattle.font_face.specs.declared.parts.FaceParts.{FaceParts}
 use Rattle.glyph_lists.specs.Items.{Item, Position}
-use Rattle.glyph_lists.specs.Readings.{View}
-use Rattle.normal_forms.specs.Characters.{is_mark}
+use Rattle.glyph_buffer.specs.Readings.{View}
+use Rattle.glyph_properties.specs.Characters.{is_mark}
 use Rattle.fallback_marks.specs.declared.around.Placing.{Placing}
 use Rattle.fallback_marks.specs.declared.marks.Before.{Before}
 use Rattle.fallback_marks.specs.declared.marks.Before.TheVariants.{Nothing}

@@ -8,8 +8,8 @@ ghost use Rattle.glyph_lists.specs.Events.{Merge, Break, Concat};
 use super::hb_buffer_t;
 use super::merges::telling_flags;
 use buffer_lists::merges::merge_output;
-use glyph_clusters::marks::{flag_all, mark_across};
-use glyph_types::info::{UNSAFE_TO_BREAK, UNSAFE_TO_CONCAT, hb_mask_t};
+use glyph_lists::info::{UNSAFE_TO_BREAK, UNSAFE_TO_CONCAT, hb_mask_t};
+use glyph_lists::marks::{flag_all, mark_across};
 
 // Ranges that begin in the output.
 impl hb_buffer_t {

@@ -5,8 +5,8 @@ ghost use Rattle.glyph_buffer.specs.Lending.{LendsGlyph, LendsLast, LendsPlace};
 
 use super::hb_buffer_t;
 use buffer_lists::order::Lent;
-use glyph_types::info::hb_glyph_info_t;
-use glyph_types::position::GlyphPosition;
+use glyph_lists::info::hb_glyph_info_t;
+use glyph_lists::position::GlyphPosition;
 use std::alloc::AllocError;
 use std::mem;
 

@@ -1,5 +1,5 @@
 ghost use Rattle.std.specs.Prelude.{◌≡◌, ◌+◌, ◌<◌, ◌++◌, ◌∷◌, true, List, length, drop, []};
-ghost use Rattle.glyph_types.specs.declared.info.hb_glyph_info_t.{hb_glyph_info_t as Glyph};
+ghost use Rattle.glyph_lists.specs.declared.info.hb_glyph_info_t.{hb_glyph_info_t as Glyph};
 ghost use Rattle.glyph_lists.specs.Items.{strip};
 ghost use Rattle.glyph_lists.specs.Deletions.{deleted};
 ghost use Rattle.glyph_buffer.specs.Sides.{items_of, origins_of, origins_by};

@@ -9,8 +9,8 @@ ghost use Rattle.glyph_buffer.specs.Graphemes.{continues, is_default_ignorable};
 ghost use Rattle.glyph_buffer.specs.Sides.{all_glyphs, items_of, origins_by, origins_of};
 
 use super::hb_buffer_t;
-use glyph_types::flags::{GlyphPropsFlags, UnicodeProps};
-use glyph_types::info::hb_glyph_info_t;
+use glyph_lists::flags::{GlyphPropsFlags, UnicodeProps};
+use glyph_lists::info::hb_glyph_info_t;
 use std::alloc::{AllocError, Global};
 
 // Calls that shaping makes of the groups, the deletion and the sort of a buffer.

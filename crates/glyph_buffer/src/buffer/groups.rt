@@ -1,5 +1,5 @@
 ghost use Rattle.std.specs.Prelude.{◌≡◌, ◌+◌, ◌<◌, ◌≤◌, false, Bool, drop, length, min};
-ghost use Rattle.glyph_types.specs.declared.info.hb_glyph_info_t.{hb_glyph_info_t as Glyph};
+ghost use Rattle.glyph_lists.specs.declared.info.hb_glyph_info_t.{hb_glyph_info_t as Glyph};
 ghost use Rattle.glyph_slices.specs.Groups.{Decides, group_length};
 ghost use Rattle.glyph_slices.specs.Runs.{grapheme_length, run_length};
 ghost use Rattle.glyph_buffer.specs.Sides.{all_glyphs, items_of, origins_by, origins_of};
@@ -13,9 +13,9 @@ ghost use Rattle.glyph_buffer.specs.Grouping.{with_groups_turned, with_picked_de
 use super::hb_buffer_t;
 use super::merges::telling_flags;
 use buffer_lists::order::{ClusterOrder, KnownOrder};
+use glyph_lists::info::hb_glyph_info_t;
 use glyph_slices::deletion::delete_within;
 use glyph_slices::{groups, reversal};
-use glyph_types::info::hb_glyph_info_t;
 
 impl hb_buffer_t {
     /// Where the run of glyphs of one syllable that begins at `start` ends; past the end of the glyphs, `start`.

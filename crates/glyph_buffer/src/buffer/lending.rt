@@ -5,8 +5,8 @@ ghost use Rattle.glyph_buffer.specs.Lending.{LendsGlyphs, LendsOutput, LendsPlac
 
 use super::hb_buffer_t;
 use buffer_lists::order::{ClusterOrder, KnownOrder};
-use glyph_types::info::hb_glyph_info_t;
-use glyph_types::position::GlyphPosition;
+use glyph_lists::info::hb_glyph_info_t;
+use glyph_lists::position::GlyphPosition;
 
 // Whole lists, to be written. As many glyphs come back as were lent.
 impl hb_buffer_t {

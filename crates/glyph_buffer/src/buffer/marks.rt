@@ -7,8 +7,8 @@ ghost use Rattle.glyph_lists.specs.Events.{Break, Concat, Tatweel};
 use super::hb_buffer_t;
 use super::merges::telling_flags;
 use bitflags::Flags;
-use glyph_clusters::marks::{flag_within, mark_within};
-use glyph_types::info::{SAFE_TO_INSERT_TATWEEL, UNSAFE_TO_BREAK, UNSAFE_TO_CONCAT, hb_mask_t};
+use glyph_lists::info::{SAFE_TO_INSERT_TATWEEL, UNSAFE_TO_BREAK, UNSAFE_TO_CONCAT, hb_mask_t};
+use glyph_lists::marks::{flag_within, mark_within};
 use shaping_text::constants::BufferFlags;
 
 impl hb_buffer_t {

@@ -7,7 +7,7 @@ ghost use Rattle.glyph_lists.specs.Events.{Reset};
 
 use super::hb_buffer_t;
 use buffer_lists::masks::{reset_masks, set_masks};
-use glyph_types::info::hb_mask_t;
+use glyph_lists::info::hb_mask_t;
 
 impl hb_buffer_t {
     /// Gives each glyph the mask, its three flags among it.

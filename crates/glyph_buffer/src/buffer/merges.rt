@@ -1,5 +1,5 @@
 ghost use Rattle.std.specs.Prelude.{◌≡◌, ◌+◌, ◌-◌, ◌≤◌, if◌then◌else◌, true, length, ◌∷◌, []};
-ghost use Rattle.glyph_clusters.specs.Deleting.{recast};
+ghost use Rattle.glyph_lists.specs.Deleting.{recast};
 ghost use Rattle.glyph_buffer.specs.Sides.{items_of, origins_of, origins_by};
 ghost use Rattle.glyph_buffer.specs.Merging.{index_in_all, telling_flags, with_merged};
 ghost use Rattle.glyph_lists.specs.Levels.{InList};
@@ -7,8 +7,8 @@ ghost use Rattle.glyph_lists.specs.Events.{Merge};
 
 use super::hb_buffer_t;
 use buffer_lists::merges::merge_input;
-use glyph_clusters::deletion::set_cluster;
-use glyph_types::info::{hb_glyph_info_t, hb_mask_t};
+use glyph_lists::deletion::set_cluster;
+use glyph_lists::info::{hb_glyph_info_t, hb_mask_t};
 use shaping_text::constants::{HB_BUFFER_SCRATCH_FLAG_HAS_GLYPH_FLAGS, hb_buffer_scratch_flags_t};
 
 impl hb_buffer_t {

@@ -4,7 +4,7 @@ ghost use Rattle.glyph_buffer.specs.Settings.{glyphs_counted, with_counted, orig
 
 use super::hb_buffer_t;
 use buffer_lists::order::{ClusterOrder, KnownOrder};
-use glyph_types::info::hb_glyph_info_t;
+use glyph_lists::info::hb_glyph_info_t;
 
 impl hb_buffer_t {
     /// Gives the glyphs the clusters 0, 1, 2 and so on; those past the greatest number have that one.

@@ -9,7 +9,7 @@ ghost use Rattle.glyph_lists.specs.Events.{Replace};
 
 use super::hb_buffer_t;
 use buffer_lists::replacement::push_copies;
-use glyph_types::info::hb_glyph_info_t;
+use glyph_lists::info::hb_glyph_info_t;
 use std::alloc::AllocError;
 
 impl hb_buffer_t {

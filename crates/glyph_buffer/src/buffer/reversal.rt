@@ -5,8 +5,8 @@ ghost use Rattle.glyph_lists.specs.Events.{Reverse, Arrange};
 
 use super::hb_buffer_t;
 use buffer_lists::order::{ClusterOrder, KnownOrder};
-use glyph_types::info::hb_glyph_info_t;
-use glyph_types::position::GlyphPosition;
+use glyph_lists::info::hb_glyph_info_t;
+use glyph_lists::position::GlyphPosition;
 
 impl hb_buffer_t {
     /// Turns the list of glyphs round, and their positions with it.

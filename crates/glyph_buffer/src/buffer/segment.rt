@@ -4,7 +4,7 @@ ghost use Rattle.unicode_chars.specs.Scripts.{script_of};
 ghost use Rattle.glyph_buffer.specs.Segment.{first_script, guessed, guessed_direction, is_shared, tells_script, with_segment};
 
 use super::hb_buffer_t;
-use glyph_types::info::hb_glyph_info_t;
+use glyph_lists::info::hb_glyph_info_t;
 use shaping_text::direction::Direction;
 use shaping_text::script::{COMMON, INHERITED, Script, UNKNOWN};
 use unicode_chars::CharExt;

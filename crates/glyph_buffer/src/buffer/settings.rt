@@ -4,7 +4,7 @@ ghost use Rattle.glyph_buffer.specs.Sides.{with_flags, with_level, with_scratch_
 ghost use Rattle.glyph_buffer.specs.Settings.{with_invisible, with_language, with_not_found_variation_selector};
 
 use super::hb_buffer_t;
-use glyph_types::level::BufferClusterLevel;
+use glyph_lists::level::BufferClusterLevel;
 use shaping_text::constants::{BufferFlags, hb_buffer_scratch_flags_t};
 use shaping_text::language::Language;
 

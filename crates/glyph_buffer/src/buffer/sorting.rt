@@ -1,5 +1,5 @@
 ghost use Rattle.std.specs.Prelude.{◌≡◌, ◌≤◌, ◌++◌, ◌∷◌, [], ℕ, false, map, take, drop, length, slice_range, OnOk, OnErr};
-ghost use Rattle.glyph_types.specs.declared.info.hb_glyph_info_t.{hb_glyph_info_t as Glyph};
+ghost use Rattle.glyph_lists.specs.declared.info.hb_glyph_info_t.{hb_glyph_info_t as Glyph};
 ghost use Rattle.glyph_lists.specs.Items.{Item, item_of};
 ghost use Rattle.glyph_lists.specs.Events.{Sort};
 ghost use Rattle.stable_order.specs.Keys.{key_order};
@@ -11,8 +11,8 @@ ghost use Rattle.glyph_buffer.specs.Sorting.{with_range_sorted};
 use super::hb_buffer_t;
 use super::merges::telling_flags;
 use buffer_lists::order::ClusterOrder;
+use glyph_lists::info::hb_glyph_info_t;
 use glyph_slices::sorting::sort;
-use glyph_types::info::hb_glyph_info_t;
 use std::alloc::{AllocError, Global};
 
 impl hb_buffer_t {

@@ -9,8 +9,8 @@ ghost use Rattle.glyph_buffer.specs.Appended.{IsAppended};
 
 use super::hb_buffer_t;
 use buffer_lists::order::{ClusterOrder, KnownOrder};
-use glyph_types::info::hb_glyph_info_t;
-use glyph_types::position::GlyphPosition;
+use glyph_lists::info::hb_glyph_info_t;
+use glyph_lists::position::GlyphPosition;
 use std::alloc::AllocError;
 
 impl hb_buffer_t {

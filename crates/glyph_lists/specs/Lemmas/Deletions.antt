@@ -5,13 +5,13 @@ use Rattle.std.proofs.lemmas.Bool.Decides.{nat_tests}
 use Rattle.std.proofs.lemmas.Grind.{common_steps}
 use Rattle.std.proofs.lemmas.List.{drop-drop, take-map, drop-map, map-append, map-id}
 use Rattle.std.proofs.lemmas.Option.{slice_get-get_or}
-use Rattle.glyph_types.specs.declared.level.BufferClusterLevel.{BufferClusterLevel}
-use Rattle.glyph_types.specs.declared.level.BufferClusterLevel.TheVariants.{MonotoneGraphemes, MonotoneCharacters, Characters}
+use Rattle.glyph_lists.specs.declared.level.BufferClusterLevel.{BufferClusterLevel}
+use Rattle.glyph_lists.specs.declared.level.BufferClusterLevel.TheVariants.{MonotoneGraphemes, MonotoneCharacters, Characters}
 use Rattle.glyph_lists.specs.Parts.{stretch, united, united_all, last_from, first_of, last_of, is_number, with_neighbour, united_if_last, united_without, before_deletion, without}
 use Rattle.glyph_lists.specs.Order.{IsChain, IsInOrder, BringsNone}
 use Rattle.glyph_lists.specs.Deletions.{end_renumbered, deleted_alone, deleted}
 use Rattle.glyph_lists.specs.Merges.{merged_numbers, merged_at}
-use Rattle.glyph_lists.specs.Readings.{IsMonotone}
+use Rattle.glyph_lists.specs.Levels.{IsMonotone}
 use Rattle.glyph_lists.specs.Laws.{DeletionIsEvent}
 use Rattle.glyph_lists.specs.Lemmas.Drawn.{last_more}
 use Rattle.glyph_lists.specs.Lemmas.Ends.{from_first, to_last}

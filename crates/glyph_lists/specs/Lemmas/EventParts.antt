@@ -8,20 +8,19 @@ use Rattle.std.proofs.lemmas.Grind.{common_steps, reverse_onto}
 use Rattle.std.proofs.lemmas.Bool.Decides.{nat_tests}
 use Rattle.std.proofs.lemmas.List.{append-nil, map-append, take-map, drop-map, drop-drop, take-append-drop, length-map, map-id}
 use Rattle.std.proofs.lemmas.List.Sums.{fold-append}
-use Rattle.glyph_types.specs.declared.level.BufferClusterLevel.{BufferClusterLevel}
-use Rattle.glyph_types.specs.declared.level.BufferClusterLevel.TheVariants.{MonotoneGraphemes, MonotoneCharacters, Characters}
+use Rattle.glyph_lists.specs.declared.level.BufferClusterLevel.{BufferClusterLevel}
+use Rattle.glyph_lists.specs.declared.level.BufferClusterLevel.TheVariants.{MonotoneGraphemes, MonotoneCharacters, Characters}
 use Rattle.glyph_lists.specs.Parts.{JoinParts, ReplaceParts, DeletePart, CirclePart, first_of, stretch, copies, replaced, replaced_among, after_part_event, after_part_events}
 use Rattle.glyph_lists.specs.Order.{BringsNone, IsOrdered}
 use Rattle.glyph_lists.specs.Merges.{least_number, merged, merged_numbers}
 use Rattle.glyph_lists.specs.Deletions.{deleted}
-use Rattle.glyph_lists.specs.Readings.{IsMonotone}
 use Rattle.glyph_lists.specs.Origins.{Origin, numbers, Asks, Manner, Unites, Marks, Keeps, Merging, InList, InOutput, manner, merged_as, origins_marked, first_deleted, origins_deleted, picked, arranged, Span, spans, spans_merged, flags_at, first_circled, origins_circled, spread_after, spread_flags, settled, run_flags, tatweel_settled, origins_spread, without_marks}
 use Rattle.glyph_lists.specs.Events.{Event, StaysInSpans, Merge, Replace, Circle, Delete, Move, Arrange, Sort, Reverse, Break, Concat, Tatweel, Spread, Reset, concat_marked, tatweel_marked, origins_after_event, origins_after, IsPlain}
 use Rattle.glyph_lists.specs.EventParts.{joins_of, span_joins, parts_of_event, parts_of, IsEven, AreEvenRuns, HaveNoConcat}
 use Rattle.glyph_lists.specs.Lemmas.Drawn.{drawn_replaced, drawn_doubled}
 use Rattle.glyph_lists.specs.Lemmas.Numbers.{Has, has_here, has_more, has_cases, has_either, has_take, has_drop, has_map, has_reverse, drawn_brings}
 use Rattle.glyph_lists.specs.Lemmas.Parts.{stays_ordered, numbers_through}
-use Rattle.glyph_lists.specs.Levels.{IsUniting}
+use Rattle.glyph_lists.specs.Levels.{IsUniting, IsMonotone}
 use Rattle.glyph_lists.specs.Lemmas.Sorts.{spans_united, sorted_alike}
 use Rattle.glyph_lists.specs.Lemmas.Merges.{merge_joins, merged_at_brings, merged_in}
 use Rattle.glyph_lists.specs.Lemmas.Deletions.{deletion_is_event, deletion_brings_none}

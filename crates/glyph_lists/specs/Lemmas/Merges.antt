@@ -4,12 +4,12 @@ use Rattle.std.specs.Prelude.{fold}
 use Rattle.std.proofs.lemmas.Bool.Decides.{nat_tests}
 use Rattle.std.proofs.lemmas.Grind.{common_steps}
 use Rattle.std.proofs.lemmas.List.{map-id, drop-drop, take-append-drop}
-use Rattle.glyph_types.specs.declared.level.BufferClusterLevel.{BufferClusterLevel}
-use Rattle.glyph_types.specs.declared.level.BufferClusterLevel.TheVariants.{MonotoneGraphemes, MonotoneCharacters, Characters}
+use Rattle.glyph_lists.specs.declared.level.BufferClusterLevel.{BufferClusterLevel}
+use Rattle.glyph_lists.specs.declared.level.BufferClusterLevel.TheVariants.{MonotoneGraphemes, MonotoneCharacters, Characters}
 use Rattle.glyph_lists.specs.Parts.{JoinParts, united, last_from, joined, stretch, after_part_event}
 use Rattle.glyph_lists.specs.Order.{AllFrom, IsChain, IsInOrder, IsOrdered, IsLeast, BringsNone, has_number}
 use Rattle.glyph_lists.specs.Merges.{least_number, merged, merged_numbers, merged_at, IsOneOn}
-use Rattle.glyph_lists.specs.Readings.{IsMonotone}
+use Rattle.glyph_lists.specs.Levels.{IsMonotone}
 use Rattle.glyph_lists.specs.Laws.{MergeUnites, MergeIsJoin}
 use Rattle.glyph_lists.specs.Lemmas.Parts.{Stands, stands_self}
 use Rattle.glyph_lists.specs.Lemmas.Numbers.{Has, has_here, has_more, has_cases, has_right, has_either, has_take, has_drop, has_map, has_last_from}

@@ -5,18 +5,20 @@ use Rattle.std.specs.List.{list_all}
 use Rattle.std.proofs.lemmas.Grind.{common_steps}
 use Rattle.std.proofs.lemmas.Bool.Decides.{nat_tests}
 use Rattle.std.proofs.lemmas.List.{map-append, take-map, drop-map, drop-drop, take-append-drop}
-use Rattle.glyph_types.specs.declared.info.hb_glyph_info_t.{hb_glyph_info_t}
-use Rattle.glyph_types.specs.declared.level.BufferClusterLevel.{BufferClusterLevel}
-use Rattle.glyph_types.specs.declared.level.BufferClusterLevel.TheVariants.{MonotoneGraphemes, MonotoneCharacters, Characters}
+use Rattle.glyph_lists.specs.declared.info.hb_glyph_info_t.{hb_glyph_info_t}
+use Rattle.glyph_lists.specs.declared.level.BufferClusterLevel.{BufferClusterLevel}
+use Rattle.glyph_lists.specs.declared.level.BufferClusterLevel.TheVariants.{MonotoneGraphemes, MonotoneCharacters, Characters}
 use Rattle.glyph_lists.specs.Items.{clusters, glyph_flags}
 use Rattle.glyph_lists.specs.Parts.{first_of, last_of, is_number, stretch, replaced_among}
 use Rattle.glyph_lists.specs.Merges.{least_number, merged, merged_numbers, merged_at}
 use Rattle.glyph_lists.specs.Deletions.{end_renumbered, deleted_alone, deleted}
 use Rattle.glyph_lists.specs.Glyphs.{in_cluster, glyphs_merged, marked_outside, glyphs_marked, glyphs_merged_at, flagged, glyphs_flagged}
 use Rattle.glyph_lists.specs.Replacements.{glyph_numbered, glyphs_replaced}
-use Rattle.glyph_lists.specs.Origins.{Origin, origin_of, origins, numbers, cast, origins_merged, flags_added, added_outside, changed_within, origins_marked, origins_flagged, InList, manner, merged_as, end_cast, alone_deleted, one_deleted}
+use Rattle.glyph_lists.specs.Origins.{Origin, origin_of, origins, numbers, cast, origins_merged, flags_added, added_outside, changed_within, origins_marked, origins_flagged, InList, manner, merged_as, end_cast, alone_deleted, one_deleted, Asks}
 use Rattle.glyph_lists.specs.Lemmas.Glyphs.{cluster_in_cluster, flags_in_cluster, flags_set}
 use Rattle.glyph_lists.specs.Lemmas.Replacements.{replaced_seen, replaced_alike}
+use Rattle.std.proofs.lemmas.List.Sums.{fold-append}
+use Rattle.glyph_lists.specs.Events.{Event, origins_after_event, origins_after}
 
 -- ---- a part of a list that changes
 
@@ -163,3 +165,7 @@ origins_of_merged_at Characters from to gs le = origins_of_marked 3 from to gs (
 
 pub origins_of_replaced : (at taken : ℕ) (ns : List ℕ) (gs : List hb_glyph_info_t) → origins (glyphs_replaced at taken ns gs) ≡ replaced_among at taken (length ns) (origins gs)
 origins_of_replaced at taken ns gs = replaced_seen origin_of glyph_numbered (λ o n. o) at taken ns gs (λ g n. refl) ∙ replaced_alike at taken ns (origins gs)
+
+-- some events, and then others
+pub origins_after_both : (asks : Asks) (level : BufferClusterLevel) (es fs : List Event) (os : List Origin) → origins_after asks level (es ++ fs) os ≡ origins_after asks level fs (origins_after asks level es os)
+origins_after_both asks level es fs os = fold-append (origins_after_event asks level) os es fs

@@ -1,7 +1,7 @@
 -- What a replacement of glyphs does to items, clusters and flags.
 use Rattle.std.proofs.Common.{ℕ, zero, suc, ◌≡◌, ◌+◌, ◌-◌, slice_get, List, [], ◌∷◌, ◌++◌, Option, Some, None, length, map, take, drop, replicate, refl, ap, sym, ◌∙◌}
 use Rattle.std.proofs.lemmas.List.{map-append, take-map, drop-map, length-map, length-replicate}
-use Rattle.glyph_types.specs.declared.info.hb_glyph_info_t.{hb_glyph_info_t}
+use Rattle.glyph_lists.specs.declared.info.hb_glyph_info_t.{hb_glyph_info_t}
 use Rattle.glyph_lists.specs.Items.{item_of, strip, clusters}
 use Rattle.glyph_lists.specs.Parts.{first_of, last_of, or, copies, replaced, replaced_among}
 use Rattle.glyph_lists.specs.Replacements.{copied, replaced_by, glyph_numbered, item_numbered, glyphs_replaced, items_replaced}

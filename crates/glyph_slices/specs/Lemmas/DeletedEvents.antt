@@ -1,14 +1,14 @@
 -- Deletions in place are events.
 use Rattle.std.proofs.Common.{ℕ, suc, zero, ◌≡◌, ◌≤◌, ◌+◌, Bool, true, false, if◌then◌else◌, List, [], ◌∷◌, ◌++◌, length, take, drop, arith, ap, sym, ◌∙◌, append_assoc}
 use Rattle.std.proofs.lemmas.List.{append-nil, length-append, length-map}
-use Rattle.glyph_types.specs.declared.info.hb_glyph_info_t.{hb_glyph_info_t as Glyph}
-use Rattle.glyph_types.specs.declared.level.BufferClusterLevel.{BufferClusterLevel as Level}
+use Rattle.glyph_lists.specs.declared.info.hb_glyph_info_t.{hb_glyph_info_t as Glyph}
+use Rattle.glyph_lists.specs.declared.level.BufferClusterLevel.{BufferClusterLevel as Level}
 use Rattle.glyph_lists.specs.Items.{Item, Position, item_of, strip}
 use Rattle.glyph_lists.specs.Origins.{Asks, origins}
 use Rattle.glyph_lists.specs.Events.{Delete, origins_after, IsPlain}
-use Rattle.glyph_clusters.specs.Deleting.{glyphs_deleted}
-use Rattle.glyph_clusters.specs.Deleted.{items_deleted}
-use Rattle.glyph_clusters.specs.DeletedOrigins.{deleted_behind}
+use Rattle.glyph_lists.specs.Deleting.{glyphs_deleted}
+use Rattle.glyph_lists.specs.Deleted.{items_deleted}
+use Rattle.glyph_lists.specs.DeletedOrigins.{deleted_behind}
 use Rattle.glyph_slices.specs.DeletionWalk.{Passed, with_glyph, without_glyph, many_passed, all_passed}
 use Rattle.glyph_slices.specs.Events.{deletions_from, deletions}
 use Rattle.glyph_slices.specs.Lemmas.Kept.{back_length}

@@ -3,7 +3,7 @@ use Rattle.std.specs.List.{prefix_len}
 use Rattle.std.specs.Int.RustNames.{bit_and, bit_or}
 use Rattle.std.specs.Int.Bits.{or_zero_l, or_zero_r}
 use Rattle.std.proofs.Common.{ℕ, suc, ◌≡◌, ◌<◌, ◌+◌, ◌==◌, ◌/◌, Bool, true, false, if◌then◌else◌, List, [], ◌∷◌, ◌++◌, Some, None, Option, fold, length, take, drop, set, get_or, arith, ap, sym, subst, ◌∙◌, append_assoc}
-use Rattle.glyph_types.specs.declared.info.hb_glyph_info_t.{hb_glyph_info_t as Glyph}
+use Rattle.glyph_lists.specs.declared.info.hb_glyph_info_t.{hb_glyph_info_t as Glyph}
 use Rattle.glyph_lists.specs.Items.{flags_of, glyph_flags, glyph_masked, item_masked, item_of, without_flags}
 use Rattle.glyph_lists.specs.Origins.{Asks, Origin, origin_of, origins, concat_settled, run_flags, settled, spread_after, tatweel_settled}
 use Rattle.glyph_slices.specs.Flags.{before_of, cluster_flags}

@@ -1,11 +1,11 @@
 -- What the walk that deletes leaves of items and of positions.
 use Rattle.std.proofs.Common.{ℕ, suc, zero, ◌≡◌, ◌≤◌, not, Bool, true, false, if◌then◌else◌, List, [], ◌∷◌, ◌++◌, length, take, drop, arith, refl, ap, sym, ◌∙◌, append_assoc}
 use Rattle.std.proofs.lemmas.List.{append-nil, length-map, map-append}
-use Rattle.glyph_types.specs.declared.info.hb_glyph_info_t.{hb_glyph_info_t as Glyph}
-use Rattle.glyph_types.specs.declared.level.BufferClusterLevel.{BufferClusterLevel as Level}
+use Rattle.glyph_lists.specs.declared.info.hb_glyph_info_t.{hb_glyph_info_t as Glyph}
+use Rattle.glyph_lists.specs.declared.level.BufferClusterLevel.{BufferClusterLevel as Level}
 use Rattle.glyph_lists.specs.Items.{Item, Position, item_of, strip}
-use Rattle.glyph_clusters.specs.Deleting.{glyphs_deleted}
-use Rattle.glyph_clusters.specs.Deleted.{items_deleted}
+use Rattle.glyph_lists.specs.Deleting.{glyphs_deleted}
+use Rattle.glyph_lists.specs.Deleted.{items_deleted}
 use Rattle.glyph_slices.specs.DeletionWalk.{Passed, with_glyph, without_glyph, many_passed, all_passed}
 use Rattle.glyph_slices.specs.Facts.{items_kept, positions_kept}
 

@@ -4,16 +4,15 @@ use Rattle.std.specs.List.{range_with_len}
 use Rattle.std.proofs.Common.{ℕ, suc, zero, ◌≡◌, ◌≤◌, ◌+◌, ◌-◌, Bool, true, false, List, [], ◌∷◌, ◌++◌, length, map, take, drop, reverse, arith, refl, ap, sym, subst, ◌∙◌}
 use Rattle.std.proofs.lemmas.List.{append-nil, map-append, take-map, drop-map, length-map, length-drop, length-take-le, length-reverse, take-append-drop}
 use Rattle.std.proofs.lemmas.List.FromFn.{length-range_with_len}
-use Rattle.glyph_types.specs.declared.info.hb_glyph_info_t.{hb_glyph_info_t as Glyph}
-use Rattle.glyph_types.specs.declared.level.BufferClusterLevel.{BufferClusterLevel as Level}
+use Rattle.glyph_lists.specs.declared.info.hb_glyph_info_t.{hb_glyph_info_t as Glyph}
+use Rattle.glyph_lists.specs.declared.level.BufferClusterLevel.{BufferClusterLevel as Level}
 use Rattle.glyph_lists.specs.Items.{Item, Position, clusters, item_of, strip}
 use Rattle.glyph_lists.specs.Parts.{stretch}
 use Rattle.glyph_lists.specs.Glyphs.{glyphs_merged_at}
 use Rattle.glyph_lists.specs.Origins.{Asks, InList, manner, merged_as, origin_of, origins, arranged}
 use Rattle.glyph_lists.specs.Events.{Reverse, origins_after_event, origins_after, IsPlain}
-use Rattle.glyph_lists.specs.Steps.{origins_after_both}
 use Rattle.glyph_lists.specs.Lemmas.Glyphs.{length_merged_at}
-use Rattle.glyph_lists.specs.Lemmas.Origins.{origins_of_merged_at, slice_seen}
+use Rattle.glyph_lists.specs.Lemmas.Origins.{origins_of_merged_at, slice_seen, origins_after_both}
 use Rattle.glyph_slices.specs.Events.{indices_reversed, group_event, group_events, groups_reversed}
 use Rattle.glyph_slices.specs.Facts.{group_lengths}
 use Rattle.glyph_slices.specs.Groups.{group_length}

@@ -1,17 +1,17 @@
 ghost use Rattle.std.specs.Prelude.{◌≡◌, ◌+◌, ◌<◌, ◌≤◌, ◌++◌, ◌||◌, ◌∷◌, [], None, true, false, Bool, List, Some, length, take, drop};
-ghost use Rattle.glyph_types.specs.declared.info.hb_glyph_info_t.{hb_glyph_info_t as Glyph};
-ghost use Rattle.glyph_types.specs.declared.level.BufferClusterLevel.{BufferClusterLevel as Level};
+ghost use Rattle.glyph_lists.specs.declared.info.hb_glyph_info_t.{hb_glyph_info_t as Glyph};
+ghost use Rattle.glyph_lists.specs.declared.level.BufferClusterLevel.{BufferClusterLevel as Level};
 ghost use Rattle.glyph_lists.specs.Items.{Position, clusters};
 ghost use Rattle.glyph_lists.specs.Parts.{first_of, last_of, is_number};
 ghost use Rattle.glyph_lists.specs.Order.{IsOrdered};
-ghost use Rattle.glyph_clusters.specs.Deleting.{Deletes, Left, deletion_marks, end_recast, glyphs_deleted};
+ghost use Rattle.glyph_lists.specs.Deleting.{Deletes, Left, deletion_marks, end_recast, glyphs_deleted};
 ghost use Rattle.glyph_slices.specs.DeletionWalk.{IsDue, IsWalk, Tells, first_passed, passed_at, settled, without_glyph};
 
-use glyph_clusters::deletion::{delete_at_front, next_has, recast_end};
-use glyph_clusters::runs::last_cluster;
-use glyph_types::info::hb_glyph_info_t;
-use glyph_types::level::BufferClusterLevel;
-use glyph_types::position::GlyphPosition;
+use glyph_lists::deletion::{delete_at_front, next_has, recast_end};
+use glyph_lists::info::hb_glyph_info_t;
+use glyph_lists::level::BufferClusterLevel;
+use glyph_lists::position::GlyphPosition;
+use glyph_lists::runs::last_cluster;
 
 /// How far a walk of deletions has come. Where clusters are in order the run at the end of the glyphs that stay takes a
 /// cluster only once another glyph stays behind it, so that it is written once.

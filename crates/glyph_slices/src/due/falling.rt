@@ -5,9 +5,9 @@ ghost use Rattle.glyph_lists.specs.Order.{IsFalling, IsOrdered};
 ghost use Rattle.glyph_lists.specs.Glyphs.{glyphs_merged, in_cluster};
 ghost use Rattle.glyph_slices.specs.Falling.{IsDueBefore, IsRound, carried};
 
-use glyph_clusters::deletion::end_run;
-use glyph_clusters::merges::{glyph_in_cluster, least_cluster};
-use glyph_types::info::hb_glyph_info_t;
+use glyph_lists::deletion::end_run;
+use glyph_lists::info::hb_glyph_info_t;
+use glyph_lists::merges::{glyph_in_cluster, least_cluster};
 
 /// The glyphs from `from` up to before `to` are still to go to the cluster. Where clusters fall, merges of ranges that
 /// share clusters give the same glyphs another cluster again and again, and so they are written once the last is known.

@@ -1,15 +1,15 @@
 -- A rule, from its match to the way behind it.
 use Rattle.std.proofs.Common.{ℕ, ◌≡◌, ◌≤◌, ◌<◌, ◌+◌, ◌-◌, true, false, Bool, List, [], length, take, drop, min, Result, Ok, Err, Option, sym, ap, subst, ◌∙◌, if◌then◌else◌, arith}
 use Rattle.std.proofs.lemmas.List.{length-map, length-take, length-drop}
-use Rattle.glyph_types.specs.declared.cause.ShapeCause.{ShapeCause}
-use Rattle.glyph_types.specs.declared.cause.ShapeCause.TheVariants.{TooLong}
+use Rattle.glyph_lists.specs.declared.cause.ShapeCause.{ShapeCause}
+use Rattle.glyph_lists.specs.declared.cause.ShapeCause.TheVariants.{TooLong}
 use Rattle.glyph_lists.specs.Items.{item_of}
 use Rattle.glyph_buffer.specs.Sides.{Sides}
 use Rattle.layout_match.specs.Applied.{Applied}
-use Rattle.layout_rules.specs.Actions.{Cut, Action, Outcome, Passes, Acts, Refuses, whole}
-use Rattle.layout_rules.specs.Buffers.{cut_of}
-use Rattle.layout_rules.specs.Performing.{cut_with, Performs}
-use Rattle.layout_rules.specs.Lemmas.Frames.{same_lengths}
+use Rattle.stage_rules.specs.Actions.{Cut, Action, Outcome, Passes, Acts, Refuses, whole}
+use Rattle.stage_rules.specs.Buffers.{cut_of}
+use Rattle.stage_rules.specs.Performing.{cut_with, Performs}
+use Rattle.stage_rules.specs.Lemmas.Frames.{same_lengths}
 use Rattle.layout_chain.specs.Places.{AreRising}
 use Rattle.layout_chain.specs.Inside.{StaysInside}
 use Rattle.layout_chain.specs.Chains.{Chain, chain_rule}

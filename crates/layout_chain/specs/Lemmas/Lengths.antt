@@ -3,8 +3,8 @@ use Rattle.std.proofs.Common.{ℕ, ◌≡◌, ◌+◌, ◌++◌, length, arith}
 use Rattle.std.proofs.lemmas.List.{length-map, length-append}
 use Rattle.glyph_lists.specs.Items.{item_of, strip}
 use Rattle.glyph_buffer.specs.Sides.{Sides}
-use Rattle.layout_rules.specs.Actions.{whole}
-use Rattle.layout_rules.specs.Buffers.{cut_of}
+use Rattle.stage_rules.specs.Actions.{whole}
+use Rattle.stage_rules.specs.Buffers.{cut_of}
 
 pub front_length : (s : Sides) → length (cut_of s).front ≡ length s.behind
 front_length s = length-map s.behind item_of

@@ -1,18 +1,18 @@
 -- Rules that apply nested lookups, whatever those do.
 use Rattle.std.proofs.Common.{ℕ, zero, suc, ◌≡◌, ◌≤◌, ◌<◌, ◌+◌, true, false, Bool, List, [], ◌∷◌, length, drop, get_or, Ok, Err, Option, Some, None, slice_get, refl, sym, ap, subst, ◌∙◌, if◌then◌else◌, arith}
 use Rattle.std.specs.Prelude.{Result}
-use Rattle.glyph_types.specs.declared.cause.ShapeCause.{ShapeCause}
-use Rattle.glyph_types.specs.declared.info.hb_glyph_info_t.{hb_glyph_info_t}
+use Rattle.glyph_lists.specs.declared.cause.ShapeCause.{ShapeCause}
+use Rattle.glyph_lists.specs.declared.info.hb_glyph_info_t.{hb_glyph_info_t}
 use Rattle.glyph_lists.specs.Items.{item_of}
 use Rattle.glyph_buffer.specs.Sides.{Sides, items_of}
 use Rattle.layout_contexts.specs.declared.context.ContextSubtable.{ContextSubtable}
 use Rattle.layout_contexts.specs.declared.context.SequenceLookupRecord.{SequenceLookupRecord}
 use Rattle.layout_match.specs.Applied.{Applied}
-use Rattle.layout_rules.specs.Actions.{Action, Outcome, Passes, Acts, Refuses, first_rule, whole}
-use Rattle.layout_rules.specs.Buffers.{cut_of, are_glyphs}
-use Rattle.layout_rules.specs.Performing.{cut_with, Performed, Performs}
-use Rattle.layout_rules.specs.Lemmas.Frames.{still_open, still_refused, same_numbers}
-use Rattle.layout_rules.specs.Lemmas.Performed.{passes_nothing}
+use Rattle.stage_rules.specs.Actions.{Action, Outcome, Passes, Acts, Refuses, first_rule, whole}
+use Rattle.stage_rules.specs.Buffers.{cut_of, are_glyphs}
+use Rattle.stage_rules.specs.Performing.{cut_with, Performed, Performs}
+use Rattle.stage_rules.specs.Lemmas.Frames.{still_open, still_refused, same_numbers}
+use Rattle.stage_rules.specs.Lemmas.Performed.{passes_nothing}
 use Rattle.layout_chain.specs.Chains.{Chain, chain_rule, context_subtable}
 use Rattle.layout_chain.specs.Fitting.{IsMatched}
 use Rattle.layout_chain.specs.Inside.{StaysInside}

@@ -1,14 +1,14 @@
 -- What is left by one call after another.
 use Rattle.std.proofs.Common.{ℕ, ◌≡◌, Bool, List, [], ◌++◌, Result, Ok, Err, refl, ap, subst, ◌∙◌}
-use Rattle.glyph_types.specs.declared.cause.ShapeCause.{ShapeCause}
+use Rattle.glyph_lists.specs.declared.cause.ShapeCause.{ShapeCause}
 use Rattle.glyph_lists.specs.Events.{Event}
 use Rattle.glyph_buffer.specs.Sides.{Sides}
-use Rattle.layout_rules.specs.Actions.{Cut, Outcome, Passes, Acts, Refuses, later}
-use Rattle.layout_rules.specs.Buffers.{are_glyphs, IsPassed}
-use Rattle.layout_rules.specs.Performing.{cut_with, IsMade, Performs}
-use Rattle.layout_rules.specs.Lemmas.Frames.{still_settings, then_happened, same_numbers}
-use Rattle.layout_rules.specs.Lemmas.Does.{then_passed}
-use Rattle.layout_rules.specs.Lemmas.Performed.{same_with}
+use Rattle.stage_rules.specs.Actions.{Cut, Outcome, Passes, Acts, Refuses, later}
+use Rattle.stage_rules.specs.Buffers.{are_glyphs, IsPassed}
+use Rattle.stage_rules.specs.Performing.{cut_with, IsMade, Performs}
+use Rattle.stage_rules.specs.Lemmas.Frames.{still_settings, then_happened, same_numbers}
+use Rattle.stage_rules.specs.Lemmas.Does.{then_passed}
+use Rattle.stage_rules.specs.Lemmas.Performed.{same_with}
 use Rattle.layout_chain.specs.Nested.{Walked, Walks, Stops, walked_later}
 use Rattle.layout_chain.specs.Nesting.{IsLeft, Nests, Walking}
 

@@ -1,15 +1,15 @@
 -- A subtable by its rules.
 use Rattle.std.proofs.Common.{ℕ, ◌≡◌, if◌then◌else◌, List, [], ◌∷◌, map, Option, Some, slice_get, refl, ap, ◌∙◌}
-use Rattle.glyph_types.specs.declared.info.hb_glyph_info_t.{hb_glyph_info_t}
+use Rattle.glyph_lists.specs.declared.info.hb_glyph_info_t.{hb_glyph_info_t}
 use Rattle.glyph_lists.specs.Items.{item_of}
 use Rattle.glyph_buffer.specs.Sides.{Sides}
 use Rattle.layout_contexts.specs.declared.context.ContextSubtable.{ContextSubtable}
 use Rattle.layout_contexts.specs.declared.context.ContextSubtable.TheVariants.{Glyphs, Classes, Coverage}
 use Rattle.layout_match.specs.Applied.{Applied}
 use Rattle.layout_match.specs.Sequences.{is_covered_by}
-use Rattle.layout_rules.specs.Actions.{Cut, Action, Passes, at_first, first_rule, or_else}
-use Rattle.layout_rules.specs.Performing.{cut_with}
-use Rattle.layout_rules.specs.Lemmas.Glyphs.{first_item}
+use Rattle.stage_rules.specs.Actions.{Cut, Action, Passes, at_first, first_rule, or_else}
+use Rattle.stage_rules.specs.Performing.{cut_with}
+use Rattle.stage_rules.specs.Lemmas.Glyphs.{first_item}
 use Rattle.layout_chain.specs.Chains.{chain_rule, class_chain, class_rules, context_subtable, coverage_chain, glyph_chain}
 use Rattle.layout_chain.specs.Rules.{chains_of, is_tried_at}
 

@@ -2,14 +2,14 @@
 use Rattle.std.proofs.Common.{ℕ, ◌≡◌, ◌≢◌, ◌≤◌, ◌<◌, ◌+◌, true, false, Bool, List, [], ◌∷◌, length, drop, get_or, min, Result, Ok, Err, None, refl, sym, ap, subst, ◌∙◌, if◌then◌else◌, arith}
 use Rattle.std.proofs.lemmas.List.{drop_more, drop_all, append-nil}
 use Rattle.std.proofs.lemmas.Option.{slice_get_within, get_or_from_slice_get}
-use Rattle.glyph_types.specs.declared.cause.ShapeCause.{ShapeCause}
-use Rattle.glyph_types.specs.declared.cause.ShapeCause.TheVariants.{OutOfMemory, TooLong}
+use Rattle.glyph_lists.specs.declared.cause.ShapeCause.{ShapeCause}
+use Rattle.glyph_lists.specs.declared.cause.ShapeCause.TheVariants.{OutOfMemory, TooLong}
 use Rattle.glyph_lists.specs.Events.{Event}
 use Rattle.glyph_buffer.specs.Sides.{Sides, items_of}
 use Rattle.layout_contexts.specs.declared.context.SequenceLookupRecord.{SequenceLookupRecord}
-use Rattle.layout_rules.specs.Actions.{Cut, Action, Outcome, Passes, Acts, Refuses, whole}
-use Rattle.layout_rules.specs.Buffers.{cut_of, are_glyphs, IsStill}
-use Rattle.layout_rules.specs.Performing.{cut_with}
+use Rattle.stage_rules.specs.Actions.{Cut, Action, Outcome, Passes, Acts, Refuses, whole}
+use Rattle.stage_rules.specs.Buffers.{cut_of, are_glyphs, IsStill}
+use Rattle.stage_rules.specs.Performing.{cut_with}
 use Rattle.layout_chain.specs.Shifts.{resized, moved_end}
 use Rattle.layout_chain.specs.Places.{AreRising}
 use Rattle.layout_chain.specs.Nested.{Walked, Walks, Stops, cut_at, cut_behind, each_record, holds, nested_there, one_record, then_walk, walked_later}

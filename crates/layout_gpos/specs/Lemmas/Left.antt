@@ -21,10 +21,10 @@ use Rattle.layout_positions.specs.declared.mark.MarkRecord.{MarkRecord}
 use Rattle.layout_positions.specs.declared.pair.PairPos.{PairPos}
 use Rattle.layout_positions.specs.declared.pair.PairValues.{PairValues}
 use Rattle.layout_match.specs.Applied.{Applied}
-use Rattle.layout_match.specs.LigatureWords.{is_mark}
-use Rattle.layout_rules.specs.Actions.{Cut, whole, Outcome, Passes, Acts, Refuses, Action, later, or_else, first_rule, at_first, attempt_around}
-use Rattle.layout_rules.specs.Performing.{Performed, cut_with}
-use Rattle.layout_rules.specs.Lemmas.Frames.{same_numbers}
+use Rattle.glyph_lists.specs.LigatureWords.{is_mark}
+use Rattle.stage_rules.specs.Actions.{Cut, whole, Outcome, Passes, Acts, Refuses, Action, later, or_else, first_rule, at_first, attempt_around}
+use Rattle.stage_rules.specs.Performing.{Performed, cut_with}
+use Rattle.stage_rules.specs.Lemmas.Frames.{same_numbers}
 use Rattle.layout_gpos.specs.Moving.{KeepsItems, ItemsStay}
 use Rattle.layout_gpos.specs.Singles.{single_adjusted, single_subtable}
 use Rattle.layout_gpos.specs.Pairs.{begins_pair, next_item, pair_from, pair_length, pair_of, pair_second, pair_subtable, pair_values}

@@ -4,7 +4,7 @@ use mathlib.Core.List.{reverse_aux}
 use Rattle.std.specs.Prelude.{option_map}
 use Rattle.std.proofs.lemmas.Option.{slice_get_within, get_or_from_slice_get, slice_get-map}
 use Rattle.std.proofs.lemmas.List.{drop_more, drop_all, length-map, length-reverse}
-use Rattle.glyph_types.specs.declared.info.hb_glyph_info_t.{hb_glyph_info_t}
+use Rattle.glyph_lists.specs.declared.info.hb_glyph_info_t.{hb_glyph_info_t}
 use Rattle.glyph_lists.specs.Items.{Item, item_of, strip}
 use Rattle.layout_match.specs.declared.search.match_t.{match_t}
 use Rattle.layout_match.specs.declared.search.match_t.TheVariants.{MATCH, SKIP, NOT_MATCH}
@@ -13,8 +13,8 @@ use Rattle.std.specs.List.{list_all}
 use Rattle.std.proofs.Common.{Bool, true, false, nat_le, ◌&&◌}
 use Rattle.std.proofs.lemmas.List.{map-append}
 use Rattle.glyph_buffer.specs.Sides.{Sides, items_of}
-use Rattle.layout_rules.specs.Buffers.{are_glyphs}
-use Rattle.layout_rules.specs.Lemmas.Glyphs.{all_of_front}
+use Rattle.stage_rules.specs.Buffers.{are_glyphs}
+use Rattle.stage_rules.specs.Lemmas.Glyphs.{all_of_front}
 use Rattle.layout_gpos.specs.Lemmas.Read.{number_in}
 
 some_left : {X : Type 0} (xs : List X) (k : ℕ) (x : X) → slice_get xs k ≡ Some x → drop k xs ≡ x ∷ drop (k + 1) xs

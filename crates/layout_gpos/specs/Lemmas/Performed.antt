@@ -4,14 +4,14 @@ use Rattle.std.specs.Prelude.{bit_and}
 use Rattle.std.specs.Int.RustNames.{bit_or}
 use Rattle.std.proofs.lemmas.Nat.Bits.{same_from_bits, bit_at_and, bit_at_or}
 use Rattle.std.proofs.lemmas.List.{append-nil}
-use Rattle.glyph_types.specs.declared.info.hb_glyph_info_t.{hb_glyph_info_t}
+use Rattle.glyph_lists.specs.declared.info.hb_glyph_info_t.{hb_glyph_info_t}
 use Rattle.glyph_lists.specs.Items.{Item, Position, item_of}
 use Rattle.glyph_lists.specs.Events.{Event, Concat}
 use Rattle.glyph_buffer.specs.Sides.{Sides, moved_on, told_of}
-use Rattle.layout_rules.specs.Actions.{Cut, Acts, Action, attempt_around}
-use Rattle.layout_rules.specs.Buffers.{IsPassed}
-use Rattle.layout_rules.specs.Performing.{IsMade, Performed, cut_with}
-use Rattle.layout_rules.specs.Lemmas.Performed.{performs_later, same_with}
+use Rattle.stage_rules.specs.Actions.{Cut, Acts, Action, attempt_around}
+use Rattle.stage_rules.specs.Buffers.{IsPassed}
+use Rattle.stage_rules.specs.Performing.{IsMade, Performed, cut_with}
+use Rattle.stage_rules.specs.Lemmas.Performed.{performs_later, same_with}
 use Rattle.layout_gpos.specs.Anchors.{told_if}
 use Rattle.layout_gpos.specs.Moving.{placed_past}
 use Rattle.layout_gpos.specs.Marks.{with_found}

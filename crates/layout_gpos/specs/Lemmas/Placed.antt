@@ -2,7 +2,7 @@
 use Rattle.std.proofs.Common.{if◌then◌else◌, Bool, true, false, ℕ, ◌≡◌, ◌<◌, ◌≤◌, ◌+◌, ◌-◌, set, List, [], ◌∷◌, ◌++◌, Some, None, length, take, drop, arith, refl, sym, ap, subst, ◌∙◌, slice_get}
 use Rattle.std.proofs.lemmas.List.{take_at, length-set, length-map, length-drop, length-append, map-append, take-map, drop-map, take-append-drop, append_assoc}
 use Rattle.shaping_text.specs.declared.direction.Direction.{Direction}
-use Rattle.glyph_types.specs.declared.info.hb_glyph_info_t.{hb_glyph_info_t}
+use Rattle.glyph_lists.specs.declared.info.hb_glyph_info_t.{hb_glyph_info_t}
 use Rattle.glyph_lists.specs.Items.{Item, Position, item_of, strip}
 use Rattle.glyph_lists.specs.Origins.{origins}
 use Rattle.glyph_lists.specs.Events.{Break}
@@ -11,11 +11,11 @@ use Rattle.glyph_buffer.specs.Sides.{Sides, all_glyphs, moved_on, told_of}
 use Rattle.layout_common.specs.Rows.{value_of}
 use Rattle.layout_common.specs.declared.glyph_row.GlyphRow.{GlyphRow}
 use Rattle.layout_positions.specs.declared.value.ValueRecord.{ValueRecord}
-use Rattle.layout_rules.specs.Actions.{Outcome, Acts, at_first}
-use Rattle.layout_rules.specs.Buffers.{IsPassed, are_glyphs, cut_of}
-use Rattle.layout_rules.specs.Performing.{IsMade, Performed, cut_with}
-use Rattle.layout_rules.specs.Lemmas.Glyphs.{first_item}
-use Rattle.layout_rules.specs.Lemmas.Performed.{passes_nothing}
+use Rattle.stage_rules.specs.Actions.{Outcome, Acts, at_first}
+use Rattle.stage_rules.specs.Buffers.{IsPassed, are_glyphs, cut_of}
+use Rattle.stage_rules.specs.Performing.{IsMade, Performed, cut_with}
+use Rattle.stage_rules.specs.Lemmas.Glyphs.{first_item}
+use Rattle.stage_rules.specs.Lemmas.Performed.{passes_nothing}
 use Rattle.layout_links.specs.Links.{position_at}
 use Rattle.layout_positions.specs.declared.value.Anchor.{Anchor}
 use Rattle.layout_gpos.specs.Anchors.{anchored, is_near, link_to, mark_hung}

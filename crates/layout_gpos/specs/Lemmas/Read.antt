@@ -5,14 +5,14 @@ use Rattle.std.proofs.lemmas.Bool.Decides.{nat_tests}
 use Rattle.std.proofs.lemmas.List.{length-drop, length-reverse, length-map, map-append}
 use Rattle.std.proofs.lemmas.Option.{slice_get-map}
 use Rattle.std.specs.Option.{option_map}
-use Rattle.glyph_types.specs.declared.info.hb_glyph_info_t.{hb_glyph_info_t}
+use Rattle.glyph_lists.specs.declared.info.hb_glyph_info_t.{hb_glyph_info_t}
 use Rattle.glyph_lists.specs.Items.{Item, item_of, strip}
 use Rattle.glyph_buffer.specs.Sides.{Sides, items_of}
 use Rattle.layout_match.specs.declared.search.match_t.{match_t}
 use Rattle.layout_match.specs.declared.search.match_t.TheVariants.{MATCH, SKIP, NOT_MATCH}
 use Rattle.layout_match.specs.Matches.{by_answer, nearest, nearest_from}
-use Rattle.layout_rules.specs.Buffers.{are_glyphs}
-use Rattle.layout_rules.specs.Lemmas.Glyphs.{all_of_back}
+use Rattle.stage_rules.specs.Buffers.{are_glyphs}
+use Rattle.stage_rules.specs.Lemmas.Glyphs.{all_of_back}
 
 -- ---- a search that fails reads no further than the list goes
 

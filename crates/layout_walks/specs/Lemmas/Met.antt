@@ -1,12 +1,12 @@
 -- A rule is tried at a glyph that its lookup meets.
 use Rattle.std.proofs.Common.{ℕ, ◌≡◌, true, false, [], refl, ap, ◌∙◌, slice_get, Some}
-use Rattle.glyph_types.specs.declared.info.hb_glyph_info_t.{hb_glyph_info_t}
+use Rattle.glyph_lists.specs.declared.info.hb_glyph_info_t.{hb_glyph_info_t}
 use Rattle.glyph_lists.specs.Items.{item_of}
 use Rattle.glyph_buffer.specs.Sides.{Sides}
 use Rattle.layout_match.specs.Applied.{Applied}
-use Rattle.layout_rules.specs.Actions.{Passes, Action, at_first}
-use Rattle.layout_rules.specs.Performing.{cut_with}
-use Rattle.layout_rules.specs.Lemmas.Glyphs.{first_item}
+use Rattle.stage_rules.specs.Actions.{Passes, Action, at_first}
+use Rattle.stage_rules.specs.Performing.{cut_with}
+use Rattle.stage_rules.specs.Lemmas.Glyphs.{first_item}
 use Rattle.layout_walks.specs.Trying.{meets, at_met, met_first}
 
 pub unmet : (a : Applied) (act : Action) (r : ℕ) (s : Sides) (g : hb_glyph_info_t) → slice_get s.ahead 0 ≡ Some g → meets a (item_of g) ≡ false → met_first a act (cut_with r s) ≡ Passes []

@@ -2,18 +2,18 @@
 use Rattle.std.proofs.Common.{ℕ, suc, ◌≡◌, ◌≤◌, ◌<◌, ◌+◌, ◌-◌, true, false, nat_le, length, Ok, Err, refl, sym, ap, subst, ◌∙◌, arith}
 use Rattle.std.specs.Prelude.{Result, IfErr, IsErrAnd}
 use Rattle.std.proofs.lemmas.List.{map-append, length-map, length-replicate}
-use Rattle.glyph_types.specs.declared.cause.ShapeCause.{ShapeCause}
-use Rattle.glyph_types.specs.declared.cause.ShapeCause.TheVariants.{TooLong}
+use Rattle.glyph_lists.specs.declared.cause.ShapeCause.{ShapeCause}
+use Rattle.glyph_lists.specs.declared.cause.ShapeCause.TheVariants.{TooLong}
 use Rattle.glyph_lists.specs.Items.{item_of, strip}
-use Rattle.glyph_lists.specs.Readings.{View, Reading, Run, Follows, read_of}
-use Rattle.glyph_lists.specs.Steps.{follows_then, follows_from, refused_first, refused_then}
+use Rattle.glyph_buffer.specs.Readings.{View, Reading, Run, Follows, read_of}
+use Rattle.glyph_buffer.specs.Steps.{follows_then, follows_from, refused_first, refused_then}
 use Rattle.glyph_buffer.specs.Sides.{Sides, all_glyphs, run_of, items_of, with_output, synced, fits_joined, zero_positions, zero_position}
 use Rattle.layout_match.specs.Applied.{Applied}
-use Rattle.layout_rules.specs.Actions.{view_at, uncut, Action}
-use Rattle.layout_rules.specs.Buffers.{are_glyphs, IsStill}
-use Rattle.layout_rules.specs.Performing.{cut_with}
-use Rattle.layout_rules.specs.Ready.{IsReady, IsDoneFrom, run_with}
-use Rattle.layout_rules.specs.Lemmas.Frames.{still_settings, still_refused, still_direction}
+use Rattle.stage_rules.specs.Actions.{view_at, uncut, Action}
+use Rattle.stage_rules.specs.Buffers.{are_glyphs, IsStill}
+use Rattle.stage_rules.specs.Performing.{cut_with}
+use Rattle.stage_rules.specs.Ready.{IsReady, IsDoneFrom, run_with}
+use Rattle.stage_rules.specs.Lemmas.Frames.{still_settings, still_refused, still_direction}
 use Rattle.layout_walks.specs.Trying.{tried, unplaced, joined, looked_up}
 use Rattle.layout_walks.specs.Steps.{IsStep, IsGivenUp}
 

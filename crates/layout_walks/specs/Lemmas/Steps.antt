@@ -1,19 +1,19 @@
 -- One step of a lookup: at the end, over a glyph, or by a rule that acts.
 use Rattle.std.proofs.Common.{ℕ, suc, zero, ◌≡◌, ◌<◌, ◌+◌, nat_le, Bool, true, false, List, [], ◌∷◌, ◌++◌, length, take, drop, Ok, Err, refl, sym, ap, subst, ◌∙◌, arith, append_assoc}
 use Rattle.std.proofs.lemmas.List.{map-append, take-map, drop-map, take-append-drop, length-drop, length-map}
-use Rattle.glyph_types.specs.declared.cause.ShapeCause.{ShapeCause}
-use Rattle.glyph_types.specs.declared.cause.ShapeCause.TheVariants.{TooLong}
+use Rattle.glyph_lists.specs.declared.cause.ShapeCause.{ShapeCause}
+use Rattle.glyph_lists.specs.declared.cause.ShapeCause.TheVariants.{TooLong}
 use Rattle.glyph_lists.specs.Items.{Item, item_of, strip}
 use Rattle.glyph_lists.specs.Origins.{origins}
 use Rattle.glyph_lists.specs.Events.{Event}
-use Rattle.glyph_lists.specs.Readings.{View, Reading, Run, Follows, then_reading, with_events}
-use Rattle.glyph_lists.specs.Steps.{follows_happened}
+use Rattle.glyph_buffer.specs.Readings.{View, Reading, Run, Follows, then_reading, with_events}
+use Rattle.glyph_buffer.specs.Steps.{follows_happened}
 use Rattle.glyph_buffer.specs.Sides.{Sides, all_glyphs, run_of, moved_on, fits_next}
-use Rattle.layout_rules.specs.Actions.{Cut, view_at, past_item, Outcome, Passes, Acts, Refuses, Action}
-use Rattle.layout_rules.specs.Buffers.{are_glyphs, IsStill, Happened, IsPassed}
-use Rattle.layout_rules.specs.Performing.{cut_with, Performed}
-use Rattle.layout_rules.specs.Lemmas.Frames.{still_settings, still_limit, still_open, same_level, same_asks, same_lengths, same_numbers}
-use Rattle.layout_rules.specs.Lemmas.Performed.{same_with}
+use Rattle.stage_rules.specs.Actions.{Cut, view_at, past_item, Outcome, Passes, Acts, Refuses, Action}
+use Rattle.stage_rules.specs.Buffers.{are_glyphs, IsStill, Happened, IsPassed}
+use Rattle.stage_rules.specs.Performing.{cut_with, Performed}
+use Rattle.stage_rules.specs.Lemmas.Frames.{still_settings, still_limit, still_open, same_level, same_asks, same_lengths, same_numbers}
+use Rattle.stage_rules.specs.Lemmas.Performed.{same_with}
 use Rattle.layout_walks.specs.Trying.{tried, tried_before, after_outcome, gone_over}
 use Rattle.layout_walks.specs.Steps.{IsStep, IsGivenUp}
 

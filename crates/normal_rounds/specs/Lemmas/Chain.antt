@@ -1,13 +1,13 @@
 -- Arrangements that are brought behind the cursor one after another.
 use Rattle.std.proofs.Common.{ℕ, subst, ◌≡◌, ◌≤◌, ◌+◌, List, [], ◌∷◌, ◌++◌, length, map, refl, sym, ap, ap₂, ◌∙◌, append_assoc, arith}
 use Rattle.std.proofs.lemmas.List.{append-nil, map-append, length-map, length-append}
-use Rattle.glyph_types.specs.declared.cause.ShapeCause.{ShapeCause}
+use Rattle.glyph_lists.specs.declared.cause.ShapeCause.{ShapeCause}
 use Rattle.glyph_lists.specs.Items.{Item, item_of, strip}
 use Rattle.glyph_lists.specs.Origins.{origins}
 use Rattle.glyph_lists.specs.Events.{Event, Merge, Replace, Circle, Delete, Move, Arrange, Sort, Reverse, Break, Concat, Tatweel, Spread, Reset, origins_after}
-use Rattle.glyph_lists.specs.Steps.{origins_after_both}
+use Rattle.glyph_lists.specs.Lemmas.Origins.{origins_after_both}
 use Rattle.glyph_buffer.specs.Sides.{Sides, all_glyphs, asks_of}
-use Rattle.normal_forms.specs.Arranged.{Arranged, kept, shifted, beside, in_turn}
+use Rattle.glyph_properties.specs.Arranged.{Arranged, kept, shifted, beside, in_turn}
 use Rattle.normal_rounds.specs.Brought.{Brought, Overfills}
 
 none_further : (n : ℕ) → 0 + n ≡ n

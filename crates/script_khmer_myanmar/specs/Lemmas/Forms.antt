@@ -3,7 +3,7 @@ use Rattle.std.proofs.Common.{◌≡◌, ◌==◌, ◌&&◌, Bool, true, false, 
 use Rattle.std.proofs.lemmas.Bool.{and_parts, eqb-true}
 use Rattle.script_constants.specs.declared.ot_category_t.TheConstants as category
 use Rattle.glyph_lists.specs.Items.{Item}
-use Rattle.script_moves.specs.Fronts.{StandApart}
+use Rattle.stage_rules.specs.Fronts.{StandApart}
 use Rattle.script_khmer_myanmar.specs.Runs.{together}
 
 -- a Ra is no coeng

@@ -8,11 +8,11 @@ use Rattle.script_constants.specs.declared.shaper.hb_ot_script_shaper_t.TheVaria
 use Rattle.script_constants.specs.Shapers.{is_reordered}
 use Rattle.glyph_lists.specs.Items.{Item}
 use Rattle.script_khmer_myanmar.specs.declared.khmer.KhmerMasks.{KhmerMasks}
-use Rattle.script_walks.specs.Rewriting.{kept, then_rule, within}
-use Rattle.script_walks.specs.Laws.{IsPermuted, numbers_of}
-use Rattle.script_walks.specs.Lemmas.Numbers.{masked_permutes, moved_permutes, then_permutes, within_permutes}
-use Rattle.script_walks.specs.Lemmas.Permuted.{permutes_each_syllable}
-use Rattle.script_walks.specs.Parts.{masked_all, first_to_back}
+use Rattle.stage_rules.specs.Rewriting.{kept, then_rule, within}
+use Rattle.stage_rules.specs.SyllableLaws.{IsPermuted, numbers_of}
+use Rattle.stage_rules.specs.Lemmas.Numbers.{masked_permutes, moved_permutes, then_permutes, within_permutes}
+use Rattle.stage_rules.specs.Lemmas.Permuted.{permutes_each_syllable}
+use Rattle.stage_rules.specs.Parts.{masked_all, first_to_back}
 use Rattle.script_khmer_myanmar.specs.Khmer.{Step, coeng_moved, vowel_moved, coeng_met, vowel_met, is_coeng, met, khmer_at, khmer_walk, khmer_reordered, khmer_first, khmer_syllable, KhmerPermutes}
 
 coeng_permutes : (m : KhmerMasks) (place : ℕ) (xs : List Item) → place + 2 ≤ length xs → IsPermuted xs (coeng_moved m place xs)

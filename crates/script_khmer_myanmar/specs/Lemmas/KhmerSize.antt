@@ -7,9 +7,9 @@ use Rattle.script_constants.specs.declared.shaper.hb_ot_script_shaper_t.TheVaria
 use Rattle.script_constants.specs.Shapers.{is_reordered}
 use Rattle.glyph_lists.specs.Items.{Item}
 use Rattle.script_khmer_myanmar.specs.declared.khmer.KhmerMasks.{KhmerMasks}
-use Rattle.script_walks.specs.Rewriting.{Rewritten, kept, then_rule, within}
-use Rattle.script_walks.specs.Parts.{masked_all, first_to_back}
-use Rattle.script_walks.specs.Lemmas.Parts.{within_size, masked_size, moved_size}
+use Rattle.stage_rules.specs.Rewriting.{Rewritten, kept, then_rule, within}
+use Rattle.stage_rules.specs.Parts.{masked_all, first_to_back}
+use Rattle.stage_rules.specs.Lemmas.Parts.{within_size, masked_size, moved_size}
 use Rattle.script_khmer_myanmar.specs.Khmer.{Step, coeng_moved, vowel_moved, coeng_met, vowel_met, is_coeng, met, khmer_at, khmer_walk, khmer_reordered, khmer_first, khmer_syllable}
 
 pub coeng_pref_size : (m : KhmerMasks) (place : ℕ) (xs : List Item) → place + 2 ≤ length xs → length (within place (place + 2) (masked_all m.pref) xs).items ≡ length xs

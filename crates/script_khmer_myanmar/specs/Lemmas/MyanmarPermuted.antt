@@ -14,10 +14,10 @@ use Rattle.stable_order.specs.Keys.{key_bound, key_order}
 use Rattle.script_constants.specs.declared.shaper.hb_ot_script_shaper_t.TheVariants.{MYANMAR_SHAPER}
 use Rattle.script_constants.specs.Shapers.{is_reordered}
 use Rattle.glyph_lists.specs.Items.{Item}
-use Rattle.script_walks.specs.Rewriting.{kept, then_rule, within}
-use Rattle.script_walks.specs.Laws.{IsPermuted, numbers_of}
-use Rattle.script_walks.specs.Lemmas.Numbers.{same_numbers, then_permutes, within_permutes}
-use Rattle.script_walks.specs.Lemmas.Permuted.{permutes_each_syllable}
+use Rattle.stage_rules.specs.Rewriting.{kept, then_rule, within}
+use Rattle.stage_rules.specs.SyllableLaws.{IsPermuted, numbers_of}
+use Rattle.stage_rules.specs.Lemmas.Numbers.{same_numbers, then_permutes, within_permutes}
+use Rattle.stage_rules.specs.Lemmas.Permuted.{permutes_each_syllable}
 use Rattle.script_khmer_myanmar.specs.Myanmar.{all_placed, groups_reversed, has_two_matras, matras_of, matras_reversed, myanmar_first, myanmar_places, myanmar_reordered, myanmar_syllable, same_group, sorted_by_place, with_places, MyanmarPermutes}
 
 -- ---- places

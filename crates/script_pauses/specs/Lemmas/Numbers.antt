@@ -6,9 +6,9 @@ use Rattle.std.specs.List.Sorted.{IsPermutation}
 use Rattle.std.proofs.lemmas.List.Sums.{sum_by-cons}
 use Rattle.std.proofs.lemmas.List.Sorted.{sum_by-IsPermutation}
 use Rattle.glyph_lists.specs.Items.{Item}
-use Rattle.layout_rules.specs.Buffers.{are_glyphs}
-use Rattle.layout_walks.specs.Pauses.{BringsNoGlyph}
-use Rattle.script_walks.specs.Laws.{numbers_of}
+use Rattle.stage_rules.specs.Buffers.{are_glyphs}
+use Rattle.stage_rules.specs.Pauses.{BringsNoGlyph}
+use Rattle.stage_rules.specs.SyllableLaws.{numbers_of}
 
 abbrev one_if : Bool → ℕ
 one_if t = if t then 1 else 0

@@ -4,26 +4,26 @@ use Rattle.std.specs.Prelude.{bit_and, option_map, unwrap_or, Result}
 use Rattle.std.specs.List.Sorted.{IsPermutation}
 use Rattle.std.proofs.lemmas.List.Sorted.{IsPermutation-refl, IsPermutation-trans}
 use Rattle.std.proofs.lemmas.Nat.{and_assoc}
-use Rattle.glyph_types.specs.declared.cause.ShapeCause.{ShapeCause}
+use Rattle.glyph_lists.specs.declared.cause.ShapeCause.{ShapeCause}
 use Rattle.shaping_text.specs.declared.constants.BufferFlags.{BufferFlags}
 use Rattle.font_face.specs.declared.parts.FaceParts.{FaceParts}
 use Rattle.font_face.specs.Glyphs.{nominal_glyph}
 use Rattle.glyph_lists.specs.Items.{Item}
-use Rattle.glyph_lists.specs.Readings.{Run, Stage, Follows, and_then, always, as_it_is, read_of}
-use Rattle.glyph_lists.specs.Steps.{follows_then, refused_first}
+use Rattle.glyph_buffer.specs.Readings.{Run, Stage, Follows, and_then, always, as_it_is, read_of}
+use Rattle.glyph_buffer.specs.Steps.{follows_then, refused_first}
 use Rattle.glyph_buffer.specs.Sides.{Sides, items_of, run_of, view_of}
-use Rattle.layout_rules.specs.Buffers.{are_glyphs}
-use Rattle.layout_rules.specs.Ready.{IsDone, IsReady}
-use Rattle.layout_walks.specs.Settings.{text_flags}
-use Rattle.layout_walks.specs.Pauses.{BringsNoGlyph}
-use Rattle.text_stages.specs.Stages.{IsFollowed, mapped}
-use Rattle.script_walks.specs.Rewriting.{Rewritten, kept, by_syllable}
-use Rattle.script_walks.specs.Laws.{IsPermuted, numbers_of}
-use Rattle.script_walks.specs.Lemmas.Numbers.{mapped_permutes, syllables_permute}
-use Rattle.script_circles.specs.declared.circles.CircleRule.{CircleRule}
-use Rattle.script_circles.specs.Circles.{DOTTED_CIRCLE, circle_glyph, circles_by, puts_circles}
-use Rattle.script_circles.specs.Rules.{circle_rule}
-use Rattle.script_circles.proofs.Erased.{is_told}
+use Rattle.stage_rules.specs.Buffers.{are_glyphs}
+use Rattle.stage_rules.specs.Ready.{IsDone, IsReady}
+use Rattle.stage_rules.specs.Settings.{text_flags}
+use Rattle.stage_rules.specs.Pauses.{BringsNoGlyph}
+use Rattle.stage_rules.specs.Stages.{IsFollowed, mapped}
+use Rattle.stage_rules.specs.Rewriting.{Rewritten, kept, by_syllable}
+use Rattle.stage_rules.specs.SyllableLaws.{IsPermuted, numbers_of}
+use Rattle.stage_rules.specs.Lemmas.Numbers.{mapped_permutes, syllables_permute}
+use Rattle.syllable_stages.specs.declared.circles.CircleRule.{CircleRule}
+use Rattle.syllable_stages.specs.Circles.{DOTTED_CIRCLE, circle_glyph, circles_by, puts_circles}
+use Rattle.syllable_stages.specs.Rules.{circle_rule}
+use Rattle.syllable_stages.proofs.Erased.{is_told}
 use Rattle.script_pauses.specs.Quiet.{IsQuiet}
 use Rattle.script_pauses.specs.Syllables.{syllables_by, then_syllables}
 use Rattle.script_pauses.specs.Lemmas.Numbers.{permuted_brings_none, permuted_glyphs}

@@ -7,26 +7,26 @@ use Rattle.std.proofs.lemmas.List.{length-map, map-append}
 use Rattle.std.proofs.lemmas.List.Sorted.{IsPermutation-refl}
 use Rattle.std.proofs.lemmas.Bool.Decides.{nat_tests}
 use Rattle.std.proofs.lemmas.Grind.{common_steps}
-use Rattle.glyph_types.specs.declared.cause.ShapeCause.TheVariants.{UnknownSyllableKind}
+use Rattle.glyph_lists.specs.declared.cause.ShapeCause.TheVariants.{UnknownSyllableKind}
 use Rattle.glyph_lists.specs.Items.{Item}
-use Rattle.glyph_lists.specs.Readings.{Follows, Run, always}
+use Rattle.glyph_buffer.specs.Readings.{Follows, Run, always}
 use Rattle.glyph_buffer.specs.Sides.{Sides, items_of, run_of, view_of}
-use Rattle.text_stages.specs.Stages.{IsFollowed}
-use Rattle.layout_match.specs.LigatureWords.{is_substituted}
+use Rattle.stage_rules.specs.Stages.{IsFollowed}
+use Rattle.glyph_lists.specs.LigatureWords.{is_substituted}
 use Rattle.script_constants.specs.declared.shaper.hb_ot_script_shaper_t.{hb_ot_script_shaper_t}
 use Rattle.script_constants.specs.declared.shaper.hb_ot_script_shaper_t.TheVariants.{UNIVERSAL_SHAPER}
 use Rattle.syllable_lists.specs.Bytes.{syllable_byte}
 use Rattle.syllable_lists.specs.Cuts.{Syllable, syllable_from, syllables, syllables_from}
-use Rattle.script_walks.specs.Rewriting.{within, in_syllables}
-use Rattle.script_walks.specs.Parts.{masked_all}
-use Rattle.script_walks.specs.Buffers.{with_rule}
-use Rattle.script_walks.specs.Laws.{IsPermuted, numbers_of}
-use Rattle.script_walks.specs.Lemmas.Numbers.{joined, mapped_permutes, masked_permutes, runs_join, same_numbers, then_permutes, within_permutes}
-use Rattle.script_circles.specs.Bytes.{bytes_of, bytes_set, is_known, itself, one_syllable, syllables_set, with_byte}
-use Rattle.universal_syllables.specs.declared.forms.FormMasks.{FormMasks}
-use Rattle.universal_syllables.specs.Features.{each_formed, first_joins, form_of, formed, has_feature, joins, pref_recorded, recorded, reph_size, rphf_masked, rphf_recorded, topography, with_category, with_form}
-use Rattle.universal_syllables.specs.Spans.{categories_counted, place_in, place_of, places_from, universal_set}
-use Rattle.universal_syllables.proofs.Counting.{places_rise}
+use Rattle.stage_rules.specs.Rewriting.{within, in_syllables}
+use Rattle.stage_rules.specs.Parts.{masked_all}
+use Rattle.stage_rules.specs.SyllableBuffers.{with_rule}
+use Rattle.stage_rules.specs.SyllableLaws.{IsPermuted, numbers_of}
+use Rattle.stage_rules.specs.Lemmas.Numbers.{joined, mapped_permutes, masked_permutes, runs_join, same_numbers, then_permutes, within_permutes}
+use Rattle.syllable_stages.specs.Bytes.{bytes_of, bytes_set, is_known, itself, one_syllable, syllables_set, with_byte}
+use Rattle.syllable_stages.specs.declared.forms.FormMasks.{FormMasks}
+use Rattle.syllable_stages.specs.Features.{each_formed, first_joins, form_of, formed, has_feature, joins, pref_recorded, recorded, reph_size, rphf_masked, rphf_recorded, topography, with_category, with_form}
+use Rattle.syllable_stages.specs.Spans.{categories_counted, place_in, place_of, places_from, universal_set}
+use Rattle.syllable_stages.proofs.Counting.{places_rise}
 use Rattle.script_pauses.specs.Quiet.{IsQuiet}
 use Rattle.script_pauses.specs.Lemmas.Quiet.{rule_quiet}
 

@@ -7,11 +7,11 @@ use Rattle.std.proofs.lemmas.List.Sorted.{IsPermutation-refl}
 use Rattle.script_constants.specs.declared.shaper.hb_ot_script_shaper_t.TheVariants.{UNIVERSAL_SHAPER}
 use Rattle.script_constants.specs.Shapers.{is_reordered}
 use Rattle.glyph_lists.specs.Items.{Item}
-use Rattle.script_walks.specs.Rewriting.{kept, within}
-use Rattle.script_walks.specs.Parts.{first_to_back}
-use Rattle.script_walks.specs.Laws.{IsPermuted, numbers_of}
-use Rattle.script_walks.specs.Lemmas.Numbers.{moved_permutes, then_permutes, within_permutes}
-use Rattle.script_walks.specs.Lemmas.Permuted.{permutes_each_syllable}
+use Rattle.stage_rules.specs.Rewriting.{kept, within}
+use Rattle.stage_rules.specs.Parts.{first_to_back}
+use Rattle.stage_rules.specs.SyllableLaws.{IsPermuted, numbers_of}
+use Rattle.stage_rules.specs.Lemmas.Numbers.{moved_permutes, then_permutes, within_permutes}
+use Rattle.stage_rules.specs.Lemmas.Permuted.{permutes_each_syllable}
 use Rattle.script_universal.specs.Reordering.{Step, begins_with_reph, is_halant, is_left, left_at, left_there, left_walk, reph_end, reph_moved, universal_first, universal_reordered, universal_syllable, UniversalPermutes}
 
 abbrev StepPermutes : List Item → Step → Type 0

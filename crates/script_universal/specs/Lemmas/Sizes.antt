@@ -8,9 +8,9 @@ use Rattle.std.proofs.lemmas.Grind.{common_steps}
 use Rattle.script_constants.specs.declared.shaper.hb_ot_script_shaper_t.TheVariants.{UNIVERSAL_SHAPER}
 use Rattle.script_constants.specs.Shapers.{is_reordered}
 use Rattle.glyph_lists.specs.Items.{Item}
-use Rattle.script_walks.specs.Rewriting.{Rewritten, kept, within}
-use Rattle.script_walks.specs.Parts.{first_to_back}
-use Rattle.script_walks.specs.Lemmas.Parts.{moved_size, within_size}
+use Rattle.stage_rules.specs.Rewriting.{Rewritten, kept, within}
+use Rattle.stage_rules.specs.Parts.{first_to_back}
+use Rattle.stage_rules.specs.Lemmas.Parts.{moved_size, within_size}
 use Rattle.script_universal.specs.Reordering.{Step, begins_with_reph, is_halant, is_left, left_at, left_there, left_walk, reph_end, reph_moved, stops_reph, universal_first, universal_reordered, universal_syllable}
 
 abbrev count_of : Rewritten → ℕ

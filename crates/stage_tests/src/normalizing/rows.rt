@@ -1,10 +1,10 @@
 //! A normaliser whose font and hooks are rows.
 ghost use Rattle.std.specs.Prelude.{◌≡◌, refl};
-ghost use Rattle.normal_forms.specs.Arranged.{kept};
+ghost use Rattle.glyph_properties.specs.Arranged.{kept};
 ghost use Rattle.stage_tests.specs.Rows.{glyph_in, pair_in, parts_in};
 
 use glyph_buffer::buffer::hb_buffer_t;
-use normal_forms::NormalizationMode;
+use glyph_properties::NormalizationMode;
 use normal_rounds::normalizing::Normalizing;
 use unicode_tables::UnicodeTables;
 

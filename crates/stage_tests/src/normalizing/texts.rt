@@ -1,14 +1,14 @@
 //! Texts on a buffer that is ready to be normalised.
 ghost use Rattle.std.specs.Prelude.{◌≡◌, false, IfOk, OnOk};
-ghost use Rattle.layout_rules.specs.Ready.{IsReady};
+ghost use Rattle.stage_rules.specs.Ready.{IsReady};
 
 use crate::buffers::write_glyph;
 use glyph_buffer::buffer::hb_buffer_t;
+use glyph_lists::cause::ShapeCause;
+use glyph_lists::flags::UnicodeProps;
+use glyph_lists::info::hb_glyph_info_t;
+use glyph_lists::level::BufferClusterLevel;
 use glyph_properties::character::{character_class, properties_of};
-use glyph_types::cause::ShapeCause;
-use glyph_types::flags::UnicodeProps;
-use glyph_types::info::hb_glyph_info_t;
-use glyph_types::level::BufferClusterLevel;
 use normal_rounds::normalizing::Normalizing;
 use shape_normalize::normalize::_hb_ot_shape_normalize;
 use std::alloc::Global;

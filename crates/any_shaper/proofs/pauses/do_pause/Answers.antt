@@ -1,4 +1,4 @@
-use Rattle.layout_walks.specs.Settings.{text_settings}
+use Rattle.stage_rules.specs.Settings.{text_settings}
 use Rattle.any_shaper.proofs.Kept.{rphf_done}
 use Rattle.any_shaper.proofs.pauses.do_pause.Goals as goal
 

@@ -1,14 +1,14 @@
 -- Plain events, one list behind another, and rules that leave such.
 use Rattle.std.proofs.Common.{ℕ, ◌≡◌, List, [], ◌∷◌, ◌++◌, length, map, Ok, Err, refl, ap, subst}
 use Rattle.std.specs.Prelude.{slice_range}
-use Rattle.glyph_types.specs.declared.level.BufferClusterLevel.{BufferClusterLevel}
+use Rattle.glyph_lists.specs.declared.level.BufferClusterLevel.{BufferClusterLevel}
 use Rattle.glyph_lists.specs.Items.{Item}
 use Rattle.glyph_lists.specs.Events.{Event, IsPlain, Merge, Replace, Circle, Delete, Move, Arrange, Sort, Reverse, Break, Concat, Tatweel, Spread, Reset}
-use Rattle.glyph_lists.specs.Readings.{Read, Reading, Stage, View, always, and_then, as_it_is, then_reading}
-use Rattle.script_walks.specs.Rewriting.{Rewritten, by_syllable, each_rewritten, in_syllables, shifted, then_rule, within}
-use Rattle.script_walks.specs.Buffers.{with_rule}
+use Rattle.glyph_buffer.specs.Readings.{Read, Reading, Stage, View, always, and_then, as_it_is, then_reading}
+use Rattle.stage_rules.specs.Rewriting.{Rewritten, by_syllable, each_rewritten, in_syllables, shifted, then_rule, within}
+use Rattle.stage_rules.specs.SyllableBuffers.{with_rule}
 use Rattle.script_pauses.specs.Syllables.{syllables_by}
-use Rattle.shape_shaper.specs.Rules.{StaysPlain}
+use Rattle.shape_plan.specs.Rules.{StaysPlain}
 
 pub both_plain : (es fs : List Event) → IsPlain es → IsPlain fs → IsPlain (es ++ fs)
 both_plain [] fs p q = q

@@ -4,15 +4,15 @@ use Rattle.std.specs.Prelude.{Option}
 use Rattle.shaping_text.specs.declared.script.Script.{Script}
 use Rattle.unicode_tables.specs.Tables.{Tables}
 use Rattle.map_builder.specs.Compiled.{OtMapValue}
-use Rattle.glyph_lists.specs.Readings.{Stage, always, as_it_is}
-use Rattle.text_stages.specs.Stages.{mapped}
-use Rattle.shape_shaper.specs.Rules.{StaysPlain}
+use Rattle.glyph_buffer.specs.Readings.{Stage, always, as_it_is}
+use Rattle.stage_rules.specs.Stages.{mapped}
+use Rattle.shape_plan.specs.Rules.{StaysPlain}
 use Rattle.script_joining.specs.Joining.{joined}
 use Rattle.script_joining.specs.Lemmas.Plain.{joining_is_plain}
 use Rattle.script_hangul.specs.Masks.{with_place_mask}
 use Rattle.script_pauses.specs.Categories.{categories_set, universal_category_of, with_category}
-use Rattle.script_masks.specs.Masks.{arabic_masks, is_mongolian, joined_if, letters_join, letters_joined, universal_masks_set}
-use Rattle.script_stretch.specs.Tiles.{tile_recorded, tiles_recorded}
+use Rattle.any_shaper.specs.Masks.{arabic_masks, is_mongolian, joined_if, letters_join, letters_joined, universal_masks_set}
+use Rattle.script_pauses.specs.Tiles.{tile_recorded, tiles_recorded}
 use Rattle.any_shaper.specs.Plain.{MasksLeavePlain}
 use Rattle.any_shaper.specs.Lemmas.Plain.Events.{always_plain, same_plain, then_plain}
 

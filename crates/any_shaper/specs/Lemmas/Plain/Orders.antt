@@ -2,24 +2,24 @@
 use Rattle.std.proofs.Common.{ℕ, zero, suc, ◌≡◌, ◌+◌, ◌-◌, ◌==◌, ◌&&◌, Bool, true, false, if◌then◌else◌, List, [], ◌∷◌, length, map, take, Option, None, Some, Ok, slice_get}
 use Rattle.std.specs.Prelude.{bit_and, nat_le, nat_lt}
 use Rattle.std.specs.List.{list_any}
-use Rattle.glyph_types.specs.declared.level.BufferClusterLevel.{BufferClusterLevel}
+use Rattle.glyph_lists.specs.declared.level.BufferClusterLevel.{BufferClusterLevel}
 use Rattle.glyph_lists.specs.Items.{Item}
 use Rattle.glyph_lists.specs.Events.{IsPlain}
-use Rattle.glyph_lists.specs.Readings.{IsMonotone, Read, Reading, View, as_it_is}
+use Rattle.glyph_buffer.specs.Readings.{IsMonotone, Read, Reading, View, as_it_is}
 use Rattle.glyph_slices.specs.Lemmas.OrderSpans.{order_stays}
 use Rattle.script_constants.specs.declared.ot_category_t.TheConstants as category
 use Rattle.script_constants.specs.declared.shaper.hb_ot_script_shaper_t.TheVariants.{KHMER_SHAPER, MYANMAR_SHAPER, UNIVERSAL_SHAPER}
 use Rattle.script_constants.specs.Shapers.{is_reordered}
-use Rattle.script_walks.specs.Rewriting.{kept, then_rule, within}
-use Rattle.script_walks.specs.Parts.{first_to_back, masked_all}
-use Rattle.script_circles.specs.declared.circles.CircleRule.{CircleRule}
-use Rattle.script_circles.specs.Circles.{Circled, There, Inserted, circle_events, circled_items, circles_by, circles_put, is_broken, with_circles}
+use Rattle.stage_rules.specs.Rewriting.{kept, then_rule, within}
+use Rattle.stage_rules.specs.Parts.{first_to_back, masked_all}
+use Rattle.syllable_stages.specs.declared.circles.CircleRule.{CircleRule}
+use Rattle.syllable_stages.specs.Circles.{Circled, There, Inserted, circle_events, circled_items, circles_by, circles_put, is_broken, with_circles}
 use Rattle.script_khmer_myanmar.specs.declared.khmer.KhmerMasks.{KhmerMasks}
 use Rattle.script_khmer_myanmar.specs.Khmer as khmer
 use Rattle.script_khmer_myanmar.specs.Myanmar as myanmar
 use Rattle.script_universal.specs.Reordering as universal
 use Rattle.script_pauses.specs.Syllables.{khmer_circles, myanmar_circles, syllables_by, universal_circles}
-use Rattle.shape_shaper.specs.Rules.{StaysPlain}
+use Rattle.shape_plan.specs.Rules.{StaysPlain}
 use Rattle.any_shaper.specs.Plain.{OrdersLeavePlain}
 use Rattle.any_shaper.specs.Lemmas.Plain.Events.{IsPlainly, same_plain, syllables_plain, then_plain, then_plainly, within_plainly}
 use Rattle.any_shaper.specs.Lemmas.Plain.Texts.{limited_plain}

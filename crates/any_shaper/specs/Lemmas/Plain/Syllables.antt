@@ -1,24 +1,24 @@
 -- The events of syllables' bytes and features.
 use Rattle.std.proofs.Common.{ℕ, ◌≡◌, ◌+◌, Bool, true, false, if◌then◌else◌, List, [], ◌∷◌, length, Option, None, Some, Ok, Err}
 use Rattle.std.specs.List.{list_all}
-use Rattle.glyph_types.specs.declared.cause.ShapeCause.TheVariants.{UnknownSyllableKind}
+use Rattle.glyph_lists.specs.declared.cause.ShapeCause.TheVariants.{UnknownSyllableKind}
 use Rattle.glyph_lists.specs.Items.{Item}
 use Rattle.glyph_lists.specs.Events.{IsPlain}
-use Rattle.glyph_lists.specs.Readings.{Reading, always}
-use Rattle.text_stages.specs.Stages.{mapped}
+use Rattle.glyph_buffer.specs.Readings.{Reading, always}
+use Rattle.stage_rules.specs.Stages.{mapped}
 use Rattle.script_constants.specs.declared.shaper.hb_ot_script_shaper_t.{hb_ot_script_shaper_t}
 use Rattle.script_constants.specs.declared.shaper.hb_ot_script_shaper_t.TheVariants.{UNIVERSAL_SHAPER}
 use Rattle.syllable_lists.specs.Bytes.{syllable_byte}
 use Rattle.syllable_lists.specs.Cuts.{Syllable, syllables}
-use Rattle.script_walks.specs.Rewriting.{within}
-use Rattle.script_walks.specs.Parts.{masked_all}
-use Rattle.script_walks.specs.Buffers.{with_rule}
-use Rattle.script_circles.specs.Bytes.{bytes_of, bytes_set, is_known, itself, one_syllable, syllables_set, text_syllables}
-use Rattle.universal_syllables.specs.declared.forms.FormMasks.{FormMasks}
-use Rattle.universal_syllables.specs.Features.{pref_recorded, reph_size, rphf_masked, rphf_recorded, topography}
-use Rattle.universal_syllables.specs.Spans.{categories_counted, place_of, universal_set}
+use Rattle.stage_rules.specs.Rewriting.{within}
+use Rattle.stage_rules.specs.Parts.{masked_all}
+use Rattle.stage_rules.specs.SyllableBuffers.{with_rule}
+use Rattle.syllable_stages.specs.Bytes.{bytes_of, bytes_set, is_known, itself, one_syllable, syllables_set, text_syllables}
+use Rattle.syllable_stages.specs.declared.forms.FormMasks.{FormMasks}
+use Rattle.syllable_stages.specs.Features.{pref_recorded, reph_size, rphf_masked, rphf_recorded, topography}
+use Rattle.syllable_stages.specs.Spans.{categories_counted, place_of, universal_set}
 use Rattle.script_pauses.specs.Syllables.{forms_set, syllables_by, then_syllables, universal_syllables_set, unsubstituted, without_syllable}
-use Rattle.shape_shaper.specs.Rules.{Spans, StaysPlain}
+use Rattle.shape_plan.specs.Rules.{Spans, StaysPlain}
 use Rattle.any_shaper.specs.Plain.{SyllablesLeavePlain}
 use Rattle.any_shaper.specs.Lemmas.Plain.Events.{IsPlainly, always_plain, ok_plain, rule_plain, same_plain, syllables_plain, then_plain, then_plainly, within_plainly}
 

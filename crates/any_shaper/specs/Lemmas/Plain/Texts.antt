@@ -1,16 +1,16 @@
 -- The events of whole texts.
 use Rattle.std.proofs.Common.{ℕ, zero, suc, ◌≡◌, ◌+◌, ◌-◌, ◌==◌, Bool, true, false, if◌then◌else◌, List, [], ◌∷◌, length, drop, Option, None, Some, Ok, Err}
 use Rattle.std.specs.Prelude.{nat_le, nat_lt, ◌&&◌}
-use Rattle.glyph_types.specs.declared.level.BufferClusterLevel.{BufferClusterLevel}
-use Rattle.glyph_types.specs.declared.level.BufferClusterLevel.TheVariants.{MonotoneGraphemes, MonotoneCharacters, Characters}
-use Rattle.glyph_types.specs.declared.cause.ShapeCause.TheVariants.{TooLong}
+use Rattle.glyph_lists.specs.declared.level.BufferClusterLevel.{BufferClusterLevel}
+use Rattle.glyph_lists.specs.declared.level.BufferClusterLevel.TheVariants.{MonotoneGraphemes, MonotoneCharacters, Characters}
+use Rattle.glyph_lists.specs.declared.cause.ShapeCause.TheVariants.{TooLong}
 use Rattle.shaping_text.specs.declared.constants.BufferFlags.{BufferFlags}
 use Rattle.font_face.specs.declared.parts.FaceParts.{FaceParts}
 use Rattle.glyph_lists.specs.Items.{Item}
 use Rattle.glyph_lists.specs.Levels.{InOutput}
 use Rattle.glyph_lists.specs.Events.{IsPlain, Merge, Move}
-use Rattle.glyph_lists.specs.Readings.{Read, Reading}
-use Rattle.script_moves.specs.Moves.{order_of_move}
+use Rattle.glyph_buffer.specs.Readings.{Read, Reading}
+use Rattle.stage_rules.specs.Moves.{order_of_move}
 use Rattle.script_hebrew_thai.specs.ThaiPrivate.{with_private}
 use Rattle.script_hebrew_thai.specs.ThaiVowel as thai
 use Rattle.script_hangul.specs.declared.actions.Action.{Action}
@@ -19,7 +19,7 @@ use Rattle.script_hangul.specs.Jamo.{is_tone}
 use Rattle.script_hangul.specs.Actions.{action_on, has_character}
 use Rattle.script_hangul.specs.Steps.{DOTTED_CIRCLE, Step, before_syllable, grapheme_merged, has_no_width, kept, numbers_of, performed, toned, with_circle}
 use Rattle.script_hangul.specs.Hangul.{character_at, events_behind, step, step_by, syllables_formed, text_behind, wants_circles}
-use Rattle.shape_shaper.specs.Rules.{StaysPlain}
+use Rattle.shape_plan.specs.Rules.{StaysPlain}
 use Rattle.any_shaper.specs.Plain.{TextsLeavePlain}
 use Rattle.any_shaper.specs.Lemmas.Plain.Events.{always_plain, both_plain, ok_plain}
 

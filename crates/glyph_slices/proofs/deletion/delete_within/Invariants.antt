@@ -1,5 +1,5 @@
 use Rattle.std.proofs.Common.{◌≡◌, ◌-◌, Bool, length}
-use Rattle.glyph_types.specs.declared.info.hb_glyph_info_t.{hb_glyph_info_t as Glyph}
+use Rattle.glyph_lists.specs.declared.info.hb_glyph_info_t.{hb_glyph_info_t as Glyph}
 use Rattle.glyph_slices.specs.DeletionWalk.{Tells, IsWalk, all_passed, many_passed, passed_at}
 use Rattle.glyph_slices.proofs.deletion.delete_within.Given as goal
 

@@ -1,5 +1,5 @@
 use Rattle.std.proofs.Common.{◌≡◌, ◌+◌, ◌-◌, ◌<◌, ◌≤◌, length, drop, get_or, Bool}
-use Rattle.glyph_types.specs.declared.info.hb_glyph_info_t.{hb_glyph_info_t as Glyph}
+use Rattle.glyph_lists.specs.declared.info.hb_glyph_info_t.{hb_glyph_info_t as Glyph}
 use Rattle.glyph_slices.specs.Groups.{Decides, joined_behind, group_length}
 use Rattle.glyph_slices.specs.Lemmas.Neighbours.{no_glyph}
 use Rattle.glyph_slices.proofs.groups.end_of_group.Given as goal

@@ -1,4 +1,4 @@
-use Rattle.glyph_types.specs.declared.info.hb_glyph_info_t.{hb_glyph_info_t}
+use Rattle.glyph_lists.specs.declared.info.hb_glyph_info_t.{hb_glyph_info_t}
 use Rattle.glyph_slices.specs.Lemmas.Neighbours.{run_from, none_from}
 use Rattle.glyph_slices.proofs.groups.next_cluster.Goals as goal
 

@@ -1,4 +1,4 @@
-use Rattle.glyph_clusters.specs.Deleted.{items_deleted}
+use Rattle.glyph_lists.specs.Deleted.{items_deleted}
 use Rattle.glyph_slices.proofs.laws.deletes_one_item.Goals as goal
 
 pub returns : goal.returns

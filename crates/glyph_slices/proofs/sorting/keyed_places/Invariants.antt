@@ -1,6 +1,6 @@
 use Rattle.std.specs.List.{All}
 use Rattle.std.proofs.Common.{◌≡◌, ◌<◌, ◌++◌, ℕ, drop, length, vec_len}
-use Rattle.glyph_types.specs.declared.info.hb_glyph_info_t.{hb_glyph_info_t as Glyph}
+use Rattle.glyph_lists.specs.declared.info.hb_glyph_info_t.{hb_glyph_info_t as Glyph}
 use Rattle.glyph_slices.specs.declared.sorting.Keyed.{Keyed}
 use Rattle.glyph_slices.specs.Sorting.{Gives, keyed_from}
 use Rattle.glyph_slices.proofs.sorting.keyed_places.Given as goal

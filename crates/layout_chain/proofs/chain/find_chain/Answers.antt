@@ -3,8 +3,8 @@ use Rattle.glyph_lists.specs.Items.{item_of, strip}
 use Rattle.layout_match.specs.Applied.{applied_of, own_search}
 use Rattle.layout_match.specs.Matches.{asks_of, input_end, input_indices, reached}
 use Rattle.layout_match.specs.Sequences.{tests_of}
-use Rattle.layout_rules.specs.Lemmas.Glyphs.{first_item}
-use Rattle.layout_rules.specs.Performing.{cut_with}
+use Rattle.stage_rules.specs.Lemmas.Glyphs.{first_item}
+use Rattle.stage_rules.specs.Performing.{cut_with}
 use Rattle.layout_chain.specs.Fitting.{chain_of}
 use Rattle.layout_chain.proofs.Fitted.{all_fits, backtrack_fails, input_fails, lookahead_fails, other_first, too_many}
 use Rattle.layout_chain.specs.Lemmas.Rising.{indices_inside, reached_low}

@@ -1,4 +1,4 @@
-use Rattle.layout_rules.specs.Lemmas.Around.{break_around}
+use Rattle.stage_rules.specs.Lemmas.Around.{break_around}
 use Rattle.layout_chain.proofs.marks.mark_match.Goals as goal
 
 pub returns : goal.returns

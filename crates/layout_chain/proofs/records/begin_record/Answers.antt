@@ -1,7 +1,7 @@
 use Rattle.std.proofs.Common.{◌≡◌, ◌≤◌, ◌<◌, true, Some, length, slice_get, ap, sym, ◌∙◌, arith}
-use Rattle.layout_rules.specs.Actions.{Cut, whole}
-use Rattle.layout_rules.specs.Buffers.{cut_of}
-use Rattle.layout_rules.specs.Lemmas.Frames.{still_refused}
+use Rattle.stage_rules.specs.Actions.{Cut, whole}
+use Rattle.stage_rules.specs.Buffers.{cut_of}
+use Rattle.stage_rules.specs.Lemmas.Frames.{still_refused}
 use Rattle.layout_chain.specs.Nested.{has_budget}
 use Rattle.layout_chain.proofs.Begun.{begun, beyond, no_way, unpaid}
 use Rattle.layout_chain.proofs.records.begin_record.Goals as goal

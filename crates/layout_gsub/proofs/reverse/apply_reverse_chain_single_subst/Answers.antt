@@ -5,9 +5,9 @@ use Rattle.layout_common.specs.declared.coverage.Coverage.{Coverage}
 use Rattle.layout_match.specs.Applied.{applied_of, context_search}
 use Rattle.layout_match.specs.Matches.{backtrack_end, lookahead_end}
 use Rattle.layout_match.specs.Sequences.{is_covered_by}
-use Rattle.layout_rules.specs.Buffers.{cut_of}
-use Rattle.layout_rules.specs.Performing.{PerformsInPlace}
-use Rattle.layout_rules.specs.Lemmas.Does.{passed_same}
+use Rattle.stage_rules.specs.Buffers.{cut_of}
+use Rattle.stage_rules.specs.Performing.{PerformsInPlace}
+use Rattle.stage_rules.specs.Lemmas.Does.{passed_same}
 use Rattle.layout_gsub.specs.Reverses.{put_before}
 use Rattle.layout_gsub.proofs.Around.{reverse_performed, after_performed, attempt_performed}
 use Rattle.layout_gsub.proofs.reverse.apply_reverse_chain_single_subst.Goals as goal

@@ -2,7 +2,7 @@ use Rattle.std.proofs.Common.{◌≡◌, false, length, ap, sym, arith, ◌∙�
 use Rattle.glyph_buffer.specs.Sides.{all_glyphs, items_of}
 use Rattle.glyph_buffer.specs.Moving.{moved_to}
 use Rattle.layout_match.specs.Applied.{applied_of}
-use Rattle.layout_rules.specs.Lemmas.Frames.{still_open}
+use Rattle.stage_rules.specs.Lemmas.Frames.{still_open}
 use Rattle.layout_walks.specs.Lemmas.Passage.{begun, passed_on}
 use Rattle.layout_positioning.specs.Lookups.{lookup_action}
 use Rattle.layout_positioning.proofs.Over.{looked_over_done, over_next, over_refused}

@@ -4,11 +4,11 @@ use Rattle.shaping_text.specs.declared.direction.Direction.{Direction}
 use Rattle.layout_contexts.specs.declared.context.ContextSubtable.{ContextSubtable}
 use Rattle.layout_contexts.specs.declared.context.SequenceLookupRecord.{SequenceLookupRecord}
 use Rattle.layout_match.specs.Applied.{applied_of}
-use Rattle.layout_rules.specs.Actions.{Action, first_rule}
-use Rattle.layout_rules.specs.Performing.{Performed, cut_with}
-use Rattle.layout_rules.specs.Lemmas.Frames.{still_direction}
-use Rattle.layout_rules.specs.Lemmas.Performed.{passed_all}
-use Rattle.layout_rules.specs.Lemmas.Firsts.{first_acts, first_refuses, first_passes}
+use Rattle.stage_rules.specs.Actions.{Action, first_rule}
+use Rattle.stage_rules.specs.Performing.{Performed, cut_with}
+use Rattle.stage_rules.specs.Lemmas.Frames.{still_direction}
+use Rattle.stage_rules.specs.Lemmas.Performed.{passed_all}
+use Rattle.stage_rules.specs.Lemmas.Firsts.{first_acts, first_refuses, first_passes}
 use Rattle.layout_chain.specs.Chains.{Chain, chain_rule, context_subtable}
 use Rattle.layout_chain.specs.Fitting.{IsMatched, chain_of}
 use Rattle.layout_chain.specs.Nested.{each_nested}
@@ -18,7 +18,7 @@ use Rattle.layout_chain.specs.Rules.{chains_of}
 use Rattle.layout_chain.specs.Lemmas.Acting.{match_inside, rule_acted, rule_failed}
 use Rattle.layout_chain.specs.Lemmas.Inside.{then_stays}
 use Rattle.layout_chain.specs.Lemmas.Nested.{begun_closed, begun_numbers, begun_some, begun_unrefused, get_or_any, last_walked, matched_closed, matched_numbers, matched_unrefused, next_failed, next_walked, none_nested, not_tried, record_acted, record_inside, record_passed, tried_there}
-use Rattle.layout_cursive.specs.Joins.{cursive_subtable}
+use Rattle.layout_positioning.specs.Joins.{cursive_subtable}
 use Rattle.layout_gpos.specs.Marks.{mark_to_mark}
 use Rattle.layout_gpos.specs.Pairs.{pair_subtable}
 use Rattle.layout_gpos.specs.Singles.{single_subtable}

@@ -2,9 +2,9 @@ use Rattle.std.proofs.Common.{◌+◌, ◌*◌, ◌-◌, drop, length}
 use Rattle.glyph_buffer.specs.Sides.{items_of}
 use Rattle.layout_gpos.specs.Bases.{AreKept}
 use Rattle.layout_match.specs.Applied.{applied_of}
-use Rattle.layout_rules.specs.Actions.{whole}
-use Rattle.layout_rules.specs.Buffers.{cut_of}
-use Rattle.layout_rules.specs.Lemmas.Performed.{ArePassed}
+use Rattle.stage_rules.specs.Actions.{whole}
+use Rattle.stage_rules.specs.Buffers.{cut_of}
+use Rattle.stage_rules.specs.Lemmas.Performed.{ArePassed}
 use Rattle.layout_chain.specs.Chains.{chain_rule, context_subtable}
 use Rattle.layout_chain.specs.Inside.{StaysInside}
 use Rattle.layout_chain.specs.Rules.{chains_of}

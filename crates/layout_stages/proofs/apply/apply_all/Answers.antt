@@ -1,7 +1,7 @@
 use Rattle.std.proofs.Common.{false, get_or, slice_get, subst, ◌∙◌}
 use Rattle.font_face.specs.declared.parts.FaceParts.{FaceParts}
 use Rattle.map_features.specs.declared.lookup.lookup_map_t.{lookup_map_t}
-use Rattle.layout_rules.specs.Ready.{IsDoneFrom}
+use Rattle.stage_rules.specs.Ready.{IsDoneFrom}
 use Rattle.layout_stages.specs.Lookups.{lookup_stage}
 use Rattle.layout_stages.proofs.Stages.{one_done}
 use Rattle.layout_stages.proofs.apply.apply_all.Goals as goal

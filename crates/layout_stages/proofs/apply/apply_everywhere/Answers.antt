@@ -1,5 +1,5 @@
 use Rattle.std.proofs.Common.{sym, ◌∙◌}
-use Rattle.layout_lookups.specs.Lookups.{is_reverse}
+use Rattle.font_face.specs.Lookups.{is_reverse}
 use Rattle.layout_match.specs.Applied.{applied_of}
 use Rattle.layout_walks.specs.Trying.{looked_up}
 use Rattle.layout_stages.specs.Lookups.{looked_back, lookup_action, reverse_action}

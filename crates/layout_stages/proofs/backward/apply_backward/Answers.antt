@@ -1,7 +1,7 @@
 use Rattle.std.proofs.Common.{ℕ, suc, ◌≡◌, ◌-◌, false, length, refl, ap, sym, subst, arith, ◌∙◌}
 use Rattle.glyph_buffer.specs.Sides.{all_glyphs}
 use Rattle.glyph_buffer.specs.Moving.{moved_to}
-use Rattle.layout_rules.specs.Lemmas.Frames.{still_open}
+use Rattle.stage_rules.specs.Lemmas.Frames.{still_open}
 use Rattle.layout_match.specs.Applied.{applied_of}
 use Rattle.layout_stages.specs.Lookups.{reverse_action}
 use Rattle.layout_stages.proofs.Back.{IsOnItsWayBack, gone_back, looked_back_done}

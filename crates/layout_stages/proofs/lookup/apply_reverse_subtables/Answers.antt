@@ -1,8 +1,8 @@
 use Rattle.std.proofs.Common.{Bool, subst}
 use Rattle.layout_match.specs.Applied.{applied_of}
 use Rattle.layout_gsub.specs.Reverses.{reverse_subtable}
-use Rattle.layout_rules.specs.Buffers.{cut_of}
-use Rattle.layout_rules.specs.Performing.{PerformsInPlace}
+use Rattle.stage_rules.specs.Buffers.{cut_of}
+use Rattle.stage_rules.specs.Performing.{PerformsInPlace}
 use Rattle.layout_stages.proofs.InPlace.{put_next}
 use Rattle.layout_stages.proofs.lookup.apply_reverse_subtables.Goals as goal
 

@@ -2,10 +2,10 @@ use Rattle.std.proofs.Common.{◌≡◌, ◌-◌, ◌∙◌, false, get_or, sym,
 use Rattle.std.proofs.lemmas.Option.{get_or_from_slice_get}
 use Rattle.layout_contexts.specs.declared.context.ContextSubtable.{ContextSubtable}
 use Rattle.layout_match.specs.Applied.{Applied, applied_of}
-use Rattle.layout_rules.specs.Actions.{Action, first_rule}
-use Rattle.layout_rules.specs.Performing.{Performed, cut_with}
-use Rattle.layout_rules.specs.Lemmas.Performed.{passed_all}
-use Rattle.layout_rules.specs.Lemmas.Firsts.{first_acts, first_refuses, first_passes}
+use Rattle.stage_rules.specs.Actions.{Action, first_rule}
+use Rattle.stage_rules.specs.Performing.{Performed, cut_with}
+use Rattle.stage_rules.specs.Lemmas.Performed.{passed_all}
+use Rattle.stage_rules.specs.Lemmas.Firsts.{first_acts, first_refuses, first_passes}
 use Rattle.layout_chain.specs.Chains.{Chain, chain_rule, context_subtable}
 use Rattle.layout_chain.specs.Fitting.{IsMatched, chain_of}
 use Rattle.layout_chain.specs.Rules.{chains_of}

@@ -1,7 +1,7 @@
 use Rattle.std.proofs.Common.{rules, get_or, None, ap, ◌∙◌}
-use Rattle.map_stages.specs.declared.stages.StageMap.{StageMap}
-use Rattle.layout_walks.specs.Settings.{text_settings}
-use Rattle.layout_walks.specs.Lemmas.Ways.{paused_as_set}
+use Rattle.map_builder.specs.declared.stages.StageMap.{StageMap}
+use Rattle.stage_rules.specs.Settings.{text_settings}
+use Rattle.stage_rules.specs.Lemmas.Ways.{paused_as_set}
 use Rattle.layout_stages.proofs.Ways.{stage_done}
 use Rattle.layout_stages.proofs.substitute.apply_layout_table.Goals as goal
 

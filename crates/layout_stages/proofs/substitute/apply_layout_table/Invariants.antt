@@ -1,6 +1,6 @@
 use Rattle.std.proofs.Common.{◌≡◌}
 use Rattle.map_features.specs.declared.per_table.TableIndex.TheVariants.{GSUB}
-use Rattle.layout_walks.specs.Settings.{text_settings}
+use Rattle.stage_rules.specs.Settings.{text_settings}
 use Rattle.layout_stages.specs.Substituting.{substitution_lookups}
 use Rattle.layout_stages.proofs.Ways.{AreTableStagesDone}
 use Rattle.layout_stages.proofs.substitute.apply_layout_table.Given as goal

@@ -1,5 +1,5 @@
 use Rattle.std.proofs.Common.{arith}
-use Rattle.normal_forms.specs.Expanding.{expanded}
+use Rattle.glyph_properties.specs.Expanding.{expanded}
 use Rattle.normal_rounds.proofs.Each.{each_more, each_too_many}
 use Rattle.normal_rounds.specs.Lemmas.Refusals.{passed_on}
 use Rattle.normal_rounds.proofs.expanding.expand_each.Goals as goal

@@ -1,4 +1,4 @@
-use Rattle.normal_forms.specs.Expanding.{expanded}
+use Rattle.glyph_properties.specs.Expanding.{expanded}
 use Rattle.normal_rounds.proofs.Each.{IsUnderway}
 use Rattle.normal_rounds.proofs.expanding.expand_each.Given as goal
 

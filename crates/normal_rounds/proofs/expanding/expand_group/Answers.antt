@@ -1,8 +1,8 @@
 use Rattle.std.proofs.Common.{◌+◌, map, length, ap, sym, refl, subst, ◌∙◌}
-use Rattle.normal_forms.specs.Arranged.{in_turn}
-use Rattle.normal_forms.specs.Expanding.{expanded, expanded_item}
-use Rattle.normal_forms.specs.Normalizer.{reach_alone, reach_with_marks}
-use Rattle.normal_forms.specs.declared.mode.Reach.{Reach}
+use Rattle.glyph_properties.specs.Arranged.{in_turn}
+use Rattle.glyph_properties.specs.Expanding.{expanded, expanded_item}
+use Rattle.glyph_properties.specs.Normalizer.{reach_alone, reach_with_marks}
+use Rattle.glyph_properties.specs.declared.normal_mode.Reach.{Reach}
 use Rattle.normal_rounds.specs.Brought.{Brought, Overfills}
 use Rattle.normal_rounds.proofs.Walk.{one_group, one_too_many, selected_group, selected_too_many, marked_group, marked_too_many}
 use Rattle.normal_rounds.specs.Lemmas.Refusals.{passed_on}

@@ -1,7 +1,7 @@
 use Rattle.std.proofs.Common.{◌≡◌, take, drop}
 use Rattle.std.specs.List.{list_any}
 use Rattle.glyph_lists.specs.Items.{strip}
-use Rattle.normal_forms.specs.Characters.{is_selector}
+use Rattle.glyph_properties.specs.Characters.{is_selector}
 use Rattle.normal_rounds.proofs.expanding.has_selector.Given as goal
 
 abbrev pub invariant-loop-i : goal.invariant-loop-i

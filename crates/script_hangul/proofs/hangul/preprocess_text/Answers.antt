@@ -1,8 +1,8 @@
 use Rattle.std.proofs.Common.{Bool, ◌≡◌, ◌+◌, ◌-◌, arith, ap, subst, ◌∙◌}
 use Rattle.glyph_buffer.specs.Sides.{Sides, with_output}
-use Rattle.script_moves.specs.Lemmas.Walked.{passed_on}
+use Rattle.stage_rules.specs.Lemmas.Walked.{passed_on}
 use Rattle.script_hangul.specs.Hangul.{step, wants_circles}
-use Rattle.script_moves.specs.Walks.{Exceeds}
+use Rattle.stage_rules.specs.Walks.{Exceeds}
 use Rattle.std.proofs.Common.{length}
 use Rattle.glyph_lists.specs.Items.{strip}
 use Rattle.script_hangul.proofs.Walk.{IsUnderway, more, too_long}

@@ -1,5 +1,5 @@
 use Rattle.std.proofs.Common.{List, ◌∷◌, [], length, arith, refl, ap, ap₂, ◌∙◌}
-use Rattle.glyph_types.specs.declared.info.hb_glyph_info_t.{hb_glyph_info_t}
+use Rattle.glyph_lists.specs.declared.info.hb_glyph_info_t.{hb_glyph_info_t}
 use Rattle.glyph_lists.specs.Items.{strip}
 use Rattle.script_hebrew_thai.specs.ThaiVowel.{count_above}
 use Rattle.script_hebrew_thai.proofs.Vowel.{vowel_walked}

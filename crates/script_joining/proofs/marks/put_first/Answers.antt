@@ -1,14 +1,14 @@
 use Rattle.std.proofs.Common.{ap, arith, refl, subst, sym, ◌≡◌, ◌+◌, ◌-◌, ℕ, List, length, ◌∙◌}
-use Rattle.glyph_types.specs.declared.info.hb_glyph_info_t.{hb_glyph_info_t}
+use Rattle.glyph_lists.specs.declared.info.hb_glyph_info_t.{hb_glyph_info_t}
 use Rattle.glyph_lists.specs.Items.{clusters}
 use Rattle.glyph_lists.specs.Origins.{changed_within}
 use Rattle.glyph_lists.specs.Lemmas.Origins.{within_kept}
-use Rattle.glyph_lists.specs.Readings.{always}
+use Rattle.glyph_buffer.specs.Readings.{always}
 use Rattle.buffer_lists.specs.Known.{HasOrder}
 use Rattle.glyph_buffer.specs.Sides.{Sides, all_glyphs}
-use Rattle.text_stages.specs.Stages.{IsFollowed}
-use Rattle.script_moves.specs.Moves.{with_move}
-use Rattle.script_moves.specs.Lemmas.Ordered.{order_written}
+use Rattle.stage_rules.specs.Stages.{IsFollowed}
+use Rattle.stage_rules.specs.Moves.{with_move}
+use Rattle.stage_rules.specs.Lemmas.Ordered.{order_written}
 use Rattle.script_joining.specs.Marks.{led}
 use Rattle.script_joining.specs.Classed.{glyph_classed}
 use Rattle.script_joining.proofs.Reordered.{changed_length, led_followed, some_leading}

@@ -1,12 +1,12 @@
 use Rattle.std.proofs.Common.{◌++◌, List, ap, subst, sym, ◌∙◌, map, take, drop}
 use Rattle.std.specs.Prelude.{slice_range}
-use Rattle.glyph_types.specs.declared.info.hb_glyph_info_t.{hb_glyph_info_t}
+use Rattle.glyph_lists.specs.declared.info.hb_glyph_info_t.{hb_glyph_info_t}
 use Rattle.glyph_lists.specs.Items.{clusters}
 use Rattle.buffer_lists.specs.Known.{HasOrder}
 use Rattle.glyph_buffer.specs.Sides.{Sides, all_glyphs, items_of}
 use Rattle.glyph_buffer.specs.Lending.{with_refilled}
-use Rattle.script_walks.specs.Buffers.{IsRewritten}
-use Rattle.script_walks.specs.Lemmas.Parts.{order_kept}
+use Rattle.stage_rules.specs.SyllableBuffers.{IsRewritten}
+use Rattle.stage_rules.specs.Lemmas.Parts.{order_kept}
 use Rattle.script_khmer_myanmar.specs.Myanmar.{all_placed, myanmar_places}
 use Rattle.script_khmer_myanmar.specs.Turned.{glyphs_at}
 use Rattle.script_khmer_myanmar.proofs.MyanmarSteps.{placed_clusters, syllable_placed}

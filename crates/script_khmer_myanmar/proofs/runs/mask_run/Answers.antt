@@ -1,14 +1,14 @@
 use Rattle.std.proofs.Common.{◌++◌, List, true, ap, subst, sym, ◌∙◌, take, drop}
 use Rattle.std.specs.Prelude.{slice_range}
-use Rattle.glyph_types.specs.declared.info.hb_glyph_info_t.{hb_glyph_info_t}
+use Rattle.glyph_lists.specs.declared.info.hb_glyph_info_t.{hb_glyph_info_t}
 use Rattle.glyph_lists.specs.Items.{clusters}
 use Rattle.buffer_lists.specs.Known.{HasOrder}
 use Rattle.glyph_buffer.specs.Sides.{Sides, all_glyphs, items_of}
 use Rattle.glyph_buffer.specs.Lending.{with_refilled}
-use Rattle.script_walks.specs.Rewriting.{kept}
-use Rattle.script_walks.specs.Parts.{masked}
-use Rattle.script_walks.specs.Buffers.{IsRewritten}
-use Rattle.script_walks.specs.Lemmas.Parts.{order_kept}
+use Rattle.stage_rules.specs.Rewriting.{kept}
+use Rattle.stage_rules.specs.Parts.{masked}
+use Rattle.stage_rules.specs.SyllableBuffers.{IsRewritten}
+use Rattle.stage_rules.specs.Lemmas.Parts.{order_kept}
 use Rattle.script_khmer_myanmar.specs.Runs.{forms_masked, together}
 use Rattle.script_khmer_myanmar.proofs.KhmerScan.{formed_clusters, formed_rewrites, glyphs_formed}
 use Rattle.script_khmer_myanmar.proofs.runs.mask_run.Goals as goal

@@ -1,6 +1,6 @@
 use Rattle.std.proofs.Common.{◌≡◌, ◌≤◌, length}
 use Rattle.glyph_lists.specs.Items.{strip}
-use Rattle.script_moves.specs.Moves.{reach}
+use Rattle.stage_rules.specs.Moves.{reach}
 use Rattle.script_khmer_myanmar.proofs.KhmerScan.{moves_from}
 use Rattle.script_khmer_myanmar.proofs.runs.merged_length.Given as goal
 

@@ -1,4 +1,4 @@
-use Rattle.script_circles.specs.Bytes.{syllables_set}
+use Rattle.syllable_stages.specs.Bytes.{syllables_set}
 use Rattle.script_pauses.specs.Lemmas.Quiet.{quiet_brings_none, quiet_done}
 use Rattle.script_pauses.specs.Lemmas.Rules.{syllables_set_quiet}
 use Rattle.script_pauses.proofs.bytes.setup_syllables.Goals as goal

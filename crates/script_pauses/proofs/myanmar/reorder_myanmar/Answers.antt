@@ -3,8 +3,8 @@ use Rattle.script_constants.specs.declared.ot_category_t.TheConstants as categor
 use Rattle.script_constants.specs.declared.syllable_kinds.myanmar.TheConstants as myanmar
 use Rattle.script_khmer_myanmar.specs.Myanmar.{myanmar_syllable}
 use Rattle.script_khmer_myanmar.specs.Lemmas.MyanmarPermuted.{syllable_permutes}
-use Rattle.script_circles.specs.Rules.{circle_rule}
-use Rattle.script_moves.specs.Lemmas.Walked.{passed_on}
+use Rattle.syllable_stages.specs.Rules.{circle_rule}
+use Rattle.stage_rules.specs.Lemmas.Walked.{passed_on}
 use Rattle.script_pauses.specs.Lemmas.Quiet.{circles_refused, ordered_brings_none, ordered_done, ok_is}
 use Rattle.script_pauses.proofs.myanmar.reorder_myanmar.Goals as goal
 

@@ -1,4 +1,4 @@
-use Rattle.universal_syllables.specs.Features.{rphf_recorded}
+use Rattle.syllable_stages.specs.Features.{rphf_recorded}
 use Rattle.script_pauses.specs.Syllables.{syllables_by}
 use Rattle.script_pauses.specs.Lemmas.Quiet.{quiet_brings_none, quiet_done, syllables_quiet}
 use Rattle.script_pauses.specs.Lemmas.Rules.{rphf_recorded_permutes}

@@ -1,5 +1,5 @@
 use Rattle.std.proofs.Common.{rules}
-use Rattle.text_stages.specs.Stages.{mapped}
+use Rattle.stage_rules.specs.Stages.{mapped}
 use Rattle.shape_direction.specs.NativeOrder.{ordered, without_continuation}
 use Rattle.shape_direction.proofs.Turned.{both_followed}
 use Rattle.shape_direction.proofs.direction.ensure_native_direction.Goals as goal

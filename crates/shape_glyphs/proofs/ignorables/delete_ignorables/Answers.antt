@@ -1,6 +1,6 @@
 use Rattle.std.proofs.Common.{rules, ap, ◌∙◌}
 use Rattle.glyph_buffer.specs.Sides.{items_of}
-use Rattle.layout_rules.specs.Buffers.{are_glyphs}
+use Rattle.stage_rules.specs.Buffers.{are_glyphs}
 use Rattle.glyph_lists.specs.Items.{item_of}
 use Rattle.glyph_buffer.specs.Graphemes.{is_default_ignorable}
 use Rattle.shape_glyphs.proofs.Ended.{deleted_followed, kept_glyphs}

@@ -1,7 +1,7 @@
 use Rattle.std.proofs.Common.{[], length, ap, sym, subst, ◌∙◌, ◌≤◌}
 use Rattle.glyph_lists.specs.Items.{strip}
 use Rattle.glyph_buffer.specs.Sides.{Sides, items_of}
-use Rattle.normal_forms.specs.Composing.{composed_list}
+use Rattle.glyph_properties.specs.Composing.{composed_list}
 use Rattle.normal_rounds.specs.Brought.{Brought}
 use Rattle.shape_normalize.proofs.Joined.{list_arranged}
 use Rattle.shape_normalize.proofs.Room.{opened_room}

@@ -1,7 +1,7 @@
 use Rattle.std.proofs.Common.{◌≡◌, List, subst, sym, ◌∙◌, ap, string_bytes}
-use Rattle.glyph_types.specs.declared.flags.SerializeFlags.{SerializeFlags}
+use Rattle.glyph_lists.specs.declared.flags.SerializeFlags.{SerializeFlags}
 use Rattle.feature_text.specs.declared.feature.Feature.{Feature}
-use Rattle.glyph_lists.specs.Readings.{Follows}
+use Rattle.glyph_buffer.specs.Readings.{Follows}
 use Rattle.glyph_buffer.specs.Segment.{guessed}
 use Rattle.glyph_buffer.specs.Sides.{Sides, all_glyphs, run_of}
 use Rattle.shape_pipeline.specs.Dispatch.{script_waits}

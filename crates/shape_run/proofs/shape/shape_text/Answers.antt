@@ -1,8 +1,8 @@
 use Rattle.std.proofs.Common.{◌≡◌, Err, subst}
-use Rattle.glyph_lists.specs.Readings.{Follows}
+use Rattle.glyph_buffer.specs.Readings.{Follows}
 use Rattle.glyph_buffer.specs.Segment.{guessed}
 use Rattle.glyph_buffer.specs.Sides.{run_of}
-use Rattle.shape_reading.specs.Shaping.{Shaping}
+use Rattle.shape_pipeline.specs.Shaping.{Shaping}
 use Rattle.shape_pipeline.specs.Shaped.{text_reading}
 use Rattle.script_syllables.specs.Fronts.{syllable_at}
 use Rattle.shape_run.proofs.Faults.{refused_as}

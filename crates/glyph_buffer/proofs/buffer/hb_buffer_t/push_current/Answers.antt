@@ -1,5 +1,5 @@
 use Rattle.std.proofs.Common.{◌≡◌, ◌<◌, ◌++◌, ◌∷◌, [], true, length, refl, arith, ap, ◌∙◌}
-use Rattle.glyph_types.specs.declared.info.hb_glyph_info_t.{hb_glyph_info_t}
+use Rattle.glyph_lists.specs.declared.info.hb_glyph_info_t.{hb_glyph_info_t}
 use Rattle.glyph_buffer.specs.Sides.{moved_on}
 use Rattle.glyph_buffer.proofs.Kept.{moved_open}
 use Rattle.glyph_buffer.proofs.Ordered.{none_lent, order_moved}

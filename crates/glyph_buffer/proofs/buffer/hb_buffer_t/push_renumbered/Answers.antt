@@ -1,5 +1,5 @@
 use Rattle.std.proofs.Common.{◌≡◌, ◌<◌, ◌∙◌, true, length, refl, arith, ap}
-use Rattle.glyph_types.specs.declared.info.hb_glyph_info_t.{hb_glyph_info_t}
+use Rattle.glyph_lists.specs.declared.info.hb_glyph_info_t.{hb_glyph_info_t}
 use Rattle.glyph_buffer.specs.Merging.{with_renumbered}
 use Rattle.glyph_buffer.proofs.Apart.{renumbered_view}
 use Rattle.glyph_buffer.proofs.Ordered.{none_lent, order_renumbered}

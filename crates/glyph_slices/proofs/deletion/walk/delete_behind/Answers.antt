@@ -1,10 +1,10 @@
 use Rattle.std.proofs.Common.{arith, ◌≤◌, ◌<◌, ◌+◌, length, take, drop, sym, ◌∙◌, subst, Some, false, get_or, ◌++◌}
 use Rattle.std.proofs.lemmas.List.{drop_more, length-take-le}
-use Rattle.glyph_clusters.specs.Deleting.{Deletes}
+use Rattle.glyph_lists.specs.Deleting.{Deletes}
 use Rattle.glyph_slices.specs.DeletionWalk.{settled}
 use Rattle.glyph_lists.specs.Items.{clusters}
 use Rattle.glyph_lists.specs.Order.{IsOrdered}
-use Rattle.glyph_clusters.specs.OneDeleted.{taken_less}
+use Rattle.glyph_lists.specs.OneDeleted.{taken_less}
 use Rattle.glyph_slices.specs.Lemmas.Neighbours.{no_glyph}
 use Rattle.glyph_slices.proofs.Walking.{settled_front, settled_back}
 use Rattle.glyph_slices.proofs.Dues.{recast_due, due_new}

@@ -1,4 +1,0 @@
-pub mod Asks
-pub mod Common
-pub mod Lists
-pub mod Pauses

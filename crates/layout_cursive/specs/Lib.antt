@@ -1,2 +1,0 @@
-pub mod Cursive
-pub mod Joins

@@ -1,0 +1,120 @@
+-- Glyphs joined at the cursor.
+use Rattle.std.proofs.Common.{ℕ, ℤ, ◌≡◌, ◌<◌, ◌≤◌, ◌+◌, ◌-◌, Bool, true, false, if◌then◌else◌, List, [], ◌∷◌, Option, Some, None, Result, Ok, length, set, drop, reverse, arith, refl, sym, ap, subst, ◌∙◌, slice_get}
+use Rattle.std.proofs.lemmas.List.{take_at, length-set}
+use Rattle.glyph_lists.specs.declared.info.hb_glyph_info_t.{hb_glyph_info_t}
+use Rattle.shaping_text.specs.declared.direction.Direction.{Direction}
+use Rattle.shaping_text.specs.Direction.{is_forward, is_horizontal}
+use Rattle.glyph_lists.specs.Items.{Position}
+use Rattle.glyph_lists.specs.Events.{Break}
+use Rattle.glyph_buffer.specs.Lending.{with_positions_refilled}
+use Rattle.glyph_buffer.specs.Sides.{Sides, moved_on, told_of}
+use Rattle.layout_common.specs.declared.glyph_row.GlyphRow.{GlyphRow}
+use Rattle.layout_match.specs.Applied.{Applied}
+use Rattle.layout_positions.specs.declared.cursive.EntryExit.{EntryExit}
+use Rattle.layout_positions.specs.declared.value.Anchor.{Anchor}
+use Rattle.layout_links.specs.Links.{parent, position_at}
+use Rattle.stage_rules.specs.Actions.{Cut, Outcome, at_first, attempt_around}
+use Rattle.stage_rules.specs.Buffers.{IsPassed, Frame, cut_of}
+use Rattle.stage_rules.specs.Performing.{Performed, cut_with}
+use Rattle.stage_rules.specs.Lemmas.Frames.{same_lengths}
+use Rattle.stage_rules.specs.Lemmas.Glyphs.{first_item}
+use Rattle.stage_rules.specs.Lemmas.Performed.{passes_nothing}
+use Rattle.layout_gpos.specs.Anchors.{is_near, told_if}
+use Rattle.layout_positioning.specs.Cursive.{cursive_hung, freed, freed_across, is_child_of, joined_advances, joined_at, turned}
+use Rattle.layout_positioning.specs.Joins.{cursive_subtable, entry_of, exit_of, from_entry, hangs_earlier, join, join_if, joined, joined_on, on_exit}
+use Rattle.layout_gpos.specs.Marks.{item_before, with_found}
+use Rattle.layout_gpos.specs.Moving.{break_around}
+use Rattle.layout_gpos.specs.Lemmas.Performed.{found_is, marked_told, told_same}
+use Rattle.layout_gpos.specs.Lemmas.Placed.{break_passed, front_count}
+use Rattle.layout_positioning.proofs.Turned.{turned_length}
+
+-- ---- as many positions as before
+
+freed_length : (d : Direction) (child to : ℕ) (ps : List Position) → length (freed d child to ps) ≡ length ps
+freed_length d child to ps = by_child (is_child_of child (parent to ps))
+  where
+    free : Position
+    free = freed_across (is_horizontal d) (position_at to ps)
+
+    by_child : (b : Bool) → length (if b then set ps to free else ps) ≡ length ps
+    by_child true = length-set ps to free
+    by_child false = refl
+
+hung_length : (d : Direction) (child to : ℕ) (x y : ℤ) (ps : List Position) → length (cursive_hung d child to x y ps) ≡ length ps
+hung_length d child to x y ps = by_near (is_near child to)
+  where
+    inner : List Position
+    inner = turned d to child ps
+
+    by_near : (b : Bool) → length (if b then freed d child to (joined_at d child to x y inner) else ps) ≡ length ps
+    by_near true = freed_length d child to (joined_at d child to x y inner) ∙ length-set inner child _ ∙ turned_length d to child ps
+    by_near false = refl
+
+advances_length : (forward across : Bool) (first second : ℕ) (exit entry : Anchor) (ps : List Position) → length (joined_advances forward across first exit second entry ps) ≡ length ps
+advances_length true across first second exit entry ps = length-set (set ps first _) second _ ∙ length-set ps first _
+advances_length false across first second exit entry ps = length-set (set ps first _) second _ ∙ length-set ps first _
+
+on_length : (d : Direction) (earlier : Bool) (first second : ℕ) (exit entry : Anchor) (ps : List Position) → length (joined_on d earlier first exit second entry ps) ≡ length ps
+on_length d true first second exit entry ps = hung_length d first second _ _ ps
+on_length d false first second exit entry ps = hung_length d second first _ _ ps
+
+joined_length : (d : Direction) (earlier : Bool) (first second : ℕ) (exit entry : Anchor) (ps : List Position) → length (joined d earlier first exit second entry ps) ≡ length ps
+joined_length d earlier first second exit entry ps =
+    let inner = joined_advances (is_forward d) (is_horizontal d) first exit second entry ps in
+    on_length d earlier first second exit entry inner ∙ advances_length (is_forward d) (is_horizontal d) first second exit entry ps
+
+pub joined_back : (ps : List Position) (d : Direction) (earlier : Bool) (first second : ℕ) (exit entry : Anchor) (s new : Sides) → new ≡ with_positions_refilled ps s → ps ≡ joined d earlier first exit second entry s.positions
+    → new ≡ record s { positions = joined d earlier first exit second entry s.positions }
+joined_back ps d earlier first second exit entry s new e is =
+    let qs = joined d earlier first exit second entry s.positions in
+    e ∙ ap (λ rs. with_positions_refilled rs s) is ∙ ap (λ rs. record s { positions = rs }) (take_at qs (drop (length qs) s.positions) (length s.positions) (joined_length d earlier first second exit entry s.positions))
+
+-- ---- at the cursor
+
+pub join_acted : (r back at first : ℕ) (a : Applied) (exit entry : Anchor) (near : Bool) (s mid new : Sides) → IsPassed (Break (length s.behind - (back + 1)) (length s.behind + 1) ∷ []) s mid → at ≡ length s.behind → 0 < length s.ahead
+    → first ≡ at - (back + 1) → near ≡ is_near at first → new ≡ moved_on 1 (record mid { positions = joined mid.direction (hangs_earlier a.props) first exit at entry mid.positions; scratch_flags = told_if near mid.scratch_flags })
+    → Performed (join s.direction a exit entry back (cut_with r s)) true r r s new
+join_acted r back at first a exit entry near s mid new p here there is is_near_at e =
+    let long = same_lengths s mid p.cut_is in
+    let earlier = hangs_earlier a.props in
+    let front : Cut → ℕ = λ c. length c.front in
+    let ps : Cut → List Position = λ c. joined s.direction earlier (length c.front - (back + 1)) exit (length c.front) entry c.positions in
+    let t : Cut → ℕ = λ c. told_if (is_near (length c.front) (length c.front - (back + 1))) c.told in
+    let c = cut_with r mid in
+    let way : mid.direction ≡ s.direction = ap (λ (f : Frame). f.direction) p.still in
+    let at_mid : at ≡ length c.front = here ∙ sym long.0 ∙ front_count r mid in
+    let first_mid : first ≡ length c.front - (back + 1) = is ∙ ap (λ (k : ℕ). k - (back + 1)) at_mid in
+    let near_mid : near ≡ is_near (length c.front) (length c.front - (back + 1)) = is_near_at ∙ ap (λ (k : ℕ). is_near k first) at_mid ∙ ap (is_near (length c.front)) first_mid in
+    let told : told_of (told_if near mid.scratch_flags) ≡ t c = told_same near mid.scratch_flags ∙ ap (λ (b : Bool). told_if b (told_of mid.scratch_flags)) near_mid in
+    let at_list : Direction → ℕ → ℕ → Sides = λ d k j. moved_on 1 (record mid { positions = joined d earlier j exit k entry mid.positions; scratch_flags = told_if near mid.scratch_flags }) in
+    let placed : new ≡ moved_on 1 (record mid { positions = ps c; scratch_flags = told_if near mid.scratch_flags }) =
+    e ∙ ap (λ (d : Direction). at_list d at first) way ∙ ap (λ (k : ℕ). at_list s.direction k first) at_mid ∙ ap (λ (j : ℕ). at_list s.direction (length c.front) j) first_mid in
+    let le : 1 ≤ length mid.ahead = let more = long.1 in omega (arith, more, there) in
+    (refl, marked_told (break_around (back + 1) 1 (cut_of s)) 1 r (told_if near mid.scratch_flags) ps t s mid new (break_passed (back + 1) 1 s mid p) (omega arith) le told placed)
+
+pub not_joined : (r back : ℕ) (d : Direction) (a : Applied) (exit : Option Anchor) (entry : Anchor) (s new : Sides) → exit ≡ None → Performed (attempt_around (back + 1) 1 (cut_with r s)) false r r s new → Performed (join_if d a exit entry back (cut_with r s)) false r r s new
+not_joined r back d a exit entry s new e done = subst (λ (o : Option Anchor). Performed (join_if d a o entry back (cut_with r s)) false r r s new) (sym e) done
+
+pub both_joined : (r back : ℕ) (d : Direction) (a : Applied) (exit : Option Anchor) (x entry : Anchor) (s new : Sides) → exit ≡ Some x → Performed (join d a x entry back (cut_with r s)) true r r s new → Performed (join_if d a exit entry back (cut_with r s)) true r r s new
+both_joined r back d a exit x entry s new e done = subst (λ (o : Option Anchor). Performed (join_if d a o entry back (cut_with r s)) true r r s new) (sym e) done
+
+pub found_joined : (r back n : ℕ) (d : Direction) (a : Applied) (rows : List (GlyphRow EntryExit)) (entry : Anchor) (exit : Option Anchor) (found : Result ℕ ℕ) (acted : Bool) (s new : Sides) (g : hb_glyph_info_t) → slice_get (reverse s.behind) back ≡ Some g → n ≡ g.glyph_id → exit ≡ exit_of rows n → found ≡ Ok back
+    → Performed (join_if d a exit entry back (cut_with r s)) acted r r s new → Performed (with_found (on_exit d a rows entry) found (cut_with r s)) acted r r s new
+found_joined r back n d a rows entry exit found acted s new g at is exits e done =
+    let same : with_found (on_exit d a rows entry) found (cut_with r s) ≡ join_if d a exit entry back (cut_with r s) =
+    ap (λ f. with_found (on_exit d a rows entry) f (cut_with r s)) e ∙ found_is r back (on_exit d a rows entry) s g at
+    ∙ ap (λ (k : ℕ). join_if d a (exit_of rows k) entry back (cut_with r s)) (sym is) ∙ ap (λ o. join_if d a o entry back (cut_with r s)) (sym exits) in
+    subst (λ (o : Outcome). Performed o acted r r s new) (sym same) done
+
+cursive_is : (r n : ℕ) (d : Direction) (a : Applied) (rows : List (GlyphRow EntryExit)) (o : Option Anchor) (s : Sides) (g : hb_glyph_info_t) → slice_get s.ahead 0 ≡ Some g → n ≡ g.glyph_id → o ≡ entry_of rows n
+    → cursive_subtable d a rows (cut_with r s) ≡ from_entry d a rows o (cut_with r s)
+cursive_is r n d a rows o s g at is e = ap (λ q. at_first (λ x. from_entry d a rows (entry_of rows x.number)) q (cut_with r s)) (first_item s.ahead g at) ∙ ap (λ (k : ℕ). from_entry d a rows (entry_of rows k) (cut_with r s)) (sym is) ∙ ap (λ q. from_entry d a rows q (cut_with r s)) (sym e)
+
+pub no_entry : (r n : ℕ) (d : Direction) (a : Applied) (rows : List (GlyphRow EntryExit)) (o : Option Anchor) (s : Sides) (g : hb_glyph_info_t) → slice_get s.ahead 0 ≡ Some g → n ≡ g.glyph_id → o ≡ entry_of rows n → o ≡ None
+    → Performed (cursive_subtable d a rows (cut_with r s)) false r r s s
+no_entry r n d a rows o s g at is e none = passes_nothing r s (cursive_subtable d a rows (cut_with r s)) (cursive_is r n d a rows o s g at is e ∙ ap (λ q. from_entry d a rows q (cut_with r s)) none)
+
+pub entered : (r n : ℕ) (d : Direction) (a : Applied) (rows : List (GlyphRow EntryExit)) (o : Option Anchor) (entry : Anchor) (found : Result ℕ ℕ) (acted : Bool) (s new : Sides) (g : hb_glyph_info_t) → slice_get s.ahead 0 ≡ Some g → n ≡ g.glyph_id → o ≡ entry_of rows n → o ≡ Some entry
+    → found ≡ item_before a (cut_of s) → Performed (with_found (on_exit d a rows entry) found (cut_with r s)) acted r r s new → Performed (cursive_subtable d a rows (cut_with r s)) acted r r s new
+entered r n d a rows o entry found acted s new g at is e some f done =
+    subst (λ (q : Outcome). Performed q acted r r s new) (sym (cursive_is r n d a rows o s g at is e ∙ ap (λ q. from_entry d a rows q (cut_with r s)) some ∙ ap (λ q. with_found (on_exit d a rows entry) q (cut_with r s)) (sym f))) done

@@ -1,0 +1,56 @@
+-- Cursive attachment at a cut (OpenType, GPOS lookup type 3): the item before exits where the item at the cut enters.
+use Rattle.std.specs.Prelude.{ℕ, ◌-ℤ◌, ◌+◌, ◌-◌, ◌==◌, Bool, true, false, not, List, [], length, Option, Some, None, option_and_then, bit_and}
+use Rattle.shaping_text.specs.declared.direction.Direction.{Direction}
+use Rattle.shaping_text.specs.Direction.{is_forward, is_horizontal}
+use Rattle.glyph_lists.specs.Items.{Item, Position}
+use Rattle.glyph_lists.specs.Parts.{first_of}
+use Rattle.layout_common.specs.Rows.{value_of}
+use Rattle.layout_common.specs.declared.glyph_row.GlyphRow.{GlyphRow}
+use Rattle.layout_positions.specs.declared.cursive.EntryExit.{EntryExit}
+use Rattle.layout_positions.specs.declared.value.Anchor.{Anchor}
+use Rattle.layout_match.specs.Applied.{Applied}
+use Rattle.stage_rules.specs.Actions.{Action, Passes, Acts, at_first, attempt_around}
+use Rattle.layout_gpos.specs.Anchors.{is_near, told_if}
+use Rattle.layout_positioning.specs.Cursive.{cursive_hung, joined_advances}
+use Rattle.layout_gpos.specs.Marks.{item_before, with_found}
+use Rattle.layout_gpos.specs.Moving.{break_around, placed_past}
+
+-- a lookup with RIGHT_TO_LEFT hangs the earlier glyph on the later one
+abbrev pub hangs_earlier : ℕ → Bool
+hangs_earlier props = not (bit_and props 1 == 0)
+
+-- the child hangs on its parent, at the parent's anchor less its own across the line
+abbrev pub joined_on : Direction → Bool → ℕ → Anchor → ℕ → Anchor → List Position → List Position
+joined_on d true first exit second entry ps = cursive_hung d first second (entry.x -ℤ exit.x) (entry.y -ℤ exit.y) ps
+joined_on d false first exit second entry ps = cursive_hung d second first (exit.x -ℤ entry.x) (exit.y -ℤ entry.y) ps
+
+-- two glyphs joined: along the line the first ends at its exit and the second begins at its entry
+abbrev pub joined : Direction → Bool → ℕ → Anchor → ℕ → Anchor → List Position → List Position
+joined d earlier first exit second entry ps = joined_on d earlier first exit second entry (joined_advances (is_forward d) (is_horizontal d) first exit second entry ps)
+
+abbrev pub join : Direction → Applied → Anchor → Anchor → ℕ → Action
+join d a exit entry back c = Acts (record (placed_past 1 (joined d (hangs_earlier a.props) (length c.front - (back + 1)) exit (length c.front) entry c.positions) c) {
+  told = told_if (is_near (length c.front) (length c.front - (back + 1))) c.told;
+}) (break_around (back + 1) 1 c)
+
+-- an item without an exit tells that the rule failed
+abbrev pub join_if : Direction → Applied → Option Anchor → Anchor → ℕ → Action
+join_if d a None entry back c = attempt_around (back + 1) 1 c
+join_if d a (Some exit) entry back c = join d a exit entry back c
+
+abbrev pub exit_of : List (GlyphRow EntryExit) → ℕ → Option Anchor
+exit_of rows glyph = option_and_then (λ e. e.exit) (value_of glyph rows)
+
+abbrev pub on_exit : Direction → Applied → List (GlyphRow EntryExit) → Anchor → ℕ → Option Item → Action
+on_exit d a rows entry back None c = Passes []
+on_exit d a rows entry back (Some x) c = join_if d a (exit_of rows x.number) entry back c
+
+abbrev pub entry_of : List (GlyphRow EntryExit) → ℕ → Option Anchor
+entry_of rows glyph = option_and_then (λ e. e.entry) (value_of glyph rows)
+
+abbrev pub from_entry : Direction → Applied → List (GlyphRow EntryExit) → Option Anchor → Action
+from_entry d a rows None c = Passes []
+from_entry d a rows (Some entry) c = with_found (on_exit d a rows entry) (item_before a c) c
+
+abbrev pub cursive_subtable : Direction → Applied → List (GlyphRow EntryExit) → Action
+cursive_subtable d a rows c = at_first (λ x. from_entry d a rows (entry_of rows x.number)) (first_of c.rest) c

@@ -1,0 +1,220 @@
+//! Cursive attachment.
+ghost use Rattle.std.specs.Prelude.{ℕ, ◌≡◌, ◌<◌, ◌≤◌, ◌-ℤ◌, IfErr, IfOk, Ok, false, true, length};
+ghost use Rattle.shaping_text.specs.Direction.{is_forward, is_horizontal};
+ghost use Rattle.glyph_buffer.specs.Sides.{all_glyphs, items_of};
+ghost use Rattle.layout_match.specs.Applied.{applied_of};
+ghost use Rattle.stage_rules.specs.Buffers.{are_glyphs};
+ghost use Rattle.stage_rules.specs.Performing.{Performed, cut_with};
+ghost use Rattle.layout_positioning.specs.Joins.{cursive_subtable, entry_of, exit_of, hangs_earlier, join, join_if, joined, joined_on, on_exit};
+ghost use Rattle.layout_gpos.specs.Marks.{with_found};
+
+use crate::cursive_chain::{hang_child, join_advances};
+use glyph_buffer::buffer::hb_buffer_t;
+use glyph_lists::position::GlyphPosition;
+use layout_common::flags::RIGHT_TO_LEFT;
+use layout_gpos::anchor::is_near;
+use layout_gpos::mark::tell_attached;
+use layout_gpos::marking::{mark_attempt, mark_match};
+use layout_gpos::placing::pass;
+use layout_gpos::search::{glyph_before, item_before};
+use layout_match::hb_ot_apply_context_t;
+use layout_positions::cursive::CursivePos;
+use layout_positions::value::Anchor;
+use shaping_text::direction::Direction;
+
+fn hangs_earlier(props: u32) -> bool
+    ensures { result ≡ hangs_earlier props }
+{
+    props & u32::from(RIGHT_TO_LEFT) != 0
+}
+
+fn difference(a: i16, b: i16) -> i32
+    ensures { result ≡ a -ℤ b }
+{
+    i32::from(a) - i32::from(b)
+}
+
+/// Two glyphs that are joined: their indices, where the first is left and the second is entered.
+#[derive(Clone, Copy)]
+struct Joint {
+    first: usize,
+    exit: Anchor,
+    second: usize,
+    entry: Anchor,
+}
+
+/// Hangs one of two glyphs on the other: the earlier on the later, or the later on the earlier.
+fn join_on(positions: &mut [GlyphPosition], earlier: bool, join: Joint, direction: Direction)
+    requires first { join.first < length positions.old }
+    requires second { join.second < length positions.old }
+    ensures { positions.new ≡ joined_on direction earlier join.first join.exit join.second join.entry positions.old }
+{
+    let Joint {
+        first,
+        exit,
+        second,
+        entry,
+    } = join;
+    if earlier {
+        let (x, y) = (difference(entry.x, exit.x), difference(entry.y, exit.y));
+        hang_child(positions, first, second, x, y, direction);
+        return;
+    }
+    let (x, y) = (difference(exit.x, entry.x), difference(exit.y, entry.y));
+    hang_child(positions, second, first, x, y, direction);
+}
+
+/// Joins two glyphs along the line and across it.
+fn join_both(positions: &mut [GlyphPosition], earlier: bool, join: Joint, direction: Direction)
+    requires first { join.first < length positions.old }
+    requires second { join.second < length positions.old }
+    ensures { positions.new ≡ joined direction earlier join.first join.exit join.second join.entry positions.old }
+{
+    join_advances(
+        positions,
+        join.first,
+        join.exit,
+        join.second,
+        join.entry,
+        direction,
+    );
+    join_on(positions, earlier, join, direction);
+}
+
+#[tactic(auto, using(crate::proofs::Joined::joined_back))]
+fn join_at(buffer: &mut hb_buffer_t, earlier: bool, join: Joint)
+    requires closed { buffer.old.is_open ≡ false }
+    requires first { join.first < length buffer.old.positions }
+    requires second { join.second < length buffer.old.positions }
+    ensures { buffer.new ≡ record buffer.old {
+      positions = joined buffer.old.direction earlier join.first join.exit join.second join.entry buffer.old.positions;
+    } }
+{
+    let direction = buffer.direction();
+    join_both(buffer.pos_slice_mut(), earlier, join, direction);
+}
+
+/// Joins the glyph at the cursor to one before it, and goes on.
+fn join(
+    ctx: &hb_ot_apply_context_t,
+    exit: Anchor,
+    entry: Anchor,
+    back: usize,
+    buffer: &mut hb_buffer_t,
+)
+    requires closed { buffer.old.is_open ≡ false }
+    requires there { 0 < length buffer.old.ahead }
+    requires before { back < length buffer.old.behind }
+    requires placed { length buffer.old.positions ≡ length (all_glyphs buffer.old) }
+    ensures { (random : ℕ) → Performed (join buffer.old.direction (applied_of ctx.now) exit entry back (cut_with random
+        buffer.old)) true random random buffer.old buffer.new }
+{
+    let _end = buffer.len();
+    let second = buffer.out_len();
+    let first = second - (back + 1);
+    mark_match(back + 1, 1, buffer);
+    let earlier = hangs_earlier(ctx.lookup_props);
+    join_at(
+        buffer,
+        earlier,
+        Joint {
+            first,
+            exit,
+            second,
+            entry,
+        },
+    );
+    tell_attached(buffer, is_near(second, first));
+    pass(buffer, 1);
+}
+
+fn exit_of(subtable: &CursivePos, glyph: u16) -> Option<Anchor>
+    ensures { result ≡ exit_of subtable.now.rows glyph }
+{
+    subtable.entry_exit(glyph)?.exit
+}
+
+fn entry_of(subtable: &CursivePos, glyph: u16) -> Option<Anchor>
+    ensures { result ≡ entry_of subtable.now.rows glyph }
+{
+    subtable.entry_exit(glyph)?.entry
+}
+
+/// Joins the glyph at the cursor to one before it, where that has an exit.
+#[tactic(auto, using(crate::proofs::Joined::not_joined, crate::proofs::Joined::both_joined, layout_gpos::specs::Lemmas::Performed::attempt_performed))]
+fn join_if(
+    ctx: &hb_ot_apply_context_t,
+    exit: Option<Anchor>,
+    entry: Anchor,
+    back: usize,
+    buffer: &mut hb_buffer_t,
+) -> bool
+    requires closed { buffer.old.is_open ≡ false }
+    requires there { 0 < length buffer.old.ahead }
+    requires before { back < length buffer.old.behind }
+    requires placed { length buffer.old.positions ≡ length (all_glyphs buffer.old) }
+    ensures { (random : ℕ) → Performed (join_if buffer.old.direction (applied_of ctx.now) exit entry back
+        (cut_with random
+        buffer.old)) result random random buffer.old buffer.new }
+{
+    let _end = buffer.out_len();
+    let Some(exit) = exit else {
+        mark_attempt(back + 1, 1, buffer);
+        return false;
+    };
+    join(ctx, exit, entry, back, buffer);
+    true
+}
+
+/// Joins the glyph at the cursor to what was found before it.
+#[tactic(auto, using(layout_gpos::specs::Lemmas::Nearest::number_back, crate::proofs::Joined::found_joined, layout_gpos::specs::Lemmas::Performed::attempt_performed))]
+fn join_found(
+    subtable: &CursivePos,
+    ctx: &hb_ot_apply_context_t,
+    entry: Anchor,
+    found: Result<usize, usize>,
+    buffer: &mut hb_buffer_t,
+) -> bool
+    requires closed { buffer.old.is_open ≡ false }
+    requires there { 0 < length buffer.old.ahead }
+    requires inside { IfOk found (λ at. at < length buffer.old.behind) }
+    requires read { IfErr found (λ end. end ≤ length buffer.old.behind) }
+    requires placed { length buffer.old.positions ≡ length (all_glyphs buffer.old) }
+    requires number { are_glyphs (items_of buffer.old) ≡ true }
+    ensures { (random : ℕ) → Performed (with_found (on_exit buffer.old.direction (applied_of ctx.now) subtable.now.rows
+        entry) found (cut_with random buffer.old)) result random random buffer.old buffer.new }
+{
+    match found {
+        Ok(back) => {
+            let glyph = glyph_before(buffer, back).as_glyph().0;
+            join_if(ctx, exit_of(subtable, glyph), entry, back, buffer)
+        }
+        Err(end) => {
+            mark_attempt(end, 1, buffer);
+            false
+        }
+    }
+}
+
+/// Cursive attachment (OpenType, GPOS lookup type 3): where the subtable has an entry for the glyph at the cursor, and an exit
+/// for the nearest before it, the two are joined. With RIGHT_TO_LEFT in the lookup's flag the earlier glyph hangs on the
+/// later one. It tells whether it acted; where it didn't, it changed glyph flags alone. It takes no memory.
+#[tactic(auto, using(stage_rules::specs::Lemmas::Glyphs::number_ahead, crate::proofs::Joined::no_entry))]
+pub fn apply_cursive_pos(
+    subtable: &CursivePos,
+    ctx: &hb_ot_apply_context_t,
+    buffer: &mut hb_buffer_t,
+) -> bool
+    requires closed { buffer.old.is_open ≡ false }
+    requires there { 0 < length buffer.old.ahead }
+    requires placed { length buffer.old.positions ≡ length (all_glyphs buffer.old) }
+    requires number { are_glyphs (items_of buffer.old) ≡ true }
+    ensures { (random : ℕ) → Performed (cursive_subtable buffer.old.direction (applied_of ctx.now) subtable.now.rows
+        (cut_with random buffer.old)) result random random buffer.old buffer.new }
+{
+    let Some(entry) = entry_of(subtable, buffer.cur(0).as_glyph().0) else {
+        return false;
+    };
+    let found = item_before(ctx, buffer);
+    join_found(subtable, ctx, entry, found, buffer)
+}

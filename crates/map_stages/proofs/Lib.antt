@@ -1,2 +1,0 @@
-pub mod StageSteps
-pub mod Listed

@@ -1,3 +1,0 @@
-pub mod Circles
-pub mod Bytes
-pub mod Rules

@@ -1,4 +1,0 @@
-pub mod Halves
-pub mod Moved
-pub mod Put
-pub mod Front

@@ -1,0 +1,35 @@
+-- The copies of tiles.
+use Rattle.std.specs.Prelude.{ℕ, zero, suc, ◌+◌, nat_le, if◌then◌else◌, List, [], ◌∷◌, ◌++◌, Option, None, Some, Ok, Err, length, replicate}
+use Rattle.glyph_lists.specs.declared.cause.ShapeCause.TheVariants.{TooLong}
+use Rattle.glyph_lists.specs.Events.{Event, Replace}
+use Rattle.glyph_buffer.specs.Readings.{Stage, with_events}
+use Rattle.glyph_buffer.specs.Sides.{zero_positions}
+use Rattle.tile_places.specs.declared.tile.Tile.{Tile}
+
+-- what is no tile has no copies
+abbrev pub copies_in : Option Tile → ℕ
+copies_in None = 0
+copies_in (Some t) = t.copies
+
+-- each element with copies beside it, as many as its tile has
+abbrev pub copied : {X : Type 0} → List X → List (Option Tile) → List X
+copied [] ts = []
+copied (x ∷ xs) [] = []
+copied (x ∷ xs) (t ∷ ts) = replicate (copies_in t + 1) x ++ copied xs ts
+
+-- so many copies come in before the glyph at a place, each of its cluster and with its flags
+abbrev pub copy_events : ℕ → ℕ → List Event
+copy_events at zero = []
+copy_events at (suc n) = Replace at 0 1 ∷ copy_events (at + 1) n
+
+-- before each glyph from a place on come in as many as its tile has
+abbrev pub events_from : ℕ → List (Option Tile) → List Event
+events_from at [] = []
+events_from at (t ∷ ts) = copy_events at (copies_in t) ++ events_from (at + (copies_in t + 1)) ts
+
+-- the tiles with their copies, where the list does not grow past the limit; positions are yet to come
+abbrev pub tiles_copied : List (Option Tile) → Stage
+tiles_copied ts v =
+    if nat_le (length (copied v.items ts)) v.max_len
+    then Ok (with_events (events_from 0 ts) (record v { items = copied v.items ts; positions = zero_positions (length (copied v.items ts)) }))
+    else Err TooLong

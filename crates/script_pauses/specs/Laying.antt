@@ -1,0 +1,41 @@
+-- How often each tile of a run repeats, and how wide it is (OpenType specification, feature stch).
+use Rattle.std.specs.Prelude.{ℕ, ℤ, pos, negsuc, ◌+◌, ◌-◌, ◌*◌, ◌/◌, ◌&&◌, Bool, true, nat_le, int_le, if◌then◌else◌, List, [], ◌∷◌, Option, None, Some}
+use Rattle.font_face.specs.declared.parts.FaceParts.{FaceParts}
+use Rattle.glyph_lists.specs.Items.{Item}
+use Rattle.script_pauses.specs.declared.runs.Run.{Run}
+use Rattle.script_pauses.specs.Tiles.{is_repeating}
+use Rattle.script_pauses.specs.Runs.{width}
+use Rattle.script_pauses.specs.Copies.{copies, left_of_word}
+use Rattle.tile_places.specs.declared.tile.Tile.{Tile}
+
+-- a number of 32 bits
+abbrev pub fits : ℤ → Bool
+fits w = int_le (negsuc 0x7FFF_FFFF) w && int_le w (pos 0x7FFF_FFFF)
+
+abbrev pub run_in_range : Run → Bool
+run_in_range r = fits r.word && nat_le r.fixed 0x7FFF_FFFF && nat_le r.repeating 0x7FFF_FFFF
+
+abbrev pub is_in_range : Option Run → Bool
+is_in_range None = true
+is_in_range (Some r) = run_in_range r
+
+-- how far each copy lies over its neighbour: what the tiles are wider than the word leaves for them, shared among all copies
+abbrev pub overlap : Run → ℕ
+overlap r = ((copies r + 1) * r.repeating - left_of_word r) / (copies r * r.tiles)
+
+-- the fixed tiles have no copies
+abbrev pub copies_of : Item → Run → ℕ
+copies_of x r = if is_repeating x then copies r else 0
+
+abbrev pub tile_in_run : FaceParts → Item → Run → Tile
+tile_in_run font x r = record { copies = copies_of x r; width = pos (width font x); overlap = pos (overlap r) }
+
+abbrev pub tile_of : FaceParts → Item → Option Run → Option Tile
+tile_of font x None = None
+tile_of font x (Some r) = Some (tile_in_run font x r)
+
+-- the tile that each item is, by its run
+abbrev pub tiles : FaceParts → List Item → List (Option Run) → List (Option Tile)
+tiles font [] rs = []
+tiles font (x ∷ xs) [] = []
+tiles font (x ∷ xs) (r ∷ rs) = tile_of font x r ∷ tiles font xs rs

@@ -1,0 +1,59 @@
+-- Runs of tiles, and the word in front of each.
+use Rattle.std.specs.Prelude.{ℕ, ℤ, pos, ◌+◌, ◌+ℤ◌, nat_le, if◌then◌else◌, List, [], ◌∷◌, Option, None, Some}
+use Rattle.font_face.specs.declared.parts.FaceParts.{FaceParts}
+use Rattle.font_face.specs.Glyphs.{width_of}
+use Rattle.glyph_lists.specs.Items.{Item, Position}
+use Rattle.script_pauses.specs.declared.runs.Run.{Run}
+use Rattle.script_pauses.specs.declared.runs.Before.{Before}
+use Rattle.script_pauses.specs.declared.runs.Before.TheVariants.{Word, Tiles}
+use Rattle.script_pauses.specs.Words.{is_of_word}
+use Rattle.script_pauses.specs.Tiles.{is_fixed, is_tile}
+
+-- what is no glyph has no width
+abbrev pub width : FaceParts → Item → ℕ
+width font x = if nat_le x.number 65535 then width_of x.number font else 0
+
+-- a run before its tiles are measured, behind a word of a width
+abbrev pub run_behind : ℤ → Run
+run_behind word = record { word = word; fixed = 0; repeating = 0; tiles = 0 }
+
+-- a tile more: its width in the font
+abbrev pub with_tile : FaceParts → Run → Item → Run
+with_tile font r x =
+    if is_fixed x then record r { fixed = r.fixed + width font x }
+    else record r { repeating = r.repeating + width font x; tiles = r.tiles + 1 }
+
+-- the tiles in front, one after another
+abbrev pub with_tiles : FaceParts → Run → List Item → Run
+with_tiles font r [] = r
+with_tiles font r (x ∷ xs) = if is_tile x then with_tiles font (with_tile font r x) xs else r
+
+-- ---- the run of each tile
+
+-- the word that ends before a glyph; behind tiles it has yet to begin
+abbrev pub word_before : Before → ℤ
+word_before (Word w) = w
+word_before (Tiles r) = pos 0
+
+-- a glyph makes the word longer by its advance; what is of no word ends it
+abbrev pub word_behind : Before → Item → Position → ℤ
+word_behind before x p = if is_of_word x then word_before before +ℤ p.x_advance else pos 0
+
+abbrev pub run_here : FaceParts → Before → List Item → Run
+run_here font (Word w) xs = with_tiles font (run_behind w) xs
+run_here font (Tiles r) xs = r
+
+-- what stands behind the first of some glyphs, by what stands before it
+abbrev pub next_before : FaceParts → Before → List Item → Position → Before
+next_before font before [] p = before
+next_before font before (x ∷ xs) p = if is_tile x then Tiles (run_here font before (x ∷ xs)) else Word (word_behind before x p)
+
+abbrev pub tile_run : Before → Option Run
+tile_run (Word w) = None
+tile_run (Tiles r) = Some r
+
+-- the run of each glyph that is a tile
+abbrev pub runs : FaceParts → Before → List Item → List Position → List (Option Run)
+runs font before [] ps = []
+runs font before (x ∷ xs) [] = []
+runs font before (x ∷ xs) (p ∷ ps) = tile_run (next_before font before (x ∷ xs) p) ∷ runs font (next_before font before (x ∷ xs) p) xs ps

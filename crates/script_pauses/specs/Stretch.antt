@@ -1,0 +1,30 @@
+-- How tiles are laid over the word in front of them (OpenType specification, feature stch).
+use Rattle.std.specs.Prelude.{pos, nat_le, if◌then◌else◌, List, Option, Ok, Err, length}
+use Rattle.std.specs.List.{list_all}
+use Rattle.glyph_lists.specs.declared.cause.ShapeCause.TheVariants.{StretchRange, TooLong}
+use Rattle.font_face.specs.declared.parts.FaceParts.{FaceParts}
+use Rattle.glyph_buffer.specs.Readings.{Stage, View, with_events}
+use Rattle.script_pauses.specs.declared.runs.Run.{Run}
+use Rattle.script_pauses.specs.declared.runs.Before.TheVariants.{Word}
+use Rattle.script_pauses.specs.Runs.{runs}
+use Rattle.tile_places.specs.declared.tile.Tile.{Tile}
+use Rattle.script_pauses.specs.Laying.{is_in_range, tiles}
+use Rattle.script_pauses.specs.Copying.{copied, events_from}
+use Rattle.tile_places.specs.Placing.{laid}
+
+-- such tiles with their copies, where the list does not grow past the limit
+abbrev pub laid_over : List (Option Tile) → Stage
+laid_over ts v =
+    if nat_le (length (copied v.items ts)) v.max_len
+    then Ok (with_events (events_from 0 ts) (record v { items = copied v.items ts; positions = laid v.positions ts }))
+    else Err TooLong
+
+-- the run of each glyph of a text
+abbrev pub text_runs : FaceParts → View → List (Option Run)
+text_runs font v = runs font (Word (pos 0)) v.items v.positions
+
+-- tiles are laid over their words, where each width is a number of 32 bits
+abbrev pub tiles_laid : FaceParts → Stage
+tiles_laid font v =
+    if list_all is_in_range (text_runs font v) then laid_over (tiles font v.items (text_runs font v)) v
+    else Err StretchRange

@@ -1,0 +1,26 @@
+-- The tiles that a word is stretched over (OpenType specification, feature stch).
+use Rattle.std.specs.Prelude.{◌==◌, ◌||◌, ◌%◌, Bool, if◌then◌else◌}
+use Rattle.script_constants.specs.declared.arabic_action_t.TheConstants as action
+use Rattle.glyph_lists.specs.LigatureWords.{is_multiplied, lig_comp}
+use Rattle.glyph_lists.specs.Items.{Item}
+use Rattle.glyph_buffer.specs.Readings.{Stage, always, as_it_is}
+use Rattle.stage_rules.specs.Stages.{mapped}
+
+abbrev pub is_fixed : Item → Bool
+is_fixed x = x.auxiliary == action.STRETCHING_FIXED
+
+abbrev pub is_repeating : Item → Bool
+is_repeating x = x.auxiliary == action.STRETCHING_REPEATING
+
+abbrev pub is_tile : Item → Bool
+is_tile x = is_fixed x || is_repeating x
+
+-- of the glyphs that one was made into the odd ones repeat, and the others are fixed
+abbrev pub tile_recorded : Item → Item
+tile_recorded x =
+    if is_multiplied x then record x { auxiliary = if lig_comp x % 2 == 1 then action.STRETCHING_REPEATING else action.STRETCHING_FIXED }
+    else x
+
+-- where the font stretches words, all that a multiple substitution made is a tile
+abbrev pub tiles_recorded : Bool → Stage
+tiles_recorded has_stch v = if has_stch then always (mapped tile_recorded) v else as_it_is v

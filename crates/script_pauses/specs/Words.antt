@@ -1,0 +1,24 @@
+-- The words that tiles are laid over (OpenType specification, feature stch).
+use Rattle.std.specs.Prelude.{ℕ, ◌==◌, ◌||◌, Bool, List, [], ◌∷◌}
+use Rattle.std.specs.List.{list_any}
+use Rattle.ucd_category.specs.declared.GeneralCategory.{GeneralCategory}
+use Rattle.ucd_category.specs.declared.GeneralCategory.TheVariants.{Unassigned, PrivateUse, ModifierLetter, OtherLetter, SpacingMark, EnclosingMark, NonspacingMark, DecimalNumber, LetterNumber, OtherNumber, CurrencySymbol, ModifierSymbol, MathSymbol, OtherSymbol}
+use Rattle.unicode_chars.specs.Category.{category_number}
+use Rattle.glyph_properties.specs.Characters.{category_of}
+use Rattle.glyph_lists.specs.Items.{Item}
+use Rattle.glyph_buffer.specs.Graphemes.{is_default_ignorable}
+
+-- letters without case, marks, numbers, symbols, and what has no category of its own
+abbrev pub word_categories : List GeneralCategory
+word_categories =
+    Unassigned ∷ PrivateUse ∷ ModifierLetter ∷ OtherLetter ∷ SpacingMark ∷ EnclosingMark ∷ NonspacingMark ∷ DecimalNumber ∷ LetterNumber ∷ OtherNumber
+    ∷ CurrencySymbol ∷ ModifierSymbol ∷ MathSymbol ∷ OtherSymbol ∷ []
+
+abbrev pub is_word_category : ℕ → Bool
+is_word_category n = list_any (λ c. n == category_number c) word_categories
+
+abbrev pub has_word_category : Item → Bool
+has_word_category x = is_word_category (category_of x)
+
+abbrev pub is_of_word : Item → Bool
+is_of_word x = is_default_ignorable x || has_word_category x

@@ -1,0 +1,74 @@
+//! The copies of tiles.
+ghost use Rattle.std.specs.Prelude.{◌≡◌, ◌≢◌, ◌<◌, ◌+◌, ◌++◌, ◌∷◌, [], List, Err, IfErr, OnOk, length, replicate, true};
+ghost use Rattle.glyph_lists.specs.Items.{Item, item_of, strip};
+ghost use Rattle.glyph_lists.specs.Events.{Replace};
+ghost use Rattle.glyph_buffer.specs.Readings.{read_of};
+ghost use Rattle.glyph_buffer.specs.Sides.{all_glyphs, run_of};
+ghost use Rattle.stage_rules.specs.Ready.{IsReady};
+ghost use Rattle.stage_rules.specs.Walks.{Exceeds, Walked};
+ghost use Rattle.stage_rules.specs.Stages.{IsFollowed};
+ghost use Rattle.script_pauses.specs.Copying.{copies_in, copy_events, tiles_copied};
+
+use glyph_buffer::buffer::hb_buffer_t;
+use glyph_lists::cause::ShapeCause;
+use stage_rules::walks::{advance, finish};
+use tile_places::tile::Tile;
+
+/// Puts the copies of each tile beside it.
+///
+/// # Errors
+///
+/// `TooLong` where the text would have more glyphs than the buffer may hold, or want of memory.
+pub fn copy_tiles(tiles: &[Option<Tile>], buffer: &mut hb_buffer_t) -> Result<(), ShapeCause>
+    requires ready { IsReady buffer.old }
+    requires each { length tiles.now ≡ length (all_glyphs buffer.old) }
+    ensures ok { OnOk result (IsFollowed (tiles_copied tiles.now) buffer.old buffer.new) }
+    ensures err { IfErr result (λ e. e ≢ ShapeCause.OutOfMemory → read_of (tiles_copied tiles.now) (run_of buffer.old)
+        ≡ Err e) }
+{
+    buffer.clear_output()?;
+    for tile in tiles {
+        pass(*tile, buffer)?;
+    }
+    finish(buffer)
+}
+
+/// The glyph at the cursor goes behind it, after its copies.
+fn pass(tile: Option<Tile>, buffer: &mut hb_buffer_t) -> Result<(), ShapeCause>
+    requires open { buffer.old.is_open ≡ true }
+    requires there { 0 < length buffer.old.ahead }
+    ensures ok { OnOk result ((x : Item) (xs : List Item) → strip buffer.old.ahead ≡ x ∷ xs
+        → Walked (strip buffer.old.behind ++ replicate (copies_in tile + 1) x) xs
+        (copy_events (length buffer.old.behind) (copies_in tile)) buffer.old buffer.new) }
+    ensures err { IfErr result (λ e. Exceeds (length buffer.old.behind + (copies_in tile + 1)) e buffer.old) }
+{
+    for _ in 0..copies_in(tile) {
+        copy_current(buffer)?;
+    }
+    advance(buffer)
+}
+
+fn copies_in(tile: Option<Tile>) -> u32
+    ensures { result ≡ copies_in tile }
+{
+    match tile {
+        None => 0,
+        Some(tile) => tile.copies,
+    }
+}
+
+/// A copy of the glyph at the cursor goes behind it.
+fn copy_current(buffer: &mut hb_buffer_t) -> Result<(), ShapeCause>
+    requires open { buffer.old.is_open ≡ true }
+    requires there { 0 < length buffer.old.ahead }
+    ensures ok { OnOk result ((x : Item) (xs : List Item) → strip buffer.old.ahead ≡ x ∷ xs
+        → Walked (strip buffer.old.behind ++ x ∷ []) (x ∷ xs) (Replace (length buffer.old.behind) 0 1 ∷ []) buffer.old
+        buffer.new) }
+    ensures err { IfErr result (λ e. Exceeds (length buffer.old.behind + 1) e buffer.old) }
+{
+    let number = buffer.cur(0).glyph_id;
+    if !buffer.output_glyph(number)? {
+        return Err(ShapeCause::TooLong);
+    }
+    Ok(())
+}

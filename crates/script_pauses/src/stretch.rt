@@ -1,0 +1,93 @@
+//! How tiles are laid over the word in front of them.
+ghost use Rattle.std.specs.Prelude.{◌≡◌, ◌≢◌, ◌≤◌, Err, IfErr, OnOk, false, length};
+ghost use Rattle.std.specs.List.{list_any};
+ghost use Rattle.glyph_lists.specs.Items.{item_of};
+ghost use Rattle.glyph_buffer.specs.Readings.{read_of};
+ghost use Rattle.glyph_buffer.specs.Sides.{all_glyphs, items_of, run_of};
+ghost use Rattle.stage_rules.specs.Ready.{IsDone, IsReady};
+ghost use Rattle.script_pauses.specs.Tiles.{is_tile};
+ghost use Rattle.script_pauses.specs.Stretch.{laid_over, tiles_laid};
+
+use crate::copying::copy_tiles;
+use crate::laying::{are_in_range, tiles_of};
+use crate::runs::runs_of;
+use crate::words::is_tile;
+use font_face::Face;
+use glyph_buffer::buffer::hb_buffer_t;
+use glyph_lists::cause::ShapeCause;
+use glyph_lists::info::hb_glyph_info_t;
+use glyph_lists::position::GlyphPosition;
+use std::alloc::Global;
+use tile_places::placing::places_of;
+use tile_places::tile::Tile;
+
+/// Lays the tiles of each run over the word in front of it: repeating tiles get copies until they reach as far as the word.
+/// Glyphs stand as they are drawn. It takes linear time in the glyphs that there are then, and memory for them; a text without
+/// tiles stays as it is, and takes none.
+///
+/// # Errors
+///
+/// `StretchRange` where the word, the fixed or the repeating tiles of a run have a width outside 32 bits; else `TooLong` where
+/// the text would have more glyphs than the buffer may hold; or want of memory.
+#[tactic(auto, using(crate::proofs::Listed::runs_cover, crate::proofs::Listed::tiles_cover, crate::proofs::Untouched::untouched_done))]
+pub fn apply_stch(alloc: Global, face: &Face, buffer: &mut hb_buffer_t) -> Result<(), ShapeCause>
+    requires ready { IsReady buffer.old }
+    ensures ok { OnOk result (IsDone (tiles_laid face.now) buffer.old buffer.new) }
+    ensures err { IfErr result (λ e. e ≢ ShapeCause.OutOfMemory → read_of (tiles_laid face.now) (run_of buffer.old)
+        ≡ Err e) }
+{
+    if !has_tiles(buffer) {
+        return Ok(());
+    }
+    let runs = runs_of(alloc, face, buffer.info_slice(), buffer.pos_slice())?;
+    if !are_in_range(&runs) {
+        return Err(ShapeCause::StretchRange);
+    }
+    let tiles = tiles_of(alloc, face, buffer.info_slice(), &runs)?;
+    lay_tiles(alloc, &tiles, buffer)
+}
+
+/// Whether there are tiles. It takes no memory.
+#[tactic(auto, using(crate::proofs::Untouched::any_seen))]
+fn has_tiles(buffer: &hb_buffer_t) -> bool
+    requires { buffer.now.is_open ≡ false }
+    ensures any { result ≡ list_any is_tile (items_of buffer.now) }
+    ensures within { length (all_glyphs buffer.now) ≤ buffer.now.max_len }
+{
+    buffer.len() > 0 && any_tile(buffer.info_slice())
+}
+
+fn any_tile(glyphs: &[hb_glyph_info_t]) -> bool
+    ensures { result ≡ list_any (λ glyph. is_tile (item_of glyph)) glyphs.now }
+{
+    glyphs.iter().any(|glyph| is_tile(glyph))
+}
+
+#[tactic(auto, using(crate::proofs::Laid::laid_done, crate::proofs::Laid::room_for_places, crate::proofs::Laid::laid_refused))]
+fn lay_tiles(
+    alloc: Global,
+    tiles: &[Option<Tile>],
+    buffer: &mut hb_buffer_t,
+) -> Result<(), ShapeCause>
+    requires ready { IsReady buffer.old }
+    requires each { length tiles.now ≡ length (all_glyphs buffer.old) }
+    ensures ok { OnOk result (IsDone (laid_over tiles.now) buffer.old buffer.new) }
+    ensures err { IfErr result (λ e. e ≢ ShapeCause.OutOfMemory → read_of (laid_over tiles.now) (run_of buffer.old)
+        ≡ Err e) }
+{
+    let positions = buffer.pos_slice().to_vec(alloc)?;
+    copy_tiles(tiles, buffer)?;
+    let places = places_of(alloc, tiles, &positions)?;
+    put_places(&places, buffer);
+    Ok(())
+}
+
+/// Other positions, as many as there are.
+#[tactic(auto, using(crate::proofs::Laid::places_back))]
+fn put_places(places: &[GlyphPosition], buffer: &mut hb_buffer_t)
+    requires closed { buffer.old.is_open ≡ false }
+    requires same { length places.now ≡ length buffer.old.positions }
+    ensures { buffer.new ≡ record buffer.old { positions = places.now } }
+{
+    buffer.pos_slice_mut().copy_from_slice(places);
+}

@@ -1,0 +1,62 @@
+//! The tiles that a word is stretched over.
+ghost use Rattle.std.specs.Prelude.{◌≡◌};
+ghost use Rattle.glyph_lists.specs.Items.{item_of};
+ghost use Rattle.glyph_lists.specs.Origins.{origin_of};
+ghost use Rattle.glyph_buffer.specs.Readings.{always};
+ghost use Rattle.glyph_buffer.specs.Sides.{items_of};
+ghost use Rattle.stage_rules.specs.Ready.{IsDone, IsReady};
+ghost use Rattle.stage_rules.specs.Pauses.{BringsNoGlyph};
+ghost use Rattle.stage_rules.specs.Stages.{IsFollowed, mapped};
+ghost use Rattle.script_pauses.specs.Quiet.{IsQuiet};
+ghost use Rattle.script_pauses.specs.Tiles.{tile_recorded, tiles_recorded};
+
+use glyph_buffer::buffer::hb_buffer_t;
+use glyph_lists::info::hb_glyph_info_t;
+use glyph_lists::ligature_words::{_hb_glyph_info_get_lig_comp, _hb_glyph_info_multiplied};
+use script_constants::arabic_action_t::{STRETCHING_FIXED, STRETCHING_REPEATING};
+use stage_rules::glyphs::map_glyphs;
+
+/// Where the font stretches words, each glyph that a multiple substitution made is a tile: its `auxiliary` tells whether it
+/// repeats. No glyph comes in. It takes linear time and no memory.
+pub fn record_stch(has_stch: bool, buffer: &mut hb_buffer_t)
+    requires ready { IsReady buffer.old }
+    ensures ok { IsDone (tiles_recorded has_stch) buffer.old buffer.new }
+    ensures told { BringsNoGlyph (items_of buffer.old) (items_of buffer.new) }
+{
+    record_if(has_stch, buffer);
+}
+
+#[tactic(auto, using(crate::specs::Lemmas::Quiet::quiet_same))]
+fn record_if(has_stch: bool, buffer: &mut hb_buffer_t)
+    requires ready { IsReady buffer.old }
+    ensures { IsQuiet (tiles_recorded has_stch) buffer.old buffer.new }
+{
+    if has_stch {
+        record_tiles(buffer);
+    }
+}
+
+fn record_tiles(buffer: &mut hb_buffer_t)
+    requires ready { IsReady buffer.old }
+    ensures { IsQuiet (always (mapped tile_recorded)) buffer.old buffer.new }
+{
+    map_glyphs(buffer, |glyph| tile_recorded(glyph));
+}
+
+fn tile_recorded(glyph: &hb_glyph_info_t) -> hb_glyph_info_t
+    ensures item { item_of result ≡ tile_recorded (item_of glyph.now) }
+    ensures origin { origin_of result ≡ origin_of glyph.now }
+{
+    if !_hb_glyph_info_multiplied(glyph) {
+        return *glyph;
+    }
+    let auxiliary = if _hb_glyph_info_get_lig_comp(glyph) % 2 == 1 {
+        STRETCHING_REPEATING
+    } else {
+        STRETCHING_FIXED
+    };
+    hb_glyph_info_t {
+        auxiliary,
+        ..*glyph
+    }
+}

@@ -1,2 +1,0 @@
-pub mod Measured
-pub mod Walked

@@ -1,4 +1,0 @@
-pub mod Tiles
-pub mod Words
-pub mod Runs
-pub mod Copies

@@ -1,6 +1,0 @@
-use Rattle.script_tiles.proofs.Copied.{AreCopied}
-use Rattle.script_tiles.proofs.copying.pass.Given as goal
-
--- so many copies are behind
-abbrev pub invariant-loop : goal.invariant-loop
-invariant-loop l = AreCopied l.counter l.initial.buffer l.buffer

@@ -1,2 +1,0 @@
--- Lemmas for what stands above: the laying of tiles.
-pub mod Plain

@@ -1,5 +1,0 @@
-pub mod Laying
-pub mod Copying
-pub mod Stretch
-pub mod Laws
-pub mod Lemmas

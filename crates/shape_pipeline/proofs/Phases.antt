@@ -1,0 +1,194 @@
+-- The parts of shaping, each of some stages.
+use Rattle.std.proofs.Common.{ℕ, ◌≡◌, [], ◌∷◌, Ok, Err, Option, sym, subst, ◌∙◌}
+use Rattle.std.specs.Prelude.{◌≢◌, IfErr, IsErrAnd, Result}
+use Rattle.glyph_lists.specs.declared.cause.ShapeCause.TheVariants.{OutOfMemory}
+use Rattle.glyph_lists.specs.declared.cause.ShapeCause.{ShapeCause}
+use Rattle.glyph_buffer.specs.Readings.{Stage, always, read_of}
+use Rattle.glyph_buffer.specs.Sides.{Sides, run_of, settings_of}
+use Rattle.stage_rules.specs.Ready.{IsDone}
+use Rattle.layout_links.specs.Finishing.{links_followed}
+use Rattle.stage_rules.specs.Settings.{text_settings}
+use Rattle.layout_stages.specs.Substituting.{substituted_by}
+use Rattle.layout_positioning.specs.Positioning.{positioned_by}
+use Rattle.stage_rules.specs.Stages.{IsFollowed}
+use Rattle.shape_fractions.specs.Fractions.{with_fractions}
+use Rattle.shape_glyphs.specs.Classes.{with_font_classes}
+use Rattle.shape_glyphs.specs.Flags.{with_flags_spread}
+use Rattle.shape_glyphs.specs.Glyphs.{with_synthesized_classes}
+use Rattle.shape_glyphs.specs.Ignorables.{hidden}
+use Rattle.shape_glyphs.specs.Selectors.{with_selectors}
+use Rattle.shape_glyphs.specs.Widths.{zero_widths}
+use Rattle.shape_normalize.specs.Rounds.{normalization}
+use Rattle.shape_plan.specs.declared.planned.TheConstants.{HB_OT_SHAPE_ZERO_WIDTH_MARKS_BY_GDEF_EARLY, HB_OT_SHAPE_ZERO_WIDTH_MARKS_BY_GDEF_LATE}
+use Rattle.shape_pipeline.specs.Chains.{only_if}
+use Rattle.shape_pipeline.specs.Limits.{ended}
+use Rattle.shape_pipeline.specs.Characters.{characters_chosen, normalizer, text_begun, turned_to_line}
+use Rattle.shape_pipeline.specs.Masks.{fraction_masks, masks_set}
+use Rattle.shape_pipeline.specs.Glyphs.{glyphs_substituted, glyphs_taken}
+use Rattle.shape_pipeline.specs.Places.{drawn_order, marks_placed, marks_zeroed, positions_adjusted, positions_begun, positions_ended, zeroes_marks}
+use Rattle.shape_pipeline.specs.Endings.{text_ended}
+use Rattle.shape_pipeline.specs.Reading.{after_ranges, before_ranges, positioned}
+use Rattle.shape_pipeline.specs.Shaping.{Shaping, pauses_of, postprocessed, preprocessed, shaper_masks_set}
+use Rattle.shape_pipeline.specs.Lemmas.Chains.{done_followed, first_refused, five_followed, four_done, four_followed, fourth_refused, second_refused, third_refused, three_done, three_followed, two_followed}
+use Rattle.shape_pipeline.proofs.Sets.{done_as_set, followed_as_set, refused_as_set, set_as}
+
+-- a cause that `?` passes on
+pub passed_on : {A E : Type 0} (r : Result A E) (e : E) (P : E → Type 0) → IsErrAnd r (λ (f : E). f ≡ e) → P e → IfErr r P
+passed_on (Ok a) e P h p = tt
+passed_on (Err f) e P h p = subst P (sym h) p
+
+-- ---- characters
+
+-- normalising knows the glyphs that are set in the buffer
+pub normal_refused_as_set : {A : Type 0} (r : Result A ShapeCause) (q : Shaping) (i u : Option ℕ) (s : Sides) → i ≡ q.settings.invisible → u ≡ q.settings.not_found_variation_selector
+    → IfErr r (λ (e : ShapeCause). e ≢ OutOfMemory → read_of (normalization (record (normalizer q) { invisible = i; unjoined_glyph = u })) (run_of s) ≡ Err e) → IfErr r (λ (e : ShapeCause). e ≢ OutOfMemory → read_of (normalization (normalizer q)) (run_of s) ≡ Err e)
+normal_refused_as_set r q i u s invisible unjoined h =
+    let P : Option ℕ → Type 0 = λ j. IfErr r (λ (e : ShapeCause). e ≢ OutOfMemory → read_of (normalization (record (normalizer q) { invisible = j; unjoined_glyph = u })) (run_of s) ≡ Err e) in
+    let R : Option ℕ → Type 0 = λ w. IfErr r (λ (e : ShapeCause). e ≢ OutOfMemory → read_of (normalization (record (normalizer q) { unjoined_glyph = w })) (run_of s) ≡ Err e) in
+    subst R unjoined (subst P invisible h)
+
+abbrev normalized : Shaping → Stage
+normalized q v = normalization (normalizer q) v
+
+abbrev turned : Shaping → Stage
+turned q v = always (turned_to_line q) v
+
+pub chosen_followed : (q : Shaping) (s a b new : Sides) → q.settings ≡ text_settings s → IsFollowed (preprocessed q) s a → IsFollowed (always (turned_to_line (set_as a q))) a b → IsFollowed (normalization (normalizer (set_as b q))) b new → IsFollowed (characters_chosen q) s new
+unfolding characters_chosen
+chosen_followed q s a b new set f g h =
+    three_followed (preprocessed q) (turned q) (normalized q) s a b new f (followed_as_set turned q s a b set f.settings g) (followed_as_set normalized q s b new set (g.settings ∙ f.settings) h)
+
+pub chosen_refused : (q : Shaping) (s : Sides) (cause : ShapeCause) → read_of (preprocessed q) (run_of s) ≡ Err cause → read_of (characters_chosen q) (run_of s) ≡ Err cause
+unfolding characters_chosen
+chosen_refused q s cause e = first_refused (preprocessed q) (turned q ∷ normalized q ∷ []) s cause e
+
+pub chosen_refused_last : (q : Shaping) (s a b : Sides) (cause : ShapeCause) → q.settings ≡ text_settings s → IsFollowed (preprocessed q) s a → IsFollowed (always (turned_to_line (set_as a q))) a b → read_of (normalization (normalizer (set_as b q))) (run_of b) ≡ Err cause → read_of (characters_chosen q) (run_of s) ≡ Err cause
+unfolding characters_chosen
+chosen_refused_last q s a b cause set f g e =
+    third_refused (preprocessed q) (turned q) (normalized q) [] s a b cause f (followed_as_set turned q s a b set f.settings g) (refused_as_set normalized q s b cause set (g.settings ∙ f.settings) e)
+
+-- ---- masks
+
+pub masks_followed : (q : Shaping) (s a new : Sides) → q.settings ≡ text_settings s → IsFollowed (only_if q.choices.has_frac (always (with_fractions (fraction_masks q.map)))) s a → IsFollowed (shaper_masks_set (set_as a q)) a new → IsFollowed (masks_set q) s new
+unfolding masks_set
+masks_followed q s a new set f g = two_followed (only_if q.choices.has_frac (always (with_fractions (fraction_masks q.map)))) (shaper_masks_set q) s a new f (followed_as_set shaper_masks_set q s a new set f.settings g)
+
+pub masks_refused : (q : Shaping) (s a : Sides) (cause : ShapeCause) → q.settings ≡ text_settings s → IsFollowed (only_if q.choices.has_frac (always (with_fractions (fraction_masks q.map)))) s a → read_of (shaper_masks_set (set_as a q)) (run_of a) ≡ Err cause → read_of (masks_set q) (run_of s) ≡ Err cause
+unfolding masks_set
+masks_refused q s a cause set f e = second_refused (only_if q.choices.has_frac (always (with_fractions (fraction_masks q.map)))) (shaper_masks_set q) [] s a cause f (refused_as_set shaper_masks_set q s a cause set f.settings e)
+
+-- ---- all before the masks of ranges
+
+pub before_followed : (q : Shaping) (s a b new : Sides) → q.settings ≡ text_settings s → IsFollowed (text_begun q) s a → IsFollowed (characters_chosen (set_as a q)) a b → IsFollowed (masks_set (set_as b q)) b new → IsFollowed (before_ranges q) s new
+unfolding before_ranges
+before_followed q s a b new set f g h =
+    three_followed (text_begun q) (characters_chosen q) (masks_set q) s a b new f (followed_as_set characters_chosen q s a b set f.settings g) (followed_as_set masks_set q s b new set (g.settings ∙ f.settings) h)
+
+pub before_refused : (q : Shaping) (s : Sides) (cause : ShapeCause) → read_of (text_begun q) (run_of s) ≡ Err cause → read_of (before_ranges q) (run_of s) ≡ Err cause
+unfolding before_ranges
+before_refused q s cause e = first_refused (text_begun q) (characters_chosen q ∷ masks_set q ∷ []) s cause e
+
+pub before_refused_then : (q : Shaping) (s a : Sides) (cause : ShapeCause) → q.settings ≡ text_settings s → IsFollowed (text_begun q) s a → read_of (characters_chosen (set_as a q)) (run_of a) ≡ Err cause → read_of (before_ranges q) (run_of s) ≡ Err cause
+unfolding before_ranges
+before_refused_then q s a cause set f e = second_refused (text_begun q) (characters_chosen q) (masks_set q ∷ []) s a cause f (refused_as_set characters_chosen q s a cause set f.settings e)
+
+pub before_refused_last : (q : Shaping) (s a b : Sides) (cause : ShapeCause) → q.settings ≡ text_settings s → IsFollowed (text_begun q) s a → IsFollowed (characters_chosen (set_as a q)) a b → read_of (masks_set (set_as b q)) (run_of b) ≡ Err cause → read_of (before_ranges q) (run_of s) ≡ Err cause
+unfolding before_ranges
+before_refused_last q s a b cause set f g e =
+    third_refused (text_begun q) (characters_chosen q) (masks_set q) [] s a b cause f (followed_as_set characters_chosen q s a b set f.settings g) (refused_as_set masks_set q s b cause set (g.settings ∙ f.settings) e)
+
+-- ---- glyphs
+
+abbrev by_font : Shaping → Stage
+by_font q v = substituted_by q.font q.map (pauses_of q) v
+
+pub substituted_done : (q : Shaping) (s a b new : Sides) → q.settings ≡ text_settings s → IsDone (always (with_font_classes q.font)) s a → IsDone (only_if q.choices.fallback_glyph_classes (always with_synthesized_classes)) a b
+    → IsDone (substituted_by q.font q.map (pauses_of (set_as b q))) b new → IsDone (glyphs_substituted q) s new
+unfolding glyphs_substituted
+substituted_done q s a b new set f g h =
+    three_done (always (with_font_classes q.font)) (only_if q.choices.fallback_glyph_classes (always with_synthesized_classes)) (by_font q) s a b new f g (done_as_set by_font q s b new set (g.settings ∙ f.settings) h)
+
+pub substituted_refused : (q : Shaping) (s a b : Sides) (cause : ShapeCause) → q.settings ≡ text_settings s → IsDone (always (with_font_classes q.font)) s a → IsDone (only_if q.choices.fallback_glyph_classes (always with_synthesized_classes)) a b
+    → read_of (substituted_by q.font q.map (pauses_of (set_as b q))) (run_of b) ≡ Err cause → read_of (glyphs_substituted q) (run_of s) ≡ Err cause
+unfolding glyphs_substituted
+substituted_refused q s a b cause set f g e =
+    third_refused (always (with_font_classes q.font)) (only_if q.choices.fallback_glyph_classes (always with_synthesized_classes)) (by_font q) [] s a b cause (done_followed (always (with_font_classes q.font)) s a f)
+    (done_followed (only_if q.choices.fallback_glyph_classes (always with_synthesized_classes)) a b g) (refused_as_set by_font q s b cause set (g.settings ∙ f.settings) e)
+
+-- ---- positions
+
+abbrev zeroed_at_early : Shaping → Stage
+zeroed_at_early q = only_if (zeroes_marks HB_OT_SHAPE_ZERO_WIDTH_MARKS_BY_GDEF_EARLY q) (always (marks_zeroed q))
+
+abbrev zeroed_at_late : Shaping → Stage
+zeroed_at_late q = only_if (zeroes_marks HB_OT_SHAPE_ZERO_WIDTH_MARKS_BY_GDEF_LATE q) (always (marks_zeroed q))
+
+abbrev moved_by_font : Shaping → Stage
+moved_by_font q = only_if q.choices.apply_gpos (positioned_by q.font q.map (pauses_of q))
+
+pub adjusted_done : (q : Shaping) (s a b new : Sides) → q.settings ≡ text_settings s → IsDone (zeroed_at_early q) s a → IsDone (only_if q.choices.apply_gpos (positioned_by q.font q.map (pauses_of (set_as a q)))) a b → IsDone (zeroed_at_late q) b new → IsDone (positions_adjusted q) s new
+unfolding positions_adjusted
+adjusted_done q s a b new set f g h = three_done (zeroed_at_early q) (moved_by_font q) (zeroed_at_late q) s a b new f (done_as_set moved_by_font q s a b set f.settings g) h
+
+pub adjusted_refused : (q : Shaping) (s a : Sides) (cause : ShapeCause) → q.settings ≡ text_settings s → IsDone (zeroed_at_early q) s a → read_of (only_if q.choices.apply_gpos (positioned_by q.font q.map (pauses_of (set_as a q)))) (run_of a) ≡ Err cause → read_of (positions_adjusted q) (run_of s) ≡ Err cause
+unfolding positions_adjusted
+adjusted_refused q s a cause set f e = second_refused (zeroed_at_early q) (moved_by_font q) (zeroed_at_late q ∷ []) s a cause (done_followed (zeroed_at_early q) s a f) (refused_as_set moved_by_font q s a cause set f.settings e)
+
+pub line_ended : (q : Shaping) (s a b c new : Sides) → IsDone (always (zero_widths q.settings.flags)) s a → IsDone (always links_followed) a b → IsDone (only_if q.choices.fallback_mark_positioning (always (marks_placed q))) b c → IsDone (always drawn_order) c new → IsDone (positions_ended q) s new
+unfolding positions_ended
+line_ended q s a b c new f g h k = four_done (always (zero_widths q.settings.flags)) (always links_followed) (only_if q.choices.fallback_mark_positioning (always (marks_placed q))) (always drawn_order) s a b c new f g h k
+
+pub positioned_done : (q : Shaping) (s a b new : Sides) → q.settings ≡ text_settings s → IsDone (positions_begun q) s a → IsDone (positions_adjusted (set_as a q)) a b → IsDone (positions_ended (set_as b q)) b new → IsDone (positioned q) s new
+unfolding positioned
+positioned_done q s a b new set f g h =
+    three_done (positions_begun q) (positions_adjusted q) (positions_ended q) s a b new f (done_as_set positions_adjusted q s a b set f.settings g) (done_as_set positions_ended q s b new set (g.settings ∙ f.settings) h)
+
+pub positioned_refused : (q : Shaping) (s a : Sides) (cause : ShapeCause) → q.settings ≡ text_settings s → IsDone (positions_begun q) s a → read_of (positions_adjusted (set_as a q)) (run_of a) ≡ Err cause → read_of (positioned q) (run_of s) ≡ Err cause
+unfolding positioned
+positioned_refused q s a cause set f e = second_refused (positions_begun q) (positions_adjusted q) (positions_ended q ∷ []) s a cause (done_followed (positions_begun q) s a f) (refused_as_set positions_adjusted q s a cause set f.settings e)
+
+-- ---- the end
+
+abbrev hidden_of : Shaping → Stage
+hidden_of q v = always (hidden q.settings.flags q.settings.invisible q.font) v
+
+pub ended_followed : (q : Shaping) (s a b c d new : Sides) → q.settings ≡ text_settings s → IsFollowed (always (with_selectors q.settings.not_found_variation_selector)) s a
+    → IsFollowed (always (hidden (text_settings a).flags (text_settings a).invisible q.font)) a b → IsDone (postprocessed (set_as b q)) b c → IsDone (always with_flags_spread) c d → IsFollowed (always (ended q.direction)) d new → IsFollowed (text_ended q) s new
+unfolding text_ended
+ended_followed q s a b c d new set f g h k l =
+    five_followed (always (with_selectors q.settings.not_found_variation_selector)) (hidden_of q) (postprocessed q) (always with_flags_spread) (always (ended q.direction)) s a b c d new f (followed_as_set hidden_of q s a b set f.settings g)
+    (done_followed (postprocessed q) b c (done_as_set postprocessed q s b c set (g.settings ∙ f.settings) h)) (done_followed (always with_flags_spread) c d k) l
+
+pub ended_refused : (q : Shaping) (s a b : Sides) (cause : ShapeCause) → q.settings ≡ text_settings s → IsFollowed (always (with_selectors q.settings.not_found_variation_selector)) s a
+    → IsFollowed (always (hidden (text_settings a).flags (text_settings a).invisible q.font)) a b → read_of (postprocessed (set_as b q)) (run_of b) ≡ Err cause → read_of (text_ended q) (run_of s) ≡ Err cause
+unfolding text_ended
+ended_refused q s a b cause set f g e =
+    third_refused (always (with_selectors q.settings.not_found_variation_selector)) (hidden_of q) (postprocessed q) (always with_flags_spread ∷ always (ended q.direction) ∷ []) s a b cause f
+    (followed_as_set hidden_of q s a b set f.settings g) (refused_as_set postprocessed q s b cause set (g.settings ∙ f.settings) e)
+
+-- ---- all after the masks of ranges
+
+pub after_followed : (q : Shaping) (s a b c new : Sides) → q.settings ≡ text_settings s → IsFollowed (glyphs_taken q) s a → IsDone (glyphs_substituted (set_as a q)) a b → IsDone (positioned (set_as b q)) b c → IsFollowed (text_ended (set_as c q)) c new → IsFollowed (after_ranges q) s new
+unfolding after_ranges
+after_followed q s a b c new set f g h k =
+    let upto_b : settings_of b ≡ settings_of s = g.settings ∙ f.settings in
+    four_followed (glyphs_taken q) (glyphs_substituted q) (positioned q) (text_ended q) s a b c new f (done_followed (glyphs_substituted q) a b (done_as_set glyphs_substituted q s a b set f.settings g))
+    (done_followed (positioned q) b c (done_as_set positioned q s b c set upto_b h)) (followed_as_set text_ended q s c new set (h.settings ∙ upto_b) k)
+
+pub after_refused_then : (q : Shaping) (s a : Sides) (cause : ShapeCause) → q.settings ≡ text_settings s → IsFollowed (glyphs_taken q) s a → read_of (glyphs_substituted (set_as a q)) (run_of a) ≡ Err cause → read_of (after_ranges q) (run_of s) ≡ Err cause
+unfolding after_ranges
+after_refused_then q s a cause set f e = second_refused (glyphs_taken q) (glyphs_substituted q) (positioned q ∷ text_ended q ∷ []) s a cause f (refused_as_set glyphs_substituted q s a cause set f.settings e)
+
+pub after_refused_later : (q : Shaping) (s a b : Sides) (cause : ShapeCause) → q.settings ≡ text_settings s → IsFollowed (glyphs_taken q) s a → IsDone (glyphs_substituted (set_as a q)) a b → read_of (positioned (set_as b q)) (run_of b) ≡ Err cause → read_of (after_ranges q) (run_of s) ≡ Err cause
+unfolding after_ranges
+after_refused_later q s a b cause set f g e =
+    third_refused (glyphs_taken q) (glyphs_substituted q) (positioned q) (text_ended q ∷ []) s a b cause f (done_followed (glyphs_substituted q) a b (done_as_set glyphs_substituted q s a b set f.settings g))
+    (refused_as_set positioned q s b cause set (g.settings ∙ f.settings) e)
+
+pub after_refused_last : (q : Shaping) (s a b c : Sides) (cause : ShapeCause) → q.settings ≡ text_settings s → IsFollowed (glyphs_taken q) s a → IsDone (glyphs_substituted (set_as a q)) a b → IsDone (positioned (set_as b q)) b c
+    → read_of (text_ended (set_as c q)) (run_of c) ≡ Err cause → read_of (after_ranges q) (run_of s) ≡ Err cause
+unfolding after_ranges
+after_refused_last q s a b c cause set f g h e =
+    let upto_b : settings_of b ≡ settings_of s = g.settings ∙ f.settings in
+    fourth_refused (glyphs_taken q) (glyphs_substituted q) (positioned q) (text_ended q) [] s a b c cause f (done_followed (glyphs_substituted q) a b (done_as_set glyphs_substituted q s a b set f.settings g))
+    (done_followed (positioned q) b c (done_as_set positioned q s b c set upto_b h)) (refused_as_set text_ended q s c cause set (h.settings ∙ upto_b) e)

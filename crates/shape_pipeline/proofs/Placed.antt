@@ -1,0 +1,131 @@
+-- Positions.
+use Rattle.std.proofs.Common.{◌≡◌, Bool, true, false, if◌then◌else◌, List, [], ◌∷◌, Ok, map, take, length, reverse, refl, sym, ap, subst, ◌∙◌}
+use Rattle.std.proofs.lemmas.List.{length-replicate, length-reverse, take-append-drop}
+use Rattle.std.specs.List.{list_all}
+use Rattle.std.proofs.lemmas.Grind.{reverse_onto}
+use Rattle.std.proofs.lemmas.List.{map-append}
+use Rattle.std.proofs.lemmas.List.Folds.{list_all-append}
+use Rattle.std.specs.Prelude.{◌&&◌}
+use Rattle.shaping_text.specs.Direction.{is_backward}
+use Rattle.shaping_text.specs.declared.direction.Direction.{Direction}
+use Rattle.glyph_lists.specs.Items.{item_of, strip}
+use Rattle.glyph_lists.specs.Origins.{origin_of, origins}
+use Rattle.glyph_lists.specs.Events.{Reverse}
+use Rattle.glyph_buffer.specs.Readings.{Follows, Run, View, always, with_events}
+use Rattle.glyph_buffer.specs.Steps.{follows_events}
+use Rattle.glyph_buffer.specs.Sides.{Sides, all_glyphs, items_of, reversed, run_of, view_of, with_cleared_positions, zero_position}
+use Rattle.stage_rules.specs.Buffers.{are_glyphs}
+use Rattle.stage_rules.specs.Ready.{IsDone, IsReady}
+use Rattle.stage_rules.specs.Settings.{text_flags}
+use Rattle.stage_rules.specs.Stages.{IsFollowed}
+use Rattle.shape_fallback.specs.Zeroing.{with_marks_zeroed}
+use Rattle.fallback_marks.specs.Marks.{components_direction, with_placed_marks}
+use Rattle.shape_glyphs.specs.Widths.{ignorable_position, keeps_widths, zero_widths}
+use Rattle.stage_rules.specs.Places.{placed}
+use Rattle.shape_pipeline.specs.Places.{adjusts_marks, drawn_order, marks_placed, marks_zeroed, with_nothing}
+use Rattle.shape_pipeline.specs.Shaping.{Shaping}
+use Rattle.shape_pipeline.proofs.Sets.{widths_followed}
+
+pub cleared_done : (s new : Sides) → IsReady s → new ≡ with_cleared_positions s → IsDone (always with_nothing) s new
+cleared_done s new ready e =
+    let P : Sides → Type 0 = λ n. IsDone (always with_nothing) s n in
+    subst P (sym e) (record {
+      follows = refl;
+      settings = refl;
+      ready = record {
+        closed = ready.closed;
+        front = ready.front;
+        unread = ready.unread;
+        placed = length-replicate (length s.positions) zero_position ∙ ready.placed;
+        unrefused = ready.unrefused;
+      };
+      numbers = λ h. h;
+    })
+
+-- ---- stages that move glyphs, and leave them
+
+widths_items : (b : Bool) (v : View) → (if b then with_events [] v else placed ignorable_position v).view.items ≡ v.items
+widths_items true v = refl
+widths_items false v = refl
+
+pub widths_done : (s new : Sides) → IsFollowed (always (zero_widths s.flags)) s new → IsDone (always (zero_widths (text_flags s.flags))) s new
+widths_done s new f =
+    let g = widths_followed s.flags s new f in
+    let same : items_of new ≡ items_of s = ap (λ (r : Run). r.view.items) f.follows ∙ widths_items (keeps_widths s.flags) (view_of s) in
+    record { follows = g.follows; settings = g.settings; ready = g.ready; numbers = λ h. ap are_glyphs same ∙ h }
+
+pub zeroed_done : (p : Shaping) (b : Bool) (s new : Sides) → b ≡ adjusts_marks p s.direction → IsDone (always (with_marks_zeroed b)) s new → IsDone (always (marks_zeroed p)) s new
+zeroed_done p b s new e d =
+    let P : Bool → Type 0 = λ c. IsDone (always (with_marks_zeroed c)) s new in
+    let there = subst P e d in
+    record { follows = there.follows; settings = there.settings; ready = there.ready; numbers = there.numbers }
+
+pub marks_done : (p : Shaping) (d : Direction) (b : Bool) (s new : Sides) → d ≡ components_direction p.direction p.script → b ≡ adjusts_marks p s.direction → IsDone (always (with_placed_marks p.font d b)) s new → IsDone (always (marks_placed p)) s new
+marks_done p d b s new components e done =
+    let P : Bool → Type 0 = λ c. IsDone (always (with_placed_marks p.font d c)) s new in
+    let Q : Direction → Type 0 = λ x. IsDone (always (with_placed_marks p.font x (adjusts_marks p s.direction))) s new in
+    let there = subst Q components (subst P e done) in
+    record { follows = there.follows; settings = there.settings; ready = there.ready; numbers = there.numbers }
+
+-- ---- the order on the line
+
+map-reverse : {X Y : Type 0} (f : X → Y) (xs : List X) → map f (reverse xs) ≡ reverse (map f xs)
+map-reverse f [] = refl
+map-reverse f (x ∷ xs) = rw (reverse_onto xs x [], map-append, map-reverse f xs, reverse_onto (map f xs) (f x) []) refl
+
+and_turned : (a b : Bool) → (a && (b && true)) ≡ (b && a)
+and_turned true true = refl
+and_turned true false = refl
+and_turned false true = refl
+and_turned false false = refl
+
+list_all-reverse : {X : Type 0} (p : X → Bool) (xs : List X) → list_all p (reverse xs) ≡ list_all p xs
+list_all-reverse p [] = refl
+list_all-reverse p (x ∷ xs) = rw (reverse_onto xs x [], list_all-append, list_all-reverse p xs) (and_turned (list_all p xs) (p x))
+
+-- the glyphs of a buffer that was reversed
+all_reversed : (s : Sides) → all_glyphs (reversed s) ≡ reverse (all_glyphs s)
+all_reversed s = take-append-drop s.read (reverse (all_glyphs s))
+
+abbrev reversed_view : View → View
+reversed_view v = record v { items = reverse v.items; positions = reverse v.positions }
+
+reversed_follows : (s : Sides) → Follows (Ok (with_events (Reverse ∷ []) (reversed_view (view_of s)))) (run_of s) (run_of (reversed s))
+reversed_follows s =
+    let items : items_of (reversed s) ≡ reverse (items_of s) = ap strip (all_reversed s) ∙ map-reverse item_of (all_glyphs s) in
+    let view : view_of (reversed s) ≡ reversed_view (view_of s) = ap (λ xs. record (reversed_view (view_of s)) { items = xs }) items in
+    follows_events (Reverse ∷ []) (reversed_view (view_of s)) (run_of s) (run_of (reversed s)) view (ap origins (all_reversed s) ∙ map-reverse origin_of (all_glyphs s)) refl refl
+
+reversed_ready : (s : Sides) → IsReady s → IsReady (reversed s)
+reversed_ready s ready = record {
+  closed = ready.closed;
+  front = ap (λ n. take n (reverse (all_glyphs s))) ready.unread;
+  unread = ready.unread;
+  placed = length-reverse s.positions ∙ ready.placed ∙ sym (length-reverse (all_glyphs s)) ∙ sym (ap (λ gs. length gs) (all_reversed s));
+  unrefused = ready.unrefused;
+}
+
+reversed_numbers : (s : Sides) → are_glyphs (items_of s) ≡ true → are_glyphs (items_of (reversed s)) ≡ true
+reversed_numbers s h = ap are_glyphs (ap strip (all_reversed s) ∙ map-reverse item_of (all_glyphs s)) ∙ list_all-reverse _ (items_of s) ∙ h
+
+-- a line that runs backward is turned round
+pub turned_drawn : (s new : Sides) → is_backward s.direction ≡ true → new ≡ reversed s → IsReady s → IsDone (always drawn_order) s new
+turned_drawn s new backward e ready =
+    let P : Sides → Type 0 = λ n. IsDone (always drawn_order) s n in
+    let Q : Bool → Type 0 = λ b. Follows (Ok (if b then with_events (Reverse ∷ []) (reversed_view (view_of s)) else with_events [] (view_of s))) (run_of s) (run_of (reversed s)) in
+    subst P (sym e) (record {
+      follows = subst Q (sym backward) (reversed_follows s);
+      settings = refl;
+      ready = reversed_ready s ready;
+      numbers = reversed_numbers s;
+    })
+
+pub stays_drawn : (s : Sides) → is_backward s.direction ≡ false → IsReady s → IsDone (always drawn_order) s s
+stays_drawn s forward ready =
+    let Q : Bool → Type 0 = λ b. Follows (Ok (if b then with_events (Reverse ∷ []) (reversed_view (view_of s)) else with_events [] (view_of s))) (run_of s) (run_of s) in
+    record {
+      follows = subst Q (sym forward) refl;
+      settings = refl;
+      ready = ready;
+      numbers = λ h. h;
+    }

@@ -1,0 +1,54 @@
+-- A text's characters, until they are as the font and the shaper want them.
+use Rattle.std.specs.Prelude.{◌&&◌, if◌then◌else◌, [], ◌∷◌, None, codes}
+use lib.Utf8.{scalar}
+use Rattle.font_face.specs.Glyphs.{nominal_glyph, variation_glyph}
+use Rattle.glyph_buffer.specs.Readings.{View, Read, Stage, always}
+use Rattle.glyph_properties.specs.Normalizer.{Normalizer}
+use Rattle.shape_plan.specs.Plans.{mask_at_one}
+use Rattle.shape_masks.specs.Masks.{with_one_mask}
+use Rattle.shape_text.specs.Properties.{with_properties}
+use Rattle.shape_text.specs.Circle.{first_circle}
+use Rattle.shape_text.specs.Clusters.{with_clusters}
+use Rattle.shape_direction.specs.NativeOrder.{native_order}
+use Rattle.shape_direction.specs.Rotation.{rotated}
+use Rattle.shape_normalize.specs.Rounds.{normalization}
+use Rattle.shape_pipeline.specs.Chains.{in_order}
+use Rattle.shape_pipeline.specs.Limits.{begun}
+use Rattle.shape_pipeline.specs.Shaping.{Shaping, preprocessed}
+
+-- limits go by the length; each character has the mask of the features that are on for all, and its properties; a circle stands before a mark; graphemes are made clusters; the text is put in the order of its writing
+unfoldable pub text_begun : Shaping → Stage
+text_begun p = in_order (
+    always begun ∷
+    always (with_one_mask p.map.global_mask) ∷
+    always (with_properties p.tables) ∷
+    first_circle p.tables p.font p.settings.flags p.settings.pre_context ∷
+    always with_clusters ∷
+    always (native_order p.settings.script) ∷
+    [])
+
+-- what normalising reads: what is no character has no glyph and no parts, and composes with nothing
+abbrev pub normalizer : Shaping → Normalizer
+normalizer p = record {
+  tables = p.tables;
+  mode = p.traits.normalization;
+  glyph_of = λ u. if scalar u then nominal_glyph u p.font else None;
+  variant_of = λ u s. if scalar u && scalar s then variation_glyph u s p.font else None;
+  invisible = p.settings.invisible;
+  unjoined_glyph = p.settings.not_found_variation_selector;
+  splits = λ u. if scalar u then p.rules.splits p.tables u else None;
+  composes = λ a b. if scalar a && scalar b then p.rules.composes p.tables a b else None;
+  reorders = p.rules.reorders;
+}
+
+-- characters are mirrored, or stand upright, as the line is to run
+abbrev pub turned_to_line : Shaping → View → Read
+turned_to_line p v = rotated p.tables p.font p.direction (mask_at_one (codes "rtlm") p.map) p.choices.has_vert v
+
+-- the shaper changes the text; characters are mirrored or stand upright as the line is to run; they are split, put in order and composed, and each has its glyph
+unfoldable pub characters_chosen : Shaping → Stage
+characters_chosen p = in_order (
+    preprocessed p ∷
+    always (turned_to_line p) ∷
+    normalization (normalizer p) ∷
+    [])

@@ -1,0 +1,24 @@
+-- The end of shaping.
+use Rattle.std.specs.Prelude.{◌&&◌, Bool, [], ◌∷◌}
+use Rattle.stage_rules.specs.Settings.{TextSettings}
+use Rattle.glyph_buffer.specs.Readings.{Stage, always}
+use Rattle.shape_glyphs.specs.Flags.{with_flags_spread}
+use Rattle.shape_glyphs.specs.Ignorables.{hidden, is_glyph_if_set}
+use Rattle.shape_glyphs.specs.Selectors.{with_selectors}
+use Rattle.shape_pipeline.specs.Chains.{in_order}
+use Rattle.shape_pipeline.specs.Limits.{ended}
+use Rattle.shape_pipeline.specs.Shaping.{Shaping, postprocessed}
+
+-- selectors that the font does not join are shown, ignorables are hidden or go; the shaper changes the glyphs; those of a cluster get one set of flags; the limits are as at first
+unfoldable pub text_ended : Shaping → Stage
+text_ended p = in_order (
+    always (with_selectors p.settings.not_found_variation_selector) ∷
+    always (hidden p.settings.flags p.settings.invisible p.font) ∷
+    postprocessed p ∷
+    always with_flags_spread ∷
+    always (ended p.direction) ∷
+    [])
+
+-- the glyphs that are set for what is not to be seen, and for a selector that the font does not know, are numbers that a glyph can have
+abbrev pub sets_glyphs : TextSettings → Bool
+sets_glyphs settings = is_glyph_if_set settings.invisible && is_glyph_if_set settings.not_found_variation_selector

@@ -1,0 +1,24 @@
+-- Which features act on which characters.
+use Rattle.std.specs.Prelude.{ℕ, List, [], ◌∷◌, codes}
+use Rattle.glyph_buffer.specs.Readings.{Stage, always}
+use Rattle.map_builder.specs.Compiled.{OtMapValue}
+use Rattle.shape_plan.specs.Plans.{mask_at_one}
+use Rattle.shape_fractions.specs.Fractions.{with_fractions}
+use Rattle.shape_fractions.specs.declared.fractions.FractionMasks.{FractionMasks}
+use Rattle.shape_masks.specs.Ranges.{with_ranges}
+use Rattle.shape_pipeline.specs.Chains.{in_order, only_if}
+use Rattle.shape_pipeline.specs.Shaping.{Shaping, shaper_masks_set}
+
+abbrev pub fraction_masks : OtMapValue → FractionMasks
+fraction_masks m = record { frac = mask_at_one (codes "frac") m; numr = mask_at_one (codes "numr") m; dnom = mask_at_one (codes "dnom") m }
+
+-- numbers around a slash get the masks of fractions, where the font has them; then the shaper sets its own
+unfoldable pub masks_set : Shaping → Stage
+masks_set p = in_order (
+    only_if p.choices.has_frac (always (with_fractions (fraction_masks p.map))) ∷
+    shaper_masks_set p ∷
+    [])
+
+-- features that were asked for on a part of the text, by the numbers of the clusters
+abbrev pub ranges_set : Shaping → List ℕ → Stage
+ranges_set p clusters v = always (with_ranges p.map p.features clusters) v

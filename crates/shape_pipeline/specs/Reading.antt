@@ -1,0 +1,54 @@
+-- The whole reading of a text.
+use Rattle.std.specs.Prelude.{ℕ, List, [], ◌∷◌, Ok, Err}
+use Rattle.glyph_lists.specs.Origins.{numbers}
+use Rattle.glyph_lists.specs.Events.{origins_after}
+use Rattle.glyph_buffer.specs.Readings.{Reading, Run, Stage}
+use Rattle.shape_pipeline.specs.Chains.{in_order}
+use Rattle.shape_pipeline.specs.Characters.{characters_chosen, text_begun}
+use Rattle.shape_pipeline.specs.Endings.{text_ended}
+use Rattle.shape_pipeline.specs.Glyphs.{glyphs_substituted, glyphs_taken}
+use Rattle.shape_pipeline.specs.Masks.{masks_set, ranges_set}
+use Rattle.shape_pipeline.specs.Places.{positions_adjusted, positions_begun, positions_ended}
+use Rattle.shape_pipeline.specs.Shaping.{Shaping}
+
+-- all that comes before the masks of ranges
+unfoldable pub before_ranges : Shaping → Stage
+before_ranges p = in_order (
+    text_begun p ∷
+    characters_chosen p ∷
+    masks_set p ∷
+    [])
+
+-- glyphs, where they stand
+unfoldable pub positioned : Shaping → Stage
+positioned p = in_order (
+    positions_begun p ∷
+    positions_adjusted p ∷
+    positions_ended p ∷
+    [])
+
+-- all that comes after them: glyphs, substitution, positions, the end
+unfoldable pub after_ranges : Shaping → Stage
+after_ranges p = in_order (
+    glyphs_taken p ∷
+    glyphs_substituted p ∷
+    positioned p ∷
+    text_ended p ∷
+    [])
+
+-- the reading of a text whose clusters have such numbers where the masks of ranges are set, which nothing else reads
+unfoldable pub shaped : Shaping → List ℕ → Stage
+shaped p clusters = in_order (
+    before_ranges p ∷
+    ranges_set p clusters ∷
+    after_ranges p ∷
+    [])
+
+-- the numbers of a run's clusters once a reading was followed
+abbrev pub clusters_after : Reading → Run → List ℕ
+clusters_after (Ok r) run = numbers (origins_after run.asks run.level (r.events run.level) run.origins)
+clusters_after (Err e) run = []
+
+-- the reading of a run
+unfoldable pub reading : Shaping → Run → Reading
+reading p run = shaped p (clusters_after (before_ranges p run.view) run) run.view

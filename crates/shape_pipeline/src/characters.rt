@@ -1,0 +1,111 @@
+//! A text's characters, until they are as the font and the shaper want them.
+ghost use Rattle.std.specs.Prelude.{◌≡◌, ◌≢◌, Err, IfErr, OnOk, true};
+ghost use Rattle.glyph_buffer.specs.Readings.{always, read_of};
+ghost use Rattle.glyph_buffer.specs.Sides.{items_of, run_of};
+ghost use Rattle.stage_rules.specs.Ready.{IsReady};
+ghost use Rattle.stage_rules.specs.Settings.{text_settings};
+ghost use Rattle.stage_rules.specs.Stages.{IsFollowed};
+ghost use Rattle.shape_text.specs.Properties.{are_characters};
+ghost use Rattle.shape_normalize.specs.Rounds.{normalization};
+ghost use Rattle.shape_pipeline.specs.Characters.{characters_chosen, normalizer, text_begun, turned_to_line};
+ghost use Rattle.shape_pipeline.specs.Shaping.{preprocessed};
+
+use crate::context::{Shaped, hb_ot_shape_context_t};
+use crate::normalizing::hb_ot_shape_normalize_context_t;
+use glyph_buffer::buffer::hb_buffer_t;
+use glyph_lists::cause::ShapeCause;
+use script_syllables::SyllableSpans;
+use shape_direction::direction::ensure_native_direction;
+use shape_direction::rotation::{self, Rotation};
+use shape_masks::masks::initialize_masks;
+use shape_normalize::normalize::_hb_ot_shape_normalize;
+use shape_plan::hb_ot_shaper_t;
+use shape_text::circle::insert_dotted_circle;
+use shape_text::clusters::form_clusters;
+use shape_text::properties::set_unicode_props;
+
+impl<S: hb_ot_shaper_t, P: SyllableSpans> hb_ot_shape_context_t<'_, S, P> {
+    /// Begins with a text: limits, the mask of all glyphs, the characters' properties, a circle before a mark, graphemes, and
+    /// the order of the writing.
+    pub(crate) fn begin_text(&self, buffer: &mut hb_buffer_t) -> Result<(), ShapeCause>
+        requires ready { IsReady buffer.old }
+        requires characters { are_characters (items_of buffer.old) ≡ true }
+        ensures ok { OnOk result (IsFollowed
+            (text_begun (⟦<Self as Shaped>⟧.shaping self.now (text_settings buffer.old))) buffer.old buffer.new) }
+        ensures err { IfErr result (λ e. e ≢ ShapeCause.OutOfMemory → read_of
+            (text_begun (⟦<Self as Shaped>⟧.shaping self.now (text_settings buffer.old))) (run_of buffer.old) ≡ Err e) }
+    {
+        buffer.enter();
+        initialize_masks(self.plan.script_plan.map.get_global_mask(), buffer);
+        set_unicode_props(self.tables, buffer);
+        insert_dotted_circle(self.face, self.tables, buffer)?;
+        form_clusters(buffer);
+        ensure_native_direction(buffer);
+        Ok(())
+    }
+
+    /// Mirrors characters, or puts them upright, as the line is to run.
+    fn rotate_chars(&self, buffer: &mut hb_buffer_t)
+        requires { IsReady buffer.old }
+        ensures { IsFollowed
+            (always (turned_to_line (⟦<Self as Shaped>⟧.shaping self.now (text_settings buffer.old)))) buffer.old
+            buffer.new }
+    {
+        let plan = &self.plan.script_plan;
+        let rotation = Rotation {
+            target_direction: plan.direction,
+            rtlm_mask: plan.rtlm_mask(),
+            has_vert: plan.choices.has_vert,
+        };
+        rotation::rotate_chars(rotation, self.face, self.tables, buffer);
+    }
+
+    /// Puts the text in the normal form that the font and the shaper want.
+    fn normalize(&self, buffer: &mut hb_buffer_t) -> Result<(), ShapeCause>
+        requires { IsReady buffer.old }
+        ensures ok { OnOk result (IsFollowed
+            (normalization (normalizer (⟦<Self as Shaped>⟧.shaping self.now (text_settings buffer.old))))
+            buffer.old buffer.new) }
+        ensures err { IfErr result (λ e. e ≢ ShapeCause.OutOfMemory → read_of
+            (normalization (normalizer (⟦<Self as Shaped>⟧.shaping self.now (text_settings buffer.old))))
+            (run_of buffer.old) ≡ Err e) }
+    {
+        let by = hb_ot_shape_normalize_context_t {
+            shaper: &self.plan.shaper,
+            plan: &self.plan.script_plan,
+            face: self.face,
+            tables: self.tables,
+            invisible: buffer.invisible(),
+            unjoined_glyph: buffer.not_found_variation_selector(),
+        };
+        _hb_ot_shape_normalize(&by, self.alloc, buffer)
+    }
+
+    fn preprocess_text(&self, buffer: &mut hb_buffer_t) -> Result<(), ShapeCause>
+        requires { IsReady buffer.old }
+        ensures ok { OnOk result (IsFollowed
+            (preprocessed (⟦<Self as Shaped>⟧.shaping self.now (text_settings buffer.old))) buffer.old buffer.new) }
+        ensures err { IfErr result (λ e. e ≢ ShapeCause.OutOfMemory → read_of
+            (preprocessed (⟦<Self as Shaped>⟧.shaping self.now (text_settings buffer.old))) (run_of buffer.old) ≡ Err e) }
+    {
+        let plan = self.plan;
+        plan.shaper
+            .preprocess_text(&plan.script_plan, self.face, self.tables, buffer)
+    }
+
+    /// Gives each character its glyph: the shaper changes the text, its characters are mirrored or stand upright, and they are
+    /// put in the normal form that the font wants.
+    pub(crate) fn choose_characters(&self, buffer: &mut hb_buffer_t) -> Result<(), ShapeCause>
+        requires { IsReady buffer.old }
+        ensures ok { OnOk result (IsFollowed
+            (characters_chosen (⟦<Self as Shaped>⟧.shaping self.now (text_settings buffer.old))) buffer.old buffer.new) }
+        ensures err { IfErr result (λ e. e ≢ ShapeCause.OutOfMemory → read_of
+            (characters_chosen (⟦<Self as Shaped>⟧.shaping self.now (text_settings buffer.old))) (run_of buffer.old)
+            ≡ Err e) }
+    {
+        self.preprocess_text(buffer)?;
+        self.rotate_chars(buffer);
+        self.normalize(buffer)?;
+        Ok(())
+    }
+}

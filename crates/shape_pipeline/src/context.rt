@@ -1,0 +1,42 @@
+//! What a text is shaped by.
+
+use font_face::Face;
+use script_syllables::SyllableSpans;
+use shape_plan::hb_ot_shaper_t;
+use shape_plan::plan::hb_ot_shape_plan_t;
+use std::alloc::Global;
+use unicode_tables::UnicodeTables;
+
+/// A plan with its shaper, a font, tables of characters, and what tells where syllables end.
+#[derive(Drop)]
+pub struct hb_ot_shape_context_t<'a, S: hb_ot_shaper_t, P: SyllableSpans> {
+    pub plan: &'a hb_ot_shape_plan_t<S>,
+    pub face: &'a Face,
+    pub tables: &'a UnicodeTables,
+    pub spans: &'a P,
+    pub alloc: Global,
+}
+
+/// What a text is shaped by, as its reading knows it.
+pub trait Shaped {
+    ghost use Rattle.stage_rules.specs.Settings.{TextSettings};
+    ghost use Rattle.shape_pipeline.specs.Shaping.{Shaping};
+
+    ghost shaping: { Self → TextSettings → Shaping };
+}
+
+impl<S: hb_ot_shaper_t, P: SyllableSpans> Shaped for hb_ot_shape_context_t<'_, S, P> {
+    ghost shaping = { λ c settings. record {
+      font = c.face.now;
+      tables = c.tables.now;
+      settings = settings;
+      direction = c.plan.now.script_plan.direction;
+      script = c.plan.now.script_plan.script;
+      map = c.plan.now.script_plan.map;
+      choices = c.plan.now.script_plan.choices;
+      features = c.plan.now.user_features.items;
+      traits = S.traits c.plan.now.shaper;
+      rules = S.rules c.plan.now.shaper c.plan.now.script_plan;
+      spans = P.span_of c.spans.now;
+    } };
+}

@@ -1,0 +1,78 @@
+//! The end of shaping.
+ghost use Rattle.std.specs.Prelude.{◌≡◌, ◌≢◌, Err, IfErr, OnOk, true};
+ghost use Rattle.glyph_buffer.specs.Readings.{always, read_of};
+ghost use Rattle.glyph_buffer.specs.Sides.{items_of, run_of};
+ghost use Rattle.stage_rules.specs.Buffers.{are_glyphs};
+ghost use Rattle.stage_rules.specs.Ready.{IsDone, IsReady};
+ghost use Rattle.stage_rules.specs.Settings.{text_settings};
+ghost use Rattle.stage_rules.specs.Stages.{IsFollowed};
+ghost use Rattle.shape_glyphs.specs.Ignorables.{hidden, is_glyph_if_set};
+ghost use Rattle.shape_pipeline.specs.Endings.{sets_glyphs, text_ended};
+ghost use Rattle.shape_pipeline.specs.Limits.{ended};
+ghost use Rattle.shape_pipeline.specs.Shaping.{postprocessed};
+
+use crate::context::{Shaped, hb_ot_shape_context_t};
+use font_face::Face;
+use glyph_buffer::buffer::hb_buffer_t;
+use glyph_lists::cause::ShapeCause;
+use script_syllables::SyllableSpans;
+use shape_glyphs::flags::propagate_flags;
+use shape_glyphs::ignorables::hide_default_ignorables;
+use shape_glyphs::selectors::deal_with_variation_selectors;
+use shape_plan::hb_ot_shaper_t;
+use shaping_text::direction::Direction;
+
+#[tactic(auto, using(crate::proofs::Sets::hidden_as_asked))]
+fn hide_ignorables(face: &Face, buffer: &mut hb_buffer_t)
+    requires { IsReady buffer.old }
+    ensures stage { IsFollowed (always (hidden (text_settings buffer.old).flags (text_settings buffer.old).invisible
+        face.now))
+        buffer.old buffer.new }
+    ensures numbers { is_glyph_if_set buffer.old.invisible ≡ true
+        → are_glyphs (items_of buffer.old) ≡ true → are_glyphs (items_of buffer.new) ≡ true }
+{
+    hide_default_ignorables(face, buffer);
+}
+
+/// Gives the buffer the direction of its line, and sets the limits as they were at first.
+#[tactic(auto, using(crate::proofs::Ended::left_followed))]
+fn leave(direction: Direction, buffer: &mut hb_buffer_t)
+    requires { IsReady buffer.old }
+    ensures { IsFollowed (always (ended direction)) buffer.old buffer.new }
+{
+    buffer.set_direction(direction);
+    buffer.leave();
+}
+
+impl<S: hb_ot_shaper_t, P: SyllableSpans> hb_ot_shape_context_t<'_, S, P> {
+    fn postprocess_glyphs(&self, buffer: &mut hb_buffer_t) -> Result<(), ShapeCause>
+        requires { IsReady buffer.old }
+        ensures ok { OnOk result (IsDone
+            (postprocessed (⟦<Self as Shaped>⟧.shaping self.now (text_settings buffer.old))) buffer.old buffer.new) }
+        ensures err { IfErr result (λ e. e ≢ ShapeCause.OutOfMemory → read_of
+            (postprocessed (⟦<Self as Shaped>⟧.shaping self.now (text_settings buffer.old))) (run_of buffer.old)
+            ≡ Err e) }
+    {
+        let plan = self.plan;
+        plan.shaper
+            .postprocess_glyphs(self.alloc, &plan.script_plan, self.face, buffer)
+    }
+
+    /// Ends with a text: selectors and ignorables, the shaper's own work, and one set of flags for a cluster.
+    pub(crate) fn end_text(&self, buffer: &mut hb_buffer_t) -> Result<(), ShapeCause>
+        requires { IsReady buffer.old }
+        ensures ok { OnOk result (IsFollowed
+            (text_ended (⟦<Self as Shaped>⟧.shaping self.now (text_settings buffer.old))) buffer.old buffer.new) }
+        ensures numbers { OnOk result (sets_glyphs (text_settings buffer.old) ≡ true
+            → are_glyphs (items_of buffer.old) ≡ true → are_glyphs (items_of buffer.new) ≡ true) }
+        ensures err { IfErr result (λ e. e ≢ ShapeCause.OutOfMemory → read_of
+            (text_ended (⟦<Self as Shaped>⟧.shaping self.now (text_settings buffer.old))) (run_of buffer.old) ≡ Err e) }
+    {
+        deal_with_variation_selectors(buffer);
+        hide_ignorables(self.face, buffer);
+        self.postprocess_glyphs(buffer)?;
+        propagate_flags(buffer);
+        leave(self.plan.script_plan.direction, buffer);
+        Ok(())
+    }
+}

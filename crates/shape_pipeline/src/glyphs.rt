@@ -1,0 +1,89 @@
+//! Characters become glyphs, and the font substitutes them.
+ghost use Rattle.std.specs.Prelude.{◌≡◌, ◌≢◌, Err, IfErr, OnOk, true};
+ghost use Rattle.glyph_buffer.specs.Readings.{always, read_of};
+ghost use Rattle.glyph_buffer.specs.Sides.{items_of, run_of};
+ghost use Rattle.stage_rules.specs.Buffers.{are_glyphs};
+ghost use Rattle.stage_rules.specs.Ready.{IsDone, IsReady};
+ghost use Rattle.stage_rules.specs.Settings.{text_settings};
+ghost use Rattle.layout_stages.specs.Substituting.{substituted_by};
+ghost use Rattle.stage_rules.specs.Stages.{IsFollowed};
+ghost use Rattle.shape_fallback.specs.Classes.{with_places};
+ghost use Rattle.shape_glyphs.specs.Glyphs.{with_synthesized_classes};
+ghost use Rattle.shape_pipeline.specs.Chains.{only_if};
+ghost use Rattle.shape_pipeline.specs.Glyphs.{glyphs_substituted, glyphs_taken};
+ghost use Rattle.shape_pipeline.specs.Shaping.{pauses_of};
+
+use crate::context::{Shaped, hb_ot_shape_context_t};
+use glyph_buffer::buffer::hb_buffer_t;
+use glyph_lists::cause::ShapeCause;
+use layout_stages::substitute::substitute;
+use script_syllables::SyllableSpans;
+use shape_fallback::classes::_hb_ot_shape_fallback_mark_position_recategorize_marks;
+use shape_glyphs::classes::hb_ot_layout_substitute_start;
+use shape_glyphs::glyphs::{hb_synthesize_glyph_classes, map_glyphs_fast};
+use shape_plan::hb_ot_shaper_t;
+use shape_plan::plan::PlanChoices;
+
+/// Gives marks the classes of their places, where they will be placed by their boxes.
+#[tactic(auto, using(crate::specs::Lemmas::Chains::acts_followed, crate::specs::Lemmas::Chains::rests_followed))]
+fn recategorize_marks(choices: PlanChoices, buffer: &mut hb_buffer_t)
+    requires { IsReady buffer.old }
+    ensures { IsFollowed (only_if choices.fallback_mark_positioning (always with_places)) buffer.old buffer.new }
+{
+    if choices.fallback_mark_positioning {
+        _hb_ot_shape_fallback_mark_position_recategorize_marks(buffer);
+    }
+}
+
+/// Gives glyphs classes by their characters, for a font that gives none.
+#[tactic(auto, using(crate::specs::Lemmas::Chains::acts_done, crate::specs::Lemmas::Chains::rests_done))]
+fn synthesize_classes(choices: PlanChoices, buffer: &mut hb_buffer_t)
+    requires { IsReady buffer.old }
+    ensures { IsDone (only_if choices.fallback_glyph_classes (always with_synthesized_classes)) buffer.old buffer.new }
+{
+    if choices.fallback_glyph_classes {
+        hb_synthesize_glyph_classes(buffer);
+    }
+}
+
+impl<S: hb_ot_shaper_t, P: SyllableSpans> hb_ot_shape_context_t<'_, S, P> {
+    /// Puts the glyph that was chosen for each character in its place.
+    #[tactic(auto, unfolding(crate::specs::Glyphs::glyphs_taken), using(crate::specs::Lemmas::Chains::two_followed))]
+    pub(crate) fn take_glyphs(&self, buffer: &mut hb_buffer_t)
+        requires { IsReady buffer.old }
+        ensures followed { IsFollowed
+            (glyphs_taken (⟦<Self as Shaped>⟧.shaping self.now (text_settings buffer.old))) buffer.old buffer.new }
+        ensures numbers { are_glyphs (items_of buffer.new) ≡ true }
+    {
+        recategorize_marks(self.plan.script_plan.choices, buffer);
+        map_glyphs_fast(buffer);
+    }
+
+    fn apply_substitutions(&self, buffer: &mut hb_buffer_t) -> Result<(), ShapeCause>
+        requires ready { IsReady buffer.old }
+        requires numbers { are_glyphs (items_of buffer.old) ≡ true }
+        ensures ok { OnOk result (IsDone (substituted_by self.now.face.now self.now.plan.now.script_plan.map
+            (pauses_of (⟦<Self as Shaped>⟧.shaping self.now (text_settings buffer.old)))) buffer.old buffer.new) }
+        ensures err { IfErr result (λ e. e ≢ ShapeCause.OutOfMemory → read_of
+            (substituted_by self.now.face.now self.now.plan.now.script_plan.map
+            (pauses_of (⟦<Self as Shaped>⟧.shaping self.now (text_settings buffer.old)))) (run_of buffer.old) ≡ Err e) }
+    {
+        substitute(&self.plan.script_plan.map, self.face, buffer, self)
+    }
+
+    /// Gives glyphs their classes and does the font's lookups of substitution, with the shaper's pauses.
+    pub(crate) fn substitute_glyphs(&self, buffer: &mut hb_buffer_t) -> Result<(), ShapeCause>
+        requires ready { IsReady buffer.old }
+        requires numbers { are_glyphs (items_of buffer.old) ≡ true }
+        ensures ok { OnOk result (IsDone
+            (glyphs_substituted (⟦<Self as Shaped>⟧.shaping self.now (text_settings buffer.old))) buffer.old buffer.new) }
+        ensures err { IfErr result (λ e. e ≢ ShapeCause.OutOfMemory → read_of
+            (glyphs_substituted (⟦<Self as Shaped>⟧.shaping self.now (text_settings buffer.old)))
+            (run_of buffer.old) ≡ Err e) }
+    {
+        hb_ot_layout_substitute_start(self.face, buffer);
+        synthesize_classes(self.plan.script_plan.choices, buffer);
+        self.apply_substitutions(buffer)?;
+        Ok(())
+    }
+}

@@ -1,0 +1,76 @@
+//! Which features act on which characters.
+ghost use Rattle.std.specs.Prelude.{◌≡◌, ◌≢◌, Err, IfErr, OnOk};
+ghost use Rattle.glyph_lists.specs.Items.{clusters};
+ghost use Rattle.glyph_buffer.specs.Readings.{always, read_of};
+ghost use Rattle.glyph_buffer.specs.Sides.{all_glyphs, run_of};
+ghost use Rattle.stage_rules.specs.Ready.{IsReady};
+ghost use Rattle.stage_rules.specs.Settings.{text_settings};
+ghost use Rattle.stage_rules.specs.Stages.{IsFollowed};
+ghost use Rattle.shape_fractions.specs.Fractions.{with_fractions};
+ghost use Rattle.shape_pipeline.specs.Chains.{only_if};
+ghost use Rattle.shape_pipeline.specs.Masks.{fraction_masks, masks_set, ranges_set};
+ghost use Rattle.shape_pipeline.specs.Shaping.{shaper_masks_set};
+
+use crate::context::{Shaped, hb_ot_shape_context_t};
+use glyph_buffer::buffer::hb_buffer_t;
+use glyph_lists::cause::ShapeCause;
+use script_syllables::SyllableSpans;
+use shape_fractions::fractions::{self, FractionMasks};
+use shape_masks::ranges::set_ranged_masks;
+use shape_plan::hb_ot_shaper_t;
+use shape_plan::plan::hb_script_plan_t;
+
+/// Gives numbers around a fraction slash the masks of fractions, where the font has them.
+#[tactic(auto, using(crate::specs::Lemmas::Chains::acts_followed, crate::specs::Lemmas::Chains::rests_followed))]
+fn setup_masks_fraction<D>(plan: &hb_script_plan_t<D>, buffer: &mut hb_buffer_t)
+    requires { IsReady buffer.old }
+    ensures { IsFollowed (only_if plan.now.choices.has_frac (always (with_fractions (fraction_masks plan.now.map))))
+        buffer.old buffer.new }
+{
+    if !plan.choices.has_frac {
+        return;
+    }
+    let masks = FractionMasks {
+        frac: plan.frac_mask(),
+        numr: plan.numr_mask(),
+        dnom: plan.dnom_mask(),
+    };
+    fractions::setup_masks_fraction(masks, buffer);
+}
+
+impl<S: hb_ot_shaper_t, P: SyllableSpans> hb_ot_shape_context_t<'_, S, P> {
+    fn setup_shaper_masks(&self, buffer: &mut hb_buffer_t) -> Result<(), ShapeCause>
+        requires { IsReady buffer.old }
+        ensures ok { OnOk result (IsFollowed
+            (shaper_masks_set (⟦<Self as Shaped>⟧.shaping self.now (text_settings buffer.old))) buffer.old buffer.new) }
+        ensures err { IfErr result (λ e. e ≢ ShapeCause.OutOfMemory → read_of
+            (shaper_masks_set (⟦<Self as Shaped>⟧.shaping self.now (text_settings buffer.old))) (run_of buffer.old)
+            ≡ Err e) }
+    {
+        let plan = self.plan;
+        plan.shaper
+            .setup_masks(&plan.script_plan, self.face, self.tables, buffer)
+    }
+
+    /// Sets the masks of fractions and those that the shaper sets.
+    pub(crate) fn setup_masks(&self, buffer: &mut hb_buffer_t) -> Result<(), ShapeCause>
+        requires { IsReady buffer.old }
+        ensures ok { OnOk result (IsFollowed
+            (masks_set (⟦<Self as Shaped>⟧.shaping self.now (text_settings buffer.old))) buffer.old buffer.new) }
+        ensures err { IfErr result (λ e. e ≢ ShapeCause.OutOfMemory → read_of
+            (masks_set (⟦<Self as Shaped>⟧.shaping self.now (text_settings buffer.old))) (run_of buffer.old) ≡ Err e) }
+    {
+        setup_masks_fraction(&self.plan.script_plan, buffer);
+        self.setup_shaper_masks(buffer)?;
+        Ok(())
+    }
+
+    /// Sets the masks of features that were asked for on a part of the text.
+    pub(crate) fn setup_ranges(&self, buffer: &mut hb_buffer_t)
+        requires { IsReady buffer.old }
+        ensures { IsFollowed (ranges_set (⟦<Self as Shaped>⟧.shaping self.now (text_settings buffer.old))
+            (clusters (all_glyphs buffer.old))) buffer.old buffer.new }
+    {
+        set_ranged_masks(&self.plan.script_plan.map, &self.plan.user_features, buffer);
+    }
+}

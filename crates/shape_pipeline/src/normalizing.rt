@@ -1,0 +1,92 @@
+//! What normalising asks, answered by a shaper, a font and tables.
+ghost use Rattle.std.specs.Prelude.{◌≡◌, ◌&&◌, None, if◌then◌else◌};
+
+use font_face::Face;
+use glyph_buffer::buffer::hb_buffer_t;
+use glyph_properties::NormalizationMode;
+use normal_rounds::normalizing::Normalizing;
+use shape_plan::hb_ot_shaper_t;
+use shape_plan::plan::hb_script_plan_t;
+use unicode_tables::UnicodeTables;
+
+/// A shaper with its plan, a font, tables, and the glyphs that a text has for what the font lacks.
+#[derive(Drop)]
+pub struct hb_ot_shape_normalize_context_t<'a, S: hb_ot_shaper_t> {
+    pub shaper: &'a S,
+    pub plan: &'a hb_script_plan_t<S::PlanData>,
+    pub face: &'a Face,
+    pub tables: &'a UnicodeTables,
+    pub invisible: Option<u32>,
+    pub unjoined_glyph: Option<u32>,
+}
+
+impl<S: hb_ot_shaper_t> Normalizing for hb_ot_shape_normalize_context_t<'_, S> {
+    ghost use Rattle.std.specs.Prelude.{◌&&◌, None, if◌then◌else◌};
+    ghost use lib.Utf8.{scalar};
+    ghost use Rattle.font_face.specs.Glyphs.{nominal_glyph, variation_glyph};
+
+    ghost normalizer = { λ n. record {
+      tables = n.tables.now;
+      mode = (S.traits n.shaper.now).normalization;
+      glyph_of = λ u. if scalar u then nominal_glyph u n.face.now else None;
+      variant_of = λ u s. if scalar u && scalar s then variation_glyph u s n.face.now else None;
+      invisible = n.invisible;
+      unjoined_glyph = n.unjoined_glyph;
+      splits = λ u. if scalar u then (S.rules n.shaper.now n.plan.now).splits n.tables.now u else None;
+      composes = λ a b. if scalar a && scalar b then (S.rules n.shaper.now n.plan.now).composes n.tables.now a b else
+          None;
+      reorders = (S.rules n.shaper.now n.plan.now).reorders;
+    } };
+
+    ghost keeps_count = { λ n. S.keeps_count n.shaper.now n.plan.now };
+
+    fn mode(&self) -> NormalizationMode {
+        self.shaper.normalization_preference()
+    }
+
+    fn tables(&self) -> &UnicodeTables {
+        self.tables
+    }
+
+    fn glyph(&self, u: u32) -> Option<u32> {
+        match char::from_u32(u) {
+            Some(u) => self.face.get_nominal_glyph(u).map(u32::from),
+            None => None,
+        }
+    }
+
+    fn variant(&self, u: u32, selector: u32) -> Option<u32> {
+        match (char::from_u32(u), char::from_u32(selector)) {
+            (Some(u), Some(selector)) => {
+                self.face.glyph_variation_index(u, selector).map(u32::from)
+            }
+            _ => None,
+        }
+    }
+
+    fn invisible(&self) -> Option<u32> {
+        self.invisible
+    }
+
+    fn unjoined_glyph(&self) -> Option<u32> {
+        self.unjoined_glyph
+    }
+
+    fn decompose(&self, ab: u32) -> Option<(char, char)> {
+        match char::from_u32(ab) {
+            Some(ab) => self.shaper.decompose(self.plan, self.tables, ab),
+            None => None,
+        }
+    }
+
+    fn compose(&self, a: u32, b: u32) -> Option<char> {
+        match (char::from_u32(a), char::from_u32(b)) {
+            (Some(a), Some(b)) => self.shaper.compose(self.plan, self.tables, a, b),
+            _ => None,
+        }
+    }
+
+    fn reorder_marks(&self, buffer: &mut hb_buffer_t, start: usize, end: usize) {
+        self.shaper.reorder_marks(self.plan, buffer, start, end);
+    }
+}

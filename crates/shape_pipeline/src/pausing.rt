@@ -1,0 +1,25 @@
+//! A shaper's pauses, between the stages of lookups.
+
+use crate::context::hb_ot_shape_context_t;
+use glyph_buffer::buffer::hb_buffer_t;
+use glyph_lists::cause::ShapeCause;
+use script_syllables::SyllableSpans;
+use shape_plan::hb_ot_shaper_t;
+use stage_rules::pause::Pause;
+
+impl<S: hb_ot_shaper_t, P: SyllableSpans> Pause for hb_ot_shape_context_t<'_, S, P> {
+    ghost stage = { λ c settings n. (S.rules c.plan.now.shaper c.plan.now.script_plan).pauses c.face.now c.tables.now
+        (P.span_of c.spans.now) settings n };
+
+    fn run(&self, pause: u8, buffer: &mut hb_buffer_t) -> Result<bool, ShapeCause> {
+        self.plan.shaper.run_pause(
+            self.alloc,
+            pause,
+            &self.plan.script_plan,
+            self.face,
+            self.tables,
+            self.spans,
+            buffer,
+        )
+    }
+}

@@ -1,0 +1,105 @@
+//! All stages of shaping, in order.
+ghost use Rattle.std.specs.Prelude.{◌≡◌, ◌≢◌, Err, IfErr, OnOk, true, false};
+ghost use Rattle.glyph_buffer.specs.Readings.{Follows, read_of};
+ghost use Rattle.glyph_buffer.specs.Sides.{items_of, run_of, settings_of};
+ghost use Rattle.stage_rules.specs.Buffers.{are_glyphs};
+ghost use Rattle.stage_rules.specs.Ready.{IsReady};
+ghost use Rattle.stage_rules.specs.Settings.{text_settings};
+ghost use Rattle.stage_rules.specs.Stages.{IsFollowed};
+ghost use Rattle.shape_text.specs.Properties.{are_characters};
+ghost use Rattle.shape_pipeline.specs.Endings.{sets_glyphs};
+ghost use Rattle.shape_pipeline.specs.Reading.{after_ranges, before_ranges, reading};
+
+use crate::context::{Shaped, hb_ot_shape_context_t};
+use glyph_buffer::buffer::hb_buffer_t;
+use glyph_lists::cause::ShapeCause;
+use script_syllables::SyllableSpans;
+use shape_plan::hb_ot_shaper_t;
+
+/// Puts the cursor in front of the text.
+#[tactic(auto, using(crate::proofs::Whole::rewound_ready, crate::proofs::Whole::rewound_run))]
+fn rewind(buffer: &mut hb_buffer_t)
+    requires closed { buffer.old.is_open ≡ false }
+    requires unrefused { buffer.old.has_refused ≡ false }
+    ensures ready { IsReady buffer.new }
+    ensures run { run_of buffer.new ≡ run_of buffer.old }
+    ensures settings { settings_of buffer.new ≡ settings_of buffer.old }
+{
+    let is_placed = buffer.pos_slice().len() == buffer.len();
+    prove!(is_placed);
+    let _moved = buffer.move_to(0);
+}
+
+impl<S: hb_ot_shaper_t, P: SyllableSpans> hb_ot_shape_context_t<'_, S, P> {
+    /// Does all that comes before the masks of ranges.
+    fn prepare_text(&self, buffer: &mut hb_buffer_t) -> Result<(), ShapeCause>
+        requires ready { IsReady buffer.old }
+        requires characters { are_characters (items_of buffer.old) ≡ true }
+        ensures ok { OnOk result (IsFollowed
+            (before_ranges (⟦<Self as Shaped>⟧.shaping self.now (text_settings buffer.old))) buffer.old buffer.new) }
+        ensures err { IfErr result (λ e. e ≢ ShapeCause.OutOfMemory → read_of
+            (before_ranges (⟦<Self as Shaped>⟧.shaping self.now (text_settings buffer.old))) (run_of buffer.old)
+            ≡ Err e) }
+    {
+        self.begin_text(buffer)?;
+        self.choose_characters(buffer)?;
+        self.setup_masks(buffer)?;
+        Ok(())
+    }
+
+    /// Does all that comes after them.
+    fn lay_out(&self, buffer: &mut hb_buffer_t) -> Result<(), ShapeCause>
+        requires { IsReady buffer.old }
+        ensures ok { OnOk result (IsFollowed
+            (after_ranges (⟦<Self as Shaped>⟧.shaping self.now (text_settings buffer.old))) buffer.old buffer.new) }
+        ensures numbers { OnOk result (sets_glyphs (text_settings buffer.old) ≡ true
+            → are_glyphs (items_of buffer.new) ≡ true) }
+        ensures err { IfErr result (λ e. e ≢ ShapeCause.OutOfMemory → read_of
+            (after_ranges (⟦<Self as Shaped>⟧.shaping self.now (text_settings buffer.old))) (run_of buffer.old) ≡ Err e) }
+    {
+        self.take_glyphs(buffer);
+        self.substitute_glyphs(buffer)?;
+        self.position(buffer)?;
+        self.end_text(buffer)?;
+        Ok(())
+    }
+
+    /// Does all stages on a buffer that stands ready.
+    fn shape_ready(&self, buffer: &mut hb_buffer_t) -> Result<(), ShapeCause>
+        requires ready { IsReady buffer.old }
+        requires characters { are_characters (items_of buffer.old) ≡ true }
+        ensures ok { OnOk result (Follows (reading (⟦<Self as Shaped>⟧.shaping self.now (text_settings buffer.old))
+            (run_of buffer.old)) (run_of buffer.old) (run_of buffer.new)) }
+        ensures still_closed { OnOk result (buffer.new.is_open ≡ false) }
+        ensures settings { OnOk result (settings_of buffer.new ≡ settings_of buffer.old) }
+        ensures numbers { OnOk result (sets_glyphs (text_settings buffer.old) ≡ true
+            → are_glyphs (items_of buffer.new) ≡ true) }
+        ensures err { IfErr result (λ e. e ≢ ShapeCause.OutOfMemory → reading
+            (⟦<Self as Shaped>⟧.shaping self.now (text_settings buffer.old)) (run_of buffer.old) ≡ Err e) }
+    {
+        self.prepare_text(buffer)?;
+        self.setup_ranges(buffer);
+        self.lay_out(buffer)?;
+        Ok(())
+    }
+
+    /// Shapes a text by the plan: all that the stages see of the buffer, and where its glyphs come from, follow the text's
+    /// reading. The result has numbers of glyphs, if those that are set for it are such. It refuses by the reading's own cause,
+    /// or for want of memory.
+    pub fn shape_internal(&self, buffer: &mut hb_buffer_t) -> Result<(), ShapeCause>
+        requires closed { buffer.old.is_open ≡ false }
+        requires unrefused { buffer.old.has_refused ≡ false }
+        requires characters { are_characters (items_of buffer.old) ≡ true }
+        ensures ok { OnOk result (Follows (reading (⟦<Self as Shaped>⟧.shaping self.now (text_settings buffer.old))
+            (run_of buffer.old)) (run_of buffer.old) (run_of buffer.new)) }
+        ensures still_closed { OnOk result (buffer.new.is_open ≡ false) }
+        ensures settings { OnOk result (settings_of buffer.new ≡ settings_of buffer.old) }
+        ensures numbers { OnOk result (sets_glyphs (text_settings buffer.old) ≡ true
+            → are_glyphs (items_of buffer.new) ≡ true) }
+        ensures err { IfErr result (λ e. e ≢ ShapeCause.OutOfMemory → reading
+            (⟦<Self as Shaped>⟧.shaping self.now (text_settings buffer.old)) (run_of buffer.old) ≡ Err e) }
+    {
+        rewind(buffer);
+        self.shape_ready(buffer)
+    }
+}

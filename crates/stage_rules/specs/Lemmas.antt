@@ -1,0 +1,27 @@
+-- Lemmas for what stands above: rules on buffers, stages that write glyphs one by one, moves, syllables that are rewritten.
+pub mod Orders
+pub mod Frames
+pub mod Glyphs
+pub mod Does
+pub mod Tried
+pub mod Attempts
+pub mod Performed
+pub mod Firsts
+pub mod Around
+pub mod Ways
+pub mod Written
+pub mod Happened
+pub mod Moved
+pub mod Walked
+pub mod Alone
+pub mod Nested
+pub mod Fronted
+pub mod Ordered
+pub mod Shifts
+pub mod Rewritings
+pub mod Parts
+pub mod Permuted
+pub mod Cuts
+pub mod Syllables
+pub mod Numbers
+pub mod Fronts

@@ -1,0 +1,10 @@
+pub mod Erased
+pub mod Put
+pub mod Underway
+pub mod Marking
+pub mod Glyphs
+pub mod Recorded
+pub mod Counting
+pub mod Forming
+pub mod Masked
+pub mod Marks

@@ -1,0 +1,25 @@
+-- The next glyph but grapheme joiners.
+use Rattle.std.proofs.Common.{ℕ, zero, suc, ◌≡◌, ◌≤◌, ◌+◌, Bool, true, false, if◌then◌else◌, List, [], ◌∷◌, Some, length, drop, slice_get, ap, sym, ◌∙◌, arith}
+use Rattle.std.specs.Prelude.{find, not}
+use Rattle.std.proofs.lemmas.List.{drop_all}
+use Rattle.glyph_properties.specs.Characters.{is_mark}
+use Rattle.glyph_lists.specs.declared.info.hb_glyph_info_t.{hb_glyph_info_t}
+use Rattle.glyph_lists.specs.Items.{Item, item_of, strip}
+use Rattle.syllable_stages.specs.Spans.{is_grapheme_joiner, mark_or_none, stands_before_mark}
+
+split_at : (gs : List hb_glyph_info_t) (i : ℕ) (g : hb_glyph_info_t) → slice_get gs i ≡ Some g → drop i gs ≡ g ∷ drop (i + 1) gs
+split_at [] i g e = cc
+split_at (h ∷ gs) zero g e = let same : h ≡ g = cc in ap (λ k. k ∷ gs) same
+split_at (h ∷ gs) (suc i) g e = let next : suc i + 1 ≡ suc (i + 1) = omega arith in split_at gs i g e ∙ ap (λ n. g ∷ drop n (h ∷ gs)) (sym next)
+
+abbrev first_is : Item → List Item → Bool → Bool
+first_is x xs t = mark_or_none (if not t then Some x else find (λ y. not (is_grapheme_joiner y)) xs)
+
+pub next_met : (gs : List hb_glyph_info_t) (i : ℕ) (g : hb_glyph_info_t) (b t : Bool) → slice_get gs i ≡ Some g → is_grapheme_joiner (item_of g) ≡ false → stands_before_mark (strip (drop i gs)) ≡ b → t ≡ is_mark (item_of g) → t ≡ b
+next_met gs i g b t at e f m = m ∙ sym (ap (first_is (item_of g) (strip (drop (i + 1) gs))) e) ∙ ap (λ hs. stands_before_mark (strip hs)) (sym (split_at gs i g at)) ∙ f
+
+pub joiner_passed : (gs : List hb_glyph_info_t) (i : ℕ) (g : hb_glyph_info_t) (b : Bool) → slice_get gs i ≡ Some g → is_grapheme_joiner (item_of g) ≡ true → stands_before_mark (strip (drop i gs)) ≡ b → stands_before_mark (strip (drop (i + 1) gs)) ≡ b
+joiner_passed gs i g b at e f = sym (ap (first_is (item_of g) (strip (drop (i + 1) gs))) e) ∙ ap (λ hs. stands_before_mark (strip hs)) (sym (split_at gs i g at)) ∙ f
+
+pub none_left : (gs : List hb_glyph_info_t) (i : ℕ) (b : Bool) → length gs ≤ i → stands_before_mark (strip (drop i gs)) ≡ b → false ≡ b
+none_left gs i b past f = ap (λ hs. stands_before_mark (strip hs)) (sym (drop_all i gs past)) ∙ f

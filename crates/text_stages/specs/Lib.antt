@@ -1,4 +1,0 @@
-pub mod Stages
-pub mod Lemmas
-pub mod Categories
-pub mod Places

@@ -1,6 +1,0 @@
-use Rattle.universal_syllables.proofs.Counting.{AreCounted}
-use Rattle.universal_syllables.proofs.spans.count_glyphs.Given as goal
-
--- the glyphs before `at` were counted
-abbrev pub invariant-loop-at : goal.invariant-loop-at
-invariant-loop-at l = AreCounted l.at l.glyphs l.categories.items l.indices.items
