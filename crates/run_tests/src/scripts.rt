@@ -1,8 +1,10 @@
 //! Texts of scripts with a shaper of their own: letters that join, vowels and syllables, circles.
 use crate::memory::{options, ran};
-use glyph_types::level::BufferClusterLevel::{self, Characters, MonotoneGraphemes};
+use glyph_lists::cause::ShapeCause;
+use glyph_lists::level::BufferClusterLevel::{self, Characters, MonotoneGraphemes};
+use run_options::fault::RunFault;
 use shaping_text::direction::Direction;
-use std::alloc::Global;
+use std::alloc::{AllocError, Global};
 use std::test::Fail;
 
 /// A machine of the universal shaper: bases with vowels are a syllable, and so are rephas alone, a broken one.
@@ -25,6 +27,12 @@ const ARABIC: &str = "{\"upem\":1000,\"cmap\":[[1575,10],[1576,20],[1611,30]],\
 /// A sign that becomes two tiles, of which the second repeats.
 const STRETCH: &str =
     "{\"upem\":1000,\"cmap\":[[1569,40],[1576,20]],\"h\":[[20,1100],[41,100],[42,300]],\
+    \"gsub\":{\"scripts\":[[\"arab\",{\"features\":[0]},[]]],\"features\":[[\"stch\",[0]]],\
+    \"lookups\":[{\"type\":\"multiple\",\"subtables\":[[[40,[41,42]]]]}]}}";
+
+/// The same with the widest letter that a font may have.
+const WIDE: &str =
+    "{\"upem\":1000,\"cmap\":[[1569,40],[1576,20]],\"h\":[[20,65535],[41,100],[42,300]],\
     \"gsub\":{\"scripts\":[[\"arab\",{\"features\":[0]},[]]],\"features\":[[\"stch\",[0]]],\
     \"lookups\":[{\"type\":\"multiple\",\"subtables\":[[[40,[41,42]]]]}]}}";
 
@@ -133,6 +141,35 @@ fn is_printed(alloc: Global, row: &Row) -> Result<bool, Fail> {
 fn scripts_are_shaped(rt: HostRuntime) -> Result<(), Fail> {
     for row in &ROWS {
         assert!(rt; is_printed(rt.alloc(), row)?, "{}", row.3);
+    }
+    Ok(())
+}
+
+fn stretched(alloc: Global, letters: u32) -> Result<String, AllocError> {
+    let mut text = String::from_str(alloc, "\u{621}")?;
+    for _ in 0..letters {
+        text.push('\u{628}')?;
+    }
+    Ok(text)
+}
+
+fn is_refused(alloc: Global, letters: u32, cause: ShapeCause) -> Result<bool, Fail> {
+    let text = stretched(alloc, letters)?;
+    let options = options(alloc, None, Direction::Invalid, &[])?;
+    let (answer, out) = ran(alloc, options, TABLES, WIDE, text.as_bytes());
+    Ok(answer == Err(RunFault::Shape(cause)) && out.is_empty())
+}
+
+// 32,768 letters are nearly 2^31 wide: so many copies of a tile no text may have. A letter more, and the width is no number
+// of 32 bits.
+#[test]
+fn words_are_stretched_within_limits(rt: HostRuntime) -> Result<(), Fail> {
+    for (letters, cause) in [
+        (32_768, ShapeCause::TooLong),
+        (32_769, ShapeCause::StretchRange),
+    ] {
+        let is_refused = is_refused(rt.alloc(), letters, cause)?;
+        assert!(rt; is_refused, "{letters}");
     }
     Ok(())
 }

@@ -1,0 +1,131 @@
+//! Rules of scripts, each by a text of rows: what a run prints of a text.
+mod circles;
+mod hangul;
+mod stretch;
+mod thai;
+
+use crate::memory::{options, ran};
+use glyph_lists::flags::SerializeFlags;
+use glyph_lists::level::BufferClusterLevel;
+use run_options::options::Options;
+use shaping_text::constants::BufferFlags;
+use shaping_text::direction::Direction;
+use shaping_text::script::{ARABIC, DIVES_AKURU, HANGUL, KHMER, LAO, MYANMAR, Script, THAI};
+use std::alloc::{AllocError, Global};
+use std::process::Abort;
+use std::test::Fail;
+
+fn level_of(number: &str) -> BufferClusterLevel {
+    match number {
+        "0" => BufferClusterLevel::MonotoneGraphemes,
+        "1" => BufferClusterLevel::MonotoneCharacters,
+        _ => BufferClusterLevel::Characters,
+    }
+}
+
+fn options_of(
+    alloc: Global,
+    script: Script,
+    level: &str,
+    buffer_flags: &str,
+    flags: &str,
+) -> Result<Options, Fail> {
+    let buffer_flags = buffer_flags.parse::<u32>()?;
+    let flags = flags.parse::<u8>()?;
+    Ok(Options {
+        cluster_level: level_of(level),
+        buffer_flags: BufferFlags(buffer_flags),
+        flags: SerializeFlags(flags),
+        ..options(alloc, Some(script), Direction::Invalid, &[])?
+    })
+}
+
+fn font_of(alloc: Global, ends: (&str, &str), own: &str) -> Result<String, AllocError> {
+    let mut font = String::from_str(alloc, ends.0)?;
+    font.push_str(own)?;
+    font.push_str(ends.1)?;
+    Ok(font)
+}
+
+/// A text of the characters that these hexadecimal numbers name.
+fn text_of(alloc: Global, numbers: &str) -> Result<String, Fail> {
+    let mut text = String::new(alloc);
+    for number in numbers.split(' ') {
+        let number = u32::from_str_radix(number, 16)?;
+        text.push(char::from_u32(number).ok_or("no character")?)?;
+    }
+    Ok(text)
+}
+
+fn prints(
+    alloc: Global,
+    options: Options,
+    tables: &str,
+    font: &str,
+    text: &str,
+    line: &str,
+) -> bool {
+    let (answer, out) = ran(alloc, options, tables, font, text.as_bytes());
+    answer == Ok(()) && out.strip_suffix(b"\n") == Some(line.as_bytes())
+}
+
+/// Whether a run prints what a row says, of a font that begins and ends as all do that its rule has.
+fn is_printed(
+    alloc: Global,
+    script: Script,
+    font: (&str, &str),
+    row: &[&str],
+) -> Result<bool, Fail> {
+    let [level, buffer_flags, flags, tables, own, text, line] = row else {
+        return Ok(false);
+    };
+    let options = options_of(alloc, script, level, buffer_flags, flags)?;
+    let font = font_of(alloc, font, own)?;
+    let text = text_of(alloc, text)?;
+    Ok(prints(alloc, options, tables, &font, &text, line))
+}
+
+fn is_followed(alloc: Global, script: Script, font: (&str, &str), row: &str) -> Result<bool, Fail> {
+    let fields = row.split(';').collect::<Vec<&str>>(alloc)?;
+    is_printed(alloc, script, font, &fields)
+}
+
+fn follow_rows(
+    rt: &impl Abort,
+    alloc: Global,
+    script: Script,
+    font: (&str, &str),
+    rows: &str,
+) -> Result<(), Fail> {
+    for row in rows.lines() {
+        let is_followed = is_followed(alloc, script, font, row)?;
+        assert!(rt; is_followed, "{row}");
+    }
+    Ok(())
+}
+
+#[test]
+fn hangul_rows_are_followed(rt: HostRuntime) -> Result<(), Fail> {
+    follow_rows(&rt, rt.alloc(), HANGUL, hangul::font(), hangul::rows())
+}
+
+#[test]
+fn thai_rows_are_followed(rt: HostRuntime) -> Result<(), Fail> {
+    follow_rows(&rt, rt.alloc(), THAI, thai::font(), thai::thai())?;
+    follow_rows(&rt, rt.alloc(), LAO, thai::font(), thai::lao())
+}
+
+#[test]
+fn stretch_rows_are_followed(rt: HostRuntime) -> Result<(), Fail> {
+    follow_rows(&rt, rt.alloc(), ARABIC, stretch::font(), stretch::rows())
+}
+
+#[test]
+fn circle_rows_are_followed(rt: HostRuntime) -> Result<(), Fail> {
+    let font = circles::universal_font();
+    follow_rows(&rt, rt.alloc(), DIVES_AKURU, font, circles::universal())?;
+    let font = circles::khmer_font();
+    follow_rows(&rt, rt.alloc(), KHMER, font, circles::khmer())?;
+    let font = circles::myanmar_font();
+    follow_rows(&rt, rt.alloc(), MYANMAR, font, circles::myanmar())
+}
