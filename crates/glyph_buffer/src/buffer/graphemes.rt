@@ -6,7 +6,9 @@ ghost use Rattle.glyph_slices.specs.Events.{deletions, groups_reversed, order_of
 ghost use Rattle.glyph_slices.specs.Facts.{items_kept, positions_kept, positions_turned};
 ghost use Rattle.glyph_slices.specs.Turning.{groups_turned};
 ghost use Rattle.glyph_buffer.specs.Graphemes.{continues, is_default_ignorable};
+ghost use Rattle.glyph_buffer.specs.Grouping.{with_groups_turned, with_picked_deleted};
 ghost use Rattle.glyph_buffer.specs.Sides.{all_glyphs, items_of, origins_by, origins_of};
+ghost use Rattle.glyph_buffer.specs.Sorting.{with_range_sorted};
 
 use super::hb_buffer_t;
 use glyph_lists::flags::{GlyphPropsFlags, UnicodeProps};
@@ -19,6 +21,7 @@ impl hb_buffer_t {
     /// the glyphs of each grapheme are merged before.
     pub fn reverse_graphemes(&mut self, merge: bool)
         requires { self.old.is_open ≡ false }
+        ensures turned { self.new ≡ with_groups_turned merge (λ g h. continues (item_of h)) self.old }
         ensures items { items_of self.new ≡ groups_turned (λ x y. continues y) (items_of self.old) }
         ensures positions { self.new.positions
             ≡ positions_turned (λ x y. continues y) (items_of self.old) self.old.positions }
@@ -31,7 +34,8 @@ impl hb_buffer_t {
     /// Reverses the order of the clusters, each in its own order; positions go with their glyphs.
     pub fn reverse_clusters(&mut self)
         requires { self.old.is_open ≡ false }
-        ensures { all_glyphs self.new ≡ groups_turned (λ g h. g.cluster == h.cluster) (all_glyphs self.old) }
+        ensures turned { self.new ≡ with_groups_turned false (λ g h. g.cluster == h.cluster) self.old }
+        ensures glyphs { all_glyphs self.new ≡ groups_turned (λ g h. g.cluster == h.cluster) (all_glyphs self.old) }
     {
         self.reverse_groups(|before, glyph| before.cluster == glyph.cluster, false);
     }
@@ -39,6 +43,7 @@ impl hb_buffer_t {
     /// Takes out the default ignorable characters that no substitution made into glyphs, and their positions.
     pub fn delete_default_ignorables(&mut self)
         requires { self.old.is_open ≡ false }
+        ensures deleted { self.new ≡ with_picked_deleted (λ g. is_default_ignorable (item_of g)) self.old }
         ensures items { items_of self.new ≡ items_kept is_default_ignorable (items_of self.old) }
         ensures positions { self.new.positions
             ≡ positions_kept is_default_ignorable (items_of self.old) self.old.positions }
@@ -59,6 +64,7 @@ impl hb_buffer_t {
         requires closed { self.old.is_open ≡ false }
         requires ordered { start ≤ end }
         requires within { end ≤ length (all_glyphs self.old) }
+        ensures sorted { OnOk result (self.new ≡ with_range_sorted start end (λ g. g.modified_combining_class) self.old) }
         ensures items { OnOk result (items_of self.new
             ≡ take start (items_of self.old) ++ key_order (λ x. x.class) (slice_range (items_of self.old) start end)
             ++ drop end (items_of self.old)) }
