@@ -30,7 +30,8 @@ fn natural(list: &str, at: usize) -> u32 {
     }
 }
 
-fn distance(list: &str, at: usize) -> i32 {
+/// A number of a list as a distance, zero where it isn't said.
+pub fn distance(list: &str, at: usize) -> i32 {
     match number(list, at) {
         Some(n) => i32::try_from(n).unwrap_or(0),
         None => 0,

@@ -6,76 +6,91 @@ use std::ops::Bound;
 
 const NO_END: u32 = u32::MAX;
 
-fn feature(tag: &[u8; 4], value: u32, start: u32, end: u32) -> Feature {
-    Feature {
-        tag: Tag::from_bytes(tag),
-        value,
-        start,
-        end,
+// Texts of requests, with their tags, values, starts and ends.
+const REQUESTS: &str = r#"kern|kern|1|0|4294967295
+-kern|kern|0|0|4294967295
+ + kern |kern|1|0|4294967295
+kern[3;5]=2|kern|2|3|5
+kern=oFf|kern|0|0|4294967295
+aalt on|aalt|1|0|4294967295
+-aalt = 4294967295|aalt|4294967295|0|4294967295
+'ss'2|ss  |2|0|4294967295
+"c_2" [] = 07|c_2 |7|0|4294967295
+kern[]|kern|1|0|4294967295
+kern[:]|kern|1|0|4294967295
+kern[5:]|kern|1|5|4294967295
+kern[:5]|kern|1|0|5
+kern[+3:5]|kern|1|3|5
+kern[3]|kern|1|3|4
+kern[-1]|kern|1|4294967295|4294967295
+kern[-2:2147483647]|kern|1|4294967294|2147483647"#;
+
+fn part(row: &str, at: usize) -> &str {
+    row.split('|').nth(at).unwrap_or("")
+}
+
+fn number(row: &str, at: usize) -> Option<u32> {
+    part(row, at).parse().ok()
+}
+
+fn wanted_feature(row: &str) -> Option<Feature> {
+    Some(Feature {
+        tag: Tag::from_bytes_lossy(part(row, 1).as_bytes()),
+        value: number(row, 2)?,
+        start: number(row, 3)?,
+        end: number(row, 4)?,
+    })
+}
+
+fn is_request(row: &str) -> bool {
+    match (part(row, 0).parse::<Feature>(), wanted_feature(row)) {
+        (Ok(found), Some(wanted)) => found == wanted,
+        _ => false,
     }
 }
 
 #[test]
 fn requests(rt: HostRuntime) {
-    for (text, want) in [
-        ("kern", feature(b"kern", 1, 0, NO_END)),
-        ("-kern", feature(b"kern", 0, 0, NO_END)),
-        (" + kern ", feature(b"kern", 1, 0, NO_END)),
-        ("kern[3;5]=2", feature(b"kern", 2, 3, 5)),
-        ("kern=oFf", feature(b"kern", 0, 0, NO_END)),
-        ("aalt on", feature(b"aalt", 1, 0, NO_END)),
-        ("-aalt = 4294967295", feature(b"aalt", NO_END, 0, NO_END)),
-        ("'ss'2", feature(b"ss  ", 2, 0, NO_END)),
-        ("\"c_2\" [] = 07", feature(b"c_2 ", 7, 0, NO_END)),
-        ("kern[]", feature(b"kern", 1, 0, NO_END)),
-        ("kern[:]", feature(b"kern", 1, 0, NO_END)),
-        ("kern[5:]", feature(b"kern", 1, 5, NO_END)),
-        ("kern[:5]", feature(b"kern", 1, 0, 5)),
-        ("kern[+3:5]", feature(b"kern", 1, 3, 5)),
-        ("kern[3]", feature(b"kern", 1, 3, 4)),
-        ("kern[-1]", feature(b"kern", 1, NO_END, NO_END)),
-        (
-            "kern[-2:2147483647]",
-            feature(b"kern", 1, NO_END - 1, 2147483647),
-        ),
-    ] {
-        assert_eq!(rt; text.parse::<Feature>(), Ok(want), "{text}");
+    for row in REQUESTS.lines() {
+        assert!(rt; is_request(row), "{row}");
     }
 }
 
+// The first is empty, and the second a space.
+const REFUSED: &str = "
+\u{20}
+-
+kern1
+ke-n
+'kern
+'kern\"
+' kern'
+--kern
+kern=
+kern= x
+kern=-1
+kern=4294967296
+kern=1 2
+kern 1x
+kern==1
+kern[
+kern[3
+kern[;]
+kern[3;]
+kern[;5]
+kern[+:5]
+kern[ 3]
+kern[3:5:7]
+kern[2147483648]
+kern[]]
+kern onx
+kern,liga";
+
 #[test]
 fn refused_texts(rt: HostRuntime) {
-    for text in [
-        "",
-        " ",
-        "-",
-        "kern1",
-        "ke-n",
-        "'kern",
-        "'kern\"",
-        "' kern'",
-        "--kern",
-        "kern=",
-        "kern= x",
-        "kern=-1",
-        "kern=4294967296",
-        "kern=1 2",
-        "kern 1x",
-        "kern==1",
-        "kern[",
-        "kern[3",
-        "kern[;]",
-        "kern[3;]",
-        "kern[;5]",
-        "kern[+:5]",
-        "kern[ 3]",
-        "kern[3:5:7]",
-        "kern[2147483648]",
-        "kern[]]",
-        "kern onx",
-        "kern,liga",
-    ] {
-        assert_eq!(rt; text.parse::<Feature>(), Err(InvalidFeature), "{text}");
+    for text in REFUSED.lines() {
+        let is_refused = text.parse::<Feature>() == Err(InvalidFeature);
+        assert!(rt; is_refused, "{text}");
     }
 }
 
@@ -121,6 +136,10 @@ fn parts_of(text: &'static str) -> Parts {
     )
 }
 
+fn are_parts(text: &'static str, want: Parts) -> bool {
+    parts_of(text) == want
+}
+
 #[test]
 fn parts_of_a_text(rt: HostRuntime) {
     let liga = Some(Tag::from_bytes(b"liga"));
@@ -132,6 +151,6 @@ fn parts_of_a_text(rt: HostRuntime) {
         ("liga!!", (liga, None, None, None, 1)),
         ("'", (None, None, None, None, 0)),
     ] {
-        assert_eq!(rt; parts_of(text), want, "{text}");
+        assert!(rt; are_parts(text, want), "{text}");
     }
 }

@@ -9,111 +9,98 @@ use std::alloc::Global;
 use std::process::Abort;
 use std::test::Fail;
 
-// A value as a character with a word behind it: of two faults the one that comes first by its kind.
-const PAIRS: [(&str, &str); 8] = [
-    ("[97,-2]", "read"),
-    ("[97,-32769]", "U2 OutOfRange"),
-    ("[55296,0]", "U2 OutOfRange"),
-    ("[55296,\"x\"]", "J2 WrongShape"),
-    ("[1114112,1.5]", "J3 FloatNumber"),
-    ("[18446744073709551616,0]", "J3 FloatNumber"),
-    ("[97]", "J2 WrongShape"),
-    ("3", "J2 WrongShape"),
-];
+// What is asked of a value, the answer, and the value, with semicolons between: a character with a word behind it, of two faults
+// the one that comes first by its kind; a byte, a number below 70000 and a tag; a row of two, of three and of four; and how
+// many items stand in `k`, none where that is no list.
+const ANSWERS: &str = r#"pair;read;[97,-2]
+pair;U2 OutOfRange;[97,-32769]
+pair;U2 OutOfRange;[55296,0]
+pair;J2 WrongShape;[55296,"x"]
+pair;J3 FloatNumber;[1114112,1.5]
+pair;J3 FloatNumber;[18446744073709551616,0]
+pair;J2 WrongShape;[97]
+pair;J2 WrongShape;3
+byte;read;255
+number;read;255
+tag;J2 WrongShape;255
+byte;U2 OutOfRange;256
+number;read;256
+tag;J2 WrongShape;256
+byte;U2 OutOfRange;70000
+number;U2 OutOfRange;70000
+tag;J2 WrongShape;70000
+byte;U2 OutOfRange;-1
+number;U2 OutOfRange;-1
+tag;J2 WrongShape;-1
+byte;J2 WrongShape;"liga"
+number;J2 WrongShape;"liga"
+tag;read;"liga"
+byte;J2 WrongShape;""
+number;J2 WrongShape;""
+tag;J2 WrongShape;""
+two;J2 WrongShape;{}
+three;J2 WrongShape;{}
+four;J2 WrongShape;{}
+two;J2 WrongShape;[1]
+three;J2 WrongShape;[1]
+four;J2 WrongShape;[1]
+two;read;[1,2]
+three;J2 WrongShape;[1,2]
+four;J2 WrongShape;[1,2]
+two;J2 WrongShape;[1,2,3]
+three;read;[1,2,3]
+four;J2 WrongShape;[1,2,3]
+two;J2 WrongShape;[1,2,3,4]
+three;J2 WrongShape;[1,2,3,4]
+four;read;[1,2,3,4]
+two;J2 WrongShape;[1,2,3,4,5]
+three;J2 WrongShape;[1,2,3,4,5]
+four;J2 WrongShape;[1,2,3,4,5]
+list;0;{}
+list;3;{"k":[1,2,3]}
+list;none;{"k":1}"#;
 
-fn fault_of<T: Drop>(read: Result<T, JsonFault>) -> &'static str {
-    match read {
-        Ok(_) => "read",
-        Err(fault) => fault.name(),
+fn part(row: &str, at: usize) -> &str {
+    row.split(';').nth(at).unwrap_or("")
+}
+
+fn name_of(fault: Option<JsonFault>) -> &'static str {
+    match fault {
+        Some(fault) => fault.name(),
+        None => "read",
     }
 }
 
-fn pair_fault(alloc: Global, text: &str) -> Result<&'static str, Fail> {
-    let value = Value::from_str(alloc, text)?;
-    Ok(fault_of(<(char, i16)>::read(&value)))
-}
-
-#[test]
-fn pairs(rt: HostRuntime) -> Result<(), Fail> {
-    for (text, want) in PAIRS {
-        let fault = pair_fault(rt.alloc(), text)?;
-        assert_eq!(rt; fault, want, "{text}");
-    }
-    Ok(())
-}
-
-/// Whether a value is a row of two, of three, of four.
-fn row_lengths(alloc: Global, text: &str) -> Result<[bool; 3], Fail> {
-    let value = Value::from_str(alloc, text)?;
-    Ok([
-        two_parts(&value).is_ok(),
-        three_parts(&value).is_ok(),
-        four_parts(&value).is_ok(),
-    ])
-}
-
-#[test]
-fn rows(rt: HostRuntime) -> Result<(), Fail> {
-    for (text, want) in [
-        ("{}", [false, false, false]),
-        ("[1]", [false, false, false]),
-        ("[1,2]", [true, false, false]),
-        ("[1,2,3]", [false, true, false]),
-        ("[1,2,3,4]", [false, false, true]),
-        ("[1,2,3,4,5]", [false, false, false]),
-    ] {
-        let lengths = row_lengths(rt.alloc(), text)?;
-        assert_eq!(rt; lengths, want, "{text}");
-    }
-    Ok(())
-}
-
-/// How many items stand in `k`, none where that is no list.
-fn count_in_k(alloc: Global, text: &str) -> Result<Option<usize>, Fail> {
-    let value = Value::from_str(alloc, text)?;
-    Ok(match list_at(&value, "k") {
+fn count_in_k(value: &Value) -> Option<usize> {
+    match list_at(value, "k") {
         Ok(items) => Some(items.len()),
         Err(_) => None,
-    })
-}
-
-#[test]
-fn lists_of_a_key(rt: HostRuntime) -> Result<(), Fail> {
-    for (text, want) in [
-        ("{}", Some(0)),
-        (r#"{"k":[1,2,3]}"#, Some(3)),
-        (r#"{"k":1}"#, None),
-    ] {
-        let count = count_in_k(rt.alloc(), text)?;
-        assert_eq!(rt; count, want, "{text}");
     }
-    Ok(())
 }
 
-/// The faults of a text as a byte, as a number below 70000, as a tag.
-type PartFaults = (&'static str, &'static str, &'static str);
+fn is_answer(value: &Value, asked: &str, answer: &str) -> bool {
+    match asked {
+        "pair" => name_of(<(char, i16)>::read(value).err()) == answer,
+        "byte" => name_of(u8::read(value).err()) == answer,
+        "number" => name_of(natural_number_below(value, 70_000).err()) == answer,
+        "tag" => name_of(Tag::read(value).err()) == answer,
+        "two" => name_of(two_parts(value).err()) == answer,
+        "three" => name_of(three_parts(value).err()) == answer,
+        "four" => name_of(four_parts(value).err()) == answer,
+        _ => count_in_k(value) == answer.parse::<usize>().ok(),
+    }
+}
 
-fn part_faults(alloc: Global, text: &str) -> Result<PartFaults, Fail> {
-    let value = Value::from_str(alloc, text)?;
-    Ok((
-        fault_of(u8::read(&value)),
-        fault_of(natural_number_below(&value, 70_000)),
-        fault_of(Tag::read(&value)),
-    ))
+fn is_answered(alloc: Global, row: &str) -> Result<bool, Fail> {
+    let value = Value::from_str(alloc, part(row, 2))?;
+    Ok(is_answer(&value, part(row, 0), part(row, 1)))
 }
 
 #[test]
 fn parts(rt: HostRuntime) -> Result<(), Fail> {
-    for (text, want) in [
-        ("255", ("read", "read", "J2 WrongShape")),
-        ("256", ("U2 OutOfRange", "read", "J2 WrongShape")),
-        ("70000", ("U2 OutOfRange", "U2 OutOfRange", "J2 WrongShape")),
-        ("-1", ("U2 OutOfRange", "U2 OutOfRange", "J2 WrongShape")),
-        ("\"liga\"", ("J2 WrongShape", "J2 WrongShape", "read")),
-        ("\"\"", ("J2 WrongShape", "J2 WrongShape", "J2 WrongShape")),
-    ] {
-        let faults = part_faults(rt.alloc(), text)?;
-        assert_eq!(rt; faults, want, "{text}");
+    for row in ANSWERS.lines() {
+        let is_answered = is_answered(rt.alloc(), row)?;
+        assert!(rt; is_answered, "{row}");
     }
     Ok(())
 }

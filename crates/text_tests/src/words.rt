@@ -1,7 +1,7 @@
 //! The words of a command line.
 use feature_text::feature::Feature;
-use glyph_lists::flags::SerializeFlags;
 use run_options::fault::RunFault;
+use run_options::options::Options;
 use shape_words::{CommandLine, parse_options};
 use shaping_text::direction::Direction;
 use shaping_text::direction::Direction::{Invalid, LeftToRight, RightToLeft};
@@ -63,144 +63,109 @@ fn command_line(alloc: Global, line: &str) -> Result<Result<CommandLine, RunFaul
     Ok(parse_options(alloc, &words))
 }
 
-fn fault_of(alloc: Global, line: &str) -> Result<Option<RunFault>, AllocError> {
+fn is_refused(alloc: Global, line: &str) -> Result<bool, AllocError> {
     let found = command_line(alloc, line)?;
-    Ok(found.err())
+    Ok(found.err() == Some(RunFault::Words))
 }
 
 #[test]
 fn other_words_are_refused(rt: HostRuntime) -> Result<(), Fail> {
     for line in REFUSED.lines() {
-        let fault = fault_of(rt.alloc(), line)?;
-        assert_eq!(rt; fault, Some(RunFault::Words), "{line}");
+        let is_refused = is_refused(rt.alloc(), line)?;
+        assert!(rt; is_refused, "{line}");
     }
     Ok(())
 }
 
-const NAMED: SerializeFlags = SerializeFlags::DEFAULT;
+// Words, and what they set, with semicolons between: direction, script, flags of what is printed, language, and the name of
+// the text's file. A language is any text but the empty one, in small letters; names stand anywhere among the options.
+const TAKEN: &str = "hb_shape|--no-clusters|a|b|c;;;1;;c
+hb_shape|--no-positions|a|b|c;;;2;;c
+hb_shape|--show-extents|a|b|c;;;8;;c
+hb_shape|--show-flags|a|b|c;;;16;;c
+hb_shape|--no-advances|a|b|c;;;32;;c
+hb_shape|--show-flags|--no-advances|--no-glyph-names|--show-extents|--no-positions|--no-clusters|a|b|c;;;63;;c
+hb_shape|a|b|c;;;0;;c
+hb_shape|--no-glyph-names|a|b|c;;;4;;c
+hb_shape|--direction=rtl|a|b|c;rtl;;0;;c
+hb_shape|--direction=Rtl|a|b|c;rtl;;0;;c
+hb_shape|--direction|left|a|b|c;ltr;;0;;c
+hb_shape|--direction=LTR|--no-glyph-names|a|b|c;ltr;;4;;c
+hb_shape|--script=Grek|a|b|c;;Grek;0;;c
+hb_shape|--script|Grek|--direction|r|a|b|c;rtl;Grek;0;;c
+hb_shape|--script=lAtN|a|b|c;;Latn;0;;c
+hb_shape|--script=Latnfoo|a|b|c;;Latn;0;;c
+hb_shape|--script=qaai|a|b|c;;Zinh;0;;c
+hb_shape|--script=La n|a|b|c;;Zzzz;0;;c
+hb_shape|--script=?|a|b|c;;Zzzz;0;;c
+hb_shape|--script=é|a|b|c;;Zzzz;0;;c
+hb_shape|--language=en|a|b|c;;;0;en;c
+hb_shape|--language|de-CH|a|b|c;;;0;de-ch;c
+hb_shape|a|--language=X-HBOT|b|c;;;0;x-hbot;c
+hb_shape|a|b|--|-c;;;0;;-c
+hb_shape|a|--direction=l|b|--|-c;ltr;;0;;-c
+x|--|a|b|-c;;;0;;-c";
 
-const UNNAMED: SerializeFlags = SerializeFlags::NO_GLYPH_NAMES;
+fn part(row: &str, at: usize) -> &str {
+    row.split(';').nth(at).unwrap_or("")
+}
 
-/// What a line sets.
-type Settings = (Direction, Option<Script>, SerializeFlags);
+fn direction_of(name: &str) -> Direction {
+    match name {
+        "ltr" => LeftToRight,
+        "rtl" => RightToLeft,
+        _ => Invalid,
+    }
+}
 
-const TAKEN: [(&str, Settings); 20] = [
-    (
-        "hb_shape|--no-clusters|a|b|c",
-        (Invalid, None, SerializeFlags(1)),
-    ),
-    (
-        "hb_shape|--no-positions|a|b|c",
-        (Invalid, None, SerializeFlags(2)),
-    ),
-    (
-        "hb_shape|--show-extents|a|b|c",
-        (Invalid, None, SerializeFlags(8)),
-    ),
-    (
-        "hb_shape|--show-flags|a|b|c",
-        (Invalid, None, SerializeFlags(16)),
-    ),
-    (
-        "hb_shape|--no-advances|a|b|c",
-        (Invalid, None, SerializeFlags(32)),
-    ),
-    (
-        "hb_shape|--show-flags|--no-advances|--no-glyph-names|--show-extents|--no-positions|--no-clusters|a|b|c",
-        (Invalid, None, SerializeFlags(63)),
-    ),
-    ("hb_shape|a|b|c", (Invalid, None, NAMED)),
-    ("hb_shape|--no-glyph-names|a|b|c", (Invalid, None, UNNAMED)),
-    ("hb_shape|--direction=rtl|a|b|c", (RightToLeft, None, NAMED)),
-    ("hb_shape|--direction=Rtl|a|b|c", (RightToLeft, None, NAMED)),
-    (
-        "hb_shape|--direction|left|a|b|c",
-        (LeftToRight, None, NAMED),
-    ),
-    (
-        "hb_shape|--direction=LTR|--no-glyph-names|a|b|c",
-        (LeftToRight, None, UNNAMED),
-    ),
-    (
-        "hb_shape|--script=Grek|a|b|c",
-        (Invalid, Some(GREEK), NAMED),
-    ),
-    (
-        "hb_shape|--script|Grek|--direction|r|a|b|c",
-        (RightToLeft, Some(GREEK), NAMED),
-    ),
-    (
-        "hb_shape|--script=lAtN|a|b|c",
-        (Invalid, Some(LATIN), NAMED),
-    ),
-    (
-        "hb_shape|--script=Latnfoo|a|b|c",
-        (Invalid, Some(LATIN), NAMED),
-    ),
-    (
-        "hb_shape|--script=qaai|a|b|c",
-        (Invalid, Some(INHERITED), NAMED),
-    ),
-    (
-        "hb_shape|--script=La n|a|b|c",
-        (Invalid, Some(UNKNOWN), NAMED),
-    ),
-    ("hb_shape|--script=?|a|b|c", (Invalid, Some(UNKNOWN), NAMED)),
-    ("hb_shape|--script=é|a|b|c", (Invalid, Some(UNKNOWN), NAMED)),
-];
+fn script_of(tag: &str) -> Option<Script> {
+    match tag {
+        "Grek" => Some(GREEK),
+        "Latn" => Some(LATIN),
+        "Zinh" => Some(INHERITED),
+        "Zzzz" => Some(UNKNOWN),
+        _ => None,
+    }
+}
 
-fn settings_of(alloc: Global, line: &str) -> Result<Settings, Fail> {
-    let options = command_line(alloc, line)??.options;
-    Ok((options.direction, options.script, options.flags))
+fn language_of(options: &Options) -> &str {
+    match &options.language {
+        Some(language) => language.as_str(),
+        None => "",
+    }
+}
+
+fn are_set(options: &Options, row: &str) -> [bool; 4] {
+    [
+        options.direction == direction_of(part(row, 1)),
+        options.script == script_of(part(row, 2)),
+        part(row, 3).parse::<u8>() == Ok(options.flags.0),
+        language_of(options) == part(row, 4),
+    ]
+}
+
+fn are_named(found: &CommandLine, text: &str) -> [bool; 3] {
+    [
+        found.tables.as_str() == "a",
+        found.font.as_str() == "b",
+        found.text.as_str() == text,
+    ]
+}
+
+fn is_read(found: &CommandLine, row: &str) -> bool {
+    are_set(&found.options, row) == [true; 4] && are_named(found, part(row, 5)) == [true; 3]
+}
+
+fn is_taken(alloc: Global, row: &str) -> Result<bool, Fail> {
+    let found = command_line(alloc, part(row, 0))??;
+    Ok(is_read(&found, row))
 }
 
 #[test]
 fn options_are_read(rt: HostRuntime) -> Result<(), Fail> {
-    for (line, want) in TAKEN {
-        let settings = settings_of(rt.alloc(), line)?;
-        assert_eq!(rt; settings, want, "{line}");
-    }
-    Ok(())
-}
-
-fn has_language(alloc: Global, line: &str, want: Option<&str>) -> Result<bool, Fail> {
-    let command = command_line(alloc, line)??;
-    Ok(match (&command.options.language, want) {
-        (Some(language), Some(want)) => language.as_str() == want,
-        (None, None) => true,
-        _ => false,
-    })
-}
-
-// A language is any text but the empty one, in small letters.
-#[test]
-fn languages_are_read(rt: HostRuntime) -> Result<(), Fail> {
-    for (line, want) in [
-        ("hb_shape|a|b|c", None),
-        ("hb_shape|--language=en|a|b|c", Some("en")),
-        ("hb_shape|--language|de-CH|a|b|c", Some("de-ch")),
-        ("hb_shape|a|--language=X-HBOT|b|c", Some("x-hbot")),
-    ] {
-        let is_read = has_language(rt.alloc(), line, want)?;
-        assert!(rt; is_read, "{line}");
-    }
-    Ok(())
-}
-
-fn has_names(alloc: Global, line: &str) -> Result<bool, Fail> {
-    let found = command_line(alloc, line)??;
-    Ok(found.tables.as_str() == "a" && found.font.as_str() == "b" && found.text.as_str() == "-c")
-}
-
-#[test]
-fn names_stand_anywhere(rt: HostRuntime) -> Result<(), Fail> {
-    for line in [
-        "hb_shape|a|b|--|-c",
-        "hb_shape|a|--direction=l|b|--|-c",
-        "x|--|a|b|-c",
-    ] {
-        let are_read = has_names(rt.alloc(), line)?;
-        assert!(rt; are_read, "{line}");
+    for row in TAKEN.lines() {
+        let is_taken = is_taken(rt.alloc(), row)?;
+        assert!(rt; is_taken, "{row}");
     }
     Ok(())
 }

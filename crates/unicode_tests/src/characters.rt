@@ -67,17 +67,17 @@ fn types(tables: &UnicodeTables) -> [Option<u8>; 3] {
     ]
 }
 
-fn characters_have_forms(rt: &impl Abort, tables: &UnicodeTables) {
-    assert_eq!(rt; classes(tables), [230, 0]);
-    assert_eq!(rt; other_forms(tables), [Some(')'), Some('\u{FE11}')]);
-    assert_eq!(rt; are_pictographic(tables), [true, false]);
-    assert_eq!(rt; types(tables), [Some(3), None, Some(44)]);
-}
-
-fn characters_have_rows(rt: &impl Abort, tables: &UnicodeTables) {
-    assert_eq!(rt; tables.indic('\u{915}'), Some((34, 14)));
-    assert_eq!(rt; tables.thai('\u{E38}', 3), Some(('\u{F71A}', '\u{F71B}')));
-    assert_eq!(rt; tables.thai('\u{E38}', 2), None);
+/// Whether characters have the classes, the other forms, the property, the types and the rows that the tables say.
+fn are_known(tables: &UnicodeTables) -> [bool; 7] {
+    [
+        classes(tables) == [230, 0],
+        other_forms(tables) == [Some(')'), Some('\u{FE11}')],
+        are_pictographic(tables) == [true, false],
+        types(tables) == [Some(3), None, Some(44)],
+        tables.indic('\u{915}') == Some((34, 14)),
+        tables.thai('\u{E38}', 3) == Some(('\u{F71A}', '\u{F71B}')),
+        tables.thai('\u{E38}', 2).is_none(),
+    ]
 }
 
 /// The tables of a text.
@@ -90,8 +90,7 @@ pub(crate) fn tables_of(alloc: Global, text: &str) -> Result<UnicodeTables, Fail
 fn characters_of(rt: &impl Abort, tables: &UnicodeTables) {
     characters_split(rt, tables);
     characters_compose(rt, tables);
-    characters_have_forms(rt, tables);
-    characters_have_rows(rt, tables);
+    assert_eq!(rt; are_known(tables), [true; 7]);
     characters_have_words(rt, tables);
 }
 

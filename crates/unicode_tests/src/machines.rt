@@ -12,18 +12,9 @@ use std::alloc::Global;
 use std::test::Fail;
 use unicode_tables::TablesFault;
 
-/// Shaper, number of states, steps (state, category, next state), accepting states with their kinds.
-type Machine = (&'static str, u32, &'static str, &'static str);
-
-/// A machine, the categories of a text, and where each syllable ends with its kind.
-type Case = (Machine, &'static str, &'static str);
-
-fn case_of(parts: &[&'static str]) -> Option<Case> {
-    let [shaper, states, steps, kinds, text, syllables] = parts else {
-        return None;
-    };
-    let machine = (*shaper, states.parse::<u32>().ok()?, *steps, *kinds);
-    Some((machine, *text, *syllables))
+/// A part of a case.
+fn part(case: &str, at: usize) -> &str {
+    case.split('|').nth(at).unwrap_or("")
 }
 
 fn step(shaper: hb_ot_script_shaper_t, words: &[&str]) -> Option<Step> {
@@ -63,15 +54,17 @@ fn kinds(alloc: Global, shaper: hb_ot_script_shaper_t, text: &str) -> Result<Vec
     Ok(kinds)
 }
 
-fn accepting(alloc: Global, kinds: &[(u32, u8)]) -> Result<Vec<Accept>, Fail> {
-    let mut rows = Vec::new(alloc);
-    for (state, kind) in kinds {
-        rows.push(Accept {
-            state: *state,
-            kind: *kind,
-        })?;
-    }
-    Ok(rows)
+fn accept((state, kind): (u32, u8)) -> Accept {
+    Accept { state, kind }
+}
+
+fn accepting(
+    alloc: Global,
+    shaper: hb_ot_script_shaper_t,
+    text: &str,
+) -> Result<Vec<Accept>, Fail> {
+    let kinds = kinds(alloc, shaper, text)?;
+    Ok(kinds.iter().map(|kind| accept(*kind)).collect(alloc)?)
 }
 
 /// The machine of one shaper, the others without states.
@@ -95,25 +88,24 @@ fn machines(
     machines
 }
 
-fn shaper_of(machine: Machine) -> Result<hb_ot_script_shaper_t, Fail> {
-    Ok(machine_shaper(machine.0).ok_or("no shaper")?)
+fn shaper_of(case: &str) -> Result<hb_ot_script_shaper_t, Fail> {
+    Ok(machine_shaper(part(case, 0)).ok_or("no shaper")?)
 }
 
-fn machine_of(alloc: Global, machine: Machine) -> Result<SyllableMachine, Fail> {
-    let shaper = shaper_of(machine)?;
-    let next = steps(alloc, shaper, machine.2)?;
-    let accept = accepting(alloc, &kinds(alloc, shaper, machine.3)?)?;
-    Ok(SyllableMachine {
-        states: machine.1,
+fn machines_of(
+    alloc: Global,
+    shaper: hb_ot_script_shaper_t,
+    case: &str,
+) -> Result<SyllableMachines, Fail> {
+    let states = part(case, 1).parse::<u32>()?;
+    let next = steps(alloc, shaper, part(case, 2))?;
+    let accept = accepting(alloc, shaper, part(case, 3))?;
+    let machine = SyllableMachine {
+        states,
         next,
         accept,
-    })
-}
-
-fn fault(alloc: Global, machine: Machine) -> Result<Option<TablesFault>, Fail> {
-    let shaper = shaper_of(machine)?;
-    let machine = machine_of(alloc, machine)?;
-    Ok(SyllableTable::new(machines(alloc, shaper, machine)).err())
+    };
+    Ok(machines(alloc, shaper, machine))
 }
 
 fn categories(alloc: Global, shaper: hb_ot_script_shaper_t, text: &str) -> Result<Vec<u8>, Fail> {
@@ -143,60 +135,70 @@ fn spans(
     Ok(spans)
 }
 
-fn spans_of(alloc: Global, (machine, text, _): Case) -> Result<Vec<(u32, u8)>, Fail> {
-    let shaper = shaper_of(machine)?;
-    let machine = machine_of(alloc, machine)?;
-    let table = SyllableTable::new(machines(alloc, shaper, machine))?;
-    let categories = categories(alloc, shaper, text)?;
+fn spans_of(
+    alloc: Global,
+    shaper: hb_ot_script_shaper_t,
+    case: &str,
+) -> Result<Vec<(u32, u8)>, Fail> {
+    let categories = categories(alloc, shaper, part(case, 4))?;
+    let table = SyllableTable::new(machines_of(alloc, shaper, case)?)?;
     spans(alloc, &table, shaper, &categories)
 }
 
-fn wanted_spans(alloc: Global, (machine, _, syllables): Case) -> Result<Vec<(u32, u8)>, Fail> {
-    let shaper = shaper_of(machine)?;
-    kinds(alloc, shaper, syllables)
-}
-
-fn read_case(alloc: Global, text: &'static str) -> Result<Case, Fail> {
-    let parts: Vec<&'static str> = text.split('|').collect(alloc)?;
-    Ok(case_of(&parts).ok_or("no case")?)
+fn agrees(alloc: Global, case: &str) -> Result<bool, Fail> {
+    let shaper = shaper_of(case)?;
+    let wanted = kinds(alloc, shaper, part(case, 5))?;
+    let found = spans_of(alloc, shaper, case)?;
+    Ok(found.as_slice() == wanted.as_slice())
 }
 
 #[test]
 fn longest_matches(rt: HostRuntime) -> Result<(), Fail> {
-    for text in cases::cases() {
-        let case = read_case(rt.alloc(), text)?;
-        let found = spans_of(rt.alloc(), case)?;
-        let wanted = wanted_spans(rt.alloc(), case)?;
-        assert_eq!(rt; found.as_slice(), wanted.as_slice(), "of {text}");
+    for case in cases::cases().lines() {
+        let agrees = agrees(rt.alloc(), case)?;
+        assert!(rt; agrees, "{case}");
     }
     Ok(())
 }
 
-const REFUSED: [(Machine, TablesFault); 8] = [
-    (("khmer", 2, "0 C 2", ""), TablesFault::OutOfRange),
-    (("khmer", 2, "2 C 0", ""), TablesFault::OutOfRange),
-    (("khmer", 2, "0 H 1 0 C 1", ""), TablesFault::OutOfOrder),
-    (("khmer", 2, "0 C 1 0 C 1", ""), TablesFault::OutOfOrder),
-    (("khmer", 2, "1 C 1 0 C 2", ""), TablesFault::OutOfRange),
-    (("khmer", 2, "", "2 non"), TablesFault::OutOfRange),
-    (("khmer", 2, "", "1 non 1 broken"), TablesFault::OutOfOrder),
-    (
-        ("indic", 2, "1 C 1 0 C 1", "2 non"),
-        TablesFault::OutOfOrder,
-    ),
-];
+// Machines with their faults.
+const REFUSED: &str = "khmer|2|0 C 2||OutOfRange
+khmer|2|2 C 0||OutOfRange
+khmer|2|0 H 1 0 C 1||OutOfOrder
+khmer|2|0 C 1 0 C 1||OutOfOrder
+khmer|2|1 C 1 0 C 2||OutOfRange
+khmer|2||2 non|OutOfRange
+khmer|2||1 non 1 broken|OutOfOrder
+indic|2|1 C 1 0 C 1|2 non|OutOfOrder";
+
+fn fault_named(name: &str) -> Option<TablesFault> {
+    match name {
+        "OutOfRange" => Some(TablesFault::OutOfRange),
+        "OutOfOrder" => Some(TablesFault::OutOfOrder),
+        _ => None,
+    }
+}
+
+fn is_refused(alloc: Global, case: &str) -> Result<bool, Fail> {
+    let shaper = shaper_of(case)?;
+    let machines = machines_of(alloc, shaper, case)?;
+    let fault = SyllableTable::new(machines).err();
+    Ok(fault.is_some() && fault == fault_named(part(case, 4)))
+}
 
 #[test]
 fn refuses_machines(rt: HostRuntime) -> Result<(), Fail> {
-    for (machine, want) in REFUSED {
-        assert_eq!(rt; fault(rt.alloc(), machine)?, Some(want), "{}", machine.2);
+    for case in REFUSED.lines() {
+        let is_refused = is_refused(rt.alloc(), case)?;
+        assert!(rt; is_refused, "{case}");
     }
     Ok(())
 }
 
 /// The universal machine of one state that accepts a kind.
 fn accepts_kind(alloc: Global, kind: u8) -> Result<SyllableMachines, Fail> {
-    let accept = accepting(alloc, &[(0, kind)])?;
+    let mut accept = Vec::new(alloc);
+    accept.push(Accept { state: 0, kind })?;
     let machine = SyllableMachine {
         states: 1,
         next: Vec::new(alloc),
@@ -212,11 +214,18 @@ fn unknown_kind(rt: HostRuntime) -> Result<(), Fail> {
     Ok(())
 }
 
+fn next_syllables(table: &SyllableTable, categories: &[u8; 2]) -> [(usize, u8); 2] {
+    [
+        table.next(HEBREW_SHAPER, categories, 0),
+        table.next(UNIVERSAL_SHAPER, categories, 1),
+    ]
+}
+
 #[test]
 fn no_machine(rt: HostRuntime) -> Result<(), Fail> {
     let machine = SyllableMachine::new(rt.alloc());
     let table = SyllableTable::new(machines(rt.alloc(), KHMER_SHAPER, machine))?;
-    assert_eq!(rt; table.next(HEBREW_SHAPER, &[1, 1], 0), (1, 0));
-    assert_eq!(rt; table.next(UNIVERSAL_SHAPER, &[1, 1], 1), (2, 9));
+    let found = next_syllables(&table, &[1, 1]);
+    assert_eq!(rt; found, [(1, 0), (2, 9)]);
     Ok(())
 }

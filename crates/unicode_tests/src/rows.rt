@@ -51,14 +51,18 @@ fn whole_of(alloc: Global, first: u32, second: u32) -> Result<Option<char>, Tabl
     Ok(find_row(&pairs, first, second).map(|row| row.whole))
 }
 
+fn are_found(alloc: Global) -> [bool; 4] {
+    [
+        second_of(alloc, 0xE1) == Ok(Some('\u{301}')),
+        second_of(alloc, 0xE2) == Ok(None),
+        whole_of(alloc, 0x61, 0x300) == Ok(Some('\u{E0}')),
+        whole_of(alloc, 0x61, 0x301) == Ok(None),
+    ]
+}
+
 #[test]
 fn finds_rows(rt: HostRuntime) {
-    for (whole, second) in [(0xE1, Some('\u{301}')), (0xE2, None)] {
-        assert_eq!(rt; second_of(rt.alloc(), whole), Ok(second));
-    }
-    for (second, whole) in [(0x300, Some('\u{E0}')), (0x301, None)] {
-        assert_eq!(rt; whole_of(rt.alloc(), 0x61, second), Ok(whole));
-    }
+    assert_eq!(rt; are_found(rt.alloc()), [true; 4]);
 }
 
 fn fault_of(alloc: Global, rows: &[[u32; 3]]) -> Option<TablesFault> {

@@ -9,7 +9,7 @@ use glyph_lists::level::BufferClusterLevel;
 use glyph_properties::NormalizationMode;
 use json_values::cell::Cell;
 use json_values::fault::JsonFault;
-use json_values::parts::{list_at, natural_number_below, text, three_parts, two_parts};
+use json_values::parts::{list_at, natural_number_below, text, three_parts};
 use serde_json::Value;
 use std::alloc::Global;
 use std::test::Fail;
@@ -98,42 +98,51 @@ fn numbers(alloc: Global, row: &Value, key: &str) -> Result<Vec<u32>, Fail> {
 fn numbered(alloc: Global, row: &Value, key: &str) -> Result<Vec<(char, u32)>, Fail> {
     let mut rows = Vec::new(alloc);
     for value in list_at(row, key)? {
-        let (u, n) = two_parts(value)?;
-        rows.push((char::read(u)?, number(n)?))?;
+        rows.push(<(char, u32)>::read(value)?)?;
     }
     Ok(rows)
+}
+
+fn numbered_pair(value: &Value) -> Result<(char, char, u32), JsonFault> {
+    let (a, b, n) = three_parts(value)?;
+    Ok((char::read(a)?, char::read(b)?, number(n)?))
 }
 
 /// Pairs of characters with a number each.
 fn numbered_pairs(alloc: Global, row: &Value, key: &str) -> Result<Vec<(char, char, u32)>, Fail> {
     let mut rows = Vec::new(alloc);
     for value in list_at(row, key)? {
-        let (a, b, n) = three_parts(value)?;
-        rows.push((char::read(a)?, char::read(b)?, number(n)?))?;
+        rows.push(numbered_pair(value)?)?;
     }
     Ok(rows)
+}
+
+fn three_characters(value: &Value) -> Result<(char, char, char), JsonFault> {
+    let (a, b, c) = three_parts(value)?;
+    Ok((char::read(a)?, char::read(b)?, char::read(c)?))
 }
 
 fn characters(alloc: Global, row: &Value, key: &str) -> Result<Vec<(char, char, char)>, Fail> {
     let mut rows = Vec::new(alloc);
     for value in list_at(row, key)? {
-        let (a, b, c) = three_parts(value)?;
-        rows.push((char::read(a)?, char::read(b)?, char::read(c)?))?;
+        rows.push(three_characters(value)?)?;
     }
     Ok(rows)
 }
 
+fn mode_named(name: &str) -> NormalizationMode {
+    match name {
+        "None" => NormalizationMode::None,
+        "Decomposed" => NormalizationMode::Decomposed,
+        "ComposedDiacritics" => NormalizationMode::ComposedDiacritics,
+        "ComposedDiacriticsNoShortCircuit" => NormalizationMode::ComposedDiacriticsNoShortCircuit,
+        _ => NormalizationMode::Auto,
+    }
+}
+
 fn mode_of(row: &Value) -> Result<NormalizationMode, Fail> {
     let value = row.get("mode").ok_or("no mode")?;
-    match text(value)? {
-        "None" => Ok(NormalizationMode::None),
-        "Decomposed" => Ok(NormalizationMode::Decomposed),
-        "ComposedDiacritics" => Ok(NormalizationMode::ComposedDiacritics),
-        "ComposedDiacriticsNoShortCircuit" => {
-            Ok(NormalizationMode::ComposedDiacriticsNoShortCircuit)
-        }
-        _ => Ok(NormalizationMode::Auto),
-    }
+    Ok(mode_named(text(value)?))
 }
 
 fn level_of(row: &Value) -> Result<BufferClusterLevel, JsonFault> {
@@ -237,9 +246,13 @@ fn font_agrees(alloc: Global, tables: &UnicodeTables, row: &Value) -> Result<boo
     list_agrees(alloc, &by, row)
 }
 
-fn row_agrees(alloc: Global, row: &Value) -> Result<bool, Fail> {
+fn tables_of(alloc: Global, row: &Value) -> Result<UnicodeTables, Fail> {
     let value = row.get("tables").ok_or("no tables")?;
-    let tables = read_tables(alloc, value)?;
+    Ok(read_tables(alloc, value)?)
+}
+
+fn row_agrees(alloc: Global, row: &Value) -> Result<bool, Fail> {
+    let tables = tables_of(alloc, row)?;
     font_agrees(alloc, &tables, row)
 }
 
