@@ -8,7 +8,7 @@ use std::test::Fail;
 const COUNT: usize = 70_000;
 
 /// Each call, and how many glyphs the list or the output has after it.
-const CALLS: &[(Call, usize)] = &[
+static CALLS: &[(Call, usize)] = &[
     (SetLen(COUNT), COUNT),
     (Push("bc"), COUNT + 2),
     (Add('d', 7), COUNT + 3),

@@ -1,6 +1,8 @@
 //! Texts, what is guessed of them, and glyphs in print.
 ghost use Rattle.std.specs.Prelude.{None};
 
+use crate::parts::part;
+use glyph_buffer::buffer::hb_buffer_t;
 use glyph_lists::flags::SerializeFlags;
 use glyph_lists::info::hb_glyph_info_t;
 use glyph_lists::level::BufferClusterLevel;
@@ -9,7 +11,7 @@ use glyph_lists::position::GlyphPosition;
 use shaping_text::constants::BufferFlags;
 use shaping_text::direction::Direction;
 use shaping_text::language::Language;
-use shaping_text::script::{ARABIC, CYRILLIC, HAN, HEBREW, RUNIC, Script, UNKNOWN};
+use shaping_text::script::Script;
 use std::alloc::{AllocError, Global};
 use std::test::Fail;
 use text_buffers::glyphs::GlyphBuffer;
@@ -63,42 +65,36 @@ fn numbers_characters_by_bytes(rt: HostRuntime) -> Result<(), Fail> {
     Ok(())
 }
 
-fn guessed(
-    alloc: Global,
-    text: &str,
-    direction: Direction,
-    script: Option<Script>,
-) -> Result<(Direction, Script), AllocError> {
+// The text, the direction and the script that were told, the direction and the script that are guessed.
+static GUESSES: &str = "12 я;;;l;Cyrl
+אב;;;r;Hebr
+\u{301}ب;;;r;Arab
+12;;;l;Zzzz
+;;;l;Zzzz
+ᚠ;;;l;Runr
+漢;t;;t;Hani
+אב;l;;l;Hebr
+12 я;;Hebr;r;Hebr";
+
+fn guesses(alloc: Global, row: &str) -> Result<bool, AllocError> {
     let mut buffer = UnicodeBuffer::new(alloc);
-    buffer.push_str(text)?;
-    buffer.set_direction(direction);
-    if let Some(script) = script {
+    buffer.push_str(part(row, 0))?;
+    buffer.set_direction(part(row, 1).parse().unwrap_or(Direction::Invalid));
+    if let Ok(script) = part(row, 2).parse::<Script>() {
         buffer.set_script(script);
     }
     buffer.guess_segment_properties();
-    Ok((buffer.direction(), buffer.script()))
+    Ok(
+        part(row, 3).parse() == Ok(buffer.direction())
+            && part(row, 4).parse() == Ok(buffer.script()),
+    )
 }
 
 #[test]
 fn guesses_what_was_not_told(rt: HostRuntime) -> Result<(), Fail> {
-    let auto = Direction::Invalid;
-    let left_to_right = Direction::LeftToRight;
-    let right_to_left = Direction::RightToLeft;
-    let downward = Direction::TopToBottom;
-    for (text, direction, script, want_direction, want_script) in [
-        ("12 я", auto, None, left_to_right, CYRILLIC),
-        ("אב", auto, None, right_to_left, HEBREW),
-        ("\u{301}ب", auto, None, right_to_left, ARABIC),
-        ("12", auto, None, left_to_right, UNKNOWN),
-        ("", auto, None, left_to_right, UNKNOWN),
-        ("ᚠ", auto, None, left_to_right, RUNIC),
-        ("漢", downward, None, downward, HAN),
-        ("אב", left_to_right, None, left_to_right, HEBREW),
-        ("12 я", auto, Some(HEBREW), right_to_left, HEBREW),
-    ] {
-        let (guessed_direction, guessed_script) = guessed(rt.alloc(), text, direction, script)?;
-        assert!(rt; guessed_direction == want_direction, "{text}");
-        assert!(rt; guessed_script == want_script, "{text}");
+    for row in GUESSES.lines() {
+        let as_wanted = guesses(rt.alloc(), row)?;
+        assert!(rt; as_wanted, "{row}");
     }
     Ok(())
 }
@@ -132,9 +128,7 @@ fn prints_glyphs_as_they_stand(rt: HostRuntime) -> Result<(), Fail> {
     Ok(())
 }
 
-#[test]
-fn keeps_what_it_was_told(rt: HostRuntime) -> Result<(), Fail> {
-    let mut text = UnicodeBuffer::new(rt.alloc());
+fn tell(text: &mut UnicodeBuffer) {
     text.set_flags(BufferFlags::BEGINNING_OF_TEXT);
     text.set_cluster_level(BufferClusterLevel::Characters);
     text.set_invisible_glyph(3);
@@ -142,31 +136,47 @@ fn keeps_what_it_was_told(rt: HostRuntime) -> Result<(), Fail> {
     text.set_pre_context("ab");
     text.set_post_context("cd");
     text.reset_clusters();
-    assert!(rt; text.flags() == BufferFlags::BEGINNING_OF_TEXT);
-    assert!(rt; text.cluster_level() == BufferClusterLevel::Characters);
-    let buffer = text.into_buffer();
-    assert_eq!(rt;
-        (buffer.invisible(), buffer.not_found_variation_selector()),
-        (Some(3), Some(4))
-    );
-    assert_eq!(rt; buffer.pre_context(), ['b', 'a'].as_slice());
-    assert_eq!(rt; buffer.post_context(), ['c', 'd'].as_slice());
-    Ok(())
+}
+
+fn was_told(text: &UnicodeBuffer) -> bool {
+    text.flags() == BufferFlags::BEGINNING_OF_TEXT
+        && text.cluster_level() == BufferClusterLevel::Characters
+}
+
+fn has_kept(buffer: &hb_buffer_t) -> bool {
+    buffer.invisible() == Some(3)
+        && buffer.not_found_variation_selector() == Some(4)
+        && buffer.pre_context() == ['b', 'a'].as_slice()
+        && buffer.post_context() == ['c', 'd'].as_slice()
+}
+
+fn keeps_what_is_told(alloc: Global) -> bool {
+    let mut text = UnicodeBuffer::new(alloc);
+    tell(&mut text);
+    was_told(&text) && has_kept(&text.into_buffer())
+}
+
+#[test]
+fn keeps_what_it_was_told(rt: HostRuntime) {
+    assert!(rt; keeps_what_is_told(rt.alloc()));
 }
 
 fn is_turkish(language: Option<&Language>) -> bool {
     language.is_some_and(|language| language.as_str() == "tr")
 }
 
+fn keeps_language(alloc: Global, language: Language) -> bool {
+    let mut text = UnicodeBuffer::new(alloc);
+    let had_none = text.language().is_none();
+    text.set_language(language);
+    let is_kept = is_turkish(text.language());
+    text.clear();
+    had_none && is_kept && text.language().is_none()
+}
+
 #[test]
 fn knows_its_language(rt: HostRuntime) -> Result<(), Fail> {
-    let mut text = UnicodeBuffer::new(rt.alloc());
-    assert!(rt; text.language().is_none());
-    if let Ok(language) = Language::from_str(rt.alloc(), "TR") {
-        text.set_language(language);
-    }
-    assert!(rt; is_turkish(text.language()));
-    text.clear();
-    assert!(rt; text.language().is_none());
+    let language = Language::from_str(rt.alloc(), "TR")?;
+    assert!(rt; keeps_language(rt.alloc(), language));
     Ok(())
 }

@@ -7,8 +7,6 @@ use serde_json::Value;
 use shape_pipeline::hb_shape_data_t;
 use std::alloc::Global;
 use std::test::Fail;
-use syllables_json::read_syllables;
-use tables_json::{read_languages, read_tables};
 use unicode_tables::UnicodeTables;
 
 const TABLES: &str =
@@ -32,22 +30,12 @@ impl<'a> Tables<'a> {
     }
 }
 
+/// The value of tables.
+pub(crate) fn value(alloc: Global) -> Result<Value, Fail> {
+    Ok(Value::from_str(alloc, TABLES)?)
+}
+
 pub(crate) fn face_of(alloc: Global, font: &str) -> Result<Face, Fail> {
     let value = Value::from_str(alloc, font)?;
     Ok(read_face(alloc, &value)?)
-}
-
-pub(crate) fn characters(alloc: Global) -> Result<UnicodeTables, Fail> {
-    let value = Value::from_str(alloc, TABLES)?;
-    Ok(read_tables(alloc, &value)?)
-}
-
-pub(crate) fn spans(alloc: Global) -> Result<SyllableTable, Fail> {
-    let value = Value::from_str(alloc, TABLES)?;
-    Ok(read_syllables(alloc, &value)?)
-}
-
-pub(crate) fn languages(alloc: Global) -> Result<LanguageTable, Fail> {
-    let value = Value::from_str(alloc, TABLES)?;
-    Ok(read_languages(alloc, &value)?)
 }

@@ -32,12 +32,11 @@ fn level_of(row: &str) -> BufferClusterLevel {
 }
 
 fn add(character: &str, buffer: &mut UnicodeBuffer) -> Result<(), Fail> {
-    let number = number(character, 0).and_then(char::from_u32);
-    let Some(number) = number else {
+    let Some(code) = number(character, 0) else {
         return Ok(());
     };
-    let cluster = self::number(character, 1).unwrap_or(0);
-    if buffer.add(number, cluster)? {
+    let cluster = number(character, 1).unwrap_or(0);
+    if buffer.add(char::from_u32(code).ok_or("no character")?, cluster)? {
         Ok(())
     } else {
         Err("no room".into())

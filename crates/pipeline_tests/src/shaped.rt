@@ -1,9 +1,10 @@
 //! Texts that are shaped with a plan and without one.
-use crate::data::{Tables, characters, face_of, languages, spans};
+use crate::data::{Tables, face_of, value};
 use crate::plans::{decomposing_plan_of_row, plan_of_row};
 use crate::rows::{flags_of, part, text_of};
 use font_face::Face;
 use script_syllables::SyllableTable;
+use serde_json::Value;
 use shape_pipeline::hb_ot_any_shaper_t;
 use shape_pipeline::shape::{ShapeFault, shape, shape_with_plan};
 use shape_plan::hb_ot_shaper_t;
@@ -11,6 +12,8 @@ use shape_plan::plan::hb_ot_shape_plan_t;
 use std::alloc::{AllocError, Global};
 use std::process::Abort;
 use std::test::Fail;
+use syllables_json::read_syllables;
+use tables_json::{read_languages, read_tables};
 use text_buffers::glyphs::GlyphBuffer;
 use text_buffers::unicode_buffer::UnicodeBuffer;
 use unicode_tables::UnicodeTables;
@@ -42,139 +45,83 @@ fn answer(
     }
 }
 
-fn shaped_by_itself(
-    alloc: Global,
-    face: &Face,
-    tables: Tables<'_>,
-    text: UnicodeBuffer,
-) -> Result<GlyphBuffer, ShapeFault> {
-    shape(alloc, face, tables.data(), &[], text)
-}
-
-fn shaped_by_plan<S: hb_ot_shaper_t>(
-    alloc: Global,
-    face: &Face,
-    tables: Tables<'_>,
-    plan: &hb_ot_shape_plan_t<S>,
-    text: UnicodeBuffer,
-) -> Result<GlyphBuffer, ShapeFault> {
-    shape_with_plan(alloc, face, tables.data(), plan, text)
-}
-
-/// What a text without a plan becomes.
-fn line_by_itself(
+/// A text without a plan becomes the line.
+fn gives_by_itself(
     alloc: Global,
     row: &str,
     face: &Face,
     tables: Tables<'_>,
-) -> Result<String, Fail> {
+) -> Result<bool, Fail> {
     let text = text_of(alloc, row)?;
-    let shaped = shaped_by_itself(alloc, face, tables, text);
-    Ok(answer(alloc, row, face, shaped)?)
+    let shaped = shape(alloc, face, tables.data(), &[], text);
+    let line = answer(alloc, row, face, shaped)?;
+    Ok(line.as_str() == part(row, 4))
 }
 
-/// What a text becomes by a plan for it.
-fn line_by_plan<S: hb_ot_shaper_t>(
+/// A plan fits the text, which becomes the line by it.
+fn gives_by_plan<S: hb_ot_shaper_t>(
     alloc: Global,
     row: &str,
     face: &Face,
     tables: Tables<'_>,
-    plan: &hb_ot_shape_plan_t<S>,
-) -> Result<String, Fail> {
-    let text = text_of(alloc, row)?;
-    let shaped = shaped_by_plan(alloc, face, tables, plan, text);
-    Ok(answer(alloc, row, face, shaped)?)
-}
-
-fn fits<S: hb_ot_shaper_t>(
-    alloc: Global,
-    row: &str,
     plan: &hb_ot_shape_plan_t<S>,
 ) -> Result<bool, Fail> {
     let text = text_of(alloc, row)?;
-    Ok(plan.fits(&text))
-}
-
-fn agrees(rt: &impl Abort, row: &str, line: &str) {
-    assert_eq!(rt; line, part(row, 4), "{row}");
-}
-
-fn gives_by_itself(
-    rt: &impl Abort,
-    alloc: Global,
-    row: &str,
-    face: &Face,
-    tables: Tables<'_>,
-) -> Result<(), Fail> {
-    let line = line_by_itself(alloc, row, face, tables)?;
-    agrees(rt, row, &line);
-    Ok(())
-}
-
-fn gives_by_plan<S: hb_ot_shaper_t>(
-    rt: &impl Abort,
-    alloc: Global,
-    row: &str,
-    face: &Face,
-    tables: Tables<'_>,
-    plan: &hb_ot_shape_plan_t<S>,
-) -> Result<(), Fail> {
-    assert!(rt; fits(alloc, row, plan)?);
-    let line = line_by_plan(alloc, row, face, tables, plan)?;
-    agrees(rt, row, &line);
-    Ok(())
+    let fits = plan.fits(&text);
+    let shaped = shape_with_plan(alloc, face, tables.data(), plan, text);
+    let line = answer(alloc, row, face, shaped)?;
+    Ok(fits && line.as_str() == part(row, 4))
 }
 
 /// A plan gives the line each time.
 fn gives_as_often(
-    rt: &impl Abort,
     alloc: Global,
     row: &str,
     face: &Face,
     tables: Tables<'_>,
     plan: &hb_ot_shape_plan_t<hb_ot_any_shaper_t>,
-) -> Result<(), Fail> {
-    gives_by_plan(rt, alloc, row, face, tables, plan)?;
-    gives_by_plan(rt, alloc, row, face, tables, plan)
+) -> Result<bool, Fail> {
+    let first = gives_by_plan(alloc, row, face, tables, plan)?;
+    let second = gives_by_plan(alloc, row, face, tables, plan)?;
+    Ok(first && second)
 }
 
-/// The stack's own shaper gives the line without a plan, and with one as often as it is used.
-fn gives(
-    rt: &impl Abort,
-    alloc: Global,
-    row: &str,
-    face: &Face,
-    tables: Tables<'_>,
-) -> Result<(), Fail> {
-    gives_by_itself(rt, alloc, row, face, tables)?;
+/// The stack's own shaper gives the line by a plan, as often as it is used.
+fn gives_planned(alloc: Global, row: &str, face: &Face, tables: Tables<'_>) -> Result<bool, Fail> {
     let plan = plan_of_row(alloc, face, tables.languages, row)?;
-    gives_as_often(rt, alloc, row, face, tables, &plan)
+    gives_as_often(alloc, row, face, tables, &plan)
 }
 
 /// A shaper that is handed in gives the line.
 fn gives_decomposed(
-    rt: &impl Abort,
     alloc: Global,
     row: &str,
     face: &Face,
     tables: Tables<'_>,
-) -> Result<(), Fail> {
+) -> Result<bool, Fail> {
     let plan = decomposing_plan_of_row(alloc, face, tables.languages, row)?;
-    gives_by_plan(rt, alloc, row, face, tables, &plan)
+    gives_by_plan(alloc, row, face, tables, &plan)
 }
 
-fn row_agrees(rt: &impl Abort, alloc: Global, row: &str, tables: Tables<'_>) -> Result<(), Fail> {
-    let face = face_of(alloc, part(row, 3))?;
+/// The row's line is what its shaper gives: the stack's own without a plan too.
+fn gives(alloc: Global, row: &str, face: &Face, tables: Tables<'_>) -> Result<bool, Fail> {
     if part(row, 5) == "decomposing" {
-        gives_decomposed(rt, alloc, row, &face, tables)
-    } else {
-        gives(rt, alloc, row, &face, tables)
+        return gives_decomposed(alloc, row, face, tables);
     }
+    let by_itself = gives_by_itself(alloc, row, face, tables)?;
+    let planned = gives_planned(alloc, row, face, tables)?;
+    Ok(by_itself && planned)
+}
+
+fn row_agrees(alloc: Global, row: &str, tables: Tables<'_>) -> Result<bool, Fail> {
+    let face = face_of(alloc, part(row, 3))?;
+    gives(alloc, row, &face, tables)
 }
 
 fn rows_agree(rt: &impl Abort, alloc: Global, tables: Tables<'_>) -> Result<(), Fail> {
     for row in ROWS.lines() {
-        row_agrees(rt, alloc, row, tables)?;
+        let agrees = row_agrees(alloc, row, tables)?;
+        assert!(rt; agrees, "{row}");
     }
     Ok(())
 }
@@ -182,10 +129,11 @@ fn rows_agree(rt: &impl Abort, alloc: Global, tables: Tables<'_>) -> Result<(), 
 fn agree_by_languages(
     rt: &impl Abort,
     alloc: Global,
+    value: &Value,
     characters: &UnicodeTables,
     spans: &SyllableTable,
 ) -> Result<(), Fail> {
-    let languages = languages(alloc)?;
+    let languages = read_languages(alloc, value)?;
     let tables = Tables {
         characters,
         spans,
@@ -194,13 +142,23 @@ fn agree_by_languages(
     rows_agree(rt, alloc, tables)
 }
 
-fn agree_by_spans(rt: &impl Abort, alloc: Global, characters: &UnicodeTables) -> Result<(), Fail> {
-    let spans = spans(alloc)?;
-    agree_by_languages(rt, alloc, characters, &spans)
+fn agree_by_spans(
+    rt: &impl Abort,
+    alloc: Global,
+    value: &Value,
+    characters: &UnicodeTables,
+) -> Result<(), Fail> {
+    let spans = read_syllables(alloc, value)?;
+    agree_by_languages(rt, alloc, value, characters, &spans)
+}
+
+fn agree(rt: &impl Abort, alloc: Global, value: &Value) -> Result<(), Fail> {
+    let characters = read_tables(alloc, value)?;
+    agree_by_spans(rt, alloc, value, &characters)
 }
 
 #[test]
 fn texts(rt: HostRuntime) -> Result<(), Fail> {
-    let characters = characters(rt.alloc())?;
-    agree_by_spans(&rt, rt.alloc(), &characters)
+    let value = value(rt.alloc())?;
+    agree(&rt, rt.alloc(), &value)
 }

@@ -4,6 +4,8 @@
 #[cfg(test)]
 mod asked;
 #[cfg(test)]
+mod faults;
+#[cfg(test)]
 mod languages;
 #[cfg(test)]
 mod lines;
@@ -15,6 +17,10 @@ mod memory;
 mod positions;
 #[cfg(test)]
 mod program;
+#[cfg(test)]
+mod repeats;
+#[cfg(test)]
+mod rows;
 #[cfg(test)]
 mod rules;
 #[cfg(test)]

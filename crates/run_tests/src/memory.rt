@@ -1,5 +1,4 @@
 //! Runs over memory.
-use feature_text::feature::Feature;
 use glyph_lists::flags::SerializeFlags;
 use glyph_lists::level::BufferClusterLevel;
 use run_options::fault::RunFault;
@@ -7,36 +6,21 @@ use run_options::options::Options;
 use shape_run::run::run;
 use shaping_text::constants::BufferFlags;
 use shaping_text::direction::Direction;
-use shaping_text::script::Script;
 use std::alloc::Global;
-use std::str::FromStr;
-use std::test::Fail;
 
 const NUMBERS: SerializeFlags = SerializeFlags(4);
 
-/// Four glyphs and their widths.
-pub(crate) const FONT: &str =
-    "{\"upem\":1000,\"ascender\":800,\"cmap\":[[97,1],[98,2],[102,3],[105,4]],\"h\":[[1,500],[2,600],[3,300],[4,250]]}";
-
-pub(crate) fn options(
-    alloc: Global,
-    script: Option<Script>,
-    direction: Direction,
-    features: &[&str],
-) -> Result<Options, Fail> {
-    let mut asked = Vec::new(alloc);
-    for feature in features {
-        asked.push(Feature::from_str(feature)?)?;
-    }
-    Ok(Options {
-        direction,
-        script,
+/// What is asked where nothing is told, but that glyphs are printed by their numbers.
+pub(crate) fn plain_options(alloc: Global) -> Options {
+    Options {
+        direction: Direction::Invalid,
+        script: None,
         language: None,
-        features: asked,
+        features: Vec::new(alloc),
         cluster_level: BufferClusterLevel::MonotoneGraphemes,
         buffer_flags: BufferFlags(0),
         flags: NUMBERS,
-    })
+    }
 }
 
 /// What a run writes of bytes over memory, and its answer.

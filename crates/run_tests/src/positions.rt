@@ -1,132 +1,34 @@
 //! Positioning from bytes to the line: a font for each kind of lookup.
-use crate::lines::{Line, is_printed};
-use shaping_text::direction::Direction;
-use std::alloc::Global;
+use crate::rows::follow;
 use std::test::Fail;
 
-const SINGLE: &str = "{\"cmap\":[[97,1]],\"h\":[[1,500]],\
-    \"gpos\":{\"scripts\":[[\"DFLT\",{\"features\":[0]},[]]],\"features\":[[\"dist\",[0]]],\
-    \"lookups\":[{\"type\":\"single\",\"subtables\":[[[1,[10,20,-30,0]]]]}]}}";
+// Offsets are told from where the pen stands, which each advance before has moved. A single value, a pair, a cursive pair.
+// Then glyph 4 is a mark: it hangs on the base before it, and on the mark before it; a pair moves the base before that. Then
+// marks on the second component of a ligature, and one that no component has an anchor for. In the last font the mark hangs
+// on its base only between two others.
+static POSITIONS: &str =
+    r#"{"cmap":[[97,1]],"h":[[1,500]],"gpos":{"scripts":[["DFLT",{"features":[0]},[]]],"features":[["dist",[0]]],"lookups":[{"type":"single","subtables":[[[1,[10,20,-30,0]]]]}]}}
+;a;1=0@10,20+470
 
-const PAIR: &str = "{\"cmap\":[[97,1],[98,2]],\"h\":[[1,500],[2,600]],\
-    \"gpos\":{\"scripts\":[[\"DFLT\",{\"features\":[0]},[]]],\"features\":[[\"kern\",[0]]],\
-    \"lookups\":[{\"type\":\"pair\",\"subtables\":[[[1,2,[0,0,-50,0],null]]]}]}}";
+{"cmap":[[97,1],[98,2]],"h":[[1,500],[2,600]],"gpos":{"scripts":[["DFLT",{"features":[0]},[]]],"features":[["kern",[0]]],"lookups":[{"type":"pair","subtables":[[[1,2,[0,0,-50,0],null]]]}]}}
+;ab;1=0+450|2=1+600
+feature=-kern;ab;1=0+500|2=1+600
 
-const CURSIVE: &str = "{\"cmap\":[[97,1],[98,2]],\"h\":[[1,500],[2,600]],\
-    \"gpos\":{\"scripts\":[[\"DFLT\",{\"features\":[0]},[]]],\"features\":[[\"curs\",[0]]],\
-    \"lookups\":[{\"type\":\"cursive\",\"subtables\":[[[1,null,[450,100]],[2,[50,0],null]]]}]}}";
+{"cmap":[[97,1],[98,2]],"h":[[1,500],[2,600]],"gpos":{"scripts":[["DFLT",{"features":[0]},[]]],"features":[["curs",[0]]],"lookups":[{"type":"cursive","subtables":[[[1,null,[450,100]],[2,[50,0],null]]]}]}}
+;ab;1=0+450|2=1@-50,100+550
 
-// Glyph 4 is a mark: it hangs on the base before it, and on the mark before it; a pair moves the base before that.
-const MARKS: &str = "{\"cmap\":[[97,1],[98,2],[120,4]],\"h\":[[1,500],[2,600],[4,90]],\
-    \"gdef\":{\"classes\":[[1,1],[2,1],[4,3]]},\
-    \"gpos\":{\"scripts\":[[\"DFLT\",{\"features\":[0,1]},[]]],\"features\":[[\"mark\",[0,1]],[\"mkmk\",[2]]],\
-    \"lookups\":[{\"type\":\"pair\",\"subtables\":[[[1,2,[9,9,-30,0],null]]]},\
-    {\"type\":\"markbase\",\"subtables\":[{\"marks\":[[4,0,[10,20]]],\"bases\":[[1,[[250,480]]],[2,[[300,500]]]]}]},\
-    {\"type\":\"markmark\",\"subtables\":[{\"marks\":[[4,0,[1,2]]],\"bases\":[[4,[[100,200]]]]}]}]}}";
+{"cmap":[[97,1],[98,2],[120,4]],"h":[[1,500],[2,600],[4,90]],"gdef":{"classes":[[1,1],[2,1],[4,3]]},"gpos":{"scripts":[["DFLT",{"features":[0,1]},[]]],"features":[["mark",[0,1]],["mkmk",[2]]],"lookups":[{"type":"pair","subtables":[[[1,2,[9,9,-30,0],null]]]},{"type":"markbase","subtables":[{"marks":[[4,0,[10,20]]],"bases":[[1,[[250,480]]],[2,[[300,500]]]]}]},{"type":"markmark","subtables":[{"marks":[[4,0,[1,2]]],"bases":[[4,[[100,200]]]]}]}]}}
+;abx;1=0@9,9+470|2=1+600|4=2@-310,480+0
+;axx;1=0+500|4=1@-260,460+0|4=2@-161,658+0
 
-// A mark on the second component of a ligature, and one that no component has an anchor for.
-const LIGATURE: &str = "{\"cmap\":[[97,1],[120,4],[121,5]],\"h\":[[1,500],[7,700]],\
-    \"gdef\":{\"classes\":[[1,1],[4,3],[5,3]]},\
-    \"gsub\":{\"scripts\":[[\"DFLT\",{\"features\":[0]},[]]],\"features\":[[\"ccmp\",[0]]],\
-    \"lookups\":[{\"type\":\"ligature\",\"flags\":8,\"subtables\":[[[1,[[[1],7]]]]]}]},\
-    \"gpos\":{\"scripts\":[[\"DFLT\",{\"features\":[0]},[]]],\"features\":[[\"mark\",[0]]],\
-    \"lookups\":[{\"type\":\"marklig\",\"subtables\":[{\"marks\":[[4,0,[1,2]],[5,1,[3,4]]],\
-    \"bases\":[[7,[[[10,0],[11,1]],[[20,0],null]]]]}]}]}}";
+{"cmap":[[97,1],[120,4],[121,5]],"h":[[1,500],[7,700]],"gdef":{"classes":[[1,1],[4,3],[5,3]]},"gsub":{"scripts":[["DFLT",{"features":[0]},[]]],"features":[["ccmp",[0]]],"lookups":[{"type":"ligature","flags":8,"subtables":[[[1,[[[1],7]]]]]}]},"gpos":{"scripts":[["DFLT",{"features":[0]},[]]],"features":[["mark",[0]]],"lookups":[{"type":"marklig","subtables":[{"marks":[[4,0,[1,2]],[5,1,[3,4]]],"bases":[[7,[[[10,0],[11,1]],[[20,0],null]]]]}]}]}}
+;axax;7=0+700|4=0@-691,-2+0|4=3@-681,-2+0
+;aay;7=0+700|5=2+0
 
-// The mark hangs on its base only between two others.
-const NESTED: &str =
-    "{\"cmap\":[[97,1],[120,4]],\"h\":[[1,500]],\"gdef\":{\"classes\":[[1,1],[4,3]]},\
-    \"gpos\":{\"scripts\":[[\"DFLT\",{\"features\":[0]},[]]],\"features\":[[\"mark\",[0]]],\
-    \"lookups\":[{\"type\":\"chain\",\"subtables\":[{\"format\":\"glyphs\",\"rules\":[[[1],[1,4],[1],[[1,1]]]]}]},\
-    {\"type\":\"markbase\",\"subtables\":[{\"marks\":[[4,0,[10,20]]],\"bases\":[[1,[[250,480]]]]}]}]}}";
-
-// Offsets are told from where the pen stands, which each advance before has moved.
-const POSITIONS: [(&str, Line); 9] = [
-    (
-        SINGLE,
-        (None, Direction::Invalid, &[], "a", "1=0@10,20+470\n"),
-    ),
-    (
-        PAIR,
-        (None, Direction::Invalid, &[], "ab", "1=0+450|2=1+600\n"),
-    ),
-    (
-        PAIR,
-        (
-            None,
-            Direction::Invalid,
-            &["-kern"],
-            "ab",
-            "1=0+500|2=1+600\n",
-        ),
-    ),
-    (
-        CURSIVE,
-        (
-            None,
-            Direction::Invalid,
-            &[],
-            "ab",
-            "1=0+450|2=1@-50,100+550\n",
-        ),
-    ),
-    (
-        MARKS,
-        (
-            None,
-            Direction::Invalid,
-            &[],
-            "abx",
-            "1=0@9,9+470|2=1+600|4=2@-310,480+0\n",
-        ),
-    ),
-    (
-        MARKS,
-        (
-            None,
-            Direction::Invalid,
-            &[],
-            "axx",
-            "1=0+500|4=1@-260,460+0|4=2@-161,658+0\n",
-        ),
-    ),
-    (
-        LIGATURE,
-        (
-            None,
-            Direction::Invalid,
-            &[],
-            "axax",
-            "7=0+700|4=0@-691,-2+0|4=3@-681,-2+0\n",
-        ),
-    ),
-    (
-        LIGATURE,
-        (None, Direction::Invalid, &[], "aay", "7=0+700|5=2+0\n"),
-    ),
-    (
-        NESTED,
-        (
-            None,
-            Direction::Invalid,
-            &[],
-            "aaxaax",
-            "1=0+500|1=1+500|4=2@-260,460+0|1=3+500|1=4+500|4=5+0\n",
-        ),
-    ),
-];
-
-fn are_positioned(alloc: Global) -> Result<bool, Fail> {
-    for (font, line) in &POSITIONS {
-        if !is_printed(alloc, font, line)? {
-            return Ok(false);
-        }
-    }
-    Ok(true)
-}
+{"cmap":[[97,1],[120,4]],"h":[[1,500]],"gdef":{"classes":[[1,1],[4,3]]},"gpos":{"scripts":[["DFLT",{"features":[0]},[]]],"features":[["mark",[0]]],"lookups":[{"type":"chain","subtables":[{"format":"glyphs","rules":[[[1],[1,4],[1],[[1,1]]]]}]},{"type":"markbase","subtables":[{"marks":[[4,0,[10,20]]],"bases":[[1,[[250,480]]]]}]}]}}
+;aaxaax;1=0+500|1=1+500|4=2@-260,460+0|1=3+500|1=4+500|4=5+0"#;
 
 #[test]
 fn positions_are_printed(rt: HostRuntime) -> Result<(), Fail> {
-    assert!(rt; are_positioned(rt.alloc())?);
-    Ok(())
+    follow(&rt, rt.alloc(), "{}", POSITIONS)
 }

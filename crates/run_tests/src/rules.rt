@@ -4,24 +4,15 @@ mod hangul;
 mod stretch;
 mod thai;
 
-use crate::memory::{options, ran};
+use crate::memory::plain_options;
+use crate::rows::{characters, level_of, prints};
 use glyph_lists::flags::SerializeFlags;
-use glyph_lists::level::BufferClusterLevel;
 use run_options::options::Options;
 use shaping_text::constants::BufferFlags;
-use shaping_text::direction::Direction;
 use shaping_text::script::{ARABIC, DIVES_AKURU, HANGUL, KHMER, LAO, MYANMAR, Script, THAI};
 use std::alloc::{AllocError, Global};
 use std::process::Abort;
 use std::test::Fail;
-
-fn level_of(number: &str) -> BufferClusterLevel {
-    match number {
-        "0" => BufferClusterLevel::MonotoneGraphemes,
-        "1" => BufferClusterLevel::MonotoneCharacters,
-        _ => BufferClusterLevel::Characters,
-    }
-}
 
 fn options_of(
     alloc: Global,
@@ -33,10 +24,11 @@ fn options_of(
     let buffer_flags = buffer_flags.parse::<u32>()?;
     let flags = flags.parse::<u8>()?;
     Ok(Options {
+        script: Some(script),
         cluster_level: level_of(level),
         buffer_flags: BufferFlags(buffer_flags),
         flags: SerializeFlags(flags),
-        ..options(alloc, Some(script), Direction::Invalid, &[])?
+        ..plain_options(alloc)
     })
 }
 
@@ -45,28 +37,6 @@ fn font_of(alloc: Global, ends: (&str, &str), own: &str) -> Result<String, Alloc
     font.push_str(own)?;
     font.push_str(ends.1)?;
     Ok(font)
-}
-
-/// A text of the characters that these hexadecimal numbers name.
-fn text_of(alloc: Global, numbers: &str) -> Result<String, Fail> {
-    let mut text = String::new(alloc);
-    for number in numbers.split(' ') {
-        let number = u32::from_str_radix(number, 16)?;
-        text.push(char::from_u32(number).ok_or("no character")?)?;
-    }
-    Ok(text)
-}
-
-fn prints(
-    alloc: Global,
-    options: Options,
-    tables: &str,
-    font: &str,
-    text: &str,
-    line: &str,
-) -> bool {
-    let (answer, out) = ran(alloc, options, tables, font, text.as_bytes());
-    answer == Ok(()) && out.strip_suffix(b"\n") == Some(line.as_bytes())
 }
 
 /// Whether a run prints what a row says, of a font that begins and ends as all do that its rule has.
@@ -81,7 +51,7 @@ fn is_printed(
     };
     let options = options_of(alloc, script, level, buffer_flags, flags)?;
     let font = font_of(alloc, font, own)?;
-    let text = text_of(alloc, text)?;
+    let text = characters(alloc, text)?;
     Ok(prints(alloc, options, tables, &font, &text, line))
 }
 

@@ -1,12 +1,15 @@
 //! Readers and writers that give and take a byte a call, or fail.
-use crate::memory::{FONT, options};
+use crate::memory::plain_options;
 use run_options::fault::RunFault;
 use shape_run::run::run;
-use shaping_text::direction::Direction;
 use std::alloc::Global;
 use std::io;
 use std::io::{ErrorKind, Read, Write};
 use std::test::Fail;
+
+/// Four glyphs and their widths.
+const FONT: &[u8] =
+    b"{\"upem\":1000,\"ascender\":800,\"cmap\":[[97,1],[98,2],[102,3],[105,4]],\"h\":[[1,500],[2,600],[3,300],[4,250]]}";
 
 // Gives a byte a call and then the end, which it counts.
 #[derive(Drop)]
@@ -72,8 +75,8 @@ fn reader(bytes: &[u8]) -> ByteReader<'_> {
 
 // What a run writes into so much room, with its answer; each reader is asked for its end once.
 fn ran_by_bytes(alloc: Global, room: usize) -> Result<(Result<(), RunFault>, Vec<u8>), Fail> {
-    let options = options(alloc, None, Direction::Invalid, &[])?;
-    let (mut tables, mut font, mut text) = (reader(b"{}"), reader(FONT.as_bytes()), reader(b"ab"));
+    let options = plain_options(alloc);
+    let (mut tables, mut font, mut text) = (reader(b"{}"), reader(FONT), reader(b"ab"));
     let mut out = ByteWriter {
         taken: Vec::new(alloc),
         room,
@@ -102,10 +105,10 @@ fn lines_are_written_byte_by_byte(rt: HostRuntime) -> Result<(), Fail> {
 // The answers to a text, and to tables, that can't be read.
 fn failed_reads(alloc: Global) -> Result<[Result<(), RunFault>; 2], Fail> {
     let mut out = Vec::new(alloc);
-    let asked = options(alloc, None, Direction::Invalid, &[])?;
+    let asked = plain_options(alloc);
     let (mut tables, mut font, mut text) = (b"{".as_slice(), b"{".as_slice(), FailingReader);
     let of_text = run(alloc, asked, &mut tables, &mut font, &mut text, &mut out);
-    let asked = options(alloc, None, Direction::Invalid, &[])?;
+    let asked = plain_options(alloc);
     let (mut tables, mut text) = (FailingReader, b"a".as_slice());
     let of_tables = run(alloc, asked, &mut tables, &mut font, &mut text, &mut out);
     Ok([of_text, of_tables])

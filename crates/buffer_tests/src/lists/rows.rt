@@ -1,57 +1,79 @@
+//! Rows of lists: fields apart by semicolons, lists by spaces, and numbers by commas.
 ghost use Rattle.std.specs.Prelude.{◌≡◌, true};
 ghost use Rattle.glyph_lists.specs.Items.{clusters};
 ghost use Rattle.glyph_lists.specs.Order.{IsOrdered};
 
+use crate::parts::part;
 use buffer_lists::order::KnownOrder;
 use glyph_lists::info::hb_glyph_info_t;
+use glyph_lists::level::BufferClusterLevel;
 use glyph_lists::position::GlyphPosition;
 use std::alloc::{AllocError, Global};
 
-/// A glyph by number, cluster and mask.
-pub type Row = (u32, u32, u32);
+/// Whether a field says yes.
+pub fn is_so(row: &str, at: usize) -> bool {
+    part(row, at) == "true"
+}
 
-pub fn glyph((glyph_id, cluster, mask): Row) -> hb_glyph_info_t {
+pub fn size(row: &str, at: usize) -> usize {
+    part(row, at).parse().unwrap_or(0)
+}
+
+pub fn level_of(row: &str) -> BufferClusterLevel {
+    match part(row, 0) {
+        "graphemes" => BufferClusterLevel::MonotoneGraphemes,
+        "characters" => BufferClusterLevel::MonotoneCharacters,
+        _ => BufferClusterLevel::Characters,
+    }
+}
+
+fn number(list: &str, at: usize) -> u32 {
+    let number = list.split(',').nth(at).unwrap_or("");
+    number.parse().unwrap_or(0)
+}
+
+/// A glyph by number, cluster and mask, which are 0 where they aren't said.
+pub fn glyph(text: &str) -> hb_glyph_info_t {
     hb_glyph_info_t {
-        glyph_id,
-        cluster,
-        mask,
+        glyph_id: number(text, 0),
+        cluster: number(text, 1),
+        mask: number(text, 2),
         ..hb_glyph_info_t::default()
     }
 }
 
-pub fn glyphs_of(alloc: Global, rows: &[Row]) -> Result<Vec<hb_glyph_info_t>, AllocError> {
-    rows.iter().map(|row| glyph(*row)).collect(alloc)
+pub fn glyphs_of(alloc: Global, list: &str) -> Result<Vec<hb_glyph_info_t>, AllocError> {
+    let mut glyphs = Vec::new(alloc);
+    for text in list.split_terminator(' ') {
+        glyphs.push(glyph(text))?;
+    }
+    Ok(glyphs)
 }
 
-pub fn are(glyphs: &[hb_glyph_info_t], rows: &[Row]) -> bool {
-    glyphs.len() == rows.len()
-        && glyphs
-            .iter()
-            .zip(rows)
-            .all(|(info, row)| *info == glyph(*row))
+pub fn are(glyphs: &[hb_glyph_info_t], list: &str) -> bool {
+    let wanted = list.split_terminator(' ').map(|text| glyph(text));
+    glyphs.iter().copied().eq(wanted)
 }
 
-/// A position for each advance.
-pub fn positions_of(alloc: Global, advances: &[i32]) -> Result<Vec<GlyphPosition>, AllocError> {
-    advances
-        .iter()
-        .map(|advance| position(*advance))
-        .collect(alloc)
-}
-
-fn position(x_advance: i32) -> GlyphPosition {
+fn position(advance: &str) -> GlyphPosition {
     GlyphPosition {
-        x_advance,
+        x_advance: advance.parse().unwrap_or(0),
         ..GlyphPosition::default()
     }
 }
 
-pub fn have_advances(positions: &[GlyphPosition], advances: &[i32]) -> bool {
-    positions.len() == advances.len()
-        && positions
-            .iter()
-            .zip(advances)
-            .all(|(place, advance)| *place == position(*advance))
+/// Positions with the advances 10, 20, 30 and so on, at most seven.
+pub fn positions_of(alloc: Global, count: usize) -> Result<Vec<GlyphPosition>, AllocError> {
+    let mut positions = Vec::new(alloc);
+    for advance in "10 20 30 40 50 60 70".split(' ').take(count) {
+        positions.push(position(advance))?;
+    }
+    Ok(positions)
+}
+
+pub fn have_advances(positions: &[GlyphPosition], list: &str) -> bool {
+    let wanted = list.split_terminator(' ').map(|advance| position(advance));
+    positions.iter().copied().eq(wanted)
 }
 
 /// Whether the clusters never fall or never rise.

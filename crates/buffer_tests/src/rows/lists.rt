@@ -2,7 +2,7 @@
 use super::Row;
 use crate::call::Call::*;
 
-pub const ROWS: &[Row] = &[
+pub static ROWS: &[Row] = &[
     Row {
         name: "numbers, masks and turns a list",
         start: &[5, 9, 7],

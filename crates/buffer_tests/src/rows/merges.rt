@@ -7,7 +7,7 @@ const CONCAT: BufferFlags = BufferFlags::PRODUCE_UNSAFE_TO_CONCAT;
 
 const TATWEEL: BufferFlags = BufferFlags::PRODUCE_SAFE_TO_INSERT_TATWEEL;
 
-pub const ROWS: &[Row] = &[
+pub static ROWS: &[Row] = &[
     Row {
         name: "merges, and takes flags where the cluster changes",
         start: &[0, 1, 2],

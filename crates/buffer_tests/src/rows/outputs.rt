@@ -2,7 +2,7 @@
 use super::Row;
 use crate::call::Call::*;
 
-pub const ROWS: &[Row] = &[
+pub static ROWS: &[Row] = &[
     Row {
         name: "moves forth and back",
         start: &[0, 1],

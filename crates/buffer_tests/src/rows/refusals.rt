@@ -2,7 +2,7 @@
 use super::Row;
 use crate::call::Call::*;
 
-pub const ROWS: &[Row] = &[
+pub static ROWS: &[Row] = &[
     Row {
         name: "adds no character past the limit, and may join later",
         start: &[0, 1],
