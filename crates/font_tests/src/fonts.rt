@@ -110,16 +110,16 @@ pub(crate) fn answers(
     alloc: Global,
     font: &Face,
     question: &str,
-    numbers: &[u16],
+    [glyph, _, _]: [u16; 3],
     answer: &str,
 ) -> Option<bool> {
-    match (question, numbers) {
-        ("lengths", [glyph]) => prints(alloc, &lengths_of(font, *glyph), answer),
-        ("extents", [glyph]) => prints(alloc, &font.glyph_extents(*glyph), answer),
-        ("name", [glyph]) => prints(alloc, &name_of(font, *glyph), answer),
-        ("classes", [glyph]) => prints(alloc, &classes_of(font, *glyph), answer),
-        ("sets", [glyph]) => prints(alloc, &sets_with(font, *glyph), answer),
-        ("tables", []) => prints(alloc, &tables_of(font), answer),
+    match question {
+        "lengths" => prints(alloc, &lengths_of(font, glyph), answer),
+        "extents" => prints(alloc, &font.glyph_extents(glyph), answer),
+        "name" => prints(alloc, &name_of(font, glyph), answer),
+        "classes" => prints(alloc, &classes_of(font, glyph), answer),
+        "sets" => prints(alloc, &sets_with(font, glyph), answer),
+        "tables" => prints(alloc, &tables_of(font), answer),
         _ => None,
     }
 }

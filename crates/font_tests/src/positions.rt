@@ -142,30 +142,26 @@ pub(crate) fn answers(
     alloc: Global,
     table: &PositioningTable,
     question: &str,
-    numbers: &[u16],
+    [first, second, third]: [u16; 3],
     answer: &str,
 ) -> Option<bool> {
-    match (question, numbers) {
-        ("single", [glyph]) => prints(alloc, &single_value(table, *glyph), answer),
-        ("cursive", [glyph]) => prints(alloc, &entry_exit(table, *glyph), answer),
-        ("pair", [subtable, first, second]) => {
-            prints(
-                alloc,
-                &pair_advance(table, usize::from(*subtable), *first, *second),
-                answer,
-            )
-        }
-        ("mark", [lookup]) => prints(alloc, &mark(table, *lookup), answer),
-        ("base", [glyph, class]) => prints(alloc, &base_anchor(table, *glyph, *class), answer),
-        ("component", [component, class]) => {
-            prints(
-                alloc,
-                &component_anchor(table, usize::from(*component), *class),
-                answer,
-            )
-        }
-        ("components", [glyph]) => prints(alloc, &component_count(table, *glyph), answer),
-        ("properties", [lookup]) => prints(alloc, &properties(table, *lookup), answer),
+    match question {
+        "single" => prints(alloc, &single_value(table, first), answer),
+        "cursive" => prints(alloc, &entry_exit(table, first), answer),
+        "pair" => prints(
+            alloc,
+            &pair_advance(table, usize::from(first), second, third),
+            answer,
+        ),
+        "mark" => prints(alloc, &mark(table, first), answer),
+        "base" => prints(alloc, &base_anchor(table, first, second), answer),
+        "component" => prints(
+            alloc,
+            &component_anchor(table, usize::from(first), second),
+            answer,
+        ),
+        "components" => prints(alloc, &component_count(table, first), answer),
+        "properties" => prints(alloc, &properties(table, first), answer),
         _ => None,
     }
 }

@@ -35,14 +35,14 @@ fn is_answered(alloc: Global, font: &Face, row: &str) -> Option<bool> {
         return fonts::answers_of_characters(alloc, font, question, answer);
     }
     let (question, numbers) = question.split_once(' ').unwrap_or((question, ""));
-    let numbers = numbers_of(alloc, numbers)?;
-    part_answers(alloc, font, part, question, &numbers, answer)
+    part_answers(alloc, font, part, question, numbers_of(numbers)?, answer)
 }
 
-fn numbers_of(alloc: Global, text: &str) -> Option<Vec<u16>> {
-    let mut numbers = Vec::new(alloc);
-    for word in text.split_whitespace() {
-        numbers.push(word.parse::<u16>().ok()?).ok()?;
+/// The numbers of a question, up to three; the others are 0.
+fn numbers_of(text: &str) -> Option<[u16; 3]> {
+    let mut numbers = [0; 3];
+    for (i, word) in text.split_whitespace().enumerate() {
+        *numbers.get_mut(i)? = word.parse::<u16>().ok()?;
     }
     Some(numbers)
 }
@@ -52,7 +52,7 @@ fn part_answers(
     font: &Face,
     part: &str,
     question: &str,
-    numbers: &[u16],
+    numbers: [u16; 3],
     answer: &str,
 ) -> Option<bool> {
     match part {

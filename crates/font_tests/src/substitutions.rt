@@ -126,27 +126,21 @@ pub(crate) fn answers(
     alloc: Global,
     table: &SubstitutionTable,
     question: &str,
-    numbers: &[u16],
+    [first, second, _]: [u16; 3],
     answer: &str,
 ) -> Option<bool> {
-    match (question, numbers) {
-        ("substitute", [lookup, glyph]) => prints(
+    match question {
+        "substitute" => prints(alloc, &substitute(table, first, second), answer),
+        "sequence" => prints(alloc, &sequence(table, first, second), answer),
+        "ligatures" => prints(alloc, &ligatures(table, first), answer),
+        "components" => prints(alloc, &components(table, first), answer),
+        "rules" => prints(
             alloc,
-            &substitute(table, *lookup, *glyph),
+            &rule_count(table, first, usize::from(second)),
             answer,
         ),
-        ("sequence", [lookup, glyph]) => prints(alloc, &sequence(table, *lookup, *glyph), answer),
-        ("ligatures", [glyph]) => prints(alloc, &ligatures(table, *glyph), answer),
-        ("components", [glyph]) => prints(alloc, &components(table, *glyph), answer),
-        ("rules", [lookup, subtable]) => {
-            prints(
-                alloc,
-                &rule_count(table, *lookup, usize::from(*subtable)),
-                answer,
-            )
-        }
-        ("classes", [glyph]) => prints(alloc, &classes_of(table, *glyph), answer),
-        ("properties", [lookup]) => prints(alloc, &properties(table, *lookup), answer),
+        "classes" => prints(alloc, &classes_of(table, first), answer),
+        "properties" => prints(alloc, &properties(table, first), answer),
         _ => None,
     }
 }
