@@ -8,4 +8,6 @@ mod fonts;
 #[cfg(test)]
 mod positions;
 #[cfg(test)]
+mod rows;
+#[cfg(test)]
 mod substitutions;

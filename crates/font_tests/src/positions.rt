@@ -1,11 +1,11 @@
 //! The subtables of glyph positioning.
-use crate::fonts::font;
+use crate::rows::{first_wrong, prints};
 use font_face::positioning::{PositioningSubtables, PositioningTable};
 use layout_positions::cursive::EntryExit;
 use layout_positions::mark::{MarkLigPos, MarkRecord};
 use layout_positions::pair::{PairPos, PairValues};
 use layout_positions::value::{Anchor, ValueRecord};
-use std::process::Abort;
+use std::alloc::Global;
 use std::test::Fail;
 
 pub(crate) const FONT: &str = r#"{"gpos":{"lookups":[
@@ -20,6 +20,42 @@ pub(crate) const FONT: &str = r#"{"gpos":{"lookups":[
 {"flags":8,"type":"context","subtables":[{"format":"coverage"}]},
 {"type":"chain","subtables":[]}]}}"#;
 
+/// Of pairs, by the subtable and two glyphs: the advance of the first, and whether the second has an adjustment.
+const ANSWERS: &str = "\
+gpos single 1: Some(ValueRecord { x_placement: 1, y_placement: 2, x_advance: -30, y_advance: 4 })
+gpos single 2: None
+gpos cursive 1: Some(EntryExit { entry: None, exit: Some(Anchor { x: 450, y: 100 }) })
+gpos cursive 0: None
+gpos pair 0 1 2: Some((-40, false))
+gpos pair 1 1 2: Some((0, false))
+gpos pair 0 1 9: Some((7, true))
+gpos pair 1 1 9: Some((0, false))
+gpos pair 0 2 9: None
+gpos pair 1 2 9: None
+gpos pair 0 1 7: None
+gpos pair 1 1 7: Some((5, false))
+gpos pair 0 3 7: None
+gpos pair 1 3 7: Some((8, false))
+gpos pair 0 3 4: None
+gpos pair 1 3 4: Some((6, false))
+gpos mark 3: Some(MarkRecord { class: 1, anchor: Some(Anchor { x: 5, y: -5 }) })
+gpos mark 4: Some(MarkRecord { class: 1, anchor: None })
+gpos mark 5: Some(MarkRecord { class: 0, anchor: Some(Anchor { x: 0, y: 0 }) })
+gpos mark 6: None
+gpos base 2 1: Some(Anchor { x: 100, y: 700 })
+gpos base 2 0: None
+gpos base 2 2: None
+gpos base 3 1: None
+gpos component 1 1: Some(Anchor { x: 100, y: 700 })
+gpos component 0 1: None
+gpos component 1 0: None
+gpos component 2 1: None
+gpos components 4: Some(2)
+gpos components 5: None
+gpos properties 6: Some((8, false))
+gpos properties 7: Some((0, false))
+gpos properties 8: None";
+
 fn subtables(table: &PositioningTable, index: u16) -> Option<&PositioningSubtables> {
     Some(&table.get_lookup(index)?.subtables)
 }
@@ -31,44 +67,12 @@ fn single_value(table: &PositioningTable, glyph: u16) -> Option<ValueRecord> {
     }
 }
 
-fn single_adjustments(rt: &impl Abort, table: &PositioningTable) {
-    let value = ValueRecord {
-        x_placement: 1,
-        y_placement: 2,
-        x_advance: -30,
-        y_advance: 4,
-    };
-    for (glyph, wanted) in [(1, Some(value)), (2, None)] {
-        assert_eq!(rt; single_value(table, glyph), wanted);
-    }
-}
-
 fn entry_exit(table: &PositioningTable, glyph: u16) -> Option<EntryExit> {
     match subtables(table, 2)? {
         PositioningSubtables::Cursive(subtables) => subtables.get(0)?.entry_exit(glyph),
         _ => None,
     }
 }
-
-fn cursive_anchors(rt: &impl Abort, table: &PositioningTable) {
-    let anchors = EntryExit {
-        entry: None,
-        exit: Some(Anchor { x: 450, y: 100 }),
-    };
-    for (glyph, wanted) in [(1, Some(anchors)), (0, None)] {
-        assert_eq!(rt; entry_exit(table, glyph), wanted);
-    }
-}
-
-// The advance of the first glyph of two, and whether the second has an adjustment: by glyphs, then by classes.
-const PAIRS: [(u16, u16, Option<(i16, bool)>, Option<(i16, bool)>); 6] = [
-    (1, 2, Some((-40, false)), Some((0, false))),
-    (1, 9, Some((7, true)), Some((0, false))),
-    (2, 9, None, None),
-    (1, 7, None, Some((5, false))),
-    (3, 7, None, Some((8, false))),
-    (3, 4, None, Some((6, false))),
-];
 
 fn pair_values(
     table: &PositioningTable,
@@ -95,15 +99,6 @@ fn pair_advance(
     Some((values.first.x_advance, values.second.is_some()))
 }
 
-fn pairs(rt: &impl Abort, table: &PositioningTable) {
-    for (first, second, glyphs, classes) in PAIRS {
-        assert_eq!(rt; pair_advance(table, 0, first, second), glyphs);
-        assert_eq!(rt; pair_advance(table, 1, first, second), classes);
-    }
-}
-
-const TOP: Option<Anchor> = Some(Anchor { x: 100, y: 700 });
-
 /// What a lookup says of the mark 9.
 fn mark(table: &PositioningTable, index: u16) -> Option<MarkRecord> {
     match subtables(table, index)? {
@@ -114,31 +109,10 @@ fn mark(table: &PositioningTable, index: u16) -> Option<MarkRecord> {
     }
 }
 
-fn record(class: u16, anchor: Option<Anchor>) -> MarkRecord {
-    MarkRecord { class, anchor }
-}
-
-fn marks(rt: &impl Abort, table: &PositioningTable) {
-    for (index, wanted) in [
-        (3, Some(record(1, Some(Anchor { x: 5, y: -5 })))),
-        (4, Some(record(1, None))),
-        (5, Some(record(0, Some(Anchor { x: 0, y: 0 })))),
-        (6, None),
-    ] {
-        assert_eq!(rt; mark(table, index), wanted);
-    }
-}
-
 fn base_anchor(table: &PositioningTable, glyph: u16, class: u16) -> Option<Anchor> {
     match subtables(table, 3)? {
         PositioningSubtables::MarkToBase(subtables) => subtables.get(0)?.base_anchor(glyph, class),
         _ => None,
-    }
-}
-
-fn anchors_of_bases(rt: &impl Abort, table: &PositioningTable) {
-    for (glyph, class, anchor) in [(2, 1, TOP), (2, 0, None), (2, 2, None), (3, 1, None)] {
-        assert_eq!(rt; base_anchor(table, glyph, class), anchor);
     }
 }
 
@@ -153,12 +127,6 @@ fn component_anchor(table: &PositioningTable, component: usize, class: u16) -> O
     ligature_marks(table)?.component_anchor(4, component, class)
 }
 
-fn anchors_of_components(rt: &impl Abort, table: &PositioningTable) {
-    for (component, class, anchor) in [(1, 1, TOP), (0, 1, None), (1, 0, None), (2, 1, None)] {
-        assert_eq!(rt; component_anchor(table, component, class), anchor);
-    }
-}
-
 fn component_count(table: &PositioningTable, glyph: u16) -> Option<usize> {
     ligature_marks(table)?.component_count(glyph)
 }
@@ -169,25 +137,37 @@ fn properties(table: &PositioningTable, index: u16) -> Option<(u32, bool)> {
     Some((lookup.props(), lookup.is_reverse()))
 }
 
-fn counts_and_properties(rt: &impl Abort, table: &PositioningTable) {
-    for (glyph, count) in [(4, Some(2)), (5, None)] {
-        assert_eq!(rt; component_count(table, glyph), count);
-    }
-    for (index, wanted) in [(6, Some((8, false))), (7, Some((0, false))), (8, None)] {
-        assert_eq!(rt; properties(table, index), wanted);
+/// Whether a table answers a question as its row says.
+pub(crate) fn answers(
+    alloc: Global,
+    table: &PositioningTable,
+    question: &str,
+    [first, second, third]: [u16; 3],
+    answer: &str,
+) -> Option<bool> {
+    match question {
+        "single" => prints(alloc, &single_value(table, first), answer),
+        "cursive" => prints(alloc, &entry_exit(table, first), answer),
+        "pair" => prints(
+            alloc,
+            &pair_advance(table, usize::from(first), second, third),
+            answer,
+        ),
+        "mark" => prints(alloc, &mark(table, first), answer),
+        "base" => prints(alloc, &base_anchor(table, first, second), answer),
+        "component" => prints(
+            alloc,
+            &component_anchor(table, usize::from(first), second),
+            answer,
+        ),
+        "components" => prints(alloc, &component_count(table, first), answer),
+        "properties" => prints(alloc, &properties(table, first), answer),
+        _ => None,
     }
 }
 
 #[test]
 fn positioning_subtables(rt: HostRuntime) -> Result<(), Fail> {
-    let font = font(rt.alloc(), FONT)?;
-    let table = font.gpos().ok_or("no table")?;
-    single_adjustments(&rt, table);
-    cursive_anchors(&rt, table);
-    pairs(&rt, table);
-    marks(&rt, table);
-    anchors_of_bases(&rt, table);
-    anchors_of_components(&rt, table);
-    counts_and_properties(&rt, table);
+    assert_eq!(rt; first_wrong(rt.alloc(), FONT, ANSWERS), Ok(None));
     Ok(())
 }

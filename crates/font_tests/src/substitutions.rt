@@ -1,8 +1,8 @@
 //! The subtables of glyph substitution.
-use crate::fonts::font;
+use crate::rows::{first_wrong, prints};
 use font_face::substitution::{SubstitutionSubtables, SubstitutionTable};
 use layout_contexts::context::ContextSubtable;
-use std::process::Abort;
+use std::alloc::Global;
 use std::test::Fail;
 
 pub(crate) const FONT: &str = r#"{"gdef":{"sets":[[9],[4]]},"gsub":{"lookups":[
@@ -15,6 +15,34 @@ pub(crate) const FONT: &str = r#"{"gdef":{"sets":[[9],[4]]},"gsub":{"lookups":[
 {"format":"classes","classes":[[[5,1]],[[6,2]],[]],"first":[6,5],"rules":[[[1],[2,0],[],[]]]},
 {"format":"coverage","rules":[[[[7,5]],[[3,1]],[],[]]]}]},
 {"type":"reverse","subtables":[[[[2]],[],[[1,8]]]]}]}}"#;
+
+const ANSWERS: &str = "\
+gsub substitute 0 1: Some(3)
+gsub substitute 0 3: None
+gsub substitute 0 4: Some(0)
+gsub substitute 6 1: Some(8)
+gsub sequence 1 2: Some([3, 4])
+gsub sequence 1 7: Some([])
+gsub sequence 1 3: None
+gsub sequence 2 2: Some([3, 4])
+gsub sequence 2 1: None
+gsub ligatures 3: Some((1, 7))
+gsub ligatures 9: Some((2, 8))
+gsub ligatures 4: None
+gsub components 9: Some([5, 6])
+gsub rules 4 0: Some(1)
+gsub rules 5 0: Some(1)
+gsub rules 5 1: Some(1)
+gsub rules 5 2: None
+gsub rules 0 0: None
+gsub classes 5: Some((true, 1, 0))
+gsub classes 6: Some((true, 0, 2))
+gsub classes 7: Some((false, 0, 0))
+gsub properties 0: Some((65552, false))
+gsub properties 1: Some((0, false))
+gsub properties 3: Some((4294901776, false))
+gsub properties 6: Some((0, true))
+gsub properties 7: None";
 
 fn subtables(table: &SubstitutionTable, index: u16) -> Option<&SubstitutionSubtables> {
     Some(&table.get_lookup(index)?.subtables)
@@ -40,30 +68,6 @@ fn sequence(table: &SubstitutionTable, index: u16, glyph: u16) -> Option<&[u16]>
     }
 }
 
-fn single_and_reverse(rt: &impl Abort, table: &SubstitutionTable) {
-    for (index, glyph, glyph_after) in [
-        (0, 1, Some(3)),
-        (0, 3, None),
-        (0, 4, Some(0)),
-        (6, 1, Some(8)),
-    ] {
-        assert_eq!(rt; substitute(table, index, glyph), glyph_after);
-    }
-}
-
-fn sequences_and_alternates(rt: &impl Abort, table: &SubstitutionTable) {
-    let cases: [(u16, u16, Option<&[u16]>); 5] = [
-        (1, 2, Some(&[3, 4])),
-        (1, 7, Some(&[])),
-        (1, 3, None),
-        (2, 2, Some(&[3, 4])),
-        (2, 1, None),
-    ];
-    for (index, glyph, wanted) in cases {
-        assert_eq!(rt; sequence(table, index, glyph), wanted);
-    }
-}
-
 /// How many ligatures a first glyph has, and the glyph of the first.
 fn ligatures(table: &SubstitutionTable, glyph: u16) -> Option<(usize, u16)> {
     let SubstitutionSubtables::Ligature(subtables) = subtables(table, 3)? else {
@@ -82,14 +86,6 @@ fn components(table: &SubstitutionTable, glyph: u16) -> Option<&[u16]> {
     Some(ligatures.first()?.components())
 }
 
-fn ligatures_of_a_first_glyph(rt: &impl Abort, table: &SubstitutionTable) {
-    for (glyph, wanted) in [(3, Some((1, 7))), (9, Some((2, 8))), (4, None)] {
-        assert_eq!(rt; ligatures(table, glyph), wanted);
-    }
-    let wanted: Option<&[u16]> = Some(&[5, 6]);
-    assert_eq!(rt; components(table, 9), wanted);
-}
-
 fn context(table: &SubstitutionTable, index: u16, subtable: usize) -> Option<&ContextSubtable> {
     match subtables(table, index)? {
         SubstitutionSubtables::Context(subtables)
@@ -106,18 +102,6 @@ fn rule_count(table: &SubstitutionTable, index: u16, subtable: usize) -> Option<
     }
 }
 
-fn rules_of_contexts(rt: &impl Abort, table: &SubstitutionTable) {
-    for (index, subtable, count) in [
-        (4, 0, Some(1)),
-        (5, 0, Some(1)),
-        (5, 1, Some(1)),
-        (5, 2, None),
-        (0, 0, None),
-    ] {
-        assert_eq!(rt; rule_count(table, index, subtable), count);
-    }
-}
-
 /// Whether a glyph may be the first of the rules by classes, and its classes before and inside.
 fn classes_of(table: &SubstitutionTable, glyph: u16) -> Option<(bool, u16, u16)> {
     let ContextSubtable::Classes(rules) = context(table, 5, 0)? else {
@@ -131,39 +115,38 @@ fn classes_of(table: &SubstitutionTable, glyph: u16) -> Option<(bool, u16, u16)>
     ))
 }
 
-fn classes_of_a_context(rt: &impl Abort, table: &SubstitutionTable) {
-    for (glyph, wanted) in [(5, (true, 1, 0)), (6, (true, 0, 2)), (7, (false, 0, 0))] {
-        assert_eq!(rt; classes_of(table, glyph), Some(wanted));
-    }
-}
-
 /// The properties of a lookup, and whether it is applied from the end of the text.
 fn properties(table: &SubstitutionTable, index: u16) -> Option<(u32, bool)> {
     let lookup = table.get_lookup(index)?;
     Some((lookup.props(), lookup.is_reverse()))
 }
 
-fn properties_of_lookups(rt: &impl Abort, table: &SubstitutionTable) {
-    for (index, wanted) in [
-        (0, Some((0x1_0010, false))),
-        (1, Some((0, false))),
-        (3, Some((0xFFFF_0010, false))),
-        (6, Some((0, true))),
-        (7, None),
-    ] {
-        assert_eq!(rt; properties(table, index), wanted);
+/// Whether a table answers a question as its row says.
+pub(crate) fn answers(
+    alloc: Global,
+    table: &SubstitutionTable,
+    question: &str,
+    [first, second, _]: [u16; 3],
+    answer: &str,
+) -> Option<bool> {
+    match question {
+        "substitute" => prints(alloc, &substitute(table, first, second), answer),
+        "sequence" => prints(alloc, &sequence(table, first, second), answer),
+        "ligatures" => prints(alloc, &ligatures(table, first), answer),
+        "components" => prints(alloc, &components(table, first), answer),
+        "rules" => prints(
+            alloc,
+            &rule_count(table, first, usize::from(second)),
+            answer,
+        ),
+        "classes" => prints(alloc, &classes_of(table, first), answer),
+        "properties" => prints(alloc, &properties(table, first), answer),
+        _ => None,
     }
 }
 
 #[test]
 fn substitution_subtables(rt: HostRuntime) -> Result<(), Fail> {
-    let font = font(rt.alloc(), FONT)?;
-    let table = font.gsub().ok_or("no table")?;
-    single_and_reverse(&rt, table);
-    sequences_and_alternates(&rt, table);
-    ligatures_of_a_first_glyph(&rt, table);
-    rules_of_contexts(&rt, table);
-    classes_of_a_context(&rt, table);
-    properties_of_lookups(&rt, table);
+    assert_eq!(rt; first_wrong(rt.alloc(), FONT, ANSWERS), Ok(None));
     Ok(())
 }

@@ -2,23 +2,38 @@
 use crate::numbers::Numbers;
 use glyph_lists::info::hb_glyph_info_t;
 use script_joining::setup_masks_inner;
-use std::alloc::Global;
+use std::alloc::{AllocError, Global};
 use std::test::Fail;
 use unicode_tables::{UnicodeRows, UnicodeTables};
 
-fn tables(alloc: Global, numbers: &mut Numbers) -> Result<UnicodeTables, Fail> {
-    let mut rows = UnicodeRows::new(alloc);
+fn joining(alloc: Global, numbers: &mut Numbers) -> Result<Vec<[u32; 2]>, AllocError> {
+    let mut rows = Vec::new(alloc);
     let count = numbers.next();
     for _ in 0..count {
-        rows.joining.push([numbers.next(), numbers.next()])?;
+        rows.push([numbers.next(), numbers.next()])?;
     }
+    Ok(rows)
+}
+
+fn tables(alloc: Global, joining: Vec<[u32; 2]>) -> Result<UnicodeTables, Fail> {
+    let mut rows = UnicodeRows::new(alloc);
+    rows.joining = joining;
     Ok(UnicodeTables::new(alloc, &rows)?)
+}
+
+fn next_tables(alloc: Global, numbers: &mut Numbers) -> Result<UnicodeTables, Fail> {
+    let joining = joining(alloc, numbers)?;
+    tables(alloc, joining)
+}
+
+fn check_row(alloc: Global, numbers: &mut Numbers) -> Result<bool, Fail> {
+    let tables = next_tables(alloc, numbers)?;
+    check_with(alloc, &tables, numbers)
 }
 
 fn check(alloc: Global, row: &str) -> Result<bool, Fail> {
     let mut numbers = Numbers::of(alloc, row)?;
-    let tables = tables(alloc, &mut numbers)?;
-    check_with(alloc, &tables, &mut numbers)
+    check_row(alloc, &mut numbers)
 }
 
 fn check_with(alloc: Global, tables: &UnicodeTables, numbers: &mut Numbers) -> Result<bool, Fail> {
@@ -54,8 +69,7 @@ fn are_wanted(glyphs: &[hb_glyph_info_t], numbers: &mut Numbers) -> bool {
 #[test]
 fn joins(rt: HostRuntime) -> Result<(), Fail> {
     for row in ROWS.lines() {
-        let same = check(rt.alloc(), row)?;
-        assert_eq!(rt; (row, same), (row, true));
+        assert!(rt; check(rt.alloc(), row)?, "{row}");
     }
     Ok(())
 }

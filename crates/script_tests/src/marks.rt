@@ -38,12 +38,10 @@ fn are_wanted(glyphs: &[hb_glyph_info_t], numbers: &mut Numbers) -> bool {
 #[test]
 fn orders(rt: HostRuntime) -> Result<(), Fail> {
     for row in ARABIC.lines() {
-        let same = check(rt.alloc(), row, false)?;
-        assert_eq!(rt; (row, same), (row, true));
+        assert!(rt; check(rt.alloc(), row, false)?, "{row}");
     }
     for row in HEBREW.lines() {
-        let same = check(rt.alloc(), row, true)?;
-        assert_eq!(rt; (row, same), (row, true));
+        assert!(rt; check(rt.alloc(), row, true)?, "{row}");
     }
     Ok(())
 }

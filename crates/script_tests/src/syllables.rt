@@ -27,8 +27,20 @@ fn check(alloc: Global, line: &str) -> Result<bool, Fail> {
     let max_len = numbers.count();
     let given = numbers.six();
     let mut buffer = numbers.glyphs(alloc, max_len)?;
-    apply(alloc, rule, &given, &mut buffer)?;
-    Ok(numbers.next() == 0 && stand(&buffer, &mut numbers))
+    Ok(stand_after(alloc, rule, &given, &mut buffer, &mut numbers)?)
+}
+
+fn stand_after(
+    alloc: Global,
+    rule: &str,
+    given: &Given,
+    buffer: &mut hb_buffer_t,
+    numbers: &mut Numbers,
+) -> Result<bool, ShapeCause>
+    requires { IsReady buffer.old }
+{
+    apply(alloc, rule, given, buffer)?;
+    Ok(numbers.next() == 0 && stand(buffer, numbers))
 }
 
 fn apply(
@@ -159,8 +171,7 @@ fn stands(glyph: &hb_glyph_info_t, position: GlyphPosition, numbers: &mut Number
 #[test]
 fn follows_the_rules(rt: HostRuntime) -> Result<(), Fail> {
     for line in ROWS.lines() {
-        let same = check(rt.alloc(), line)?;
-        assert_eq!(rt; (line, same), (line, true));
+        assert!(rt; check(rt.alloc(), line)?, "{line}");
     }
     Ok(())
 }

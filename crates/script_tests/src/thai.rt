@@ -33,8 +33,7 @@ fn are_wanted(buffer: &hb_buffer_t, numbers: &mut Numbers) -> bool
 #[test]
 fn splits(rt: HostRuntime) -> Result<(), Fail> {
     for row in ROWS.lines() {
-        let same = check(rt.alloc(), row)?;
-        assert_eq!(rt; (row, same), (row, true));
+        assert!(rt; check(rt.alloc(), row)?, "{row}");
     }
     Ok(())
 }
