@@ -15,6 +15,7 @@ use map_features::lookup::lookup_map_t;
 use map_features::per_table::TableIndex;
 use shaping_text::tag::Tag;
 use std::alloc::{AllocError, Global};
+use std::process::Abort;
 use std::test::Fail;
 
 type Text = &'static [u8; 4];
@@ -654,18 +655,13 @@ fn requests_become_maps(rt: HostRuntime) -> Result<(), Fail> {
     Ok(())
 }
 
-/// Asks for the pause 3 before the feature `kern` of positioning.
-fn ask_pause(builder: &mut hb_ot_map_builder_t) -> Result<(), AllocError> {
+/// A map without a font, in whose positioning the pause 3 comes before the feature `kern`.
+fn paused_map(alloc: Global) -> Result<hb_ot_map_t, AllocError> {
+    let mut builder = hb_ot_map_builder_t::new(alloc, None, None, &[], &[]);
     builder.add_gpos_pause(3)?;
     builder.enable_feature(Tag::from_bytes(b"kern"), F_HAS_FALLBACK, 1)?;
     builder.disable_feature(Tag::from_bytes(b"liga"))?;
-    builder.add_feature(Tag(0), F_GLOBAL_HAS_FALLBACK, 1)
-}
-
-/// A map without a font.
-fn paused_map(alloc: Global) -> Result<hb_ot_map_t, AllocError> {
-    let mut builder = hb_ot_map_builder_t::new(alloc, None, None, &[], &[]);
-    ask_pause(&mut builder)?;
+    builder.add_feature(Tag(0), F_GLOBAL_HAS_FALLBACK, 1)?;
     builder.compile(alloc)
 }
 
@@ -676,20 +672,16 @@ fn is_paused(stages: &[StageMap]) -> bool {
     }
 }
 
-fn pauses_before_kern(map: &hb_ot_map_t) -> bool {
+fn pauses_before_kern(rt: &impl Abort, map: &hb_ot_map_t) {
     let kern = Tag::from_bytes(b"kern");
-    is_paused(map.stages(TableIndex::GPOS))
-        && map.get_feature_stage(TableIndex::GPOS, kern) == Some(1)
-        && map.features().len() == 1
-}
-
-fn has_paused_map(alloc: Global) -> Result<bool, AllocError> {
-    let map = paused_map(alloc)?;
-    Ok(pauses_before_kern(&map))
+    assert!(rt; is_paused(map.stages(TableIndex::GPOS)));
+    assert!(rt; map.get_feature_stage(TableIndex::GPOS, kern) == Some(1));
+    assert!(rt; map.features().len() == 1);
 }
 
 #[test]
 fn pauses_end_stages(rt: HostRuntime) -> Result<(), Fail> {
-    assert!(rt; has_paused_map(rt.alloc())?);
+    let map = paused_map(rt.alloc())?;
+    pauses_before_kern(&rt, &map);
     Ok(())
 }

@@ -10,34 +10,130 @@ use map_features::per_table::PerTable;
 use map_features::request::{FeatureRequest, MergedRequest};
 use shaping_text::tag::Tag;
 use std::alloc::{AllocError, Global};
-use std::fmt::Write;
 use std::test::Fail;
 
-/// The requests of a case: tag, flags, value and stage of substitution of each. Behind them the mask of all glyphs, and the
-/// fields that the requests get, by tag: tag, lowest bit, mask, mask of value 1, stage of substitution. The masks are
-/// hexadecimal.
-const CASES: &str = "\
-vert,3,256,0: 80000000|vert,4,ff0,10,0
-x   ,65,2,0|liga,3,0,0|x   ,0,1,1: 80000020|x   ,4,30,10,0
-bbbb,67,1,0|bbbb,0,3,1|aaaa,3,1,1: 80000010|aaaa,31,80000000,80000000,1|bbbb,4,30,10,0
-kern,2,2,0|mark,1,1,0|kern,1,255,1|kern,0,0,1|kern,0,1,1|mark,32,2,1: 80001ff0|kern,4,ff0,10,0|mark,12,3000,1000,0
-vert,1,1,0|kern,2,2,0|kern,81,3,1|vert,0,0,1|vert,16,1,1|vert,18,255,1: 80000070|kern,4,30,10,0|vert,6,3fc0,40,0
-vert,0,256,0|vert,37,3,1: 80000030|vert,4,30,10,0
-vert,1,0,0|vert,0,3,0|mark,17,255,0: 80000ff0|mark,4,ff0,10,0|vert,12,3000,1000,0
-liga,0,256,0|liga,9,4294967295,0|liga,8,4294967295,0: 80000ff0|liga,4,ff0,10,0
-kern,1,5,0|kern,1,3,0|x   ,49,1,1|aaaa,0,1,1: 80000060|aaaa,4,10,10,1|kern,5,60,20,0|x   ,31,80000000,80000000,1
-vert,3,1,0|kern,51,1,0|vert,3,2,0|vert,33,1,0|vert,20,2,0|kern,0,256,1: 80001010|kern,4,ff0,10,0|vert,12,3000,1000,0
-mark,4,1,0|mark,0,0,0|mark,42,1,0|mark,1,5,0: 80000050|mark,4,70,10,0
-vert,0,1,0|liga,17,0,0|vert,11,3,0|vert,3,1,0|t000,1,127,0|t001,1,255,0|t002,1,127,0|t003,1,255,0|t000,2,1,0|\
-t001,2,1,0|t002,2,1,0|t003,2,1,0|t004,2,1,0|t005,2,1,0|t006,2,1,0|t007,2,1,0|t008,2,1,0|t009,2,1,0|t010,2,1,0|\
-t011,2,1,0|t012,2,1,0|t013,2,1,0|t014,2,1,0|t015,2,1,0|t016,2,1,0|t017,2,1,0|t018,2,1,0|t019,2,1,0|t020,2,1,0|\
-t021,2,1,0|t022,2,1,0|t023,2,1,0|t024,2,1,0|t025,2,1,0: 83fffff0|t000,4,7f0,10,0|t001,11,7f800,800,0|\
-t002,19,3f80000,80000,0|t004,26,4000000,4000000,0|t005,27,8000000,8000000,0|t006,28,10000000,10000000,0|\
-t007,29,20000000,20000000,0|vert,31,80000000,80000000,0";
+type Asked = (usize, &'static [u8; 4], u32, u32, usize);
 
-fn request(tag: Tag, flags: u32, value: u32, stage: usize) -> FeatureRequest {
+type Kept = (usize, &'static [u8; 4], u32, u32, u32, usize);
+
+/// The mask of all glyphs, by case.
+const GLOBAL_MASKS: [u32; 12] = [
+    0x80000000, 0x80000020, 0x80000010, 0x80001ff0, 0x80000070, 0x80000030, 0x80000ff0, 0x80000ff0,
+    0x80000060, 0x80001010, 0x80000050, 0x83fffff0,
+];
+
+/// Case, and one of its requests: tag, flags, value, stage of substitution.
+static ASKED: [Asked; 75] = [
+    (0, b"vert", 3, 256, 0),
+    (1, b"x   ", 65, 2, 0),
+    (1, b"liga", 3, 0, 0),
+    (1, b"x   ", 0, 1, 1),
+    (2, b"bbbb", 67, 1, 0),
+    (2, b"bbbb", 0, 3, 1),
+    (2, b"aaaa", 3, 1, 1),
+    (3, b"kern", 2, 2, 0),
+    (3, b"mark", 1, 1, 0),
+    (3, b"kern", 1, 255, 1),
+    (3, b"kern", 0, 0, 1),
+    (3, b"kern", 0, 1, 1),
+    (3, b"mark", 32, 2, 1),
+    (4, b"vert", 1, 1, 0),
+    (4, b"kern", 2, 2, 0),
+    (4, b"kern", 81, 3, 1),
+    (4, b"vert", 0, 0, 1),
+    (4, b"vert", 16, 1, 1),
+    (4, b"vert", 18, 255, 1),
+    (5, b"vert", 0, 256, 0),
+    (5, b"vert", 37, 3, 1),
+    (6, b"vert", 1, 0, 0),
+    (6, b"vert", 0, 3, 0),
+    (6, b"mark", 17, 255, 0),
+    (7, b"liga", 0, 256, 0),
+    (7, b"liga", 9, u32::MAX, 0),
+    (7, b"liga", 8, u32::MAX, 0),
+    (8, b"kern", 1, 5, 0),
+    (8, b"kern", 1, 3, 0),
+    (8, b"x   ", 49, 1, 1),
+    (8, b"aaaa", 0, 1, 1),
+    (9, b"vert", 3, 1, 0),
+    (9, b"kern", 51, 1, 0),
+    (9, b"vert", 3, 2, 0),
+    (9, b"vert", 33, 1, 0),
+    (9, b"vert", 20, 2, 0),
+    (9, b"kern", 0, 256, 1),
+    (10, b"mark", 4, 1, 0),
+    (10, b"mark", 0, 0, 0),
+    (10, b"mark", 42, 1, 0),
+    (10, b"mark", 1, 5, 0),
+    (11, b"vert", 0, 1, 0),
+    (11, b"liga", 17, 0, 0),
+    (11, b"vert", 11, 3, 0),
+    (11, b"vert", 3, 1, 0),
+    (11, b"t000", 1, 127, 0),
+    (11, b"t001", 1, 255, 0),
+    (11, b"t002", 1, 127, 0),
+    (11, b"t003", 1, 255, 0),
+    (11, b"t000", 2, 1, 0),
+    (11, b"t001", 2, 1, 0),
+    (11, b"t002", 2, 1, 0),
+    (11, b"t003", 2, 1, 0),
+    (11, b"t004", 2, 1, 0),
+    (11, b"t005", 2, 1, 0),
+    (11, b"t006", 2, 1, 0),
+    (11, b"t007", 2, 1, 0),
+    (11, b"t008", 2, 1, 0),
+    (11, b"t009", 2, 1, 0),
+    (11, b"t010", 2, 1, 0),
+    (11, b"t011", 2, 1, 0),
+    (11, b"t012", 2, 1, 0),
+    (11, b"t013", 2, 1, 0),
+    (11, b"t014", 2, 1, 0),
+    (11, b"t015", 2, 1, 0),
+    (11, b"t016", 2, 1, 0),
+    (11, b"t017", 2, 1, 0),
+    (11, b"t018", 2, 1, 0),
+    (11, b"t019", 2, 1, 0),
+    (11, b"t020", 2, 1, 0),
+    (11, b"t021", 2, 1, 0),
+    (11, b"t022", 2, 1, 0),
+    (11, b"t023", 2, 1, 0),
+    (11, b"t024", 2, 1, 0),
+    (11, b"t025", 2, 1, 0),
+];
+
+/// Case, and one of the fields that its requests get, by tag: lowest bit, mask, mask of value 1, stage of substitution.
+static KEPT: [Kept; 26] = [
+    (0, b"vert", 4, 0xff0, 0x10, 0),
+    (1, b"x   ", 4, 0x30, 0x10, 0),
+    (2, b"aaaa", 31, 0x80000000, 0x80000000, 1),
+    (2, b"bbbb", 4, 0x30, 0x10, 0),
+    (3, b"kern", 4, 0xff0, 0x10, 0),
+    (3, b"mark", 12, 0x3000, 0x1000, 0),
+    (4, b"kern", 4, 0x30, 0x10, 0),
+    (4, b"vert", 6, 0x3fc0, 0x40, 0),
+    (5, b"vert", 4, 0x30, 0x10, 0),
+    (6, b"mark", 4, 0xff0, 0x10, 0),
+    (6, b"vert", 12, 0x3000, 0x1000, 0),
+    (7, b"liga", 4, 0xff0, 0x10, 0),
+    (8, b"aaaa", 4, 0x10, 0x10, 1),
+    (8, b"kern", 5, 0x60, 0x20, 0),
+    (8, b"x   ", 31, 0x80000000, 0x80000000, 1),
+    (9, b"kern", 4, 0xff0, 0x10, 0),
+    (9, b"vert", 12, 0x3000, 0x1000, 0),
+    (10, b"mark", 4, 0x70, 0x10, 0),
+    (11, b"t000", 4, 0x7f0, 0x10, 0),
+    (11, b"t001", 11, 0x7f800, 0x800, 0),
+    (11, b"t002", 19, 0x3f80000, 0x80000, 0),
+    (11, b"t004", 26, 0x4000000, 0x4000000, 0),
+    (11, b"t005", 27, 0x8000000, 0x8000000, 0),
+    (11, b"t006", 28, 0x10000000, 0x10000000, 0),
+    (11, b"t007", 29, 0x20000000, 0x20000000, 0),
+    (11, b"vert", 31, 0x80000000, 0x80000000, 0),
+];
+
+fn request(tag: &[u8; 4], flags: u32, value: u32, stage: usize) -> FeatureRequest {
     FeatureRequest {
-        tag,
+        tag: Tag::from_bytes(tag),
         flags,
         value,
         stage: PerTable {
@@ -47,29 +143,12 @@ fn request(tag: Tag, flags: u32, value: u32, stage: usize) -> FeatureRequest {
     }
 }
 
-fn numbers(alloc: Global, text: &str) -> Result<Vec<u32>, Fail> {
-    let mut numbers = Vec::new(alloc);
-    for word in text.split(',') {
-        numbers.push(word.parse::<u32>()?)?;
-    }
-    Ok(numbers)
-}
-
-fn request_of(alloc: Global, row: &str) -> Result<FeatureRequest, Fail> {
-    let (tag, rest) = row.split_once(',').ok_or("no tag")?;
-    match numbers(alloc, rest)?.as_slice() {
-        [flags, value, stage] => {
-            let tag = Tag::from_bytes_lossy(tag.as_bytes());
-            Ok(request(tag, *flags, *value, *stage as usize))
-        }
-        _ => Err("no request".into()),
-    }
-}
-
-fn requests(alloc: Global, rows: &str) -> Result<Vec<FeatureRequest>, Fail> {
+fn requests(alloc: Global, case: usize) -> Result<Vec<FeatureRequest>, AllocError> {
     let mut requests = Vec::new(alloc);
-    for row in rows.split('|') {
-        requests.push(request_of(alloc, row)?)?;
+    for (of_case, tag, flags, value, stage) in &ASKED {
+        if *of_case == case {
+            requests.push(request(tag, *flags, *value, *stage))?;
+        }
     }
     Ok(requests)
 }
@@ -80,6 +159,29 @@ fn kept_of(alloc: Global, requests: &[FeatureRequest]) -> Result<Vec<KeptField>,
     kept_fields(alloc, &merged)
 }
 
+fn is_kept(kept: &KeptField, wanted: &Kept) -> bool {
+    let (_, tag, shift, mask, one_mask, stage) = *wanted;
+    kept.request.tag == Tag::from_bytes(tag)
+        && kept.field.shift == shift
+        && kept.field.mask == mask
+        && kept.field.one_mask == one_mask
+        && kept.request.stage.gsub == stage
+}
+
+/// Whether these are the fields of a case, and no more.
+fn are_kept(kept: &[KeptField], case: usize) -> bool {
+    let mut count = 0usize;
+    for wanted in &KEPT {
+        if wanted.0 == case {
+            match kept.get(count) {
+                Some(kept) if is_kept(kept, wanted) => count = count.saturating_add(1),
+                _ => return false,
+            }
+        }
+    }
+    kept.len() == count
+}
+
 fn global_mask(kept: &[KeptField]) -> u32 {
     let mut mask = GLOBAL_BIT;
     for kept in kept {
@@ -88,45 +190,16 @@ fn global_mask(kept: &[KeptField]) -> u32 {
     mask
 }
 
-fn print_field(text: &mut String, kept: &KeptField) -> Result<(), AllocError> {
-    let tag = kept.request.tag.to_bytes();
-    let tag = str::from_utf8(&tag).unwrap_or("?");
-    let (field, stage) = (kept.field, kept.request.stage.gsub);
-    write!(
-        text,
-        "|{tag},{},{:x},{:x},{stage}",
-        field.shift, field.mask, field.one_mask
-    )
-}
-
-/// The mask of all glyphs and the fields, as a case has them.
-fn printed(alloc: Global, kept: &[KeptField]) -> Result<String, AllocError> {
-    let mut text = format!(in alloc; "{:x}", global_mask(kept))?;
-    for kept in kept {
-        print_field(&mut text, kept)?;
-    }
-    Ok(text)
-}
-
-fn are_merged(
-    alloc: Global,
-    requests: &[FeatureRequest],
-    wanted: &str,
-) -> Result<bool, AllocError> {
-    let kept = kept_of(alloc, requests)?;
-    Ok(printed(alloc, &kept)?.as_str() == wanted)
-}
-
-fn is_merged(alloc: Global, case: &str) -> Result<bool, Fail> {
-    let (rows, wanted) = case.split_once(": ").ok_or("no answer")?;
-    let requests = requests(alloc, rows)?;
-    Ok(are_merged(alloc, &requests, wanted)?)
+fn are_merged(alloc: Global, case: usize, mask: u32) -> Result<bool, AllocError> {
+    let requests = requests(alloc, case)?;
+    let kept = kept_of(alloc, &requests)?;
+    Ok(are_kept(&kept, case) && global_mask(&kept) == mask)
 }
 
 #[test]
 fn requests_are_merged_and_get_bits(rt: HostRuntime) -> Result<(), Fail> {
-    for case in CASES.lines() {
-        assert!(rt; is_merged(rt.alloc(), case)?, "{case}");
+    for (case, mask) in GLOBAL_MASKS.iter().enumerate() {
+        assert!(rt; are_merged(rt.alloc(), case, *mask)?, "case {case}");
     }
     Ok(())
 }
@@ -143,11 +216,10 @@ fn are_flags_joined(request: &MergedRequest) -> bool {
 
 #[test]
 fn flags_are_those_of_the_first(rt: HostRuntime) -> Result<(), Fail> {
-    let liga = Tag::from_bytes(b"liga");
     let asked = [
-        request(liga, F_MANUAL_ZWNJ + F_RANDOM, 1, 0),
+        request(b"liga", F_MANUAL_ZWNJ + F_RANDOM, 1, 0),
         request(
-            liga,
+            b"liga",
             F_GLOBAL + F_HAS_FALLBACK + F_MANUAL_ZWJ + F_PER_SYLLABLE,
             1,
             1,

@@ -6,21 +6,17 @@ use layout_font::script::{LangSys, LangSysRecord, ScriptRecord};
 use layout_font::table::{FeatureRecord, LayoutTable};
 use shaping_text::tag::Tag;
 use std::alloc::{AllocError, Global};
-use std::fmt::Debug;
+use std::process::Abort;
 use std::test::Fail;
 
 fn tag(text: &str) -> Tag {
     Tag::from_bytes_lossy(text.as_bytes())
 }
 
-fn word(tag: &[u8; 4]) -> &str {
-    str::from_utf8(tag).unwrap_or("?")
-}
-
 /// The tags of a text with commas between them.
-fn tags(alloc: Global, text: &str) -> Result<Vec<Tag>, AllocError> {
+fn tags_of(alloc: Global, text: &str) -> Result<Vec<Tag>, AllocError> {
     let mut tags = Vec::new(alloc);
-    if text == "-" {
+    if text.is_empty() {
         return Ok(tags);
     }
     for word in text.split(',') {
@@ -29,309 +25,69 @@ fn tags(alloc: Global, text: &str) -> Result<Vec<Tag>, AllocError> {
     Ok(tags)
 }
 
-/// The numbers of a text with dots between them.
-fn numbers(alloc: Global, text: &str) -> Result<Vec<u16>, Fail> {
-    let mut numbers = Vec::new(alloc);
-    for word in text.split('.') {
-        numbers.push(word.parse::<u16>()?)?;
-    }
-    Ok(numbers)
+fn system(alloc: Global, features: &[u16]) -> Result<LangSys, AllocError> {
+    Ok(LangSys::new(None, features.to_vec(alloc)?))
 }
 
-/// Whether a value prints as a text.
-fn prints<T: Debug>(alloc: Global, value: &T, text: &str) -> Result<bool, AllocError> {
-    let printed = format!(in alloc; "{value:?}")?;
-    Ok(printed.as_str() == text)
-}
-
-/// Of a script: a question, the features of a default system, systems with their features, languages, and the answer as
-/// it prints; `-` is none. Of `system` it is the tag, the features and the required feature of the system of a language;
-/// of `default` the features of the default system; of `rising` whether the systems are in order; of `language` the first
-/// feature of the system that is selected.
-const SCRIPTS: &str = r#"script system 0.1 AZE=2,CRT=2,DEU=2,TRK=2 AZE: ("AZE ", [2], None)
-script system 0.1 AZE=2,CRT=2,DEU=2,TRK=2 CRT: ("CRT ", [2], None)
-script system 0.1 AZE=2,CRT=2,DEU=2,TRK=2 DEU: ("DEU ", [2], None)
-script system 0.1 AZE=2,CRT=2,DEU=2,TRK=2 TRK: ("TRK ", [2], None)
-script system 0.1 AZE=2,CRT=2,DEU=2,TRK=2 AAA: None
-script system 0.1 AZE=2,CRT=2,DEU=2,TRK=2 CRU: None
-script system 0.1 AZE=2,CRT=2,DEU=2,TRK=2 ZZZ: None
-script default 0.1 AZE=2,CRT=2,DEU=2,TRK=2 -: Some([0, 1])
-script rising - AZE=2,AZE=2 -: false
-script rising - CRT=2,AZE=2 -: false
-script language 0 DEU=1,TRK=2,dflt=3 DEU: Some(1)
-script language 0 DEU=1,TRK=2 DEU: Some(1)
-script language - DEU=1,TRK=2 DEU: Some(1)
-script language 0 DEU=1,TRK=2,dflt=3 XXX,TRK: Some(2)
-script language 0 DEU=1,TRK=2 XXX,TRK: Some(2)
-script language - DEU=1,TRK=2 XXX,TRK: Some(2)
-script language 0 DEU=1,TRK=2,dflt=3 TRK,DEU: Some(2)
-script language 0 DEU=1,TRK=2 TRK,DEU: Some(2)
-script language - DEU=1,TRK=2 TRK,DEU: Some(2)
-script language 0 DEU=1,TRK=2,dflt=3 XXX,ROM: Some(3)
-script language 0 DEU=1,TRK=2 XXX,ROM: Some(0)
-script language - DEU=1,TRK=2 XXX,ROM: None
-script language 0 DEU=1,TRK=2,dflt=3 -: Some(3)
-script language 0 DEU=1,TRK=2 -: Some(0)
-script language - DEU=1,TRK=2 -: None"#;
-
-fn default_system(alloc: Global, text: &str) -> Result<Option<LangSys>, Fail> {
-    if text == "-" {
-        return Ok(None);
-    }
-    Ok(Some(LangSys::new(None, numbers(alloc, text)?)))
-}
-
-fn system(alloc: Global, text: &str) -> Result<LangSysRecord, Fail> {
-    let (language, features) = text.split_once('=').ok_or("no features")?;
-    let system = LangSys::new(None, numbers(alloc, features)?);
-    Ok(LangSysRecord::new(tag(language), system))
-}
-
-fn systems(alloc: Global, text: &str) -> Result<Vec<LangSysRecord>, Fail> {
+/// A script with language systems that have the feature 2; none where they are out of order.
+fn script(
+    alloc: Global,
+    text: &str,
+    default: Option<LangSys>,
+    languages: &str,
+) -> Result<Option<ScriptRecord>, AllocError> {
     let mut systems = Vec::new(alloc);
-    for text in text.split(',') {
-        systems.push(system(alloc, text)?)?;
+    for language in &tags_of(alloc, languages)? {
+        systems.push(LangSysRecord::new(*language, system(alloc, &[2])?))?;
     }
-    Ok(systems)
-}
-
-/// A script; none where its systems are out of order.
-fn script(alloc: Global, default: &str, text: &str) -> Result<Option<ScriptRecord>, Fail> {
-    let default = default_system(alloc, default)?;
-    let systems = systems(alloc, text)?;
     if !is_rising(&systems) {
         return Ok(None);
     }
-    Ok(Some(ScriptRecord::new(tag("latn"), default, systems)))
+    Ok(Some(ScriptRecord::new(tag(text), default, systems)))
 }
 
-fn has_system(
-    alloc: Global,
-    script: &ScriptRecord,
-    language: &str,
-    answer: &str,
-) -> Result<bool, AllocError> {
-    let Some(found) = script.lang_sys(tag(language)) else {
-        return Ok(answer == "None");
-    };
-    let tag = found.tag().to_bytes();
-    let system = found.lang_sys();
-    prints(
-        alloc,
-        &(word(&tag), system.features(), system.required_feature()),
-        answer,
-    )
-}
-
-fn default_features(script: &ScriptRecord) -> Option<&[u16]> {
-    Some(script.default_lang_sys()?.features())
-}
-
-fn first_feature(script: &ScriptRecord, wanted: &[Tag]) -> Option<u16> {
-    let system = script.select_script_language(wanted)?;
-    system.features().first().copied()
-}
-
-fn selects_language(
-    alloc: Global,
-    script: &ScriptRecord,
-    languages: &str,
-    answer: &str,
-) -> Result<bool, AllocError> {
-    let wanted = tags(alloc, languages)?;
-    prints(alloc, &first_feature(script, &wanted), answer)
-}
-
-fn script_answers(
-    alloc: Global,
-    script: &ScriptRecord,
-    question: &str,
-    languages: &str,
-    answer: &str,
-) -> Result<bool, AllocError> {
-    match question {
-        "system" => has_system(alloc, script, languages, answer),
-        "default" => prints(alloc, &default_features(script), answer),
-        "language" => selects_language(alloc, script, languages, answer),
-        _ => Ok(false),
+fn has_system(script: &ScriptRecord, language: &str) -> bool {
+    match script.lang_sys(tag(language)) {
+        Some(found) => {
+            let features = found.lang_sys().features();
+            found.tag() == tag(language)
+                && features == [2].as_slice()
+                && found.lang_sys().required_feature().is_none()
+        }
+        None => false,
     }
 }
 
-fn is_of_script(alloc: Global, words: &[&str], answer: &str) -> Result<bool, Fail> {
-    let [question, default, systems, languages] = words else {
-        return Err("no question".into());
-    };
-    match script(alloc, default, systems)? {
-        Some(script) => Ok(script_answers(alloc, &script, question, languages, answer)?),
-        None => Ok(*question == "rising" && answer == "false"),
+fn has_default(script: &ScriptRecord) -> bool {
+    match script.default_lang_sys() {
+        Some(default) => default.features() == [0, 1].as_slice(),
+        None => false,
     }
 }
 
-/// Of a table: a question, scripts, features, an argument, and the answer as it prints; `-` is none. Of `script` it is
-/// the tag of the script that is found; of `feature` the tag and the lookups of the feature of an index; of `select`
-/// whether the script that is selected was wanted, and its tag; of `place` the place of a tag among the features 9, 2, 1
-/// and 0; of `required` the required feature of a place.
-const TABLES: &str = r#"table script DFLT liga DFLT: "DFLT"
-table script DFLT liga latn: None
-table feature DFLT liga 0: ("liga", [0])
-table feature DFLT liga 1: None
-table select DFLT,dev2,deva,latn - dev3,dev2,deva: (true, "dev2")
-table select DFLT,dev2,dev3 - dev3,dev2: (true, "dev3")
-table select deva - dev3,dev2,deva: (true, "deva")
-table select DFLT,latn - latn: (true, "latn")
-table select DFLT - DFLT: (true, "DFLT")
-table select DFLT,dflt,latn - grek: (false, "DFLT")
-table select dflt,latn - grek: (false, "dflt")
-table select cyrl,latn - grek: (false, "latn")
-table select DFLT,grek - -: (false, "DFLT")
-table select cyrl,thai - grek: None
-table select cyrl - -: None
-table select - - latn: None
-table place - liga,kern,liga,ccmp liga: Some(2)
-table place - liga,kern,liga,ccmp kern: Some(1)
-table place - liga,kern,liga,ccmp ccmp: None
-table place - liga,kern,liga,ccmp mark: None
-table required - liga,kern,liga,ccmp 3: (3, "ccmp")
-table required - liga,kern,liga,ccmp 4: None
-table required - liga,kern,liga,ccmp -: None"#;
-
-fn scripts(alloc: Global, texts: &str) -> Result<Vec<ScriptRecord>, AllocError> {
-    let mut scripts = Vec::new(alloc);
-    if texts == "-" {
-        return Ok(scripts);
+fn systems_of_a_script(rt: &impl Abort, latin: &ScriptRecord) {
+    for language in ["AZE", "CRT", "DEU", "TRK"] {
+        assert!(rt; has_system(latin, language), "{language}");
     }
-    for text in texts.split(',') {
-        scripts.push(ScriptRecord::new(tag(text), None, Vec::new(alloc)))?;
+    for language in ["AAA", "CRU", "ZZZ"] {
+        assert!(rt; latin.lang_sys(tag(language)).is_none(), "{language}");
     }
-    Ok(scripts)
+    assert!(rt; has_default(latin));
 }
 
-/// A feature that has the lookup 0.
-fn feature(alloc: Global, text: &str) -> Result<FeatureRecord, AllocError> {
-    Ok(FeatureRecord::new(tag(text), [0].to_vec(alloc)?))
+fn are_systems(alloc: Global, languages: &str) -> Result<bool, AllocError> {
+    Ok(script(alloc, "latn", None, languages)?.is_some())
 }
 
-fn features(alloc: Global, texts: &str) -> Result<Vec<FeatureRecord>, AllocError> {
-    let mut features = Vec::new(alloc);
-    if texts == "-" {
-        return Ok(features);
-    }
-    for text in texts.split(',') {
-        features.push(feature(alloc, text)?)?;
-    }
-    Ok(features)
+#[test]
+fn language_systems_are_found(rt: HostRuntime) -> Result<(), Fail> {
+    let default = system(rt.alloc(), &[0, 1])?;
+    let latin = script(rt.alloc(), "latn", Some(default), "AZE,CRT,DEU,TRK")?;
+    systems_of_a_script(&rt, &latin.ok_or("not rising")?);
+    assert!(rt; !are_systems(rt.alloc(), "AZE,AZE")?);
+    assert!(rt; !are_systems(rt.alloc(), "CRT,AZE")?);
+    Ok(())
 }
-
-fn table(alloc: Global, scripts_text: &str, features_text: &str) -> Result<LayoutTable, Fail> {
-    let features = features(alloc, features_text)?;
-    let scripts = scripts(alloc, scripts_text)?;
-    if !is_rising(&scripts) {
-        return Err("not rising".into());
-    }
-    Ok(LayoutTable::new(scripts, features))
-}
-
-fn has_script(
-    alloc: Global,
-    table: &LayoutTable,
-    text: &str,
-    answer: &str,
-) -> Result<bool, AllocError> {
-    let Some(script) = table.script(tag(text)) else {
-        return Ok(answer == "None");
-    };
-    let tag = script.tag().to_bytes();
-    prints(alloc, &word(&tag), answer)
-}
-
-fn has_feature(
-    alloc: Global,
-    table: &LayoutTable,
-    index: &str,
-    answer: &str,
-) -> Result<bool, Fail> {
-    let Some(feature) = table.feature(index.parse::<u16>()?) else {
-        return Ok(answer == "None");
-    };
-    let tag = feature.tag().to_bytes();
-    Ok(prints(alloc, &(word(&tag), feature.lookups()), answer)?)
-}
-
-fn selects_script(
-    alloc: Global,
-    table: &LayoutTable,
-    texts: &str,
-    answer: &str,
-) -> Result<bool, AllocError> {
-    let wanted = tags(alloc, texts)?;
-    let Some(selected) = table.select_script(&wanted) else {
-        return Ok(answer == "None");
-    };
-    let tag = selected.script.tag().to_bytes();
-    prints(alloc, &(selected.found, word(&tag)), answer)
-}
-
-fn has_place(
-    alloc: Global,
-    table: &LayoutTable,
-    text: &str,
-    answer: &str,
-) -> Result<bool, AllocError> {
-    let system = LangSys::new(Some(3), [9, 2, 1, 0].to_vec(alloc)?);
-    prints(
-        alloc,
-        &table.find_language_feature(&system, tag(text)),
-        answer,
-    )
-}
-
-fn has_required(
-    alloc: Global,
-    table: &LayoutTable,
-    place: &str,
-    answer: &str,
-) -> Result<bool, AllocError> {
-    let system = LangSys::new(place.parse::<u16>().ok(), Vec::new(alloc));
-    let Some((index, found)) = table.get_required_language_feature(&system) else {
-        return Ok(answer == "None");
-    };
-    let tag = found.to_bytes();
-    prints(alloc, &(index, word(&tag)), answer)
-}
-
-fn table_answers(
-    alloc: Global,
-    table: &LayoutTable,
-    question: &str,
-    argument: &str,
-    answer: &str,
-) -> Result<bool, Fail> {
-    match question {
-        "script" => Ok(has_script(alloc, table, argument, answer)?),
-        "feature" => has_feature(alloc, table, argument, answer),
-        "select" => Ok(selects_script(alloc, table, argument, answer)?),
-        "place" => Ok(has_place(alloc, table, argument, answer)?),
-        "required" => Ok(has_required(alloc, table, argument, answer)?),
-        _ => Ok(false),
-    }
-}
-
-fn is_of_table(alloc: Global, words: &[&str], answer: &str) -> Result<bool, Fail> {
-    let [question, scripts, features, argument] = words else {
-        return Err("no question".into());
-    };
-    let table = table(alloc, scripts, features)?;
-    table_answers(alloc, &table, question, argument, answer)
-}
-
-/// Of ligature sets: a question, a first glyph, and the answer as it prints. Of `ligature` it is the glyph of the first
-/// ligature; of `components` the first glyph of the set, and the further glyphs of the one ligature there.
-const LIGATURES: &str = "\
-set ligature 3: Some(53)
-set ligature 4: None
-set ligature 9: Some(59)
-set ligature 65535: None
-set components 9: Some((9, [4, 5]))";
 
 fn ligature_set(alloc: Global, first: u16) -> Result<LigatureSet, AllocError> {
     let mut ligatures = Vec::new(alloc);
@@ -339,69 +95,228 @@ fn ligature_set(alloc: Global, first: u16) -> Result<LigatureSet, AllocError> {
     Ok(LigatureSet::new(first, ligatures))
 }
 
-fn ligatures(alloc: Global) -> Result<LigatureSubst, Fail> {
+fn ligatures(alloc: Global) -> Result<Option<LigatureSubst>, AllocError> {
     let mut sets = Vec::new(alloc);
     for first in [3, 9] {
         sets.push(ligature_set(alloc, first)?)?;
     }
     if !is_rising(&sets) {
+        return Ok(None);
+    }
+    Ok(Some(LigatureSubst::new(sets)))
+}
+
+fn first_ligature(subtable: &LigatureSubst, glyph: u16) -> Option<&Ligature> {
+    subtable.set_of(glyph)?.ligatures().first()
+}
+
+fn has_components(subtable: &LigatureSubst, glyph: u16) -> bool {
+    match subtable.set_of(glyph) {
+        Some(set) => match set.ligatures() {
+            [ligature] => set.first() == glyph && ligature.components() == [4, 5].as_slice(),
+            _ => false,
+        },
+        None => false,
+    }
+}
+
+fn sets_of_a_subtable(rt: &impl Abort, subtable: &LigatureSubst) {
+    for (glyph, ligature) in [(3, Some(53)), (4, None), (9, Some(59)), (65535, None)] {
+        let found = first_ligature(subtable, glyph).map(|ligature| ligature.glyph());
+        assert_eq!(rt; found, ligature);
+    }
+    assert!(rt; has_components(subtable, 9));
+}
+
+#[test]
+fn ligature_sets_are_found(rt: HostRuntime) -> Result<(), Fail> {
+    let subtable = ligatures(rt.alloc())?.ok_or("not rising")?;
+    sets_of_a_subtable(&rt, &subtable);
+    Ok(())
+}
+
+fn scripts_of(alloc: Global, texts: &str) -> Result<Vec<ScriptRecord>, AllocError> {
+    let mut scripts = Vec::new(alloc);
+    for text in &tags_of(alloc, texts)? {
+        scripts.push(ScriptRecord::new(*text, None, Vec::new(alloc)))?;
+    }
+    Ok(scripts)
+}
+
+/// Features that have the lookup 0 each.
+fn features_of(alloc: Global, texts: &str) -> Result<Vec<FeatureRecord>, AllocError> {
+    let mut features = Vec::new(alloc);
+    for text in &tags_of(alloc, texts)? {
+        features.push(FeatureRecord::new(*text, [0].to_vec(alloc)?))?;
+    }
+    Ok(features)
+}
+
+fn table_of(alloc: Global, scripts: &str, features: &str) -> Result<LayoutTable, Fail> {
+    let features = features_of(alloc, features)?;
+    let scripts = scripts_of(alloc, scripts)?;
+    if !is_rising(&scripts) {
         return Err("not rising".into());
     }
-    Ok(LigatureSubst::new(sets))
+    Ok(LayoutTable::new(scripts, features))
 }
 
-fn first_ligature(subtable: &LigatureSubst, glyph: u16) -> Option<u16> {
-    Some(subtable.set_of(glyph)?.ligatures().first()?.glyph())
-}
-
-fn components(subtable: &LigatureSubst, glyph: u16) -> Option<(u16, &[u16])> {
-    let set = subtable.set_of(glyph)?;
-    match set.ligatures() {
-        [ligature] => Some((set.first(), ligature.components())),
-        _ => None,
+fn is_first_feature(table: &LayoutTable, text: &str) -> bool {
+    match table.feature(0) {
+        Some(feature) => feature.tag() == tag(text) && feature.lookups() == [0].as_slice(),
+        None => false,
     }
 }
 
-fn subtable_answers(
+fn parts_of_a_table(rt: &impl Abort, table: &LayoutTable) {
+    let script = table.script(tag("DFLT")).map(|script| script.tag());
+    assert_eq!(rt; script, Some(tag("DFLT")));
+    assert!(rt; table.script(tag("latn")).is_none());
+    assert!(rt; is_first_feature(table, "liga"));
+    assert!(rt; table.feature(1).is_none());
+}
+
+#[test]
+fn tables_are_asked(rt: HostRuntime) -> Result<(), Fail> {
+    let table = table_of(rt.alloc(), "DFLT", "liga")?;
+    parts_of_a_table(&rt, &table);
+    Ok(())
+}
+
+/// Scripts of a table, wanted scripts, and the script that is selected, with whether it was wanted.
+const SCRIPT_CHOICES: &str = "DFLT,dev2,deva,latn dev3,dev2,deva wanted:dev2
+DFLT,dev2,dev3 dev3,dev2 wanted:dev3
+deva dev3,dev2,deva wanted:deva
+DFLT,latn latn wanted:latn
+DFLT DFLT wanted:DFLT
+DFLT,dflt,latn grek other:DFLT
+dflt,latn grek other:dflt
+cyrl,latn grek other:latn
+DFLT,grek  other:DFLT
+cyrl,thai grek none
+cyrl  none
+ latn none";
+
+fn selected(table: &LayoutTable, wanted: &[Tag]) -> Option<(bool, Tag)> {
+    table
+        .select_script(wanted)
+        .map(|selected| (selected.found, selected.script.tag()))
+}
+
+fn choice_of(text: &str) -> Option<(bool, Tag)> {
+    let (way, script) = text.split_once(':')?;
+    Some((way == "wanted", tag(script)))
+}
+
+fn is_selected(alloc: Global, line: &str) -> Result<bool, Fail> {
+    let (scripts, rest) = line.split_once(' ').ok_or("a line of one part")?;
+    let (wanted, choice) = rest.split_once(' ').ok_or("a line of two parts")?;
+    let table = table_of(alloc, scripts, "")?;
+    let wanted = tags_of(alloc, wanted)?;
+    Ok(selected(&table, &wanted) == choice_of(choice))
+}
+
+#[test]
+fn scripts_are_selected(rt: HostRuntime) -> Result<(), Fail> {
+    for line in SCRIPT_CHOICES.lines() {
+        assert!(rt; is_selected(rt.alloc(), line)?, "{line}");
+    }
+    Ok(())
+}
+
+/// Wanted languages, and the first feature of the system that is selected: with the default systems of both kinds, with
+/// the untagged one alone, and with neither.
+const LANGUAGE_CHOICES: [(&str, [Option<u16>; 3]); 5] = [
+    ("DEU", [Some(1), Some(1), Some(1)]),
+    ("XXX,TRK", [Some(2), Some(2), Some(2)]),
+    ("TRK,DEU", [Some(2), Some(2), Some(2)]),
+    ("XXX,ROM", [Some(3), Some(0), None]),
+    ("", [Some(3), Some(0), None]),
+];
+
+fn default_of(alloc: Global, feature: Option<u16>) -> Result<Option<LangSys>, AllocError> {
+    match feature {
+        Some(feature) => Ok(Some(system(alloc, &[feature])?)),
+        None => Ok(None),
+    }
+}
+
+/// A script whose language systems have the features 1, 2 and so on.
+fn script_of_systems(
     alloc: Global,
-    subtable: &LigatureSubst,
-    question: &str,
-    glyph: u16,
-    answer: &str,
-) -> Result<bool, AllocError> {
-    match question {
-        "ligature" => prints(alloc, &first_ligature(subtable, glyph), answer),
-        _ => prints(alloc, &components(subtable, glyph), answer),
+    default: Option<u16>,
+    languages: &str,
+) -> Result<ScriptRecord, Fail> {
+    let mut records = Vec::new(alloc);
+    let mut feature = 0u16;
+    for language in &tags_of(alloc, languages)? {
+        feature = feature.saturating_add(1);
+        records.push(LangSysRecord::new(*language, system(alloc, &[feature])?))?;
+    }
+    if !is_rising(&records) {
+        return Err("not rising".into());
+    }
+    let default = default_of(alloc, default)?;
+    Ok(ScriptRecord::new(tag("latn"), default, records))
+}
+
+fn first_feature(script: &ScriptRecord, wanted: &[Tag]) -> Option<u16> {
+    let system = script.select_script_language(wanted)?;
+    system.features().first().copied()
+}
+
+/// The first features of the systems that the script selects for each line of languages.
+fn selects(alloc: Global, script: &ScriptRecord, column: usize) -> Result<bool, AllocError> {
+    for (wanted, features) in &LANGUAGE_CHOICES {
+        let wanted = tags_of(alloc, wanted)?;
+        if features.get(column).copied() != Some(first_feature(script, &wanted)) {
+            return Ok(false);
+        }
+    }
+    Ok(true)
+}
+
+#[test]
+fn languages_are_selected(rt: HostRuntime) -> Result<(), Fail> {
+    for (column, default, languages) in [
+        (0, Some(0), "DEU,TRK,dflt"),
+        (1, Some(0), "DEU,TRK"),
+        (2, None, "DEU,TRK"),
+    ] {
+        let script = script_of_systems(rt.alloc(), default, languages)?;
+        assert!(rt; selects(rt.alloc(), &script, column)?, "{languages}");
+    }
+    Ok(())
+}
+
+fn features_of_a_system(rt: &impl Abort, table: &LayoutTable, system: &LangSys) {
+    for (text, place) in [
+        ("liga", Some(2)),
+        ("kern", Some(1)),
+        ("ccmp", None),
+        ("mark", None),
+    ] {
+        assert_eq!(rt; table.find_language_feature(system, tag(text)), place);
     }
 }
 
-fn is_of_ligatures(alloc: Global, words: &[&str], answer: &str) -> Result<bool, Fail> {
-    let [question, glyph] = words else {
-        return Err("no question".into());
-    };
-    let glyph = glyph.parse::<u16>()?;
-    let subtable = ligatures(alloc)?;
-    Ok(subtable_answers(alloc, &subtable, question, glyph, answer)?)
+fn required_feature(alloc: Global, table: &LayoutTable, place: Option<u16>) -> Option<(u16, Tag)> {
+    let system = LangSys::new(place, Vec::new(alloc));
+    table.get_required_language_feature(&system)
 }
 
-/// Whether a row holds: what is asked, the question, and the answer.
-fn is_answered(alloc: Global, row: &str) -> Result<bool, Fail> {
-    let (question, answer) = row.split_once(": ").ok_or("no answer")?;
-    let (asked, question) = question.split_once(' ').ok_or("no question")?;
-    let words: Vec<&str> = question.split(' ').collect(alloc)?;
-    match asked {
-        "script" => is_of_script(alloc, &words, answer),
-        "table" => is_of_table(alloc, &words, answer),
-        _ => is_of_ligatures(alloc, &words, answer),
+fn required_features(rt: &impl Abort, alloc: Global, table: &LayoutTable) {
+    let ccmp = Some((3, tag("ccmp")));
+    for (place, feature) in [(Some(3), ccmp), (Some(4), None), (None, None)] {
+        assert_eq!(rt; required_feature(alloc, table, place), feature);
     }
 }
 
 #[test]
-fn tables_and_their_parts_answer(rt: HostRuntime) -> Result<(), Fail> {
-    for rows in [SCRIPTS, TABLES, LIGATURES] {
-        for row in rows.lines() {
-            assert!(rt; is_answered(rt.alloc(), row)?, "{row}");
-        }
-    }
+fn features_of_a_system_are_found(rt: HostRuntime) -> Result<(), Fail> {
+    let table = table_of(rt.alloc(), "", "liga,kern,liga,ccmp")?;
+    let system = LangSys::new(Some(3), [9, 2, 1, 0].to_vec(rt.alloc())?);
+    features_of_a_system(&rt, &table, &system);
+    required_features(&rt, rt.alloc(), &table);
     Ok(())
 }
