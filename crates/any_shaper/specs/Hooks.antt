@@ -64,7 +64,7 @@ abbrev pub splits_by : hb_ot_script_shaper_t → Tables → Splits
 splits_by KHMER_SHAPER t = khmer_split t
 splits_by _ t = split_of t
 
--- a mark composes with nothing behind it
+-- a mark composes with nothing after it
 abbrev pub unmarked_pair : Tables → ℕ → ℕ → Option ℕ
 unmarked_pair t a b = if is_mark_character a then None else pair_of t a b
 

@@ -25,7 +25,7 @@ collects_features MYANMAR_SHAPER = true
 collects_features UNIVERSAL_SHAPER = true
 collects_features _ = false
 
--- it asks behind the user's features
+-- it asks after the user's features
 abbrev pub overrides_features : hb_ot_script_shaper_t → Bool
 overrides_features HANGUL_SHAPER = true
 overrides_features INDIC_SHAPER = true

@@ -43,7 +43,7 @@ abbrev pub shaper_features : hb_ot_any_shaper_t → Option Script → Bool → L
 shaper_features (any.Script s) script has_rclt = features_of s script has_rclt
 shaper_features _ script has_rclt = []
 
--- what it asks behind what the user asked
+-- what it asks after what the user asked
 abbrev pub shaper_overrides : hb_ot_any_shaper_t → List Ask
 shaper_overrides (any.Script s) = overrides_of s
 shaper_overrides _ = []

@@ -63,7 +63,8 @@ fn reorder_khmer<D>(
         buffer.new) }
     ensures told { result ≡ Ok false → BringsNoGlyph (items_of buffer.old) (items_of buffer.new) }
     ensures err { IfErr result (λ e. e ≢ ShapeCause.OutOfMemory → read_of
-        (khmer_order face.now (text_settings buffer.old).flags (khmer_masks plan.now.map)) (run_of buffer.old) ≡ Err e) }
+        (khmer_order face.now (text_settings buffer.old).flags (khmer_masks plan.now.map))
+        (run_of buffer.old) ≡ Err e) }
 {
     let masks = khmer_masks(&plan.map);
     khmer::reorder_khmer(face, &masks, buffer)

@@ -7,7 +7,7 @@ mod slices;
 use std::alloc::{AllocError, Global};
 use std::test::Fail;
 
-// In each row stands the call, and behind it what it takes and what is wanted. In the third sort spans each share a cluster
+// In each row stands the call, and after it what it takes and what is wanted. In the third sort spans each share a cluster
 // with the next. In the third turn are groups of falling clusters, two of which share one; in the last a merge makes
 // neighbours that are a group then.
 static ROWS: &str =

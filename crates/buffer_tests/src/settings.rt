@@ -37,7 +37,7 @@ fn sets_limits_and_gives_ligature_numbers(rt: HostRuntime) {
     assert!(rt; sets_limits(rt.alloc()));
 }
 
-/// The characters in front and behind that a buffer keeps of a text are these.
+/// The characters in front and after that a buffer keeps of a text are these.
 fn keeps(buffer: &mut hb_buffer_t, text: &str, pre: &str, post: &str) -> bool {
     buffer.set_pre_context(text);
     buffer.set_post_context(text);

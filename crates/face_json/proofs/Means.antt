@@ -10,7 +10,7 @@ use Rattle.serde_json.specs.declared.value.Value.{Value}
 use Rattle.json_values.specs.declared.fault.JsonFault.{JsonFault}
 use Rattle.json_values.specs.declared.fault.JsonFault.TheVariants.{NotJson, WrongShape, FloatNumber, UnknownName, OutOfOrder, OutOfRange, SplitDepth, OutOfMemory}
 use Rattle.json_values.specs.Cell.{rank_of, first_fault, both}
-use Rattle.face_json.specs.Lists.{in_front, behind_all, parts_of}
+use Rattle.face_json.specs.Lists.{in_front, after_all, parts_of}
 
 abbrev pub Means : {A : Type 0} → Result A JsonFault → Result A JsonFault → Type 0
 Means meant (Ok a) = meant ≡ Ok a
@@ -88,32 +88,32 @@ means_both m n (Ok x) (Err f) p q = λ ne. let r : n ≡ Err f = q ne in rw (p, 
 means_both m n (Err e) (Ok y) p q = λ ne. let r : m ≡ Err e = p ne in rw (r, q) refl
 means_both m n (Err e) (Err f) p q = λ ne. let r : m ≡ Err e = p (no_memory_left e f ne) in let s : n ≡ Err f = q (no_memory_right e f ne) in rw (r, s) refl
 
-means_behind : {A : Type 0} (m : Result (List A) JsonFault) (n : Result A JsonFault) (a : Result (List A) JsonFault) (b : Result A JsonFault) → Means m a → Means n b → Means (behind_all m n) (behind_all a b)
-means_behind m n (Ok x) (Ok y) p q = rw (p, q) refl
-means_behind m n (Ok x) (Err f) p q = λ ne. let r : n ≡ Err f = q ne in rw (p, r) refl
-means_behind m n (Err e) (Ok y) p q = λ ne. let r : m ≡ Err e = p ne in rw (r, q) refl
-means_behind m n (Err e) (Err f) p q = λ ne. let r : m ≡ Err e = p (no_memory_left e f ne) in let s : n ≡ Err f = q (no_memory_right e f ne) in rw (r, s) refl
+means_after : {A : Type 0} (m : Result (List A) JsonFault) (n : Result A JsonFault) (a : Result (List A) JsonFault) (b : Result A JsonFault) → Means m a → Means n b → Means (after_all m n) (after_all a b)
+means_after m n (Ok x) (Ok y) p q = rw (p, q) refl
+means_after m n (Ok x) (Err f) p q = λ ne. let r : n ≡ Err f = q ne in rw (p, r) refl
+means_after m n (Err e) (Ok y) p q = λ ne. let r : m ≡ Err e = p ne in rw (r, q) refl
+means_after m n (Err e) (Err f) p q = λ ne. let r : m ≡ Err e = p (no_memory_left e f ne) in let s : n ≡ Err f = q (no_memory_right e f ne) in rw (r, s) refl
 
-front_behind : {A : Type 0} (a : Result A JsonFault) (rest : Result (List A) JsonFault) (b : Result A JsonFault) → in_front a (behind_all rest b) ≡ behind_all (in_front a rest) b
-front_behind (Ok x) (Ok xs) (Ok y) = refl
-front_behind (Ok x) (Ok xs) (Err g) = refl
-front_behind (Ok x) (Err f) (Ok y) = refl
-front_behind (Ok x) (Err f) (Err g) = refl
-front_behind (Err e) (Ok xs) (Ok y) = refl
-front_behind (Err e) (Ok xs) (Err g) = refl
-front_behind (Err e) (Err f) (Ok y) = refl
-front_behind (Err e) (Err f) (Err g) = ap (λ x. Err x) (sym (first_of_three e f g))
+front_after : {A : Type 0} (a : Result A JsonFault) (rest : Result (List A) JsonFault) (b : Result A JsonFault) → in_front a (after_all rest b) ≡ after_all (in_front a rest) b
+front_after (Ok x) (Ok xs) (Ok y) = refl
+front_after (Ok x) (Ok xs) (Err g) = refl
+front_after (Ok x) (Err f) (Ok y) = refl
+front_after (Ok x) (Err f) (Err g) = refl
+front_after (Err e) (Ok xs) (Ok y) = refl
+front_after (Err e) (Ok xs) (Err g) = refl
+front_after (Err e) (Err f) (Ok y) = refl
+front_after (Err e) (Err f) (Err g) = ap (λ x. Err x) (sym (first_of_three e f g))
 
-first_part : {A : Type 0} (a : Result A JsonFault) → in_front a (Ok []) ≡ behind_all (Ok []) a
+first_part : {A : Type 0} (a : Result A JsonFault) → in_front a (Ok []) ≡ after_all (Ok []) a
 first_part (Ok x) = refl
 first_part (Err e) = refl
 
 -- one part more
 parts_snoc : {A : Type 0} (read : Data → Result A JsonFault) (vs : List Value) (i : ℕ) (d : Value) → i < length vs
-    → parts_of read (items_view (take (suc i) vs)) ≡ behind_all (parts_of read (items_view (take i vs))) (read (view (get_or vs i d)))
+    → parts_of read (items_view (take (suc i) vs)) ≡ after_all (parts_of read (items_view (take i vs))) (read (view (get_or vs i d)))
 parts_snoc read [] i d h = absurd (omega (arith, h))
 parts_snoc read (v ∷ vs) zero d h = first_part (read (view v))
-parts_snoc read (v ∷ vs) (suc i) d h = ap (λ x. in_front (read (view v)) x) (parts_snoc read vs i d (omega (arith, h))) ∙ front_behind (read (view v)) (parts_of read (items_view (take i vs))) (read (view (get_or vs i d)))
+parts_snoc read (v ∷ vs) (suc i) d h = ap (λ x. in_front (read (view v)) x) (parts_snoc read vs i d (omega (arith, h))) ∙ front_after (read (view v)) (parts_of read (items_view (take i vs))) (read (view (get_or vs i d)))
 
 of_items : {A : Type 0} (m a : Result (List A) JsonFault) (answer : Result (Vec A) JsonFault) → Means m a
     → IfOk answer (λ v. a ≡ Ok v.items) → IfErr answer (λ e. e ≢ OutOfMemory → a ≡ Err e) → Means m (result_map_both (λ v. v.items) (λ e. e) answer)
@@ -125,9 +125,9 @@ pub parts_step : {A : Type 0} (read : Data → Result A JsonFault) (vs : List Va
     → (so_far : Result (List A) JsonFault) (part : Result A JsonFault) (answer : Result (Vec A) JsonFault)
     → Means (parts_of read (items_view (take i vs))) so_far
     → IfOk part (λ p. read (view v) ≡ Ok p) → IfErr part (λ e. e ≢ OutOfMemory → read (view v) ≡ Err e)
-    → IfOk answer (λ w. behind_all so_far part ≡ Ok w.items) → IfErr answer (λ e. e ≢ OutOfMemory → behind_all so_far part ≡ Err e)
+    → IfOk answer (λ w. after_all so_far part ≡ Ok w.items) → IfErr answer (λ e. e ≢ OutOfMemory → after_all so_far part ≡ Err e)
     → Means (parts_of read (items_view (take (i + 1) vs))) (result_map_both (λ w. w.items) (λ e. e) answer)
 parts_step read vs i v h is so_far part answer before ok refused ok' refused' =
-    let read_one : parts_of read (items_view (take (suc i) vs)) ≡ behind_all (parts_of read (items_view (take i vs))) (read (view v)) =
-    parts_snoc read vs i v h ∙ ap (λ x. behind_all (parts_of read (items_view (take i vs))) (read (view x))) (sym is) in
-    rw (add-one, read_one) (of_items _ (behind_all so_far part) answer (means_behind _ _ so_far part before (means_of _ part ok refused)) ok' refused')
+    let read_one : parts_of read (items_view (take (suc i) vs)) ≡ after_all (parts_of read (items_view (take i vs))) (read (view v)) =
+    parts_snoc read vs i v h ∙ ap (λ x. after_all (parts_of read (items_view (take i vs))) (read (view x))) (sym is) in
+    rw (add-one, read_one) (of_items _ (after_all so_far part) answer (means_after _ _ so_far part before (means_of _ part ok refused)) ok' refused')

@@ -7,7 +7,7 @@ use Rattle.json_values.specs.declared.fault.JsonFault.{JsonFault}
 use Rattle.json_values.specs.declared.fault.JsonFault.TheVariants.{WrongShape, OutOfRange}
 use Rattle.json_values.specs.Cell.{and_then, first_fault, word}
 use Rattle.json_values.specs.Parts.{list_of, list_at}
-use Rattle.json_values.specs.Rows.{behind}
+use Rattle.json_values.specs.Rows.{after}
 
 -- ---- numbers
 
@@ -49,12 +49,12 @@ abbrev pub parts_of : {A : Type 0} → (Data → Result A JsonFault) → Items �
 parts_of read no_items = Ok []
 parts_of read (item d ds) = in_front (read d) (parts_of read ds)
 
--- one more part behind the others
-abbrev pub behind_all : {A : Type 0} → Result (List A) JsonFault → Result A JsonFault → Result (List A) JsonFault
-behind_all (Ok rest) (Ok a) = Ok (rest ++ a ∷ [])
-behind_all (Ok rest) (Err f) = Err f
-behind_all (Err e) (Ok a) = Err e
-behind_all (Err e) (Err f) = Err (first_fault e f)
+-- one more part after the others
+abbrev pub after_all : {A : Type 0} → Result (List A) JsonFault → Result A JsonFault → Result (List A) JsonFault
+after_all (Ok rest) (Ok a) = Ok (rest ++ a ∷ [])
+after_all (Ok rest) (Err f) = Err f
+after_all (Err e) (Ok a) = Err e
+after_all (Err e) (Err f) = Err (first_fault e f)
 
 abbrev pub part_list : {A : Type 0} → (Data → Result A JsonFault) → Data → Result (List A) JsonFault
 part_list read d = and_then (list_of d) (parts_of read)
@@ -62,7 +62,7 @@ part_list read d = and_then (list_of d) (parts_of read)
 -- a list of rows: the fault of the first faulty row
 abbrev pub rows_in_turn : {A : Type 0} → (Data → Result A JsonFault) → Items → Result (List A) JsonFault
 rows_in_turn read no_items = Ok []
-rows_in_turn read (item d ds) = and_then (read d) (λ r. behind (r ∷ []) (rows_in_turn read ds))
+rows_in_turn read (item d ds) = and_then (read d) (λ r. after (r ∷ []) (rows_in_turn read ds))
 
 -- the rows of a key
 abbrev pub rows_at : {A : Type 0} → List ℕ → (Items → Result A JsonFault) → Data → Result A JsonFault

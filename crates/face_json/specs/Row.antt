@@ -15,7 +15,7 @@ abbrev pub first_in : Items → Result (Data × Items) JsonFault
 first_in no_items = Err WrongShape
 first_in (item d ds) = Ok (d, ds)
 
--- one part, and those behind it: of their faults the one that comes first by its kind
+-- one part, and those after it: of their faults the one that comes first by its kind
 abbrev pub first_and_rest : {A B : Type 0} → (Data → Result A JsonFault) → (Items → Result B JsonFault) → Items → Result (A × B) JsonFault
 first_and_rest first rest ds = and_then (first_in ds) (λ p. both (first p.0) (rest p.1))
 

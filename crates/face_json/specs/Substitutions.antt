@@ -39,7 +39,7 @@ alternate limit d = and_then (sequence_rows limit d) (λ rows. Ok (record { rows
 
 -- ---- ligatures
 
--- a ligature: the glyphs behind the first, and the glyph for all
+-- a ligature: the glyphs after the first, and the glyph for all
 abbrev pub ligature : ℕ → Data → Result LigatureTable JsonFault
 ligature limit d =
     and_then (row_of_two (part_list (number_below limit)) (number_below limit) d) (λ p. Ok (record { components = p.0; glyph = p.1.0 }))

@@ -2,7 +2,7 @@
 ghost use Rattle.std.specs.Prelude.{◌≡◌, ◌≢◌, IfOk, IfErr, Ok, Err};
 ghost use Rattle.std.specs.Result.{result_map_both};
 ghost use Rattle.serde_json.specs.View.{items_view};
-ghost use Rattle.face_json.specs.Lists.{behind_all, parts_of, part_list, rows_in_turn};
+ghost use Rattle.face_json.specs.Lists.{after_all, parts_of, part_list, rows_in_turn};
 
 use crate::value::Part;
 use json_values::cell::first_fault;
@@ -44,9 +44,9 @@ fn with_part<P: Drop>(
     part: Result<P, JsonFault>,
 ) -> Result<Vec<P>, JsonFault>
     ensures ok { IfOk result (λ v.
-        behind_all (result_map_both (λ w. w.items) (λ f. f) parts) part ≡ Ok v.items) }
+        after_all (result_map_both (λ w. w.items) (λ f. f) parts) part ≡ Ok v.items) }
     ensures refused { IfErr result (λ e. e ≢ JsonFault.OutOfMemory
-        → behind_all (result_map_both (λ w. w.items) (λ f. f) parts) part ≡ Err e) }
+        → after_all (result_map_both (λ w. w.items) (λ f. f) parts) part ≡ Err e) }
 {
     match (parts, part) {
         (Ok(mut parts), Ok(part)) => {

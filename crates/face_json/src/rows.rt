@@ -86,7 +86,7 @@ pub fn read_row<R: Parts>(alloc: Global, value: &Value, limit: usize) -> Result<
     R::read_parts(alloc, list(value)?, limit)
 }
 
-/// The first item of a row, and the items behind it.
+/// The first item of a row, and the items after it.
 pub fn split_row(value: &Value) -> Result<(&Value, &[Value]), JsonFault>
     ensures ok { IfOk result (λ p. and_then (list_of (view value.entry.now)) first_in
         ≡ Ok (view p.0.now, items_view p.1.now)) }

@@ -50,14 +50,14 @@ module _ {R : Type 0} (read : Data → Result R JsonFault) where
   pub first_parts : (ds : Items) (front : List R) → front ≡ [] → rows_in_turn read ds ≡ behind front (rows_in_turn read ds)
   first_parts ds front e = none_before (rows_in_turn read ds) ∙ ap (λ xs. behind xs (rows_in_turn read ds)) (sym e)
 
-  behind_twice : (front : List R) (r : R) (x : Result (List R) JsonFault) → behind front (behind (r ∷ []) x) ≡ behind (front ++ r ∷ []) x
-  behind_twice front r (Ok xs) = ap (λ ys. Ok ys) (sym (append_assoc front (r ∷ []) xs))
-  behind_twice front r (Err e) = refl
+  after_twice : (front : List R) (r : R) (x : Result (List R) JsonFault) → behind front (behind (r ∷ []) x) ≡ behind (front ++ r ∷ []) x
+  after_twice front r (Ok xs) = ap (λ ys. Ok ys) (sym (append_assoc front (r ∷ []) xs))
+  after_twice front r (Err e) = refl
 
   pub one_more : (front : List R) (d : Data) (es ds : Items) (r : R) (all : List R) → ds ≡ item d es → read d ≡ Ok r → all ≡ front ++ r ∷ []
       → behind front (rows_in_turn read ds) ≡ behind all (rows_in_turn read es)
   one_more front d es ds r all is one pushed =
-      ap (λ x. behind front (rows_in_turn read x)) is ∙ ap (λ x. behind front (and_then x (λ y. behind (y ∷ []) (rows_in_turn read es)))) one ∙ behind_twice front r (rows_in_turn read es)
+      ap (λ x. behind front (rows_in_turn read x)) is ∙ ap (λ x. behind front (and_then x (λ y. behind (y ∷ []) (rows_in_turn read es)))) one ∙ after_twice front r (rows_in_turn read es)
       ∙ ap (λ xs. behind xs (rows_in_turn read es)) (sym pushed)
 
   pub last_parts : (front : List R) (ds : Items) → no_items ≡ ds → behind front (rows_in_turn read ds) ≡ Ok front

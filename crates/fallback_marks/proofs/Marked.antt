@@ -32,9 +32,9 @@ none_behind : (at n : ℕ) (b : Bool) → n ≡ 0 → event_of at n b ≡ []
 none_behind at n true e = refl
 none_behind at n false e = rw e refl
 
-some_behind : (at n : ℕ) (b : Bool) → b ≡ false → (n == 0) ≡ false → event_of at n b ≡ Break at (at + 1 + n) ∷ []
-some_behind at n true e f = cc e
-some_behind at n false e f = rw f refl
+some_after : (at n : ℕ) (b : Bool) → b ≡ false → (n == 0) ≡ false → event_of at n b ≡ Break at (at + 1 + n) ∷ []
+some_after at n true e f = cc e
+some_after at n false e f = rw f refl
 
 not_zero : (n : ℕ) → 0 < n → (n == 0) ≡ false
 not_zero n lt = grind (arith, common_steps)
@@ -56,7 +56,7 @@ base_marked at n d s new lt isnt is more h =
     let zero_not : (marks (drop (at + 1) (items_of s)) == 0) ≡ false = ap (λ m. m == 0) (sym is) ∙ not_zero n more in
     subst (λ es. Happens es s new)
     (ap (λ m. Break at (at + 1 + m) ∷ []) is
-    ∙ sym (event_there at d s lt ∙ some_behind at (marks (drop (at + 1) (items_of s))) (is_mark (item_of (get_or (all_glyphs s) at d))) isnt zero_not)) h
+    ∙ sym (event_there at d s lt ∙ some_after at (marks (drop (at + 1) (items_of s))) (is_mark (item_of (get_or (all_glyphs s) at d))) isnt zero_not)) h
 
 -- ---- one place after another
 

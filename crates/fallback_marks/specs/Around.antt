@@ -16,7 +16,7 @@ use Rattle.fallback_marks.specs.declared.around.Placed.{Placed}
 use Rattle.fallback_marks.specs.declared.around.Placing.{Placing}
 use Rattle.fallback_marks.specs.Bases.{component_box, component_of}
 
--- the pen stands behind the base in a forward line, and at it in a backward one
+-- the pen stands after the base in a forward line, and at it in a backward one
 abbrev pub pen_back : Direction → ℤ → ℤ
 pen_back d advance = if is_forward d then minus (pos 0) advance else pos 0
 
@@ -61,7 +61,7 @@ set_around s m = record { position = stood_back s m.position; around = record s 
 abbrev pub stood : FaceParts → Direction → Item → Position → Around → Placed
 stood font d x p s = set_around s (marked (gap font) d x.class (value_of x.number font.extents) s.extents p)
 
--- a mark of class 0 stays, and takes the pen along for those behind it
+-- a mark of class 0 stays, and takes the pen along for those after it
 abbrev pub along : Direction → ℤ → ℤ → ℤ
 along d offset advance = if is_forward d then minus offset advance else plus offset advance
 

@@ -1,4 +1,4 @@
--- Bases with marks behind them, where the font does not place marks (HarfBuzz, fallback shaping). Sums and products are modulo 2^32.
+-- Bases with marks after them, where the font does not place marks (HarfBuzz, fallback shaping). Sums and products are modulo 2^32.
 use Rattle.std.specs.Prelude.{ℕ, ℤ, pos, ◌-ℤ◌, ◌*ℤ◌, ◌==◌, ◌||◌, Bool, not, nat_lt, if◌then◌else◌}
 use Rattle.std.specs.Int.{int_wrap, w32}
 use Rattle.std.specs.Int.RustNames.{int_div}

@@ -40,10 +40,10 @@ base_events at (x ∷ xs) = first_event at (x ∷ xs) ++ base_events (at + 1) xs
 
 -- ---- positions
 
--- what the marks behind a base stand at
-abbrev pub behind_base : FaceParts → Direction → Item → Position → Option Box → Before
-behind_base font d x p None = Boxless
-behind_base font d x p (Some e) = Boxed (begun d p (base_of font x p e))
+-- what the marks after a base stand at
+abbrev pub after_base : FaceParts → Direction → Item → Position → Option Box → Before
+after_base font d x p None = Boxless
+after_base font d x p (Some e) = Boxed (begun d p (base_of font x p e))
 
 abbrev pub step_around : Placed → Step
 step_around s = record { position = s.position; before = Boxed s.around }
@@ -62,7 +62,7 @@ step_of_mark font by x p (Boxed s) = step_around (mark_around font by x p s)
 abbrev pub step : FaceParts → Placing → Item → Position → Before → Step
 step font by x p before =
     if is_mark x then step_of_mark font by x p before
-    else record { position = p; before = behind_base font by.direction x p (value_of x.number font.extents) }
+    else record { position = p; before = after_base font by.direction x p (value_of x.number font.extents) }
 
 abbrev pub placed_marks : FaceParts → Placing → Before → List Item → List Position → List Position
 placed_marks font by before [] ps = []

@@ -1,4 +1,4 @@
-//! Bases with marks behind them, and the components of ligatures among them.
+//! Bases with marks after them, and the components of ligatures among them.
 ghost use Rattle.std.specs.Prelude.{◌≡◌, ◌<◌, ◌≤◌, pos};
 ghost use Rattle.std.specs.Int.RustNames.{int_div};
 ghost use Rattle.glyph_lists.specs.Items.{item_of};

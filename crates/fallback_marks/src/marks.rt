@@ -7,7 +7,7 @@ ghost use Rattle.glyph_buffer.specs.Sides.{all_glyphs, items_of};
 ghost use Rattle.stage_rules.specs.Buffers.{are_glyphs};
 ghost use Rattle.stage_rules.specs.Ready.{IsDone, IsReady};
 ghost use Rattle.stage_rules.specs.Stages.{Becomes, Happens};
-ghost use Rattle.fallback_marks.specs.Marks.{HasBound, base_events, behind_base, components_direction, first_event, is_left_to_right, marks, placed_marks, script_direction, step, step_of_mark, with_placed_marks, without_box};
+ghost use Rattle.fallback_marks.specs.Marks.{HasBound, base_events, after_base, components_direction, first_event, is_left_to_right, marks, placed_marks, script_direction, step, step_of_mark, with_placed_marks, without_box};
 ghost use Rattle.layout_common.specs.Rows.{value_of};
 ghost use Rattle.fallback_marks.specs.declared.marks.Before.TheVariants.{Nothing};
 
@@ -86,9 +86,9 @@ fn is_left_to_right(direction: Direction) -> bool
     matches!(direction, Direction::LeftToRight)
 }
 
-/// How many marks stand behind a place.
+/// How many marks stand after a place.
 #[tactic(auto, using(crate::proofs::Counted::none_passed, crate::proofs::Counted::next_passed, crate::proofs::Counted::all_passed, crate::proofs::Counted::last_passed))]
-fn marks_behind(glyphs: &[hb_glyph_info_t], at: usize) -> usize
+fn marks_after(glyphs: &[hb_glyph_info_t], at: usize) -> usize
     requires { at < length glyphs.now }
     ensures value { result ≡ marks (drop (at + 1) (strip glyphs.now)) }
     ensures within { at + 1 + result ≤ length glyphs.now }
@@ -130,20 +130,20 @@ fn mark_base(at: usize, buffer: &mut hb_buffer_t)
     if is_mark(&buffer.info_slice()[at]) {
         return;
     }
-    let count = marks_behind(buffer.info_slice(), at);
+    let count = marks_after(buffer.info_slice(), at);
     if count > 0 {
         mark_break(at, at + 1 + count, buffer);
     }
 }
 
-fn behind_base(
+fn after_base(
     face: &Face,
     direction: Direction,
     glyph: &hb_glyph_info_t,
     position: GlyphPosition,
 ) -> Before
     requires { glyph.now.glyph_id ≤ 65535 }
-    ensures value { result ≡ behind_base face.now direction (item_of glyph.now) position
+    ensures value { result ≡ after_base face.now direction (item_of glyph.now) position
         (value_of glyph.now.glyph_id face.now.extents) }
     ensures bound { HasBound result }
 {
@@ -212,7 +212,7 @@ fn make_step(
     } else {
         Step {
             position,
-            before: behind_base(face, by.direction, glyph, position),
+            before: after_base(face, by.direction, glyph, position),
         }
     }
 }

@@ -11,8 +11,8 @@ use Rattle.feature_text.specs.declared.feature.Feature.{Feature}
 use Rattle.std.proofs.lemmas.List.Folds.{length-prefix_len}
 use Rattle.std.proofs.lemmas.Bool.{eqb-true, ltb-true, leb-true}
 use Rattle.feature_text.specs.TextParser.{after_run, after_spaces, is_quote, is_tag_byte, tag_in, natural_in, integer_in, decimal_value, bool_of_word, bool_in}
-use Rattle.feature_text.specs.FeatureText.{no_end, sign_in, quoted_tag_in, behind, closed, ended, maybe_ended, started, unstarted, bracketed, range_in, place_of_integer, setting_in, value_in, whole_request, valued, ranged, tagged, feature_of}
-use Rattle.feature_text.specs.FeatureGrammar.{IsSign, IsTagName, BeginsWithout, IsTagText, IsNumber, IsInteger, IsPlace, IsEnd, IsRange, IsSetting, IsValue, IsRequest, no_sign, plus_sign, minus_sign, bare, in_quotes, numbered, switched_on, switched_off, by_sign, plain, behind_equal, natural, positive, negative, open_end, placed_end, no_range, every_place, one_place, up_to, from, from_to}
+use Rattle.feature_text.specs.FeatureText.{no_end, sign_in, quoted_tag_in, text_after, closed, ended, maybe_ended, started, unstarted, bracketed, range_in, place_of_integer, setting_in, value_in, whole_request, valued, ranged, tagged, feature_of}
+use Rattle.feature_text.specs.FeatureGrammar.{IsSign, IsTagName, BeginsWithout, IsTagText, IsNumber, IsInteger, IsPlace, IsEnd, IsRange, IsSetting, IsValue, IsRequest, no_sign, plus_sign, minus_sign, bare, in_quotes, numbered, switched_on, switched_off, by_sign, plain, after_equal, natural, positive, negative, open_end, placed_end, no_range, every_place, one_place, up_to, from, from_to}
 use Rattle.feature_text.proofs.Runs.{by_cases, both_true, list_all-run, run_and_rest, after_run-stops, after_run-none, list_all-whole}
 use Rattle.std.specs.Option.{option_map}
 use Rattle.feature_text.proofs.Options.{chained, mapped, chosen, pair_parts, some_parts, some_is}
@@ -38,11 +38,11 @@ natural_read most text value rest h =
     (digits, number, sym equal.0, rw rest_is at whole))
     (λ e. let none : None ≡ Some (value, rest) = rw e at h in cc)
 
--- the digits of a number, and what stands behind them
+-- the digits of a number, and what stands after them
 abbrev pub Digits : ℕ → List ℕ → ℕ × List ℕ → Type 0
 Digits most text found = (digits : List ℕ) × IsNumber most digits × (found.0 ≡ decimal_value digits) × (text ≡ digits ++ found.1)
 
--- a number of a range, and what stands behind it
+-- a number of a range, and what stands after it
 abbrev pub Integer : List ℕ → ℤ × List ℕ → Type 0
 Integer text found = (number : List ℕ) × IsInteger number found.0 × (text ≡ number ++ found.1)
 
@@ -102,27 +102,27 @@ integer_read (byte ∷ bytes) found h =
     let f : ℕ × List ℕ → ℤ × List ℕ = λ digits. (pos digits.0, digits.1) in
     unsigned_found (byte ∷ bytes) found (mapped f (natural_in (2 ^ 31 - 1) (byte ∷ bytes)) found (rw (unminus, unplus) at h))))
 
-pub behind_read : (byte : ℕ) (text rest : List ℕ) → behind byte text ≡ Some rest → text ≡ byte ∷ rest
-behind_read byte [] rest h = cc
-behind_read byte (first ∷ bytes) rest h =
+pub after_read : (byte : ℕ) (text rest : List ℕ) → text_after byte text ≡ Some rest → text ≡ byte ∷ rest
+after_read byte [] rest h = cc
+after_read byte (first ∷ bytes) rest h =
     by_cases (first == byte)
     (λ e. let same : first ≡ byte = eqb-true first byte e in let found : Some bytes ≡ Some rest = rw e at h in cc)
     (λ e. let none : None ≡ Some rest = rw e at h in cc)
 
 closed_parts : (start end : ℕ) (text : List ℕ) (found : (ℕ × ℕ) × List ℕ)
-    → (left : List ℕ) × (behind 93 text ≡ Some left) × (((start, end), left) ≡ found)
+    → (left : List ℕ) × (text_after 93 text ≡ Some left) × (((start, end), left) ≡ found)
     → (found.0.0 ≡ start) × (found.0.1 ≡ end) × (text ≡ 93 ∷ found.1)
 closed_parts start end text found (left, e, pair) =
     let equal = pair_parts pair in
     let ends = pair_parts equal.0 in
-    (sym ends.0, sym ends.1, behind_read 93 text left e ∙ ap (λ t. 93 ∷ t) equal.1)
+    (sym ends.0, sym ends.1, after_read 93 text left e ∙ ap (λ t. 93 ∷ t) equal.1)
 
 pub closed_read : (start end : ℕ) (text : List ℕ) (found : (ℕ × ℕ) × List ℕ)
     → closed start end text ≡ Some found
     → (found.0.0 ≡ start) × (found.0.1 ≡ end) × (text ≡ 93 ∷ found.1)
 closed_read start end text found h =
     let f : List ℕ → (ℕ × ℕ) × List ℕ = λ left. ((start, end), left) in
-    closed_parts start end text found (mapped f (behind 93 text) found h)
+    closed_parts start end text found (mapped f (text_after 93 text) found h)
 
 pub place_moved : (text : List ℕ) (place other : ℕ) → other ≡ place → IsPlace text place → IsPlace text other
 place_moved text place other e is_place = record { value = is_place.value; written = is_place.written; is = e ∙ is_place.is }
@@ -130,7 +130,7 @@ place_moved text place other e is_place = record { value = is_place.value; writt
 pub place_is : (text : List ℕ) (value : ℤ) → IsInteger text value → IsPlace text (place_of_integer value)
 place_is text value written = record { value = value; written = written; is = refl }
 
--- a start, and the end of a range with what stands behind it
+-- a start, and the end of a range with what stands after it
 abbrev pub Placed : ℕ → List ℕ → (ℕ × ℕ) × List ℕ → Type 0
 Placed start text found = (b : List ℕ) × IsPlace b found.0.1 × (found.0.0 ≡ start) × (text ≡ b ++ (93 ∷ found.1))
 
@@ -253,7 +253,7 @@ bracketed_read text found h =
     let f : ℤ × List ℕ → Option ((ℕ × ℕ) × List ℕ) = λ number. started (place_of_integer number.0) number.1 in
     bracket_either text found (chosen f (integer_in text) (unstarted text) (Some found) h)
 
--- a range and what stands behind it
+-- a range and what stands after it
 abbrev pub Ranged : List ℕ → (ℕ × ℕ) × List ℕ → Type 0
 Ranged text found = (range : List ℕ) × IsRange range found.0.0 found.0.1 × (text ≡ range ++ found.1)
 
@@ -273,7 +273,7 @@ range_read (byte ∷ rest) found h =
     (λ e. let is : byte ≡ 91 = eqb-true byte 91 e in rw is (range_bracketed rest found (bracketed_read rest found (rw e at h))))
     (λ e. no_range_read (byte ∷ rest) found (rw e at h))
 
--- a name and what stands behind it
+-- a name and what stands after it
 abbrev pub Named : List ℕ → Tag × List ℕ → Type 0
 Named text found =
     (name : List ℕ) × IsTagName name × (found.0 ≡ tag_of_text name) × (text ≡ name ++ found.1) × BeginsWithout is_tag_byte found.1
@@ -296,7 +296,7 @@ tag_read text found h =
     (name, is_name, sym equal.0, rw rest_is at whole, rw rest_is at stops))
     (λ e. let none : None ≡ Some found = rw e at h in cc)
 
--- a tag, bare or in quotes, and what stands behind it
+-- a tag, bare or in quotes, and what stands after it
 abbrev pub Tagged : List ℕ → Tag × List ℕ → Type 0
 Tagged text found = (tag : List ℕ) × IsTagText tag found.0 found.1 × (text ≡ tag ++ found.1)
 
@@ -313,27 +313,27 @@ quoted_parts quote rest found inner left is pair close (name, is_name, tag, whol
     )
 
 quoted_closed : (quote : ℕ) (rest : List ℕ) (found inner : Tag × List ℕ) → is_quote quote ≡ true → tag_in rest ≡ Some inner
-    → (left : List ℕ) × (behind quote inner.1 ≡ Some left) × ((inner.0, left) ≡ found) → Tagged (quote ∷ rest) found
+    → (left : List ℕ) × (text_after quote inner.1 ≡ Some left) × ((inner.0, left) ≡ found) → Tagged (quote ∷ rest) found
 quoted_closed quote rest found inner is e (left, close, pair) =
-    quoted_parts quote rest found inner left is pair (behind_read quote inner.1 left close) (tag_read rest inner e)
+    quoted_parts quote rest found inner left is pair (after_read quote inner.1 left close) (tag_read rest inner e)
 
 quoted_chain : (quote : ℕ) (rest : List ℕ) (found : Tag × List ℕ) → is_quote quote ≡ true
-    → (inner : Tag × List ℕ) × (tag_in rest ≡ Some inner) × (option_map (λ left. (inner.0, left)) (behind quote inner.1) ≡ Some found)
+    → (inner : Tag × List ℕ) × (tag_in rest ≡ Some inner) × (option_map (λ left. (inner.0, left)) (text_after quote inner.1) ≡ Some found)
     → Tagged (quote ∷ rest) found
 quoted_chain quote rest found is (inner, e, h) =
     let f : List ℕ → Tag × List ℕ = λ left. (inner.0, left) in
-    quoted_closed quote rest found inner is e (mapped f (behind quote inner.1) found h)
+    quoted_closed quote rest found inner is e (mapped f (text_after quote inner.1) found h)
 
 pub quoted_tag_read : (text : List ℕ) (found : Tag × List ℕ) → quoted_tag_in text ≡ Some found → Tagged text found
 quoted_tag_read [] found h = cc
 quoted_tag_read (first ∷ rest) found h =
     by_cases (is_quote first)
     (λ e.
-    let f : Tag × List ℕ → Option (Tag × List ℕ) = λ inner. option_map (λ left. (inner.0, left)) (behind first inner.1) in
+    let f : Tag × List ℕ → Option (Tag × List ℕ) = λ inner. option_map (λ left. (inner.0, left)) (text_after first inner.1) in
     quoted_chain first rest found e (chained f (tag_in rest) found (rw e at h)))
     (λ e. bare_read (first ∷ rest) found (tag_read (first ∷ rest) found (rw e at h)))
 
--- a sign and what stands behind it
+-- a sign and what stands after it
 abbrev pub Signed : List ℕ → ℕ × List ℕ → Type 0
 Signed text found = (sign : List ℕ) × IsSign sign found.0 × (text ≡ sign ++ found.1)
 
@@ -346,7 +346,7 @@ sign_read (byte ∷ rest) =
     (λ d. let is : byte ≡ 43 = eqb-true byte 43 d in rw (e, d) (codes "+", plus_sign refl refl, ap (λ c. c ∷ rest) is))
     (λ d. rw (e, d) ([], no_sign refl refl, refl)))
 
--- a setting and what stands behind it
+-- a setting and what stands after it
 abbrev pub Set : List ℕ → ℕ × List ℕ → Type 0
 Set text found = (setting : List ℕ) × IsSetting setting found.0 × (text ≡ setting ++ found.1)
 
@@ -369,7 +369,7 @@ word_value word value h =
     switched_off (same_text (map to_ascii_lowercase word) (codes "off") (sym d)) (rw (← is) refl))
     (λ d. let none : None ≡ Some value = rw (e, d) at h in cc))
 
--- a word and what stands behind it
+-- a word and what stands after it
 abbrev pub Switched : List ℕ → Bool × List ℕ → Type 0
 Switched text found = (word : List ℕ) × IsSetting word (cond found.0 1 0) × (text ≡ word ++ found.1)
 
@@ -415,18 +415,18 @@ setting_read text found starts h =
     setting_either text found starts
     (chosen f (natural_in no_end text) (option_map (λ inner. (cond inner.0 1 0, inner.1)) (bool_in text)) (Some found) h)
 
--- a value and what stands behind it
+-- a value and what stands after it
 abbrev pub Valued : ℕ → List ℕ → ℕ × List ℕ → Type 0
 Valued default text found = (value : List ℕ) × IsValue default value found.0 × (text ≡ value ++ found.1)
 
 by_sign_read : (default : ℕ) (text : List ℕ) (found : ℕ × List ℕ) → Some (default, text) ≡ Some found → Valued default text found
 by_sign_read default text found h = let equal = some_parts h in ([], by_sign refl (sym equal.0), equal.1)
 
-behind_equal_read : (default : ℕ) (rest : List ℕ) (found : ℕ × List ℕ) → Set (after_spaces rest) found → Valued default (61 ∷ rest) found
-behind_equal_read default rest found (setting, is, whole) =
+after_equal_read : (default : ℕ) (rest : List ℕ) (found : ℕ × List ℕ) → Set (after_spaces rest) found → Valued default (61 ∷ rest) found
+after_equal_read default rest found (setting, is, whole) =
     let spaces : List ℕ = take_while is_ascii_whitespace rest in (
       61 ∷ (spaces ++ setting),
-      behind_equal spaces setting (list_all-run is_ascii_whitespace rest) is refl,
+      after_equal spaces setting (list_all-run is_ascii_whitespace rest) is refl,
       ap (λ t. 61 ∷ t) (run_and_rest is_ascii_whitespace rest ∙ ap (λ t. spaces ++ t) whole ∙ sym (append_assoc spaces setting found.1)),
     )
 
@@ -450,8 +450,8 @@ value_read default (byte ∷ rest) found starts h =
     by_cases (byte == 61)
     (λ e.
     let is : byte ≡ 61 = eqb-true byte 61 e in
-    let behind : BeginsWithout is_ascii_whitespace (after_spaces rest) = after_run-stops is_ascii_whitespace rest in
-    rw is (behind_equal_read default rest found (setting_read (after_spaces rest) found behind (rw e at h))))
+    let after : BeginsWithout is_ascii_whitespace (after_spaces rest) = after_run-stops is_ascii_whitespace rest in
+    rw is (after_equal_read default rest found (setting_read (after_spaces rest) found after (rw e at h))))
     (λ e.
     let f : ℕ × List ℕ → Option (ℕ × List ℕ) = λ inner. Some inner in
     value_either default (byte ∷ rest) found starts
@@ -473,7 +473,7 @@ request_built text feature (default, text1) (tag, text3) ((start, end), text5) (
     (sign_text, is_sign, sign_whole) (tag_text, is_tag, tag_whole) (range_text, is_range, range_whole) (value_text, is_value, value_whole)
     (none, tag_is, value_is, start_is, end_is) =
     let space : ℕ → Bool = is_ascii_whitespace in
-    let behind_tag : text3 ≡ take_while space text3 ++ (range_text ++ (take_while space text5 ++ (value_text ++ text7))) =
+    let after_tag : text3 ≡ take_while space text3 ++ (range_text ++ (take_while space text5 ++ (value_text ++ text7))) =
     run_and_rest space text3 ∙ ap (λ t. take_while space text3 ++ t) (range_whole
     ∙ ap (λ t. range_text ++ t) (run_and_rest space text5 ∙ ap (λ t. take_while space text5 ++ t) value_whole)) in
     let P : Tag → Type 0 = λ t. IsTagText tag_text t (take_while space text3 ++ (range_text ++ (take_while space text5 ++ (value_text ++ text7)))) in
@@ -485,19 +485,19 @@ request_built text feature (default, text1) (tag, text3) ((start, end), text5) (
       default = default;
       before = take_while space text;
       sign = sign_text;
-      behind_sign = take_while space text1;
+      after_sign = take_while space text1;
       tag = tag_text;
-      behind_tag = take_while space text3;
+      after_tag = take_while space text3;
       range = range_text;
-      behind_range = take_while space text5;
+      after_range = take_while space text5;
       value = value_text;
-      behind = text7;
+      after = text7;
       is = run_and_rest space text ∙ ap (λ t. take_while space text ++ t) (sign_whole
           ∙ ap (λ t. sign_text ++ t) (run_and_rest space text1
-          ∙ ap (λ t. take_while space text1 ++ t) (tag_whole ∙ ap (λ t. tag_text ++ t) behind_tag)));
+          ∙ ap (λ t. take_while space text1 ++ t) (tag_whole ∙ ap (λ t. tag_text ++ t) after_tag)));
       spaces = (list_all-run space text, list_all-run space text1, list_all-run space text3, list_all-run space text5, list_all-whole space text7 none);
       sign_is = is_sign;
-      tag_is = subst P tag_is (subst Q behind_tag is_tag);
+      tag_is = subst P tag_is (subst Q after_tag is_tag);
       range_is = subst S end_is (subst R start_is is_range);
       value_is = subst V value_is is_value;
     }

@@ -32,7 +32,7 @@ take_while-run p run rest all stops = rw (prefix_len-run p run rest all stops) (
 pub after_run-run : (p : ℕ → Bool) (run rest : List ℕ) → list_all p run ≡ true → BeginsWithout p rest → after_run p (run ++ rest) ≡ rest
 after_run-run p run rest all stops = rw (prefix_len-run p run rest all stops) (drop-append_seam run rest)
 
--- a run before a text changes nothing of what stands behind all runs
+-- a run before a text changes nothing of what stands after all runs
 pub after_run-more : (p : ℕ → Bool) (run rest : List ℕ) → list_all p run ≡ true → after_run p (run ++ rest) ≡ after_run p rest
 after_run-more p [] rest all = refl
 after_run-more p (byte ∷ run) rest all =
@@ -61,7 +61,7 @@ list_all-run p (byte ∷ rest) =
 pub run_and_rest : (p : ℕ → Bool) (text : List ℕ) → text ≡ take_while p text ++ after_run p text
 run_and_rest p text = sym (take-append-drop (prefix_len p text) text)
 
--- a text with nothing behind its run is that run
+-- a text with nothing after its run is that run
 pub list_all-whole : (p : ℕ → Bool) (text : List ℕ) → after_run p text ≡ [] → list_all p text ≡ true
 list_all-whole p text e =
     let whole : take_while p text ++ [] ≡ text = sym (rw e at (run_and_rest p text)) in

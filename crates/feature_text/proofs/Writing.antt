@@ -10,8 +10,8 @@ use Rattle.shaping_text.specs.declared.tag.Tag.{Tag}
 use Rattle.shaping_text.specs.Tag.{tag_of_text}
 use Rattle.feature_text.specs.declared.feature.Feature.{Feature}
 use Rattle.feature_text.specs.TextParser.{after_run, after_spaces, is_quote, is_tag_byte, tag_in, natural_in, integer_in, decimal_value, bool_of_word, bool_in}
-use Rattle.feature_text.specs.FeatureText.{no_end, sign_in, quoted_tag_in, behind, maybe_ended, range_in, place_of_integer, setting_in, value_in, valued, ranged, tagged, signed, feature_of}
-use Rattle.feature_text.specs.FeatureGrammar.{AreSpaces, IsSign, IsTagName, BeginsWithout, IsTagText, IsNumber, IsInteger, IsPlace, IsEnd, IsRange, IsSetting, IsValue, IsRequest, no_sign, plus_sign, minus_sign, bare, in_quotes, numbered, switched_on, switched_off, by_sign, plain, behind_equal, natural, positive, negative, open_end, placed_end, no_range, every_place, one_place, up_to, from, from_to}
+use Rattle.feature_text.specs.FeatureText.{no_end, sign_in, quoted_tag_in, text_after, maybe_ended, range_in, place_of_integer, setting_in, value_in, valued, ranged, tagged, signed, feature_of}
+use Rattle.feature_text.specs.FeatureGrammar.{AreSpaces, IsSign, IsTagName, BeginsWithout, IsTagText, IsNumber, IsInteger, IsPlace, IsEnd, IsRange, IsSetting, IsValue, IsRequest, no_sign, plus_sign, minus_sign, bare, in_quotes, numbered, switched_on, switched_off, by_sign, plain, after_equal, natural, positive, negative, open_end, placed_end, no_range, every_place, one_place, up_to, from, from_to}
 use Rattle.feature_text.proofs.Runs.{both_true, prefix_len-run, take_while-run, after_run-run, after_run-more, after_run-none, after_run-stops}
 use Rattle.feature_text.proofs.Bytes.{IsPlain, tag_byte_is_plain, tag_byte-quote, quote_is_plain, quote-tag_byte, digit_is_plain, space-digit, space-letter, letter, letter_is_plain, letter-digit}
 
@@ -144,7 +144,7 @@ tag_written text tag after (in_quotes quote name is is_name e t) = (
   rw (e, t) (quoted_written quote name after is is_name),
 )
 
--- what is left of a sign and the white space behind it
+-- what is left of a sign and the white space after it
 signed_plain : (spaces : List ℕ) (byte : ℕ) (bytes : List ℕ) → AreSpaces spaces → IsPlain byte
     → after_spaces (spaces ++ (byte ∷ bytes)) ≡ byte ∷ bytes
 signed_plain spaces byte bytes all is_plain = after_run-run is_ascii_whitespace spaces (byte ∷ bytes) all is_plain.space
@@ -153,11 +153,11 @@ pub sign_written : (sign : List ℕ) (default : ℕ) (spaces : List ℕ) (byte :
     → ((sign_in (after_spaces (sign ++ (spaces ++ (byte ∷ bytes))))).0 ≡ default)
     × (after_spaces (sign_in (after_spaces (sign ++ (spaces ++ (byte ∷ bytes))))).1 ≡ byte ∷ bytes)
 sign_written sign default spaces byte bytes (no_sign e d) all is_plain =
-    let behind : after_spaces (spaces ++ (byte ∷ bytes)) ≡ byte ∷ bytes = signed_plain spaces byte bytes all is_plain in
+    let plain : after_spaces (spaces ++ (byte ∷ bytes)) ≡ byte ∷ bytes = signed_plain spaces byte bytes all is_plain in
     let minus : (byte == 45) ≡ false = is_plain.minus in
     let plus : (byte == 43) ≡ false = is_plain.plus in
     let space : is_ascii_whitespace byte ≡ false = is_plain.space in
-    (rw (e, behind, minus, plus, d) refl, rw (e, behind, minus, plus, space) refl)
+    (rw (e, plain, minus, plus, d) refl, rw (e, plain, minus, plus, space) refl)
 sign_written sign default spaces byte bytes (plus_sign e d) all is_plain =
     (rw (e, d) refl, rw e (signed_plain spaces byte bytes all is_plain))
 sign_written sign default spaces byte bytes (minus_sign e d) all is_plain =
@@ -167,8 +167,8 @@ spaces_begin : (p : ℕ → Bool) (after : List ℕ) → ((c : ℕ) → is_ascii
 spaces_begin p [] kind all = tt
 spaces_begin p (byte ∷ bytes) kind all = kind byte (both_true (is_ascii_whitespace byte) (list_all is_ascii_whitespace bytes) all).0
 
-pub nothing_behind : (after : List ℕ) → AreSpaces after → after_spaces after ≡ []
-nothing_behind after all =
+pub nothing_after : (after : List ℕ) → AreSpaces after → after_spaces after ≡ []
+nothing_after after all =
     let whole : after_spaces (after ++ []) ≡ [] = after_run-run is_ascii_whitespace after [] all tt in
     rw append-nil at whole
 
@@ -255,7 +255,7 @@ plain_begun default byte bytes value after is_plain all found =
       unbracketed = is_plain.bracket;
       left = after;
       found = rw (equal, found) refl;
-      nothing = nothing_behind after all;
+      nothing = nothing_after after all;
     })
 
 plain_written : (default : ℕ) (text : List ℕ) (value : ℕ) (after : List ℕ) → AreSpaces after
@@ -273,10 +273,10 @@ setting_begun spaces byte bytes value after all is_plain found =
     after_run-run is_ascii_whitespace spaces (byte ∷ (bytes ++ after)) all is_plain.space in
     rw (start, found) refl
 
-behind_equal_written : (default : ℕ) (spaces setting : List ℕ) (value : ℕ) (after : List ℕ) → AreSpaces spaces → AreSpaces after
+after_equal_written : (default : ℕ) (spaces setting : List ℕ) (value : ℕ) (after : List ℕ) → AreSpaces spaces → AreSpaces after
     → Begins setting × (setting_in (setting ++ after) ≡ Some (value, after))
     → ValueRead default (after_spaces ((61 ∷ (spaces ++ setting)) ++ after)) value
-behind_equal_written default spaces setting value after all behind (begins, found) =
+after_equal_written default spaces setting value after all ends (begins, found) =
     let is : setting ≡ begins.byte ∷ begins.bytes = begins.is in
     let read : setting_in (after_spaces (spaces ++ (setting ++ after))) ≡ Some (value, after) =
     rw is (setting_begun spaces begins.byte begins.bytes value after all begins.is_plain (rw is at found)) in
@@ -284,17 +284,17 @@ behind_equal_written default spaces setting value after all behind (begins, foun
       unbracketed = refl;
       left = after;
       found = rw (append_assoc spaces setting after, read) refl;
-      nothing = nothing_behind after behind;
+      nothing = nothing_after after ends;
     }
 
 pub value_written : (default : ℕ) (text : List ℕ) (value : ℕ) (after : List ℕ) → IsValue default text value → AreSpaces after
     → ValueRead default (after_spaces (text ++ after)) value
 value_written default text value after (by_sign e v) all =
-    let nothing : after_spaces after ≡ [] = nothing_behind after all in
+    let nothing : after_spaces after ≡ [] = nothing_after after all in
     rw (e, nothing, v) (record { unbracketed = tt; left = []; found = refl; nothing = refl })
 value_written default text value after (plain is) all = plain_written default text value after all (setting_written text value after is all)
-value_written default text value after (behind_equal spaces setting between is e) all =
-    rw e (behind_equal_written default spaces setting value after between all (setting_written setting value after is all))
+value_written default text value after (after_equal spaces setting between is e) all =
+    rw e (after_equal_written default spaces setting value after between all (setting_written setting value after is all))
 
 -- the parts of a chain, each by what the one before it leaves
 whole_written : (feature : Feature) (left : List ℕ) → after_spaces left ≡ []
@@ -366,20 +366,20 @@ range_step_either feature default between range after all (inr (e, s, l)) value 
 pub request_written : (text : List ℕ) (feature : Feature) → IsRequest text feature → feature_of text ≡ Some feature
 request_written text feature request =
     let all = request.spaces in
-    let value_text : List ℕ = request.value ++ request.behind in
-    let range_text : List ℕ = request.behind_range ++ value_text in
-    let tag_text : List ℕ = request.behind_tag ++ (request.range ++ range_text) in
-    let sign_text : List ℕ = request.sign ++ (request.behind_sign ++ (request.tag ++ tag_text)) in
+    let value_text : List ℕ = request.value ++ request.after in
+    let range_text : List ℕ = request.after_range ++ value_text in
+    let tag_text : List ℕ = request.after_tag ++ (request.range ++ range_text) in
+    let sign_text : List ℕ = request.sign ++ (request.after_sign ++ (request.tag ++ tag_text)) in
     let whole : text ≡ request.before ++ sign_text = request.is in
-    let more : after_spaces range_text ≡ after_spaces value_text = after_run-more is_ascii_whitespace request.behind_range value_text all.3 in
+    let more : after_spaces range_text ≡ after_spaces value_text = after_run-more is_ascii_whitespace request.after_range value_text all.3 in
     let read : ValueRead request.default (after_spaces value_text) feature.value =
-    value_written request.default request.value feature.value request.behind request.value_is all.4 in
+    value_written request.default request.value feature.value request.after request.value_is all.4 in
     let V : List ℕ → Type 0 = λ t. ValueRead request.default t feature.value in
     let ranged_is : tagged request.default (feature.tag, tag_text) ≡ Some feature =
-    range_step_either feature request.default request.behind_tag request.range range_text all.2
+    range_step_either feature request.default request.after_tag request.range range_text all.2
     (range_written request.range feature.start feature.end request.range_is) (subst V (sym more) read) in
     let signed_is : signed (sign_in (after_spaces sign_text)) ≡ Some feature =
-    tag_step feature request.sign request.default request.behind_sign request.tag tag_text request.sign_is all.1
+    tag_step feature request.sign request.default request.after_sign request.tag tag_text request.sign_is all.1
     (tag_written request.tag feature.tag tag_text request.tag_is) ranged_is in
     let start : after_spaces (request.before ++ sign_text) ≡ after_spaces sign_text = after_run-more is_ascii_whitespace request.before sign_text all.0 in
     let F : List ℕ → Type 0 = λ t. signed (sign_in t) ≡ Some feature in

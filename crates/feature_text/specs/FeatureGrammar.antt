@@ -31,10 +31,10 @@ BeginsWithout test [] = Unit {0}
 BeginsWithout test (byte ∷ rest) = test byte ≡ false
 
 -- a tag, bare and then whole before what follows, or between two equal quotes
-pub data IsTagText (text : List ℕ) (tag : Tag) (behind : List ℕ) : Type 0 where
-  bare : IsTagName text → BeginsWithout is_tag_byte behind → tag ≡ tag_of_text text → IsTagText text tag behind
+pub data IsTagText (text : List ℕ) (tag : Tag) (after : List ℕ) : Type 0 where
+  bare : IsTagName text → BeginsWithout is_tag_byte after → tag ≡ tag_of_text text → IsTagText text tag after
   in_quotes : (quote : ℕ) (name : List ℕ) → is_quote quote ≡ true → IsTagName name
-      → text ≡ quote ∷ (name ++ (quote ∷ [])) → tag ≡ tag_of_text name → IsTagText text tag behind
+      → text ≡ quote ∷ (name ++ (quote ∷ [])) → tag ≡ tag_of_text name → IsTagText text tag after
 
 -- one or more decimal digits of a number up to `most`
 pub record IsNumber (most : ℕ) (digits : List ℕ) : Type 0 where
@@ -74,28 +74,28 @@ pub data IsSetting (text : List ℕ) (value : ℕ) : Type 0 where
   switched_on : map to_ascii_lowercase text ≡ codes "on" → value ≡ 1 → IsSetting text value
   switched_off : map to_ascii_lowercase text ≡ codes "off" → value ≡ 0 → IsSetting text value
 
--- a value, behind `=` or without one, or the value by the sign
+-- a value, after `=` or without one, or the value by the sign
 pub data IsValue (default : ℕ) (text : List ℕ) (value : ℕ) : Type 0 where
   by_sign : text ≡ [] → value ≡ default → IsValue default text value
   plain : IsSetting text value → IsValue default text value
-  behind_equal : (spaces setting : List ℕ) → AreSpaces spaces → IsSetting setting value → text ≡ 61 ∷ (spaces ++ setting) → IsValue default text value
+  after_equal : (spaces setting : List ℕ) → AreSpaces spaces → IsSetting setting value → text ≡ 61 ∷ (spaces ++ setting) → IsValue default text value
 
 -- a sign, a tag, a range and a value, with white space round them
 pub record IsRequest (text : List ℕ) (feature : Feature) : Type 0 where
   pub default : ℕ
   pub before : List ℕ
   pub sign : List ℕ
-  pub behind_sign : List ℕ
+  pub after_sign : List ℕ
   pub tag : List ℕ
-  pub behind_tag : List ℕ
+  pub after_tag : List ℕ
   pub range : List ℕ
-  pub behind_range : List ℕ
+  pub after_range : List ℕ
   pub value : List ℕ
-  pub behind : List ℕ
-  pub is : text ≡ before ++ (sign ++ (behind_sign ++ (tag ++ (behind_tag ++ (range ++ (behind_range ++ (value ++ behind)))))))
-  pub spaces : AreSpaces before × AreSpaces behind_sign × AreSpaces behind_tag × AreSpaces behind_range × AreSpaces behind
+  pub after : List ℕ
+  pub is : text ≡ before ++ (sign ++ (after_sign ++ (tag ++ (after_tag ++ (range ++ (after_range ++ (value ++ after)))))))
+  pub spaces : AreSpaces before × AreSpaces after_sign × AreSpaces after_tag × AreSpaces after_range × AreSpaces after
   pub sign_is : IsSign sign default
-  pub tag_is : IsTagText tag feature.tag (behind_tag ++ (range ++ (behind_range ++ (value ++ behind))))
+  pub tag_is : IsTagText tag feature.tag (after_tag ++ (range ++ (after_range ++ (value ++ after))))
   pub range_is : IsRange range feature.start feature.end
   pub value_is : IsValue default value feature.value
 

@@ -11,7 +11,7 @@ use Rattle.feature_text.specs.TextParser.{after_spaces, is_quote, tag_in, natura
 abbrev pub no_end : ℕ
 no_end = 2 ^ 32 - 1
 
--- the value without one in the text: 0 behind a minus, else 1
+-- the value without one in the text: 0 after a minus, else 1
 abbrev pub sign_in : List ℕ → ℕ × List ℕ
 sign_in [] = (1, [])
 sign_in (byte ∷ rest) =
@@ -19,16 +19,16 @@ sign_in (byte ∷ rest) =
     else if byte == 43 then (1, rest)
     else (1, byte ∷ rest)
 
--- the text behind that byte, which it begins with
-abbrev pub behind : ℕ → List ℕ → Option (List ℕ)
-behind byte [] = None
-behind byte (first ∷ rest) = if first == byte then Some rest else None
+-- the text after that byte, which it begins with
+abbrev pub text_after : ℕ → List ℕ → Option (List ℕ)
+text_after byte [] = None
+text_after byte (first ∷ rest) = if first == byte then Some rest else None
 
 -- a tag, bare or between two equal quotes
 abbrev pub quoted_tag_in : List ℕ → Option (Tag × List ℕ)
 quoted_tag_in [] = None
 quoted_tag_in (first ∷ rest) =
-    if is_quote first then option_and_then (λ found. option_map (λ left. (found.0, left)) (behind first found.1)) (tag_in rest)
+    if is_quote first then option_and_then (λ found. option_map (λ left. (found.0, left)) (text_after first found.1)) (tag_in rest)
     else tag_in (first ∷ rest)
 
 -- a number of a range, modulo 2 ^ 32
@@ -37,7 +37,7 @@ place_of_integer number = cast_unsigned w32 number
 
 -- `]`
 abbrev pub closed : ℕ → ℕ → List ℕ → Option ((ℕ × ℕ) × List ℕ)
-closed start end text = option_map (λ left. ((start, end), left)) (behind 93 text)
+closed start end text = option_map (λ left. ((start, end), left)) (text_after 93 text)
 
 -- `b]`
 abbrev pub ended : ℕ → List ℕ → Option ((ℕ × ℕ) × List ℕ)
@@ -48,7 +48,7 @@ abbrev pub maybe_ended : ℕ → List ℕ → Option ((ℕ × ℕ) × List ℕ)
 maybe_ended start text =
     option_map_or (λ found. closed start (place_of_integer found.0) found.1) (integer_in text) (closed start no_end text)
 
--- behind the start: `]` for that place alone, `:` with an end or none, `;` with an end
+-- after the start: `]` for that place alone, `:` with an end or none, `;` with an end
 abbrev pub started : ℕ → List ℕ → Option ((ℕ × ℕ) × List ℕ)
 started start [] = None
 started start (byte ∷ rest) =
@@ -65,7 +65,7 @@ unstarted (byte ∷ rest) =
     else if byte == 58 then maybe_ended 0 rest
     else None
 
--- behind `[`
+-- after `[`
 abbrev pub bracketed : List ℕ → Option ((ℕ × ℕ) × List ℕ)
 bracketed text = option_map_or (λ found. started (place_of_integer found.0) found.1) (integer_in text) (unstarted text)
 
@@ -79,14 +79,14 @@ abbrev pub setting_in : List ℕ → Option (ℕ × List ℕ)
 setting_in text =
     option_map_or Some (natural_in no_end text) (option_map (λ found. ((if found.0 then 1 else 0), found.1)) (bool_in text))
 
--- a value, with `=` or without; behind `=` there has to be one
+-- a value, with `=` or without; after `=` there has to be one
 abbrev pub value_in : ℕ → List ℕ → Option (ℕ × List ℕ)
 value_in default [] = Some (default, [])
 value_in default (byte ∷ rest) =
     if byte == 61 then setting_in (after_spaces rest)
     else option_map_or Some (setting_in (byte ∷ rest)) (Some (default, byte ∷ rest))
 
--- the request, where nothing else stands behind its value
+-- the request, where nothing else stands after its value
 abbrev pub whole_request : Tag → ℕ × ℕ → ℕ × List ℕ → Option Feature
 whole_request tag range (value, []) = Some (record { tag = tag; value = value; start = range.0; end = range.1 })
 whole_request tag range (value, (byte ∷ rest)) = None

@@ -1,4 +1,4 @@
--- What stands at the start of a text, and the text behind it.
+-- What stands at the start of a text, and the text after it.
 use Rattle.std.specs.Prelude.{◌==◌, if◌then◌else◌, ℕ, ◌+◌, ◌-◌, ◌*◌, ◌^◌, Bool, true, false, List, [], ◌∷◌, Option, Some, None, ◌&&◌, ◌||◌, nat_lt, nat_le, fold, drop, map, codes, ℤ, pos, neg_ℤ}
 use Rattle.std.specs.List.{take_while, prefix_len}
 use Rattle.std.specs.Option.{option_map}
@@ -7,11 +7,11 @@ use Rattle.std.specs.Char.{is_ascii_alphanumeric, is_ascii_alphabetic, is_ascii_
 use Rattle.shaping_text.specs.declared.tag.Tag.{Tag}
 use Rattle.shaping_text.specs.Tag.{tag_of_text}
 
--- the text behind the longest run of bytes that pass the test
+-- the text after the longest run of bytes that pass the test
 abbrev pub after_run : (ℕ → Bool) → List ℕ → List ℕ
 after_run test text = drop (prefix_len test text) text
 
--- the text behind white space
+-- the text after white space
 abbrev pub after_spaces : List ℕ → List ℕ
 after_spaces text = after_run is_ascii_whitespace text
 
@@ -56,7 +56,7 @@ bool_of_word word =
     else if bytes_eq (map to_ascii_lowercase word) (codes "off") then Some false
     else None
 
--- such a word behind white space
+-- such a word after white space
 abbrev pub bool_in : List ℕ → Option (Bool × List ℕ)
 bool_in text =
     option_map (λ value. (value, after_run is_ascii_alphabetic (after_spaces text)))

@@ -134,7 +134,7 @@ impl<'a> TextParser<'a> {
         Some(value)
     }
 
-    /// The word `on` or `off` in any case, behind white space.
+    /// The word `on` or `off` in any case, after white space.
     pub fn consume_bool(&mut self) -> Option<bool>
         ensures found { IfSome result (λ value. bool_in self.old ≡ Some (value, self.new)) }
         ensures absent { IfNone result (bool_in self.old ≡ None) }

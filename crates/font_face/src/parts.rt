@@ -31,7 +31,7 @@ impl Keyed for CharacterRow {
     }
 }
 
-/// A character with a variation selector behind it, and their glyph.
+/// A character with a variation selector after it, and their glyph.
 #[derive(Clone, Copy, Debug)]
 pub struct VariationRow {
     pub character: char,

@@ -3,7 +3,7 @@ use crate::rows::first_wrong;
 use std::alloc::{AllocError, Global};
 use std::test::Fail;
 
-// Fonts of one fault, by the keys of the format, and fonts of several, each behind its first fault.
+// Fonts of one fault, by the keys of the format, and fonts of several, each after its first fault.
 const FAULTS: &str = r#"J1 NotJson: {"upem":"x","h":[[1,2]]
 J1 NotJson: {"upem":"x"} 1
 J2 WrongShape: []

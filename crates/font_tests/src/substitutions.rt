@@ -77,7 +77,7 @@ fn ligatures(table: &SubstitutionTable, glyph: u16) -> Option<(usize, u16)> {
     Some((ligatures.len(), ligatures.first()?.glyph()))
 }
 
-/// The glyphs behind the first of the first ligature of a first glyph.
+/// The glyphs after the first of the first ligature of a first glyph.
 fn components(table: &SubstitutionTable, glyph: u16) -> Option<&[u16]> {
     let SubstitutionSubtables::Ligature(subtables) = subtables(table, 3)? else {
         return None;

@@ -56,7 +56,7 @@ alone_origins level None front g back e =
     map-append origin_of front (drop 1 (glyphs_merged_at level 0 2 (g ∷ back)))
     ∙ ap (λ os. origins front ++ os) (sym (drop-map origin_of 1 (glyphs_merged_at level 0 2 (g ∷ back))) ∙ ap (drop 1) (origins_of_merged_at level 0 2 (g ∷ back) (omega arith)))
 
--- what is left before a glyph that went and behind it is what a deletion leaves of origins
+-- what is left before a glyph that went and after it is what a deletion leaves of origins
 pub one_origins : (level : Level) (front : List Glyph) (g : Glyph) (back : List Glyph) → origins (together (glyphs_deleted level front g back)) ≡ one_deleted level (origins front) (origin_of g) (origins back)
 one_origins level front g back = rw (numbers_origins front, numbers_origins back) (by_test (is_number (last_of (clusters front)) g.cluster || is_number (first_of (clusters back)) g.cluster))
   where
@@ -65,7 +65,7 @@ one_origins level front g back = rw (numbers_origins front, numbers_origins back
     by_test true = map-append origin_of front back
     by_test false = alone_origins level (last_of (clusters front)) front g back refl
 
--- the first of the glyphs behind others goes: it is the one at the index of that many
+-- the first of the glyphs after others goes: it is the one at the index of that many
 pub deleted_behind : (level : Level) (front : List Glyph) (g : Glyph) (back : List Glyph) → origins (together (glyphs_deleted level front g back)) ≡ origins_deleted level (length front) (origins (front ++ g ∷ back))
 deleted_behind level front g back =
     let all = origins (front ++ g ∷ back) in

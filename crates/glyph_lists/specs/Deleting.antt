@@ -1,4 +1,4 @@
--- What the deletion of a glyph makes of the glyphs before and behind it.
+-- What the deletion of a glyph makes of the glyphs before and after it.
 use Rattle.std.specs.Prelude.{ℕ, ◌+◌, ◌≡◌, ◌≢◌, ◌==◌, ◌||◌, nat_lt, Bool, true, false, if◌then◌else◌, List, [], ◌∷◌, Option, Some, None, map, drop, slice_index_or as get_or}
 use Rattle.std.specs.List.{list_all}
 use Rattle.std.specs.Int.RustNames.{bit_and}
@@ -30,7 +30,7 @@ end_recast_if (Some p) g hs = end_recast_from p g hs
 abbrev pub end_recast : hb_glyph_info_t → List hb_glyph_info_t → List hb_glyph_info_t
 end_recast g hs = end_recast_if (last_of (clusters hs)) g hs
 
--- what is left before a glyph that went, and behind it
+-- what is left before a glyph that went, and after it
 pub record Left : Type 0 where
   pub front : List hb_glyph_info_t
   pub back : List hb_glyph_info_t
@@ -55,7 +55,7 @@ marks_alone level None n back = is_marked_at level 0 2 (n ∷ back)
 abbrev pub deletion_marks : BufferClusterLevel → List ℕ → ℕ → List ℕ → Bool
 deletion_marks level front n back = if is_number (last_of front) n || is_number (first_of back) n then false else marks_alone level (last_of front) n back
 
--- the first of some glyphs goes from behind others: what is left before it and behind it, and whether one was marked
+-- the first of some glyphs goes from after others: what is left before it and after it, and whether one was marked
 pub record Deletes (level : BufferClusterLevel) (front ahead new_front new_back : List hb_glyph_info_t) (marked : Bool) : Type 0 where
   pub front_is : (g : hb_glyph_info_t) (back : List hb_glyph_info_t) → ahead ≡ g ∷ back → new_front ≡ (glyphs_deleted level front g back).front
   pub back_is : (g : hb_glyph_info_t) (back : List hb_glyph_info_t) → ahead ≡ g ∷ back → new_back ≡ (glyphs_deleted level front g back).back

@@ -44,7 +44,7 @@ pub fn merge_beside(glyphs: &mut [hb_glyph_info_t], range: &[hb_glyph_info_t], i
 }
 
 /// The clusters that occur in `range` become the least of them, wherever they are among the glyphs. Where the range and
-/// these behind it are known to stand in order it costs the range and the run at the front.
+/// these after it are known to stand in order it costs the range and the run at the front.
 #[tactic(auto, using(crate::proofs::Joined::order_after))]
 pub fn merge_after(glyphs: &mut [hb_glyph_info_t], range: &[hb_glyph_info_t], in_order: bool)
     requires { in_order ≡ true → IsOrdered (clusters range.now ++ clusters glyphs.old) }
@@ -94,7 +94,7 @@ pub fn last_cluster(glyphs: &[hb_glyph_info_t]) -> u32
     glyphs[glyphs.len() - 1].cluster
 }
 
-/// The glyphs of the cluster go to another. In order, with the cluster behind all, they stand at the end.
+/// The glyphs of the cluster go to another. In order, with the cluster after all, they stand at the end.
 #[tactic(auto, using(crate::proofs::Ends::passed_back))]
 fn rename_back(glyphs: &mut [hb_glyph_info_t], cluster: u32, low: u32)
     requires { IsOrdered (clusters glyphs.old ++ cluster ∷ []) }

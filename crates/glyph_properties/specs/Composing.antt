@@ -14,7 +14,7 @@ abbrev pub last_class : ℕ → List Item → ℕ
 last_class k [] = k
 last_class k (x ∷ xs) = last_class (mark_class x) xs
 
--- a mark reaches the starter where it stands directly behind it, or behind an item of lesser class
+-- a mark reaches the starter where it stands directly after it, or after an item of lesser class
 abbrev pub is_reaching : List Item → Item → Bool
 is_reaching [] x = true
 is_reaching (y ∷ ys) x = nat_lt (last_class (mark_class y) ys) (mark_class x)
@@ -32,7 +32,7 @@ composite c starter between x =
 abbrev pub with_composition : ℕ → ℕ → Arranged → Arranged
 with_composition starter mark a = record a { events = Merge InOutput starter (mark + 1) ∷ Replace mark 1 0 ∷ a.events }
 
--- the items done, the last starter and what stands behind it, and the items ahead
+-- the items done, the last starter and what stands after it, and the items that are left
 abbrev pub composed_from : Normalizer → List Item → Item → List Item → List Item → Arranged
 composed_from c done starter between [] = kept (done ++ starter ∷ between)
 composed_from c done starter between (x ∷ xs) =

@@ -58,7 +58,7 @@ expanded c reach x = replaced_by 1 (expanded_item c reach x)
 abbrev pub unexpanded : Normalizer → Item → Arranged
 unexpanded c x = kept (with_own_glyph c x ∷ [])
 
--- an item and the selector behind it: one item where the font has the pair
+-- an item and the selector after it: one item where the font has the pair
 abbrev pub selected : Normalizer → Item → Item → Option ℕ → List Arranged
 selected c x s None = unexpanded c x ∷ unexpanded c (unjoined_selector (is_some c.unjoined_glyph) s) ∷ []
 selected c x s (Some g) = replaced_by 2 (with_glyph g x ∷ []) ∷ []
@@ -72,7 +72,7 @@ abbrev pub meets_selector : Normalizer → Option Item → Item → List Arrange
 meets_selector c None s = unexpanded c s ∷ []
 meets_selector c (Some x) s = selected c x s (c.variant_of x.number s.number)
 
--- items with selectors among them: a selector behind another selects nothing
+-- items with selectors among them: a selector after another selects nothing
 abbrev pub selected_after : Normalizer → Option Item → List Item → List Arranged
 selected_after c before [] = waiting c before
 selected_after c before (x ∷ xs) = if is_selector x then meets_selector c before x ++ selected_after c None xs else waiting c before ++ selected_after c (Some x) xs
@@ -82,12 +82,12 @@ abbrev pub expanded_with_marks : Normalizer → Item → List Item → List Arra
 expanded_with_marks c x marks =
     if list_any is_selector (x ∷ marks) then selected_after c (Some x) marks else map (expanded c (reach_with_marks c.mode)) (x ∷ marks)
 
--- an item alone, or with the marks behind it
+-- an item alone, or with the marks after it
 abbrev pub expanded_group : Normalizer → Item → List Item → List Arranged
 expanded_group c x [] = expanded c (reach_alone c.mode) x ∷ []
 expanded_group c x (m ∷ marks) = expanded_with_marks c x (m ∷ marks)
 
--- each item with the marks behind it; `x` and `marks` are those met last
+-- each item with the marks after it; `x` and `marks` are those met last
 abbrev pub expanded_groups : Normalizer → Item → List Item → List Item → List Arranged
 expanded_groups c x marks [] = expanded_group c x marks
 expanded_groups c x marks (y ∷ ys) = if is_mark y then expanded_groups c x (marks ++ y ∷ []) ys else expanded_group c x marks ++ expanded_groups c y [] ys

@@ -42,7 +42,7 @@ arranged_runs reorders run (x ∷ xs) =
 abbrev pub ordered_list : (List Item → Arranged) → List Item → Arranged
 ordered_list reorders xs = in_turn (arranged_runs reorders [] xs)
 
--- a grapheme joiner keeps two marks apart where the class behind it is less than the one before it, and not 0
+-- a grapheme joiner keeps two marks apart where the class after it is less than the one before it, and not 0
 abbrev pub keeps_nothing_apart : Item → Item → Bool
 keeps_nothing_apart before after = mark_class after == 0 || nat_le (mark_class before) (mark_class after)
 

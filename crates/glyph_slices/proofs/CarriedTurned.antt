@@ -13,7 +13,7 @@ use Rattle.glyph_slices.specs.declared.due.falling.Stretch.{Stretch}
 use Rattle.glyph_lists.specs.Levels.{IsMonotone}
 use Rattle.glyph_slices.specs.Turning.{range_reversed}
 use Rattle.glyph_slices.specs.Falling.{carried, IsDueBefore, IsRound}
-use Rattle.glyph_slices.specs.Lemmas.Turned.{part_front, part_behind, clusters_part}
+use Rattle.glyph_slices.specs.Lemmas.Turned.{part_front, part_after, clusters_part}
 use Rattle.glyph_slices.proofs.Carried.{two_ranges, take_to, drop_beyond, take_carried, drop_carried, same_range, front_long}
 use Rattle.glyph_lists.specs.Lemmas.EventParts.{map-reverse}
 
@@ -38,7 +38,7 @@ turned_mid start end xs le within =
     ap (take (end - start)) rest ∙ ap (λ n. take n (r ++ drop end xs)) (sym wide) ∙ take-append_seam r (drop end xs)
 
 turned_back : {X : Type 0} (start end : ℕ) (xs : List X) → start ≤ end → end ≤ length xs → drop end (range_reversed start end xs) ≡ drop end xs
-turned_back start end xs le within = part_behind start end xs le within ∙ drop_beyond start end xs le
+turned_back start end xs le within = part_after start end xs le within ∙ drop_beyond start end xs le
 
 turned_long : {X : Type 0} (start end : ℕ) (xs : List X) → start ≤ end → end ≤ length xs → length (range_reversed start end xs) ≡ length xs
 turned_long start end xs le within = omega (arith, length-append (take start xs ++ reverse (slice_range xs start end)) (drop end xs), part_front start end xs le within, length-drop end xs)

@@ -8,7 +8,7 @@ use Rattle.glyph_lists.specs.declared.info.hb_glyph_info_t.{hb_glyph_info_t}
 abbrev pub Decides : {F : Type 0} → Shared F (Bor hb_glyph_info_t × (Bor hb_glyph_info_t × Unit {0})) Bool → F → (hb_glyph_info_t → hb_glyph_info_t → Bool) → Type 0
 Decides calls f p = (g h : hb_glyph_info_t) (b : Bool) → FnReturnsAtPair calls f g h b → b ≡ p g h
 
--- how many of the glyphs behind one are of its group: each is joined to the one before it
+-- how many of the glyphs after one are of its group: each is joined to the one before it
 abbrev pub joined_behind : {X : Type 0} → (X → X → Bool) → X → List X → ℕ
 joined_behind p x [] = 0
 joined_behind p x (y ∷ ys) = if p x y then suc (joined_behind p y ys) else 0

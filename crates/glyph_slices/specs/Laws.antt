@@ -12,7 +12,7 @@ use Rattle.glyph_slices.specs.DeletionWalk.{all_passed}
 use Rattle.glyph_slices.specs.Events.{deletions, groups_reversed, order_of}
 use Rattle.glyph_slices.specs.Sorting.{is_seam, places_by_key, range_sorted}
 
--- the first of the glyphs behind others goes: where the others come from is what the event leaves
+-- the first of the glyphs after others goes: where the others come from is what the event leaves
 abbrev pub DeletionIsEvent : Type 0
 DeletionIsEvent = (level : BufferClusterLevel) (front : List hb_glyph_info_t) (g : hb_glyph_info_t) (back : List hb_glyph_info_t) → let left = glyphs_deleted level front g back in
     origins (left.front ++ left.back) ≡ origins_deleted level (length front) (origins (front ++ g ∷ back))

@@ -12,7 +12,7 @@ use glyph_lists::level::BufferClusterLevel;
 use glyph_lists::position::GlyphPosition;
 
 /// Deletes the glyphs that `filter` picks, from the left, and answers how many stay and whether a merge marked one. Those
-/// that stay stand at the front of both slices, positions beside their glyphs; what is behind them has no meaning. A glyph
+/// that stay stand at the front of both slices, positions beside their glyphs; what is after them has no meaning. A glyph
 /// is tested as it stands when the walk reaches it. It takes no memory, and linear time where all clusters are known to
 /// stand in order.
 pub fn delete_within<F: Fn(&hb_glyph_info_t) -> bool>(

@@ -85,7 +85,7 @@ fn no_stretch(glyphs: &[hb_glyph_info_t]) -> Due
     }
 }
 
-/// Merges the glyphs from `start` up to before `end`, behind all that is due.
+/// Merges the glyphs from `start` up to before `end`, after all that is due.
 #[tactic(auto, using(crate::proofs::Carried::merged_falling, crate::proofs::Carried::none_marked))]
 pub(crate) fn merge_next(
     glyphs: &mut [hb_glyph_info_t],

@@ -61,7 +61,7 @@ pub fn next_cluster(glyphs: &[hb_glyph_info_t], start: usize) -> usize
     start + 1 + front_of_cluster(&glyphs[start + 1..], glyphs[start].cluster)
 }
 
-/// Where the grapheme that begins at `start` ends: the glyphs behind that one that continue it belong to it; at or past
+/// Where the grapheme that begins at `start` ends: the glyphs after that one that continue it belong to it; at or past
 /// the end of the glyphs, `start`.
 pub fn next_grapheme(glyphs: &[hb_glyph_info_t], start: usize) -> usize
     ensures { result ≡ start + grapheme_length (drop start glyphs.now) }

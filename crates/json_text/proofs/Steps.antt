@@ -61,10 +61,10 @@ one_member k old more (Some q) ms rest e =
 
 -- ---- the next item
 
-behind_item : (d : Data) (p : json.Items × List Token) (x : Option Items) → of_items p.0 ≡ x → (ds : Items) (rest : List Token)
+after_item : (d : Data) (p : json.Items × List Token) (x : Option Items) → of_items p.0 ≡ x → (ds : Items) (rest : List Token)
     → option_map {U = Items × List Token} (λ b. (b, p.1)) (option_map (item d) x) ≡ Some (ds, rest) → (es : Items) × (ds ≡ item d es) × (converted of_items (Some p) ≡ Some (es, rest))
-behind_item d p None is ds rest e = none ds rest e
-behind_item d p (Some es) is ds rest e =
+after_item d p None is ds rest e = none ds rest e
+after_item d p (Some es) is ds rest e =
     let same = same_pair (item d es) ds p.1 rest e in
     (es, sym same.0, ap (option_map {U = Items × List Token} (λ b. (b, p.1))) is ∙ ap (λ r. Some (es, r)) same.1)
 
@@ -76,7 +76,7 @@ front_item j None is (Some p) ds rest e =
 front_item j (Some d) is (Some p) ds rest e =
     let read : option_map {U = Items × List Token} (λ b. (b, p.1)) (option_map (item d) (of_items p.0)) ≡ Some (ds, rest) =
     sym (ap (λ y. option_map {U = Items × List Token} (λ b. (b, p.1)) (option_and_then (λ c. option_map (item c) (of_items p.0)) y)) is) ∙ e in
-    let more = behind_item d p (of_items p.0) refl ds rest read in
+    let more = after_item d p (of_items p.0) refl ds rest read in
     (d, more.0, refl, more.1, more.2)
 
 one_item : (more : Parse json.Items) (o : Option (json.Json × List Token)) (ds : Items) (rest : List Token)

@@ -1,4 +1,4 @@
-//! Rows of a list in turn, each of which may stand behind the one before it.
+//! Rows of a list in turn, each of which may stand after the one before it.
 ghost use Rattle.std.specs.Prelude.{◌≡◌, ◌≢◌, Bool, IfOk, IfErr, Ok, Err, None, Option, Result, true};
 ghost use Rattle.serde_json.specs.Data.{Data};
 ghost use Rattle.serde_json.specs.View.{view, items_view};
@@ -31,7 +31,7 @@ pub trait RowReader {
     fn key(row: &Self::Row) -> Self::Key
         ensures { result ≡ key_of row.now };
 
-    /// Whether a row of a key may stand behind one of the key before, or in front where there is none.
+    /// Whether a row of a key may stand after one of the key before, or in front where there is none.
     fn follows(before: Option<Self::Key>, key: Self::Key) -> bool
         ensures { result ≡ may_follow before key };
 }

@@ -17,15 +17,15 @@ rest_rises r x xs h k d l =
     let next : is_before (get_or (r ∷ x ∷ xs) (suc k) d) (get_or (r ∷ x ∷ xs) (suc k + 1) d) ≡ true = h (suc k) d (omega (arith, l)) in
     rw add-one (rw add-one at next)
 
-rises_behind : (r : LanguageRow) (rows : List LanguageRow) → TextsRise (r ∷ rows) → is_rising order row_text (Some (row_text r)) rows ≡ true
-rises_behind r [] h = refl
-rises_behind r (x ∷ xs) h =
+rise_after : (r : LanguageRow) (rows : List LanguageRow) → TextsRise (r ∷ rows) → is_rising order row_text (Some (row_text r)) rows ≡ true
+rise_after r [] h = refl
+rise_after r (x ∷ xs) h =
     let next : is_before r x ≡ true = h 0 r (omega arith) in
-    and_from _ _ next (rises_behind x xs (rest_rises r x xs h))
+    and_from _ _ next (rise_after x xs (rest_rises r x xs h))
 
 pub rises : (rows : List LanguageRow) → TextsRise rows → is_rising order row_text None rows ≡ true
 rises [] h = refl
-rises (r ∷ rows) h = rises_behind r rows h
+rises (r ∷ rows) h = rise_after r rows h
 
 -- a text is equal where its bytes are
 pub same_row : (rows : List LanguageRow) (text : List ℕ) → row_with order row_text text rows ≡ row_of rows text

@@ -22,7 +22,7 @@ pub record FeatureTable : Type 0 where
   pub tag : Tag
   pub lookups : List ℕ
 
--- a ligature: the components behind the first, and the glyph that takes the place of all
+-- a ligature: the components after the first, and the glyph that takes the place of all
 pub record LigatureTable : Type 0 where
   pub components : List ℕ
   pub glyph : ℕ

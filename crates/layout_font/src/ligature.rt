@@ -7,7 +7,7 @@ use crate::keyed::find_keyed;
 use sorted_rows::Keyed;
 use std::marker::Model;
 
-/// A ligature: the components behind the first, and the glyph that takes the place of all.
+/// A ligature: the components after the first, and the glyph that takes the place of all.
 #[derive(Debug, Drop)]
 pub struct Ligature {
     components: Vec<u16>,
@@ -23,7 +23,7 @@ impl Model for Ligature {
 }
 
 impl Ligature {
-    /// Of the glyphs behind the first, and the ligature's glyph.
+    /// Of the glyphs after the first, and the ligature's glyph.
     pub fn new(components: Vec<u16>, glyph: u16) -> Ligature
         ensures { result ≡ record { components = components.items; glyph = glyph } }
     {

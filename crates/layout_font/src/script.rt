@@ -140,7 +140,8 @@ impl ScriptRecord {
         lang_systems: Vec<LangSysRecord>,
     ) -> ScriptRecord
         requires { is_rising (λ r. r.tag.0) None lang_systems.items ≡ true }
-        ensures { result ≡ record { tag = tag; default_lang_sys = default_lang_sys; lang_systems = lang_systems.items } }
+        ensures { result
+            ≡ record { tag = tag; default_lang_sys = default_lang_sys; lang_systems = lang_systems.items } }
     {
         ScriptRecord {
             tag,

@@ -13,7 +13,7 @@ use Rattle.shaping_text.specs.Direction.{is_forward, is_horizontal}
 use Rattle.glyph_buffer.specs.Sides.{zero_position}
 use Rattle.layout_links.specs.declared.sums.Pen.{Pen}
 use Rattle.layout_links.specs.Links.{position_at, linked, parent, without_link, unlinked, plus, minus, offset_by, back_over, on_over, mark_drawn, child_drawn, drawn_position, has_kind, kind_tested, kinds_tested, hung, hung_on, followed, followed_from, all_followed, finished}
-use Rattle.layout_links.specs.Sums.{Fits, AllFit, pen_down, pen_behind, pen_of, pen_way, pen_before, with_pen, summed_from, summed, apart_from, taken_apart, back_by, on_by, behind_parent, mark_by_sums, drawn_by_sums}
+use Rattle.layout_links.specs.Sums.{Fits, AllFit, pen_down, pen_after, pen_of, pen_way, pen_before, with_pen, summed_from, summed, apart_from, taken_apart, back_by, on_by, after_parent, mark_by_sums, drawn_by_sums}
 use Rattle.layout_links.specs.Walks.{is_link, is_open, are_shut}
 use Rattle.layout_links.specs.Trees.{only_advances}
 use Rattle.layout_links.specs.Marks.{total}
@@ -27,24 +27,24 @@ use Rattle.layout_links.proofs.Kept.{same_length, followed_advances, finished_ad
 
 -- the pen behind glyphs
 abbrev pens : Pen → List Position → Pen
-pens p ps = fold pen_behind p ps
+pens p ps = fold pen_after p ps
 
 summed_length : (p : Pen) (ps : List Position) → length (summed_from p ps) ≡ length ps
 summed_length p [] = refl
-summed_length p (x ∷ xs) = ap suc (summed_length (pen_behind p x) xs)
+summed_length p (x ∷ xs) = ap suc (summed_length (pen_after p x) xs)
 
 -- all but the advances stays
 summed_rest : (p : Pen) (i : ℕ) (ps : List Position) → position_at i (summed_from p ps) ≡ with_pen (pen_of (position_at i (summed_from p ps))) (position_at i ps)
 summed_rest p i [] = refl
 summed_rest p zero (x ∷ xs) = refl
-summed_rest p (suc i) (x ∷ xs) = summed_rest (pen_behind p x) i xs
+summed_rest p (suc i) (x ∷ xs) = summed_rest (pen_after p x) i xs
 
 summed_pen : (p : Pen) (i : ℕ) (ps : List Position) → i < length ps → pen_of (position_at i (summed_from p ps)) ≡ pens p (take (i + 1) ps)
 summed_pen p i [] lt = absurd (omega (arith, lt))
 summed_pen p zero (x ∷ xs) lt = refl
 summed_pen p (suc i) (x ∷ xs) lt =
     let e : suc i + 1 ≡ suc (i + 1) = omega arith in
-    summed_pen (pen_behind p x) i xs (omega (arith, lt)) ∙ ap (λ (n : ℕ). pens p (take n (x ∷ xs))) (sym e)
+    summed_pen (pen_after p x) i xs (omega (arith, lt)) ∙ ap (λ (n : ℕ). pens p (take n (x ∷ xs))) (sym e)
 
 summed_here : (i : ℕ) (ps : List Position) → i < length ps → position_at i (summed ps) ≡ with_pen (pens pen_down (take (i + 1) ps)) (position_at i ps)
 summed_here i ps lt = summed_rest pen_down i ps ∙ ap (λ (q : Pen). with_pen q (position_at i ps)) (summed_pen pen_down i ps lt)
@@ -62,8 +62,8 @@ before_here i ps lt = elim (eqb_tells i 0) [
 set_summed : (p : Pen) (i : ℕ) (q : Position) (ps : List Position) → only_advances q ≡ only_advances (position_at i ps)
     → summed_from p (set ps i q) ≡ set (summed_from p ps) i (with_pen (pen_of (position_at i (summed_from p ps))) q)
 set_summed p i q [] e = refl
-set_summed p zero q (x ∷ xs) e = ap (λ (a : Position). with_pen (pen_behind p a) q ∷ summed_from (pen_behind p a) xs) e
-set_summed p (suc i) q (x ∷ xs) e = ap (λ ys. with_pen (pen_behind p x) x ∷ ys) (set_summed (pen_behind p x) i q xs e)
+set_summed p zero q (x ∷ xs) e = ap (λ (a : Position). with_pen (pen_after p a) q ∷ summed_from (pen_after p a) xs) e
+set_summed p (suc i) q (x ∷ xs) e = ap (λ ys. with_pen (pen_after p x) x ∷ ys) (set_summed (pen_after p x) i q xs e)
 
 unlinked_summed : (i : ℕ) (ps : List Position) → summed (unlinked i ps) ≡ unlinked i (summed ps)
 unlinked_summed i ps = set_summed pen_down i (without_link (position_at i ps)) ps refl ∙ ap (λ (q : Position). set (summed ps) i (without_link q)) (sym (summed_rest pen_down i ps))
@@ -73,13 +73,13 @@ parent_summed i ps = ap (λ (n : ℕ). linked n i (position_at i (summed ps)).at
 
 -- ---- modulo 2^32
 
-fold_pen : (v : Position → ℤ) (o : Pen → ℤ) → ((p : Pen) (r : Position) → o (pen_behind p r) ≡ plus (o p) (v r)) → (p : Pen) (rs : List Position) → int_wrap w32 (o (pens p rs)) ≡ int_wrap w32 (o p +ℤ total v rs)
+fold_pen : (v : Position → ℤ) (o : Pen → ℤ) → ((p : Pen) (r : Position) → o (pen_after p r) ≡ plus (o p) (v r)) → (p : Pen) (rs : List Position) → int_wrap w32 (o (pens p rs)) ≡ int_wrap w32 (o p +ℤ total v rs)
 fold_pen v o step p [] = ap (int_wrap w32) (none_behind (o p))
   where
     none_behind : (a : ℤ) → a ≡ a +ℤ pos 0
     none_behind a = grind (arith, ints)
 fold_pen v o step p (r ∷ rs) =
-    fold_pen v o step (pen_behind p r) rs ∙ ap (λ (n : ℤ). int_wrap w32 (n +ℤ total v rs)) (step p r) ∙ int_wrap-add_left w32 (o p +ℤ v r) (total v rs) ∙ ap (int_wrap w32) (in_three (o p) (v r) (total v rs))
+    fold_pen v o step (pen_after p r) rs ∙ ap (λ (n : ℤ). int_wrap w32 (n +ℤ total v rs)) (step p r) ∙ int_wrap-add_left w32 (o p +ℤ v r) (total v rs) ∙ ap (int_wrap w32) (in_three (o p) (v r) (total v rs))
   where
     in_three : (a b c : ℤ) → (a +ℤ b) +ℤ c ≡ a +ℤ (b +ℤ c)
     in_three a b c = omega (arith, ints)
@@ -152,7 +152,7 @@ nothing_between : (j i : ℕ) (ps : List Position) → i ≤ j → slice_range p
 nothing_between j i ps le = let e : i - j ≡ 0 = omega (arith, le) in ap (λ (n : ℕ). take n (drop j ps)) e
 
 -- the way between two glyphs, forward and backward, on one axis
-forward_way : (v : Position → ℤ) (o : Pen → ℤ) → ((p : Pen) (r : Position) → o (pen_behind p r) ≡ plus (o p) (v r)) → o pen_down ≡ pos 0 → (i j : ℕ) (ps : List Position) → j ≤ i
+forward_way : (v : Position → ℤ) (o : Pen → ℤ) → ((p : Pen) (r : Position) → o (pen_after p r) ≡ plus (o p) (v r)) → o pen_down ≡ pos 0 → (i j : ℕ) (ps : List Position) → j ≤ i
     → minus (o (pens pen_down (take i ps))) (o (pens pen_down (take j ps))) ≡ int_wrap w32 (total v (slice_range ps j i))
 forward_way v o step down i j ps le =
     let at : (n : ℕ) → int_wrap w32 (o (pens pen_down (take n ps))) ≡ int_wrap w32 (total v (take n ps)) = λ n. from_down (o (pens pen_down (take n ps))) (total v (take n ps)) (fold_pen v o step pen_down (take n ps) ∙ ap (λ (z : ℤ). int_wrap w32 (z +ℤ total v (take n ps))) down) in
@@ -193,7 +193,7 @@ offset_seen i j ps li lj = ap (λ (p : Position). offset_by (position_at j (summ
 pen_here : (i : ℕ) (ps : List Position) → i < length ps → pen_of (position_at i (summed ps)) ≡ sum_to (i + 1) ps
 pen_here i ps lt = summed_pen pen_down i ps lt
 
-behind_seen : (forward : Bool) (i j : ℕ) (ps : List Position) → j < i → i < length ps → behind_parent forward i j (summed ps) ≡ with_pen (sum_to (i + 1) ps) (mark_drawn forward i j ps)
+behind_seen : (forward : Bool) (i j : ℕ) (ps : List Position) → j < i → i < length ps → after_parent forward i j (summed ps) ≡ with_pen (sum_to (i + 1) ps) (mark_drawn forward i j ps)
 behind_seen true i j ps lt li =
     let lj : j < length ps = omega (arith, lt, li) in
     let p = offset_by (position_at j ps) (position_at i ps) in
@@ -216,8 +216,8 @@ before_parent false i j ps le = ap (λ rs. fold on_over (offset_by (position_at 
 
 mark_seen : (forward : Bool) (i j : ℕ) (ps : List Position) → i < length ps → j < length ps → mark_by_sums forward i j (summed ps) ≡ with_pen (sum_to (i + 1) ps) (mark_drawn forward i j ps)
 mark_seen forward i j ps li lj = elim (ltb_tells j i) [
-  | inl is ↦ ap (λ (b : Bool). if b then behind_parent forward i j (summed ps) else offset_by (position_at j (summed ps)) (position_at i (summed ps))) is.0 ∙ behind_seen forward i j ps is.1 li
-  | inr other ↦ ap (λ (b : Bool). if b then behind_parent forward i j (summed ps) else offset_by (position_at j (summed ps)) (position_at i (summed ps))) other.0 ∙ offset_seen i j ps li lj ∙ ap (with_pen (sum_to (i + 1) ps)) (sym (before_parent forward i j ps other.1))
+  | inl is ↦ ap (λ (b : Bool). if b then after_parent forward i j (summed ps) else offset_by (position_at j (summed ps)) (position_at i (summed ps))) is.0 ∙ behind_seen forward i j ps is.1 li
+  | inr other ↦ ap (λ (b : Bool). if b then after_parent forward i j (summed ps) else offset_by (position_at j (summed ps)) (position_at i (summed ps))) other.0 ∙ offset_seen i j ps li lj ∙ ap (with_pen (sum_to (i + 1) ps)) (sym (before_parent forward i j ps other.1))
 ]
   where
     ltb_tells : (j i : ℕ) → ((nat_lt j i ≡ true) × (j < i)) ⊎ ((nat_lt j i ≡ false) × (i ≤ j))
@@ -297,10 +297,10 @@ first_advance a x e = minus_same (plus a x) (a +ℤ x) a a (twice (a +ℤ x)) re
 apart_summed : (p : Pen) (ps : List Position) → AllFit ps → apart_from p (summed_from p ps) ≡ ps
 apart_summed p [] fit = refl
 apart_summed p (x ∷ xs) fit =
-    let rest = apart_from (pen_behind p x) (summed_from (pen_behind p x) xs) in
+    let rest = apart_from (pen_after p x) (summed_from (pen_after p x) xs) in
     ap (λ (z : ℤ). record x { x_advance = z; y_advance = minus (plus p.y x.y_advance) p.y } ∷ rest) (first_advance p.x x.x_advance (fit 0).0)
     ∙ ap (λ (z : ℤ). record x { y_advance = z } ∷ rest) (first_advance p.y x.y_advance (fit 0).1)
-    ∙ ap (λ ys. x ∷ ys) (apart_summed (pen_behind p x) xs (λ k. fit (suc k)))
+    ∙ ap (λ ys. x ∷ ys) (apart_summed (pen_after p x) xs (λ k. fit (suc k)))
 
 -- advances stay, so that they fit
 fits_seen : (ps qs : List Position) → map only_advances qs ≡ map only_advances ps → AllFit ps → AllFit qs

@@ -9,7 +9,7 @@ use Rattle.shaping_text.specs.declared.direction.Direction.{Direction}
 use Rattle.shaping_text.specs.Direction.{is_forward, is_horizontal}
 use Rattle.glyph_buffer.specs.Sides.{zero_position}
 use Rattle.layout_links.specs.Links.{position_at, linked, parent, without_link, unlinked, offset_by, child_drawn, hung}
-use Rattle.layout_links.specs.Sums.{pen_down, pen_of, pen_way, pen_before, back_by, on_by, behind_parent, mark_by_sums, drawn_by_sums}
+use Rattle.layout_links.specs.Sums.{pen_down, pen_of, pen_way, pen_before, back_by, on_by, after_parent, mark_by_sums, drawn_by_sums}
 use Rattle.layout_links.specs.declared.sums.Pen.{Pen}
 use Rattle.layout_links.specs.Walks.{is_link, is_open, opened, shut_if, shut, all_shut}
 
@@ -86,20 +86,20 @@ pen_at_shut i ps = ap pen_of (shut_at i ps) ∙ pen_shut (position_at i ps)
 pen_before_shut : (i : ℕ) (ps : List Position) → pen_before i (all_shut ps) ≡ pen_before i ps
 pen_before_shut i ps = ap (λ (pen : Pen). if i == 0 then pen_down else pen) (pen_at_shut (i - 1) ps)
 
-behind_shut : (forward : Bool) (i j : ℕ) (ps : List Position) → is_open (position_at i ps) ≡ false → behind_parent forward i j (all_shut ps) ≡ behind_parent forward i j ps
-behind_shut true i j ps e =
+after_shut : (forward : Bool) (i j : ℕ) (ps : List Position) → is_open (position_at i ps) ≡ false → after_parent forward i j (all_shut ps) ≡ after_parent forward i j ps
+after_shut true i j ps e =
     let base = offset_by (position_at j ps) (position_at i ps) in
     ap (λ (p : Position). back_by (pen_way (pen_before j (all_shut ps)) (pen_before i (all_shut ps))) p) (both_shut i j ps e)
     ∙ ap (λ (pen : Pen). back_by (pen_way pen (pen_before i (all_shut ps))) base) (pen_before_shut j ps) ∙ ap (λ (pen : Pen). back_by (pen_way (pen_before j ps) pen) base) (pen_before_shut i ps)
-behind_shut false i j ps e =
+after_shut false i j ps e =
     let base = offset_by (position_at j ps) (position_at i ps) in
     ap (λ (p : Position). on_by (pen_way (pen_of (position_at j (all_shut ps))) (pen_of (position_at i (all_shut ps)))) p) (both_shut i j ps e)
     ∙ ap (λ (pen : Pen). on_by (pen_way pen (pen_of (position_at i (all_shut ps)))) base) (pen_at_shut j ps) ∙ ap (λ (pen : Pen). on_by (pen_way (pen_of (position_at j ps)) pen) base) (pen_at_shut i ps)
 
 mark_by_sums_shut : (forward : Bool) (i j : ℕ) (ps : List Position) → is_open (position_at i ps) ≡ false → mark_by_sums forward i j (all_shut ps) ≡ mark_by_sums forward i j ps
 mark_by_sums_shut forward i j ps e =
-    ap (λ (p : Position). if nat_lt j i then p else offset_by (position_at j (all_shut ps)) (position_at i (all_shut ps))) (behind_shut forward i j ps e)
-    ∙ ap (λ (p : Position). if nat_lt j i then behind_parent forward i j ps else p) (both_shut i j ps e)
+    ap (λ (p : Position). if nat_lt j i then p else offset_by (position_at j (all_shut ps)) (position_at i (all_shut ps))) (after_shut forward i j ps e)
+    ∙ ap (λ (p : Position). if nat_lt j i then after_parent forward i j ps else p) (both_shut i j ps e)
 
 abbrev by_kind : Direction → ℕ → ℕ → List Position → Bool → Position
 by_kind d i j ps cursive = if cursive then child_drawn (is_horizontal d) (position_at j ps) (position_at i ps) else mark_by_sums (is_forward d) i j ps
@@ -118,12 +118,12 @@ drawn_shut d i j ps e = ap (λ (p : Position). by_kind d i j (all_shut ps) (p.at
 abbrev hold_of : Position → ℕ × ℤ
 hold_of p = (p.attach_type, p.attach_chain)
 
-behind_hold : (forward : Bool) (i j : ℕ) (ps : List Position) → hold_of (behind_parent forward i j ps) ≡ hold_of (position_at i ps)
-behind_hold true i j ps = refl
-behind_hold false i j ps = refl
+after_hold : (forward : Bool) (i j : ℕ) (ps : List Position) → hold_of (after_parent forward i j ps) ≡ hold_of (position_at i ps)
+after_hold true i j ps = refl
+after_hold false i j ps = refl
 
 mark_hold : (forward : Bool) (i j : ℕ) (ps : List Position) → hold_of (mark_by_sums forward i j ps) ≡ hold_of (position_at i ps)
-mark_hold forward i j ps = elim (nat_lt j i) as (λ b. hold_of (if b then behind_parent forward i j ps else offset_by (position_at j ps) (position_at i ps)) ≡ hold_of (position_at i ps)) [ true ↦ behind_hold forward i j ps | false ↦ refl ]
+mark_hold forward i j ps = elim (nat_lt j i) as (λ b. hold_of (if b then after_parent forward i j ps else offset_by (position_at j ps) (position_at i ps)) ≡ hold_of (position_at i ps)) [ true ↦ after_hold forward i j ps | false ↦ refl ]
 
 child_hold : (across : Bool) (q p : Position) → hold_of (child_drawn across q p) ≡ hold_of p
 child_hold true q p = refl

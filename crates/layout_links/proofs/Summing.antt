@@ -9,7 +9,7 @@ use Rattle.glyph_lists.specs.Items.{Position}
 use Rattle.glyph_buffer.specs.Sides.{zero_position}
 use Rattle.layout_links.specs.declared.sums.Pen.{Pen}
 use Rattle.layout_links.specs.Links.{position_at, kind_tested, kinds_tested}
-use Rattle.layout_links.specs.Sums.{Fits, AllFit, pen_down, pen_behind, pen_of, pen_way, with_pen, summed_from, summed, apart_from, taken_apart}
+use Rattle.layout_links.specs.Sums.{Fits, AllFit, pen_down, pen_after, pen_of, pen_way, with_pen, summed_from, summed, apart_from, taken_apart}
 use Rattle.layout_links.specs.Summing.{IsSumming, IsParting}
 
 -- a list that is rewritten from its front
@@ -31,12 +31,12 @@ pub summing_first : (ps : List Position) → IsSumming ps 0 pen_down ps
 summing_first ps = record { leads = refl; long = refl; left = λ k le. refl; fit = λ k lt. absurd (omega (arith, lt)) }
 
 summing_more : (old : List Position) (i : ℕ) (pen : Pen) (ps : List Position) → IsSumming old i pen ps → i < length ps → Fits (position_at i ps)
-    → IsSumming old (i + 1) (pen_behind pen (kind_tested (position_at i ps))) (set ps i (with_pen (pen_behind pen (kind_tested (position_at i ps))) (kind_tested (position_at i ps))))
+    → IsSumming old (i + 1) (pen_after pen (kind_tested (position_at i ps))) (set ps i (with_pen (pen_after pen (kind_tested (position_at i ps))) (kind_tested (position_at i ps))))
 summing_more old i pen ps s lt fits =
     let p = kind_tested (position_at i ps) in
-    let q = with_pen (pen_behind pen p) p in
+    let q = with_pen (pen_after pen p) p in
     record {
-      leads = step (λ pen xs. summed_from pen (kinds_tested xs)) pen (pen_behind pen p) q i ps lt refl ∙ s.leads;
+      leads = step (λ pen xs. summed_from pen (kinds_tested xs)) pen (pen_after pen p) q i ps lt refl ∙ s.leads;
       long = length-set ps i q ∙ s.long;
       left = λ k le. get_or-set_other ps i k q zero_position (omega (arith, le)) ∙ s.left k (omega (arith, le));
       fit = λ k lt_k. elim (eqb_tells k i) [
@@ -46,13 +46,13 @@ summing_more old i pen ps s lt fits =
     }
 
 pub summing_next : (old : List Position) (i : ℕ) (pen pen' : Pen) (ps : List Position) (p q : Position) → IsSumming old i pen ps → i < length ps → p ≡ kind_tested (position_at i ps) → Fits (position_at i ps)
-    → pen' ≡ pen_behind pen p → q ≡ with_pen pen' p → IsSumming old (i + 1) pen' (set ps i q)
+    → pen' ≡ pen_after pen p → q ≡ with_pen pen' p → IsSumming old (i + 1) pen' (set ps i q)
 summing_next old i pen pen' ps p q s lt e fits f g =
     let there = summing_more old i pen ps s lt fits in
     let r = kind_tested (position_at i ps) in
-    let pens : pen' ≡ pen_behind pen r = f ∙ ap (pen_behind pen) e in
-    let at_q : q ≡ with_pen (pen_behind pen r) r = g ∙ ap (λ (pen : Pen). with_pen pen p) pens ∙ ap (with_pen (pen_behind pen r)) e in
-    subst (λ (a : Position). IsSumming old (i + 1) pen' (set ps i a)) (sym at_q) (subst (λ (a : Pen). IsSumming old (i + 1) a (set ps i (with_pen (pen_behind pen r) r))) (sym pens) there)
+    let pens : pen' ≡ pen_after pen r = f ∙ ap (pen_after pen) e in
+    let at_q : q ≡ with_pen (pen_after pen r) r = g ∙ ap (λ (pen : Pen). with_pen pen p) pens ∙ ap (with_pen (pen_after pen r)) e in
+    subst (λ (a : Position). IsSumming old (i + 1) pen' (set ps i a)) (sym at_q) (subst (λ (a : Pen). IsSumming old (i + 1) a (set ps i (with_pen (pen_after pen r) r))) (sym pens) there)
 
 pub summing_last : (old : List Position) (i : ℕ) (pen : Pen) (ps : List Position) → IsSumming old i pen ps → length ps ≤ i → ps ≡ summed (kinds_tested old)
 summing_last old i pen ps s le = sym (nothing_left (λ pen xs. summed_from pen (kinds_tested xs)) pen i ps refl le) ∙ s.leads

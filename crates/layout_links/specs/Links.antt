@@ -51,7 +51,7 @@ back_over p r = record p { x_offset = minus p.x_offset r.x_advance; y_offset = m
 abbrev pub on_over : Position → Position → Position
 on_over p r = record p { x_offset = plus p.x_offset r.x_advance; y_offset = plus p.y_offset r.y_advance }
 
--- a mark's offset counts from where its parent is drawn: forward the pen goes back from before the mark to before the parent, backward on from behind the parent to behind the mark
+-- a mark's offset counts from where its parent is drawn: forward the pen goes back from before the mark to before the parent, backward on from after the parent to after the mark
 abbrev pub mark_drawn : Bool → ℕ → ℕ → List Position → Position
 mark_drawn true i j ps = fold back_over (offset_by (position_at j ps) (position_at i ps)) (slice_range ps j i)
 mark_drawn false i j ps = fold on_over (offset_by (position_at j ps) (position_at i ps)) (slice_range ps (j + 1) (i + 1))

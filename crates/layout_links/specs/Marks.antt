@@ -12,7 +12,7 @@ abbrev pub total : (Position → ℤ) → List Position → ℤ
 total v [] = pos 0
 total v (p ∷ ps) = v p +ℤ total v ps
 
--- where the pen stands when a glyph is drawn: forward the glyphs before it were drawn, backward those behind it
+-- where the pen stands when a glyph is drawn: forward the glyphs before it were drawn, backward those after it
 abbrev pub pen : (Position → ℤ) → Bool → ℕ → List Position → ℤ
 pen v true i ps = total v (take i ps)
 pen v false i ps = total v (drop (i + 1) ps)

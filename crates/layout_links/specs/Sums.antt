@@ -11,9 +11,9 @@ use Rattle.layout_links.specs.Links.{plus, minus, position_at, offset_by, child_
 abbrev pub pen_down : Pen
 pen_down = record { x = pos 0; y = pos 0 }
 
--- the pen behind a glyph
-abbrev pub pen_behind : Pen → Position → Pen
-pen_behind pen p = record { x = plus pen.x p.x_advance; y = plus pen.y p.y_advance }
+-- the pen after a glyph
+abbrev pub pen_after : Pen → Position → Pen
+pen_after pen p = record { x = plus pen.x p.x_advance; y = plus pen.y p.y_advance }
 
 -- the advances of a position as a pen
 abbrev pub pen_of : Position → Pen
@@ -25,7 +25,7 @@ with_pen pen p = record p { x_advance = pen.x; y_advance = pen.y }
 -- in the place of each advance the sum up to it
 abbrev pub summed_from : Pen → List Position → List Position
 summed_from pen [] = []
-summed_from pen (p ∷ ps) = with_pen (pen_behind pen p) p ∷ summed_from (pen_behind pen p) ps
+summed_from pen (p ∷ ps) = with_pen (pen_after pen p) p ∷ summed_from (pen_after pen p) ps
 
 abbrev pub summed : List Position → List Position
 summed ps = summed_from pen_down ps
@@ -53,13 +53,13 @@ back_by way p = record p { x_offset = minus p.x_offset way.x; y_offset = minus p
 abbrev pub on_by : Pen → Position → Position
 on_by way p = record p { x_offset = plus p.x_offset way.x; y_offset = plus p.y_offset way.y }
 
--- a mark on a parent before it: forward the pen goes back from before the mark to before the parent, backward on from behind the parent to behind the mark
-abbrev pub behind_parent : Bool → ℕ → ℕ → List Position → Position
-behind_parent true i j ps = back_by (pen_way (pen_before j ps) (pen_before i ps)) (offset_by (position_at j ps) (position_at i ps))
-behind_parent false i j ps = on_by (pen_way (pen_of (position_at j ps)) (pen_of (position_at i ps))) (offset_by (position_at j ps) (position_at i ps))
+-- a mark on a parent before it: forward the pen goes back from before the mark to before the parent, backward on from after the parent to after the mark
+abbrev pub after_parent : Bool → ℕ → ℕ → List Position → Position
+after_parent true i j ps = back_by (pen_way (pen_before j ps) (pen_before i ps)) (offset_by (position_at j ps) (position_at i ps))
+after_parent false i j ps = on_by (pen_way (pen_of (position_at j ps)) (pen_of (position_at i ps))) (offset_by (position_at j ps) (position_at i ps))
 
 abbrev pub mark_by_sums : Bool → ℕ → ℕ → List Position → Position
-mark_by_sums forward i j ps = if nat_lt j i then behind_parent forward i j ps else offset_by (position_at j ps) (position_at i ps)
+mark_by_sums forward i j ps = if nat_lt j i then after_parent forward i j ps else offset_by (position_at j ps) (position_at i ps)
 
 -- a glyph drawn, among sums
 abbrev pub drawn_by_sums : Direction → ℕ → ℕ → List Position → Position

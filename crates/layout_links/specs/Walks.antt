@@ -45,7 +45,7 @@ abbrev pub unwound : Direction → ℕ → List ℕ → List Position → List P
 unwound d at [] ps = ps
 unwound d at (c ∷ rest) ps = unwound d c rest (hung (drawn_by_sums d) c at ps)
 
--- so many glyphs behind, a walk stands at a glyph, to which it came by a link
+-- so many glyphs after, a walk stands at a glyph, to which it came by a link
 pub record IsWalk (count at : ℕ) (by : ℤ) (depth : ℕ) (ps : List Position) : Type 0 where
   pub stack : List ℕ
   pub long : length ps ≡ count

@@ -1,7 +1,7 @@
 //! Advances as sums, so that the way between two glyphs is a difference.
 ghost use Rattle.std.specs.Prelude.{◌≡◌};
 ghost use Rattle.layout_links.specs.Links.{kinds_tested, kind_tested, has_kind};
-ghost use Rattle.layout_links.specs.Sums.{AllFit, Fits, pen_down, pen_behind, pen_of, pen_way, with_pen, summed, taken_apart};
+ghost use Rattle.layout_links.specs.Sums.{AllFit, Fits, pen_down, pen_after, pen_of, pen_way, with_pen, summed, taken_apart};
 
 use glyph_lists::position::GlyphPosition;
 pub use position_sums::sums::{minus, plus};
@@ -33,8 +33,8 @@ pub(crate) fn pen_way(from: Pen, to: Pen) -> Pen
     }
 }
 
-fn pen_behind(pen: Pen, place: GlyphPosition) -> Pen
-    ensures { result ≡ pen_behind pen place }
+fn pen_after(pen: Pen, place: GlyphPosition) -> Pen
+    ensures { result ≡ pen_after pen place }
 {
     Pen {
         x: plus(pen.x, place.x_advance),
@@ -82,7 +82,7 @@ pub(crate) fn sum_up(positions: &mut [GlyphPosition])
     let mut pen = PEN_DOWN;
     for i in 0..positions.len() {
         let place = kind_tested(positions[i]);
-        pen = pen_behind(pen, place);
+        pen = pen_after(pen, place);
         positions[i] = with_pen(pen, place);
     }
 }

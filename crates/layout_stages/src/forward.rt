@@ -28,7 +28,8 @@ fn apply_next(
     ensures ok { OnOk result (IsStep (lookup_action table.now.lookups
         (applied_of ctx.old) lookup.now) ctx.old.random_state ctx.new.random_state buffer.old buffer.new) }
     ensures err { IfErr result (λ e. e ≢ ShapeCause.OutOfMemory
-        → IsGivenUp (lookup_action table.now.lookups (applied_of ctx.old) lookup.now) ctx.old.random_state buffer.old e) }
+        → IsGivenUp (lookup_action table.now.lookups (applied_of ctx.old) lookup.now)
+        ctx.old.random_state buffer.old e) }
     ensures context { applied_of ctx.new ≡ applied_of ctx.old }
 {
     if buffer.idx() == buffer.len() {

@@ -183,7 +183,7 @@ static JOINED: Case = Case {
     },
 };
 
-/// A feature found by the search in the whole list; features in the stage behind a pause.
+/// A feature found by the search in the whole list; features in the stage after a pause.
 static SEARCHED: Case = Case {
     gsub: Some(Table {
         scripts: &[(

@@ -91,7 +91,8 @@ fn any_class_rule(
     rules: &[SequenceRule<u16>],
     ctx: &WouldApplyContext,
 ) -> bool
-    ensures { result ≡ list_any (λ r. class_rule_would classes.now ctx.now.zero_context ctx.now.glyphs.now r) rules.now }
+    ensures { result
+        ≡ list_any (λ r. class_rule_would classes.now ctx.now.zero_context ctx.now.glyphs.now r) rules.now }
 {
     rules
         .iter()

@@ -16,7 +16,7 @@ use Rattle.map_builder.specs.declared.chosen_feature.feature_map_t.{feature_map_
 use Rattle.map_builder.specs.Chosen.{ChosenTable}
 use Rattle.map_builder.specs.Compiled.{IsApart}
 use Rattle.map_builder.specs.Features.{feature_with}
-use Rattle.map_builder.proofs.Flagless.{behind_flags, shifted}
+use Rattle.map_builder.proofs.Flagless.{after_flags, shifted}
 
 abbrev IsFieldApart : FeatureField → Type 0
 IsFieldApart f = (bit_and f.mask 7 ≡ 0) × (bit_and f.one_mask 7 ≡ 0) × (f.shift < 32)
@@ -50,7 +50,7 @@ all_kept tables all [] = All-nil IsApart
 all_kept tables all (m ∷ ms) =
     let make = λ (k : KeptField). feature_with tables k.request k.field in
     let next = free_bit (below_tag m.tag.0 all) in
-    let field = apart_field next m (behind_flags first_feature_bit (below_tag m.tag.0 all) (omega arith)) in
+    let field = apart_field next m (after_flags first_feature_bit (below_tag m.tag.0 all) (omega arith)) in
     rw (map-append make (kept_if m (field_among all m)) (flat_map (λ m. kept_if m (field_among all m)) ms))
     (All-append IsApart _ _ (one_kept tables m (field_among all m) field) (all_kept tables all ms))
 

@@ -7,7 +7,7 @@ use Rattle.std.proofs.lemmas.Nat.{and_mask, and_or_apart, pow-add}
 use Rattle.map_features.specs.declared.field.FeatureField.{FeatureField}
 use Rattle.map_features.specs.declared.kept.KeptField.{KeptField}
 use Rattle.map_features.specs.declared.request.MergedRequest.{MergedRequest}
-use Rattle.map_features.specs.Fields.{global_bit, global_field, own_field, first_feature_bit, bits_needed, uses_global_bit, bit_behind, field_of, free_bit, below_tag, field_among, kept_if, kept_fields}
+use Rattle.map_features.specs.Fields.{global_bit, global_field, own_field, first_feature_bit, bits_needed, uses_global_bit, bit_after, field_of, free_bit, below_tag, field_among, kept_if, kept_fields}
 
 -- sixteen times a number has no bit of seven
 sixteenfold : (n : ℕ) → bit_and (n * 16) 7 ≡ 0
@@ -35,16 +35,16 @@ flagless_field : (next : ℕ) (m : MergedRequest) → 4 ≤ next → IsFlagless 
 flagless_field next m le =
     flagless_cases (m.max_value == 0) (uses_global_bit m) (nat_lt (next + bits_needed m.max_value) 31) next (bits_needed m.max_value) m.default_value le
 
-behind_cases : (off glob fits : Bool) (next count : ℕ) → 4 ≤ next → 4 ≤ (if off then next else if glob then next else if fits then next + count else next)
-behind_cases true glob fits next count le = le
-behind_cases false true fits next count le = le
-behind_cases false false true next count le = omega (arith, le)
-behind_cases false false false next count le = le
+after_cases : (off glob fits : Bool) (next count : ℕ) → 4 ≤ next → 4 ≤ (if off then next else if glob then next else if fits then next + count else next)
+after_cases true glob fits next count le = le
+after_cases false true fits next count le = le
+after_cases false false true next count le = omega (arith, le)
+after_cases false false false next count le = le
 
-pub behind_flags : (next : ℕ) (ms : List MergedRequest) → 4 ≤ next → 4 ≤ fold bit_behind next ms
-behind_flags next [] le = le
-behind_flags next (m ∷ ms) le =
-    behind_flags (bit_behind next m) ms (behind_cases (m.max_value == 0) (uses_global_bit m) (nat_lt (next + bits_needed m.max_value) 31) next (bits_needed m.max_value) le)
+pub after_flags : (next : ℕ) (ms : List MergedRequest) → 4 ≤ next → 4 ≤ fold bit_after next ms
+after_flags next [] le = le
+after_flags next (m ∷ ms) le =
+    after_flags (bit_after next m) ms (after_cases (m.max_value == 0) (uses_global_bit m) (nat_lt (next + bits_needed m.max_value) 31) next (bits_needed m.max_value) le)
 
 abbrev mask_step : ℕ → KeptField → ℕ
 mask_step mask k = bit_or mask k.field.default_mask
@@ -57,7 +57,7 @@ all_fields : (all ms : List MergedRequest) (mask : ℕ) → bit_and mask 7 ≡ 0
 all_fields all [] mask h = h
 all_fields all (m ∷ ms) mask h =
     let next = free_bit (below_tag m.tag.0 all) in
-    let field = flagless_field next m (behind_flags first_feature_bit (below_tag m.tag.0 all) (omega arith)) in
+    let field = flagless_field next m (after_flags first_feature_bit (below_tag m.tag.0 all) (omega arith)) in
     rw (fold-append mask_step mask (kept_if m (field_among all m)) (flat_map (λ m. kept_if m (field_among all m)) ms))
     (all_fields all ms (fold mask_step mask (kept_if m (field_among all m))) (one_field mask m (field_among all m) h field))
 

@@ -41,13 +41,13 @@ kept_rise tables all low (m ∷ ms) h =
 is_less : (b k : ℕ) → b + 1 ≤ k → is_lt (nat_cmp b k) ≡ true
 is_less b k le = let less : Less ≡ nat_cmp b k = nat_cmp_is b k Less (omega (arith, le)) in rw (sym less) refl
 
-rising_behind : (b : ℕ) (fs : List feature_map_t) → RisesFrom tag_of (b + 1) fs → is_rising nat_cmp tag_of (Some b) fs ≡ true
-rising_behind b [] h = refl
-rising_behind b (f ∷ fs) h = rw (is_less b f.tag.0 h.0) (rising_behind f.tag.0 fs h.1)
+rising_after : (b : ℕ) (fs : List feature_map_t) → RisesFrom tag_of (b + 1) fs → is_rising nat_cmp tag_of (Some b) fs ≡ true
+rising_after b [] h = refl
+rising_after b (f ∷ fs) h = rw (is_less b f.tag.0 h.0) (rising_after f.tag.0 fs h.1)
 
 rising : (fs : List feature_map_t) → RisesFrom tag_of 0 fs → is_rising nat_cmp tag_of None fs ≡ true
 rising [] h = refl
-rising (f ∷ fs) h = rising_behind f.tag.0 fs h.1
+rising (f ∷ fs) h = rising_after f.tag.0 fs h.1
 
 pub features_rise : (tables : PerTable ChosenTable) (wanted : List MergedRequest) (kept : List KeptField) (fs : List feature_map_t) → RisesFrom (λ m. m.tag.0) 0 wanted
     → kept ≡ kept_fields wanted → fs ≡ map (λ k. feature_with tables k.request k.field) kept → is_rising nat_cmp (λ f. f.tag.0) None fs ≡ true

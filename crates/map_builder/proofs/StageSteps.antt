@@ -11,7 +11,7 @@ use Rattle.map_builder.specs.declared.stages.StageMap.{StageMap}
 use Rattle.map_builder.specs.Chosen.{ChosenTable}
 use Rattle.map_builder.specs.Lookups.{Stage, feature_lookups, stages_from, stage_ends}
 
--- the lookups of one feature come first, and then those of the features behind it
+-- the lookups of one feature come first, and then those of the features after it
 pub use_step : (table : TableIndex) (t : ChosenTable) (stage : ℕ) (fs : List feature_map_t) (i : ℕ) (f : feature_map_t) (old new whole : List lookup_map_t)
     → i < length fs → get_or fs i f ≡ f
     → old ++ flat_map (feature_lookups table t stage) (drop i fs) ≡ whole

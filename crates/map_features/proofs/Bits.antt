@@ -60,12 +60,12 @@ from_cases : (off fits : Bool) (glob : Bool) (next count value : ℕ) (m : Merge
     → AreFrom next (kept_from next ms) → AreFrom (next + count) (kept_from (next + count) ms)
     → AreFrom next (kept_if m (if off then None else if glob then Some global_field else if fits then Some (own_field next count value) else None)
     ++ kept_from (if off then next else if glob then next else if fits then next + count else next) ms)
-from_cases true fits glob next count value m ms g lt here behind = here
-from_cases false fits true next count value m ms g lt here behind = (next, omega arith, (λ no. cc), here)
-from_cases false true false next count value m ms g lt here behind =
+from_cases true fits glob next count value m ms g lt here after = here
+from_cases false fits true next count value m ms g lt here after = (next, omega arith, (λ no. cc), here)
+from_cases false true false next count value m ms g lt here after =
     let own = λ (no : uses_global_bit m ≡ false). some_own next count value (below_is (next + count) 31 lt) in
-    (next + count, omega arith, own, behind)
-from_cases false false false next count value m ms g lt here behind = here
+    (next + count, omega arith, own, after)
+from_cases false false false next count value m ms g lt here after = here
 
 kept_are_from : (next : ℕ) (ms : List MergedRequest) → AreFrom next (kept_from next ms)
 kept_are_from next [] = tt
@@ -77,14 +77,14 @@ kept_are_from next (m ∷ ms) =
 pub record Stands (next : ℕ) (f : FeatureField) : Type 0 where
   pub low : ℕ
   pub end : ℕ
-  pub behind : next ≤ low
+  pub after : next ≤ low
   pub own : Own low end f
 
 some_same : (a b : KeptField) → Some a ≡ Some b → a ≡ b
 some_same a b h = cc
 
 stands_lower : (low next : ℕ) (f : FeatureField) → low ≤ next → Stands next f → Stands low f
-stands_lower low next f le s = record { low = s.low; end = s.end; behind = omega (arith, le, s.behind); own = s.own }
+stands_lower low next f le s = record { low = s.low; end = s.end; after = omega (arith, le, s.after); own = s.own }
 
 stands : (next : ℕ) (ks : List KeptField) (i : ℕ) (k : KeptField) → AreFrom next ks → slice_get ks i ≡ Some k → uses_global_bit k.request ≡ false → Stands next k.field
 stands next [] i k h at own = cc
@@ -92,7 +92,7 @@ stands next (first ∷ ks) zero k h at own =
     let same : first ≡ k = some_same first k at in
     let o : uses_global_bit first.request ≡ false = rw same own in
     let f : Own next h.0 first.field = h.2 o in
-    subst (λ (q : KeptField). Stands next q.field) same (record { low = next; end = h.0; behind = omega arith; own = f })
+    subst (λ (q : KeptField). Stands next q.field) same (record { low = next; end = h.0; after = omega arith; own = f })
 stands next (first ∷ ks) (suc i) k h at own = stands_lower next h.0 k.field h.1 (stands h.0 ks i k h.3 at own)
 
 -- ---- masks
@@ -115,7 +115,7 @@ two_apart next (first ∷ ks) zero (suc j) a b h lt at bt oa ob =
     let f : Own next h.0 first.field = h.2 o in
     let later : Stands h.0 b.field = stands h.0 ks j b h.3 bt ob in
     let below : first.field.mask < 2 ^ h.0 = below_end next h.0 first.field f in
-    let up : 2 ^ h.0 ≤ 2 ^ later.low = pow_up h.0 later.low later.behind in
+    let up : 2 ^ h.0 ≤ 2 ^ later.low = pow_up h.0 later.low later.after in
     let small : first.field.mask < 2 ^ later.low = omega (arith, below, up) in
     let none = apart later.low (2 ^ later.own.count - 1) first.field.mask small in
     let mask : b.field.mask ≡ (2 ^ later.own.count - 1) * 2 ^ later.low = later.own.mask in
@@ -136,7 +136,7 @@ pub own_bits_are_free : (requests : List MergedRequest) (i : ℕ) (k : KeptField
 own_bits_are_free requests i k r at own =
     let all = kept_threaded requests r in
     let s : Stands 4 k.field = stands 4 (kept_from 4 requests) i k (kept_are_from 4 requests) (ap (λ ks. slice_get ks i) all ∙ at) own in
-    let low : 4 ≤ s.low = s.behind in
+    let low : 4 ≤ s.low = s.after in
     let mask : k.field.mask ≡ (2 ^ s.own.count - 1) * 2 ^ s.low = s.own.mask in
     let up : 2 ^ 4 ≤ 2 ^ s.low = pow_up 4 s.low low in
     let flags = apart s.low (2 ^ s.own.count - 1) 7 (omega (arith, up)) in

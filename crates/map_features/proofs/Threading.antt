@@ -9,14 +9,14 @@ use Rattle.std.proofs.lemmas.List.Sums.{fold-append}
 use Rattle.map_features.specs.declared.request.MergedRequest.{MergedRequest}
 use Rattle.map_features.specs.declared.kept.KeptField.{KeptField}
 use Rattle.map_features.specs.Entering.{RisesFrom}
-use Rattle.map_features.specs.Fields.{first_feature_bit, field_of, bit_behind, free_bit, below_tag, field_among, kept_if, kept_fields}
+use Rattle.map_features.specs.Fields.{first_feature_bit, field_of, bit_after, free_bit, below_tag, field_among, kept_if, kept_fields}
 
 -- one request more is seen
 pub below_step : (tag next : ℕ) (ms : List MergedRequest) (i : ℕ) (m : MergedRequest) → i < length ms → get_or ms i m ≡ m
-    → fold bit_behind next (below_tag tag (drop i ms)) ≡ fold bit_behind (if nat_lt m.tag.0 tag then bit_behind next m else next) (below_tag tag (drop (i + 1) ms))
+    → fold bit_after next (below_tag tag (drop i ms)) ≡ fold bit_after (if nat_lt m.tag.0 tag then bit_after next m else next) (below_tag tag (drop (i + 1) ms))
 below_step tag next ms i m lt at =
     let front : drop i ms ≡ m ∷ drop (i + 1) ms = rw (drop-cons ms i m lt, at, add-one) refl in
-    rw front (elim (nat_lt m.tag.0 tag) as (λ b. fold bit_behind next (if b then m ∷ below_tag tag (drop (i + 1) ms) else below_tag tag (drop (i + 1) ms)) ≡ fold bit_behind (if b then bit_behind next m else next) (below_tag tag (drop (i + 1) ms))) [
+    rw front (elim (nat_lt m.tag.0 tag) as (λ b. fold bit_after next (if b then m ∷ below_tag tag (drop (i + 1) ms) else below_tag tag (drop (i + 1) ms)) ≡ fold bit_after (if b then bit_after next m else next) (below_tag tag (drop (i + 1) ms))) [
       | true ↦ refl
       | false ↦ refl
     ])
@@ -24,10 +24,10 @@ below_step tag next ms i m lt at =
 -- the fields of requests from a free bit on
 abbrev pub kept_from : ℕ → List MergedRequest → List KeptField
 kept_from next [] = []
-kept_from next (m ∷ ms) = kept_if m (field_of next m) ++ kept_from (bit_behind next m) ms
+kept_from next (m ∷ ms) = kept_if m (field_of next m) ++ kept_from (bit_after next m) ms
 
 pub kept_step : (next : ℕ) (ms : List MergedRequest) (i : ℕ) (m : MergedRequest) → i < length ms → get_or ms i m ≡ m
-    → kept_from next (drop i ms) ≡ kept_if m (field_of next m) ++ kept_from (bit_behind next m) (drop (i + 1) ms)
+    → kept_from next (drop i ms) ≡ kept_if m (field_of next m) ++ kept_from (bit_after next m) (drop (i + 1) ms)
 kept_step next ms i m lt at =
     let front : drop i ms ≡ m ∷ drop (i + 1) ms = rw (drop-cons ms i m lt, at, add-one) refl in
     rw front refl
@@ -72,7 +72,7 @@ threaded_from : (all front ms : List MergedRequest) (low : ℕ) → all ≡ fron
 threaded_from all front [] low e h r = refl
 threaded_from all front (m ∷ ms) low e h r =
     let before : below_tag m.tag.0 all ≡ front = rw e (before_is front ms m low h r) in
-    let more = fold-append bit_behind first_feature_bit front (m ∷ []) in
+    let more = fold-append bit_after first_feature_bit front (m ∷ []) in
     let split : all ≡ (front ++ m ∷ []) ++ ms = e ∙ sym (append_assoc front (m ∷ []) ms) in
     let below = below_one_more (m.tag.0 + 1) front m (below_weaker low (m.tag.0 + 1) front (omega (arith, r.0)) h) (omega arith) in
     let rest = threaded_from all (front ++ m ∷ []) ms (m.tag.0 + 1) split below r.1 in

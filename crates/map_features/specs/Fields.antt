@@ -46,17 +46,17 @@ field_of next m =
     else if nat_lt (next + bits_needed m.max_value) global_shift then Some (own_field next (bits_needed m.max_value) m.default_value)
     else None
 
--- the lowest free bit behind a field
-abbrev pub bit_behind : ℕ → MergedRequest → ℕ
-bit_behind next m =
+-- the lowest free bit after a field
+abbrev pub bit_after : ℕ → MergedRequest → ℕ
+bit_after next m =
     if m.max_value == 0 then next
     else if uses_global_bit m then next
     else if nat_lt (next + bits_needed m.max_value) global_shift then next + bits_needed m.max_value
     else next
 
--- the lowest bit that is free behind the fields of requests
+-- the lowest bit that is free after the fields of requests
 abbrev pub free_bit : List MergedRequest → ℕ
-free_bit before = fold bit_behind first_feature_bit before
+free_bit before = fold bit_after first_feature_bit before
 
 -- the requests for tags below a tag
 abbrev pub below_tag : ℕ → List MergedRequest → List MergedRequest

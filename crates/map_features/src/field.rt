@@ -1,5 +1,5 @@
 ghost use Rattle.std.specs.Prelude.{◌≡◌, ◌≤◌, ◌<◌, ◌+◌};
-ghost use Rattle.map_features.specs.Fields.{bits_needed, bit_behind, field_of, own_field, uses_global_bit};
+ghost use Rattle.map_features.specs.Fields.{bits_needed, bit_after, field_of, own_field, uses_global_bit};
 
 use crate::request::MergedRequest;
 
@@ -82,10 +82,10 @@ impl MergedRequest {
     }
 }
 
-/// The lowest free bit behind the field of a request.
-pub fn bit_behind(next: u32, request: &MergedRequest) -> u32
+/// The lowest free bit after the field of a request.
+pub fn bit_after(next: u32, request: &MergedRequest) -> u32
     requires { next ≤ 31 }
-    ensures same { result ≡ bit_behind next request.now }
+    ensures same { result ≡ bit_after next request.now }
     ensures within { result ≤ 31 }
 {
     if request.max_value == 0 || request.uses_global_bit() {

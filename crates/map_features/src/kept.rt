@@ -1,8 +1,8 @@
 ghost use Rattle.std.specs.Prelude.{◌≡◌, ◌≤◌, ◌++◌, if◌then◌else◌, nat_lt, IfOk, OnOk};
 ghost use Rattle.map_features.specs.Entering.{RisesFrom};
-ghost use Rattle.map_features.specs.Fields.{bit_behind, field_among, kept_fields, kept_if};
+ghost use Rattle.map_features.specs.Fields.{bit_after, field_among, kept_fields, kept_if};
 
-use crate::field::{FIRST_FEATURE_BIT, FeatureField, bit_behind};
+use crate::field::{FIRST_FEATURE_BIT, FeatureField, bit_after};
 use crate::request::MergedRequest;
 use std::alloc::{AllocError, Global};
 
@@ -20,18 +20,18 @@ pub fn field_among(requests: &[MergedRequest], request: &MergedRequest) -> Optio
 {
     let mut next = FIRST_FEATURE_BIT;
     for other in requests {
-        next = behind_lower(next, other, request.tag.0);
+        next = after_lower(next, other, request.tag.0);
     }
     request.field(next)
 }
 
-fn behind_lower(next: u32, other: &MergedRequest, tag: u32) -> u32
+fn after_lower(next: u32, other: &MergedRequest, tag: u32) -> u32
     requires { next ≤ 31 }
-    ensures same { result ≡ (if nat_lt other.now.tag.0 tag then bit_behind next other.now else next) }
+    ensures same { result ≡ (if nat_lt other.now.tag.0 tag then bit_after next other.now else next) }
     ensures within { result ≤ 31 }
 {
     if other.tag.0 < tag {
-        bit_behind(next, other)
+        bit_after(next, other)
     } else {
         next
     }
@@ -63,7 +63,7 @@ pub fn kept_fields(alloc: Global, requests: &[MergedRequest]) -> Result<Vec<Kept
     let mut next = FIRST_FEATURE_BIT;
     for request in requests {
         push_if(&mut kept, request, request.field(next))?;
-        next = bit_behind(next, request);
+        next = bit_after(next, request);
     }
     Ok(kept)
 }

@@ -36,7 +36,7 @@ SelectsTooMany c waits e old = (before : Option Item) (y : Item) (ys : List Item
 abbrev pub PutsWaiting : Normalizer → Bool → Sides → Sides → Type 0
 PutsWaiting c waits old new = (before : Option Item) (ys : List Item) → is_some before ≡ waits → strip old.ahead ≡ one_or_none before ++ ys → Brought (in_turn (waiting c before)) ys old new
 
--- so many items behind the first were met
+-- so many items after the first were met
 abbrev pub SelectsAll : Normalizer → ℕ → Sides → Sides → Type 0
 SelectsAll c k old new = (x : Item) (xs : List Item) → strip old.ahead ≡ x ∷ xs → Brought (in_turn (selected_after c (Some x) (take k xs))) (drop k xs) old new
 

@@ -38,9 +38,10 @@ fn put_part<N: Normalizing>(by: &N, u: char, buffer: &mut hb_buffer_t) -> Result
 fn put_alone<N: Normalizing>(by: &N, u: char, buffer: &mut hb_buffer_t) -> Result<bool, ShapeCause>
     requires open { buffer.old.is_open ≡ true }
     requires there { 0 < length buffer.old.ahead }
-    ensures ok { IfOk result (λ b. Puts (N.normalizer by.now) (alone (has_character (N.normalizer by.now)) u) b
-        buffer.old buffer.new) }
-    ensures err { IfErr result (λ e. Overfills (count_of (alone (has_character (N.normalizer by.now)) u)) e buffer.old) }
+    ensures ok { IfOk result (λ b. Puts (N.normalizer by.now) (alone (has_character (N.normalizer by.now)) u)
+        b buffer.old buffer.new) }
+    ensures err { IfErr result (λ e. Overfills (count_of (alone (has_character (N.normalizer by.now)) u))
+        e buffer.old) }
 {
     if !has(by, u as u32) {
         return Ok(false);
@@ -62,8 +63,8 @@ fn put_supported<N: Normalizing>(
     requires open { buffer.old.is_open ≡ true }
     requires there { 0 < length buffer.old.ahead }
     ensures ok { IfOk result (λ b. Puts (N.normalizer by.now)
-        (supported reach (has_character (N.normalizer by.now)) (N.normalizer by.now).splits depth u) b buffer.old
-        buffer.new) }
+        (supported reach (has_character (N.normalizer by.now)) (N.normalizer by.now).splits depth u)
+        b buffer.old buffer.new) }
     ensures err { IfErr result (λ e. Overfills (count_of (supported reach (has_character (N.normalizer by.now))
         (N.normalizer by.now).splits depth u)) e buffer.old) }
 {
@@ -133,7 +134,8 @@ fn put_expansion<N: Normalizing>(
     requires open { buffer.old.is_open ≡ true }
     requires there { 0 < length buffer.old.ahead }
     ensures ok { IfOk result (λ b. Puts (N.normalizer by.now)
-        (expansion reach (has_character (N.normalizer by.now)) (N.normalizer by.now).splits u) b buffer.old buffer.new) }
+        (expansion reach (has_character (N.normalizer by.now)) (N.normalizer by.now).splits u)
+        b buffer.old buffer.new) }
     ensures err { IfErr result (λ e. Overfills (count_of (expansion reach (has_character (N.normalizer by.now))
         (N.normalizer by.now).splits u)) e buffer.old) }
 {
@@ -301,8 +303,8 @@ fn expand_all<N: Normalizing>(
 pub fn expand_list<N: Normalizing>(by: &N, buffer: &mut hb_buffer_t) -> Result<(), ShapeCause>
     requires open { buffer.old.is_open ≡ true }
     requires unread { buffer.old.read ≡ 0 }
-    ensures ok { OnOk result (Brought (expanded_list (N.normalizer by.now) (strip buffer.old.ahead)) [] buffer.old
-        buffer.new) }
+    ensures ok { OnOk result (Brought (expanded_list (N.normalizer by.now) (strip buffer.old.ahead)) []
+        buffer.old buffer.new) }
     ensures err { IfErr result (λ e. Overfills (length (expanded_list (N.normalizer by.now)
         (strip buffer.old.ahead)).items) e buffer.old) }
 {

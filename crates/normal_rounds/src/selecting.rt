@@ -1,4 +1,4 @@
-//! Characters with variation selectors behind them: a selector joins the character before it where the font has the pair.
+//! Characters with variation selectors after them: a selector joins the character before it where the font has the pair.
 ghost use Rattle.std.specs.Prelude.{◌≡◌, ◌<◌, ◌++◌, ◌∷◌, [], List, true, false, if◌then◌else◌, length, is_some, Some, None, IfOk, IfErr, OnOk};
 ghost use Rattle.glyph_buffer.specs.Lending.{with_glyph_ahead};
 ghost use Rattle.glyph_lists.specs.Items.{Item, strip};

@@ -26,7 +26,7 @@ fn number(glyph: &str, at: usize) -> &str {
     glyph.split(',').nth(at).unwrap_or("")
 }
 
-/// Puts a glyph of the characters from a byte on behind a line.
+/// Puts a glyph of the characters from a byte on after a line.
 fn push_glyph(alloc: Global, line: &mut String, glyph: &str, start: u32) -> Result<(), Fail> {
     let cluster = start.saturating_add(number(glyph, 1).parse::<u32>()?);
     line.push_str(if line.is_empty() { "" } else { "|" })?;

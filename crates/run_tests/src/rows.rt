@@ -77,7 +77,7 @@ pub(crate) fn prints(
     answer == Ok(()) && out.strip_suffix(b"\n") == Some(line.as_bytes())
 }
 
-/// Whether a row is followed: behind what is asked stand a text and its line.
+/// Whether a row is followed: after what is asked stand a text and its line.
 pub(crate) fn is_followed(
     alloc: Global,
     tables: &str,

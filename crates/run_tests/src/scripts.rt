@@ -19,7 +19,7 @@ const TABLES: &str =
 // join. A sign that becomes two tiles, of which the second repeats: a tile 300 wide is laid four times over a word of 1100,
 // beside one of 100, and each copy lies 66 over its neighbour. A Balinese character, and what it splits to. A syllable of
 // Hangul, and a bracket before a Hebrew letter. The first part of a Thai vowel goes before the tone mark. At last a repha of
-// Dives Akuru, and a circle, which stands behind two rephas with the second one's cluster, and then the first goes behind
+// Dives Akuru, and a circle, which stands after two rephas with the second one's cluster, and then the first goes after
 // it.
 static ROWS: &str =
     r#"{"upem":1000,"cmap":[[1575,10],[1576,20],[1611,30]],"h":[[10,200],[13,250],[20,400],[21,400],[22,400],[23,400],[30,100]],"gsub":{"scripts":[["arab",{"features":[0,1,2]},[]]],"features":[["fina",[2]],["init",[0]],["medi",[1]]],"lookups":[{"type":"single","subtables":[[[20,21]]]},{"type":"single","subtables":[[[20,22]]]},{"type":"single","subtables":[[[10,13],[20,23]]]}]}}

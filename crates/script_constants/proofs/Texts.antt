@@ -1,4 +1,4 @@
--- Rows of texts behind references, and of the texts.
+-- Rows of texts after references, and of the texts.
 use Rattle.std.proofs.Common.{◌≡◌, ℕ, Bool, true, false, List, [], ◌∷◌, Option, map, find, refl, Bor}
 use Rattle.std.specs.Option.{option_map}
 use Rattle.std.specs.Str.{bytes_eq}

@@ -1,4 +1,4 @@
--- What becomes of a letter or a syllable of Hangul, by the characters behind it and the font.
+-- What becomes of a letter or a syllable of Hangul, by the characters after it and the font.
 use Rattle.std.specs.Prelude.{ℕ, Bool, true, false, ◌&&◌, if◌then◌else◌, is_some, Option, Some, None}
 use Rattle.font_face.specs.declared.parts.FaceParts.{FaceParts}
 use Rattle.font_face.specs.Glyphs.{nominal_glyph}
@@ -26,7 +26,7 @@ abbrev pub trailing_of : Option ℕ → Option ℕ
 trailing_of None = None
 trailing_of (Some u) = if is_trailing u then Some u else None
 
--- a leading consonant begins a syllable with a vowel and perhaps a trailing consonant behind it
+-- a leading consonant begins a syllable with a vowel and perhaps a trailing consonant after it
 abbrev pub leading_action : FaceParts → ℕ → Option ℕ → Option ℕ → Action
 leading_action font l None t = Keep false
 leading_action font l (Some v) t = if is_vowel v then letters_action font (whole_of l v t) (if is_some t then 3 else 2) else Keep false
@@ -48,7 +48,7 @@ open_by font u (Some (Three l v t)) = Keep true
 abbrev pub before_trailing : FaceParts → ℕ → Action
 before_trailing font u = if has_character font u then open_by font u (letters_of u) else split_action font u false
 
--- a syllable and a trailing consonant behind it are composed where the font has the result
+-- a syllable and a trailing consonant after it are composed where the font has the result
 abbrev pub joining_action : FaceParts → ℕ → Option ℕ → Action
 joining_action font u None = before_trailing font u
 joining_action font u (Some whole) = if has_character font whole then Compose 2 whole else before_trailing font u

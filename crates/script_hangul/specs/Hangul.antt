@@ -29,7 +29,7 @@ character_by (Some x) = if is_character x.number then Some x.number else None
 abbrev pub character_at : ℕ → List Item → Option ℕ
 character_at i xs = character_by (slice_get xs i)
 
--- what becomes of the front of the rest, by its first character, behind a text that ends with a syllable from a place on, or with none
+-- what becomes of the front of the rest, by its first character, after a text that ends with a syllable from a place on, or with none
 abbrev pub step_by : FaceParts → Bool → ℕ → Option ℕ → List Item → List Item → Step
 step_by font circles n None out xs = kept false out xs
 step_by font circles n (Some u) out xs = if is_tone u then toned font circles n u out xs else performed (action_on font u (character_at 1 xs) (character_at 2 xs)) out xs
@@ -37,7 +37,7 @@ step_by font circles n (Some u) out xs = if is_tone u then toned font circles n 
 abbrev pub step : FaceParts → Bool → ℕ → List Item → List Item → Step
 step font circles n out xs = step_by font circles n (character_at 0 xs) out xs
 
--- a text behind what came of the text before it, in at most so many steps
+-- a text after what came of the text before it, in at most so many steps
 abbrev pub text_behind : FaceParts → Bool → ℕ → ℕ → List Item → List Item → List Item
 text_behind font circles steps n out [] = out
 text_behind font circles zero n out (x ∷ xs) = out

@@ -22,7 +22,7 @@ pub record Step : Type 0 where
   -- the text up to there
   pub out : List Item
   pub events : BufferClusterLevel → List Event
-  -- how many items behind the first it took
+  -- how many items after the first it took
   pub more : ℕ
   -- where the syllable begins that ends the text and a tone mark may follow; with none, where the text ends
   pub start : ℕ
@@ -64,7 +64,7 @@ abbrev pub parted : Letters → List Item → List Item
 parted letters [] = []
 parted letters (x ∷ xs) = map (item_numbered x) (numbers_of letters)
 
--- a syllable becomes its letters, with so many letters behind it
+-- a syllable becomes its letters, with so many letters after it
 abbrev pub split : Letters → ℕ → List Item → List Item → Step
 split letters n out xs = record {
   out = out ++ letters_from 1 (parted letters xs ++ take n (drop 1 xs));
@@ -104,7 +104,7 @@ DOTTED_CIRCLE = 0x25CC
 abbrev pub circle_for : Item → Item
 circle_for x = record x { number = DOTTED_CIRCLE; unicode_props = properties_of DOTTED_CIRCLE; class = 0 }
 
--- a mark of no width stands behind its circle
+-- a mark of no width stands after its circle
 abbrev pub circled : Bool → List Item → List Item
 circled thin [] = []
 circled thin (x ∷ xs) = if thin then circle_for x ∷ x ∷ [] else x ∷ circle_for x ∷ []

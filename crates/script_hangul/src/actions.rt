@@ -1,4 +1,4 @@
-//! What becomes of a letter or a syllable, by the characters behind it and the font.
+//! What becomes of a letter or a syllable, by the characters after it and the font.
 ghost use Rattle.std.specs.Prelude.{◌≡◌};
 ghost use Rattle.script_hangul.specs.Actions.{action_on, before_trailing, has_letters, joining_action, leading_action, letters_action, split_action, syllable_action, trailing_of};
 
@@ -15,7 +15,7 @@ pub enum Action {
     Apart(usize),
     /// So many characters become a syllable.
     Compose(usize, char),
-    /// A syllable becomes its letters; whether a trailing consonant behind it joins them.
+    /// A syllable becomes its letters; whether a trailing consonant after it joins them.
     Split(Letters, bool),
 }
 
@@ -90,7 +90,7 @@ fn syllable_action(face: &Face, u: char, trailing: Option<char>) -> Action
     }
 }
 
-/// What becomes of a syllable and a trailing consonant behind it that may compose.
+/// What becomes of a syllable and a trailing consonant after it that may compose.
 fn joining_action(face: &Face, u: char, whole: Option<char>) -> Action
     ensures { result ≡ joining_action face.now u whole }
 {

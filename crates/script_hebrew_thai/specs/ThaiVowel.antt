@@ -1,4 +1,4 @@
--- The vowels SARA AM of Thai and AM of Lao: each splits into a mark above and a vowel behind the letter (Unicode core specification, 'Thai', 'Lao').
+-- The vowels SARA AM of Thai and AM of Lao: each splits into a mark above and a vowel after the letter (Unicode core specification, 'Thai', 'Lao').
 use Rattle.std.specs.Prelude.{ℕ, ◌+◌, ◌-◌, ◌==◌, nat_le, Bool, if◌then◌else◌, List, [], ◌∷◌, ◌++◌, length, take, drop, reverse, Ok, Err}
 use Rattle.std.specs.Int.RustNames.{bit_or}
 use Rattle.std.specs.List.{list_any, prefix_len}
@@ -46,7 +46,7 @@ sara_aa x = record x { number = x.number - 1 }
 abbrev pub count_above : List Item → ℕ
 count_above out = prefix_len is_mark_above (reverse out)
 
--- the two parts of a vowel behind a text: the first goes before the marks above that end it
+-- the two parts of a vowel after a text: the first goes before the marks above that end it
 abbrev pub with_vowel : List Item → Item → List Item
 with_vowel out x =
     let before : ℕ = length out - count_above out in
@@ -55,7 +55,7 @@ with_vowel out x =
 abbrev pub with_character : List Item → Item → List Item
 with_character out x = if is_sara_am x then with_vowel out x else out ++ x ∷ []
 
--- a text behind what was split before it
+-- a text after what was split before it
 abbrev pub split_behind : List Item → List Item → List Item
 split_behind out [] = out
 split_behind out (x ∷ xs) = split_behind (with_character out x) xs
@@ -70,7 +70,7 @@ merge_of_vowel Characters at = []
 abbrev pub placing : BufferClusterLevel → ℕ → ℕ → List Event
 placing level at n = if n == 0 then merge_of_vowel level at else Move InOutput (at - n) (order_of_move n 1) ∷ []
 
--- a vowel at a place, behind so many marks above
+-- a vowel at a place, after so many marks above
 abbrev pub events_of_vowel : BufferClusterLevel → ℕ → ℕ → List Event
 events_of_vowel level at n = Replace at 1 2 ∷ placing level at n
 

@@ -25,7 +25,7 @@ const SARA_AM: u32 = 0x0E33;
 const LAO: u32 = 0x80;
 
 /// Splits each SARA AM, and each AM of Lao, into a mark above, which goes before the marks above that precede it, and a
-/// vowel behind. It takes linear time.
+/// vowel after these. It takes linear time.
 ///
 /// # Errors
 ///

@@ -6,7 +6,7 @@ use Rattle.glyph_lists.specs.declared.info.hb_glyph_info_t.{hb_glyph_info_t}
 use Rattle.glyph_lists.specs.Items.{item_of}
 use Rattle.script_joining.specs.Types.{JoiningType}
 use Rattle.script_joining.specs.Forms.{letter_form}
-use Rattle.script_joining.specs.Joining.{is_letter, form_behind}
+use Rattle.script_joining.specs.Joining.{is_letter, form_after}
 use Rattle.script_joining.specs.Glyphs.{glyph_formed, glyphs_copied, glyphs_formed, nearest_behind, nearest_or, type_kept}
 
 -- ---- the nearest letter
@@ -19,7 +19,7 @@ found_seen f (x ∷ xs) =
 
 -- ---- forms that are copied
 
-copied_suc : (before : Option ℕ) (i : ℕ) (ys : List hb_glyph_info_t) (d : hb_glyph_info_t) (form : ℕ) → i < length ys → form ≡ form_behind before (item_of (get_or ys i d)) (get_or ys i d).auxiliary
+copied_suc : (before : Option ℕ) (i : ℕ) (ys : List hb_glyph_info_t) (d : hb_glyph_info_t) (form : ℕ) → i < length ys → form ≡ form_after before (item_of (get_or ys i d)) (get_or ys i d).auxiliary
     → take (suc i) (set ys i (glyph_formed form (get_or ys i d))) ++ glyphs_copied (Some form) (drop (suc i) (set ys i (glyph_formed form (get_or ys i d)))) ≡ take i ys ++ glyphs_copied before (drop i ys)
 copied_suc before i [] d form lt e = absurd (omega arith)
 copied_suc before zero (y ∷ ys) d form lt e = ap (λ n. glyph_formed n y ∷ glyphs_copied (Some n) ys) e
@@ -32,7 +32,7 @@ pub record AreCopied (i : ℕ) (before : Option ℕ) (hs xs : List hb_glyph_info
 pub none_copied : (hs : List hb_glyph_info_t) → AreCopied 0 None hs hs
 none_copied hs = record { glyphs = refl }
 
-pub next_copied : (i : ℕ) (before : Option ℕ) (hs xs : List hb_glyph_info_t) (d : hb_glyph_info_t) (form : ℕ) → i < length xs → form ≡ form_behind before (item_of (get_or xs i d)) (get_or xs i d).auxiliary
+pub next_copied : (i : ℕ) (before : Option ℕ) (hs xs : List hb_glyph_info_t) (d : hb_glyph_info_t) (form : ℕ) → i < length xs → form ≡ form_after before (item_of (get_or xs i d)) (get_or xs i d).auxiliary
     → AreCopied i before hs xs → AreCopied (i + 1) (Some form) hs (set xs i (glyph_formed form (get_or xs i d)))
 next_copied i before hs xs d form lt e p = record { glyphs = rw add-one (copied_suc before i xs d form lt e) ∙ p.glyphs }
 

@@ -16,7 +16,7 @@ use Rattle.unicode_tables.specs.Tables.{Tables}
 use Rattle.script_constants.specs.declared.joining_types.hb_arabic_joining_type_t.TheVariants.{U, L, R, D, GroupAlaph, GroupDalathRish, T, X}
 use Rattle.script_joining.specs.Types.{JoiningType, type_of_item}
 use Rattle.script_joining.specs.Forms.{letter_form}
-use Rattle.script_joining.specs.Joining.{form_behind, forms, forms_copied, is_letter, joined, joined_items, mask_of, nearest, nearest_behind, neighbour_events, settled_forms, types_of_characters, types_of_items, with_form, with_forms}
+use Rattle.script_joining.specs.Joining.{form_after, forms, forms_copied, is_letter, joined, joined_items, mask_of, nearest, nearest_behind, neighbour_events, settled_forms, types_of_characters, types_of_items, with_form, with_forms}
 use Rattle.script_joining.specs.Flagged.{type_of_typed}
 use Rattle.script_joining.specs.Glyphs.{AreFlagless, glyph_joined, glyphs_copied, glyphs_formed, glyphs_settled, item_typed, nearest_or, number_of, type_kept, type_numbered}
 
@@ -74,27 +74,27 @@ formed_items before after (g ∷ gs) =
 
 abbrev items_copied : Option ℕ → List Item → List Item
 items_copied before [] = []
-items_copied before (x ∷ xs) = item_formed x (form_behind before x x.auxiliary) ∷ items_copied (Some (form_behind before x x.auxiliary)) xs
+items_copied before (x ∷ xs) = item_formed x (form_after before x x.auxiliary) ∷ items_copied (Some (form_after before x x.auxiliary)) xs
 
 copied_seen : (before : Option ℕ) (gs : List hb_glyph_info_t) → strip (glyphs_copied before gs) ≡ items_copied before (strip gs)
 copied_seen before [] = refl
-copied_seen before (g ∷ gs) = ap (λ xs. item_formed (item_of g) (form_behind before (item_of g) g.auxiliary) ∷ xs) (copied_seen (Some (form_behind before (item_of g) g.auxiliary)) gs)
+copied_seen before (g ∷ gs) = ap (λ xs. item_formed (item_of g) (form_after before (item_of g) g.auxiliary) ∷ xs) (copied_seen (Some (form_after before (item_of g) g.auxiliary)) gs)
 
-same_behind : (before : Option ℕ) (x : Item) (f : ℕ) → form_behind before (item_formed x f) f ≡ form_behind before x f
-same_behind None x f = refl
-same_behind (Some n) x f = refl
+same_after : (before : Option ℕ) (x : Item) (f : ℕ) → form_after before (item_formed x f) f ≡ form_after before x f
+same_after None x f = refl
+same_after (Some n) x f = refl
 
 copied_formed : (before : Option ℕ) (xs : List Item) (fs : List ℕ) → length fs ≡ length xs → items_copied before (items_formed xs fs) ≡ items_formed xs (forms_copied before xs fs)
 copied_formed before [] fs e = refl
 copied_formed before (x ∷ xs) [] e = absurd (omega (arith, e))
 copied_formed before (x ∷ xs) (f ∷ fs) e =
-    ap (λ n. item_formed x n ∷ items_copied (Some n) (items_formed xs fs)) (same_behind before x f)
-    ∙ ap (λ ys. item_formed x (form_behind before x f) ∷ ys) (copied_formed (Some (form_behind before x f)) xs fs (omega (arith, e)))
+    ap (λ n. item_formed x n ∷ items_copied (Some n) (items_formed xs fs)) (same_after before x f)
+    ∙ ap (λ ys. item_formed x (form_after before x f) ∷ ys) (copied_formed (Some (form_after before x f)) xs fs (omega (arith, e)))
 
 copied_length : (before : Option ℕ) (xs : List Item) (fs : List ℕ) → length fs ≡ length xs → length (forms_copied before xs fs) ≡ length xs
 copied_length before [] fs e = refl
 copied_length before (x ∷ xs) [] e = absurd (omega (arith, e))
-copied_length before (x ∷ xs) (f ∷ fs) e = (let n = copied_length (Some (form_behind before x f)) xs fs (omega (arith, e)) in omega (arith, n))
+copied_length before (x ∷ xs) (f ∷ fs) e = (let n = copied_length (Some (form_after before x f)) xs fs (omega (arith, e)) in omega (arith, n))
 
 settled_seen : (mongolian : Bool) (gs : List hb_glyph_info_t) (xs : List Item) (fs : List ℕ) → length fs ≡ length xs → strip gs ≡ items_formed xs fs → strip (glyphs_settled mongolian gs) ≡ items_formed xs (settled_forms mongolian xs fs)
 settled_seen true gs xs fs e h = copied_seen None gs ∙ ap (items_copied None) h ∙ copied_formed None xs fs e
@@ -136,15 +136,15 @@ typed_forms t masks [] fs e = refl
 typed_forms t masks (x ∷ xs) [] e = absurd (omega (arith, e))
 typed_forms t masks (x ∷ xs) (f ∷ fs) e = ap (λ ys. with_form masks x f ∷ ys) (typed_forms t masks xs fs (omega (arith, e)))
 
-typed_behind : (t : Tables) (before : Option ℕ) (x : Item) (f : ℕ) → form_behind before (item_typed t x) f ≡ form_behind before x f
-typed_behind t None x f = refl
-typed_behind t (Some n) x f = refl
+typed_after : (t : Tables) (before : Option ℕ) (x : Item) (f : ℕ) → form_after before (item_typed t x) f ≡ form_after before x f
+typed_after t None x f = refl
+typed_after t (Some n) x f = refl
 
 typed_copied : (t : Tables) (before : Option ℕ) (xs : List Item) (fs : List ℕ) → forms_copied before (map (item_typed t) xs) fs ≡ forms_copied before xs fs
 typed_copied t before [] fs = refl
 typed_copied t before (x ∷ xs) [] = refl
 typed_copied t before (x ∷ xs) (f ∷ fs) =
-    ap (λ n. n ∷ forms_copied (Some n) (map (item_typed t) xs) fs) (typed_behind t before x f) ∙ ap (λ ns. form_behind before x f ∷ ns) (typed_copied t (Some (form_behind before x f)) xs fs)
+    ap (λ n. n ∷ forms_copied (Some n) (map (item_typed t) xs) fs) (typed_after t before x f) ∙ ap (λ ns. form_after before x f ∷ ns) (typed_copied t (Some (form_after before x f)) xs fs)
 
 typed_settled : (t : Tables) (mongolian : Bool) (xs : List Item) (fs : List ℕ) → settled_forms mongolian (map (item_typed t) xs) fs ≡ settled_forms mongolian xs fs
 typed_settled t true xs fs = typed_copied t None xs fs
@@ -186,7 +186,7 @@ formed_origins before after (g ∷ gs) = ap (λ os. origin_of g ∷ os) (formed_
 
 copied_origins : (before : Option ℕ) (gs : List hb_glyph_info_t) → origins (glyphs_copied before gs) ≡ origins gs
 copied_origins before [] = refl
-copied_origins before (g ∷ gs) = ap (λ os. origin_of g ∷ os) (copied_origins (Some (form_behind before (item_of g) g.auxiliary)) gs)
+copied_origins before (g ∷ gs) = ap (λ os. origin_of g ∷ os) (copied_origins (Some (form_after before (item_of g) g.auxiliary)) gs)
 
 settled_origins : (mongolian : Bool) (gs : List hb_glyph_info_t) → origins (glyphs_settled mongolian gs) ≡ origins gs
 settled_origins true gs = copied_origins None gs

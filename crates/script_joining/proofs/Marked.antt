@@ -16,7 +16,7 @@ use Rattle.stage_rules.specs.Stages.{Happens}
 use Rattle.stage_rules.specs.Lemmas.Happened.{both_happen, call_happens, nothing_happens}
 use Rattle.script_joining.specs.declared.flags.Letter.{Letter}
 use Rattle.script_joining.specs.Types.{JoiningType}
-use Rattle.script_joining.specs.Joining.{event_at, is_letter, letter_behind, nearest_behind, neighbour_events}
+use Rattle.script_joining.specs.Joining.{event_at, is_letter, letter_after, nearest_behind, neighbour_events}
 use Rattle.script_joining.specs.Flagged.{IsBehind, type_of_typed}
 use Rattle.script_joining.specs.Glyphs.{type_kept}
 
@@ -88,30 +88,30 @@ same_count from s start at before last f = sym (length-map (all_glyphs s) item_o
 some_same : {X : Type 0} (a b : X) → Some a ≡ Some b → b ≡ a
 some_same a b e = cc
 
-still_behind : (last : Option Letter) (at : ℕ) → IsBehind last at → IsBehind last (at + 1)
-still_behind None at b = b
-still_behind (Some p) at b = omega (arith, b)
+still_after : (last : Option Letter) (at : ℕ) → IsBehind last at → IsBehind last (at + 1)
+still_after None at b = b
+still_after (Some p) at b = omega (arith, b)
 
 there_suc : {X : Type 0} (xs : List X) (i : ℕ) (x : X) → Some x ≡ slice_get xs i → drop i xs ≡ x ∷ drop (suc i) xs
 there_suc [] i x e = cc
 there_suc (y ∷ xs) zero x e = ap (λ z. z ∷ xs) (sym (some_same y x (sym e)))
 there_suc (y ∷ xs) (suc i) x e = there_suc xs i x e
 
-behind_next : (before : JoiningType) (last : Option Letter) (t : JoiningType) (at : ℕ) → IsBehind last at → IsBehind (letter_behind before last t at) (at + 1)
-behind_next before last t at b = elim (is_letter t) as (λ c. IsBehind (if c then Some (record { at = at; joining = t; before = before }) else last) (at + 1)) [ true ↦ omega arith | false ↦ still_behind last at b ]
+after_next : (before : JoiningType) (last : Option Letter) (t : JoiningType) (at : ℕ) → IsBehind last at → IsBehind (letter_after before last t at) (at + 1)
+after_next before last t at b = elim (is_letter t) as (λ c. IsBehind (if c then Some (record { at = at; joining = t; before = before }) else last) (at + 1)) [ true ↦ omega arith | false ↦ still_after last at b ]
 
 pub next_flagged : (from s t : Sides) (start : JoiningType) (at : ℕ) (before : JoiningType) (last : Option Letter) (joining : JoiningType) → Some joining ≡ slice_get (map type_of_typed (items_of s)) at
-    → Happens (event_at last joining at) s t → AreFlagged from start at before last s → AreFlagged from start (at + 1) (nearest_behind before joining) (letter_behind before last joining at) t
+    → Happens (event_at last joining at) s t → AreFlagged from start at before last s → AreFlagged from start (at + 1) (nearest_behind before joining) (letter_after before last joining at) t
 next_flagged from s t start at before last joining e h f =
     let es = event_at last joining at in
-    let more : ℕ → List Event = λ k. neighbour_events (nearest_behind before joining) (letter_behind before last joining at) (at + 1) (drop k (map type_of_typed (items_of from))) in
+    let more : ℕ → List Event = λ k. neighbour_events (nearest_behind before joining) (letter_after before last joining at) (at + 1) (drop k (map type_of_typed (items_of from))) in
     let types : List JoiningType = map type_of_typed (items_of from) in
     let there = e ∙ ap (λ xs. slice_get (map type_of_typed xs) at) (same_items from s f.happened.view) in
     let cut : es ++ more (suc at) ≡ neighbour_events before last at (drop at types) = sym (ap (neighbour_events before last at) (there_suc types at joining there)) in
     record {
       events = f.events ++ es;
       happened = both_happen f.events es from s t f.happened h;
-      behind = behind_next before last joining at f.behind;
+      behind = after_next before last joining at f.behind;
       rest =
           append_assoc f.events es (more (at + 1))
           ∙ ap (λ k. f.events ++ (es ++ more k)) (add-one at)

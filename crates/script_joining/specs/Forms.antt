@@ -33,7 +33,7 @@ joined_form true false = action.FINA
 joined_form false true = action.INIT
 joined_form false false = action.ISOL
 
--- Alaph behind a letter, where none follows that joins the one before
+-- Alaph after a letter, where none follows that joins the one before
 abbrev pub final_alaph : JoiningType → ℕ
 final_alaph U = action.ISOL
 final_alaph L = action.FINA

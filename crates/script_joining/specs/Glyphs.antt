@@ -8,7 +8,7 @@ use Rattle.glyph_lists.specs.Items.{Item, item_of}
 use Rattle.script_joining.specs.Types.{JoiningType, type_of_item}
 use Rattle.script_joining.specs.Forms.{letter_form}
 pub use Rattle.script_joining.specs.Joining.{mask_of, nearest_behind}
-use Rattle.script_joining.specs.Joining.{is_letter, form_behind}
+use Rattle.script_joining.specs.Joining.{is_letter, form_after}
 
 -- the number of a type
 abbrev pub number_of : JoiningType → ℕ
@@ -38,7 +38,7 @@ nearest_or beyond ts = unwrap_or (find is_letter ts) beyond
 abbrev pub glyph_formed : ℕ → hb_glyph_info_t → hb_glyph_info_t
 glyph_formed form g = record g { auxiliary = form }
 
--- glyphs with their forms, behind a letter and before another
+-- glyphs with their forms, after a letter and before another
 abbrev pub glyphs_formed : JoiningType → JoiningType → List hb_glyph_info_t → List hb_glyph_info_t
 glyphs_formed before after [] = []
 glyphs_formed before after (g ∷ gs) =
@@ -47,7 +47,7 @@ glyphs_formed before after (g ∷ gs) =
 -- Mongolian selectors with the forms before them
 abbrev pub glyphs_copied : Option ℕ → List hb_glyph_info_t → List hb_glyph_info_t
 glyphs_copied before [] = []
-glyphs_copied before (g ∷ gs) = let form : ℕ = form_behind before (item_of g) g.auxiliary in glyph_formed form g ∷ glyphs_copied (Some form) gs
+glyphs_copied before (g ∷ gs) = let form : ℕ = form_after before (item_of g) g.auxiliary in glyph_formed form g ∷ glyphs_copied (Some form) gs
 
 abbrev pub glyphs_settled : Bool → List hb_glyph_info_t → List hb_glyph_info_t
 glyphs_settled true gs = glyphs_copied None gs

@@ -24,7 +24,7 @@ is_letter X = true
 abbrev pub nearest : List JoiningType → JoiningType
 nearest ts = unwrap_or (find is_letter ts) U
 
--- the forms of letters, each by the nearest letters on both sides: `before` are the characters in front of them, nearest first, `after` those behind them
+-- the forms of letters, each by the nearest letters on both sides: `before` are the characters in front of them, nearest first, `after` those after them
 abbrev pub forms : List JoiningType → List JoiningType → List JoiningType → List ℕ
 forms before [] after = []
 forms before (t ∷ ts) after = letter_form (nearest before) t (nearest (ts ++ after)) ∷ forms (t ∷ before) ts after
@@ -36,40 +36,40 @@ neighbours_event p t at =
     then Concat p.at (at + 1)
     else Tatweel p.at (at + 1)
 
-abbrev pub event_behind : Option Letter → JoiningType → ℕ → List Event
-event_behind None t at = []
-event_behind (Some p) t at = neighbours_event p t at ∷ []
+abbrev pub event_after : Option Letter → JoiningType → ℕ → List Event
+event_after None t at = []
+event_after (Some p) t at = neighbours_event p t at ∷ []
 
 -- a letter and the one before it in the text, if there is one
 abbrev pub event_at : Option Letter → JoiningType → ℕ → List Event
-event_at last t at = if is_letter t then event_behind last t at else []
+event_at last t at = if is_letter t then event_after last t at else []
 
 -- the type of the nearest letter, once one more character was passed
 abbrev pub nearest_behind : JoiningType → JoiningType → JoiningType
 nearest_behind before t = if is_letter t then t else before
 
 -- the last letter of the text, once one more character was passed
-abbrev pub letter_behind : JoiningType → Option Letter → JoiningType → ℕ → Option Letter
-letter_behind before last t at = if is_letter t then Some (record { at = at; joining = t; before = before }) else last
+abbrev pub letter_after : JoiningType → Option Letter → JoiningType → ℕ → Option Letter
+letter_after before last t at = if is_letter t then Some (record { at = at; joining = t; before = before }) else last
 
--- each two neighbours among the letters of a text, from an index on: behind a letter of a type, and behind one of the text, if there is one
+-- each two neighbours among the letters of a text, from an index on: after a letter of a type, and after one of the text, if there is one
 abbrev pub neighbour_events : JoiningType → Option Letter → ℕ → List JoiningType → List Event
 neighbour_events before last at [] = []
-neighbour_events before last at (t ∷ ts) = event_at last t at ++ neighbour_events (nearest_behind before t) (letter_behind before last t at) (at + 1) ts
+neighbour_events before last at (t ∷ ts) = event_at last t at ++ neighbour_events (nearest_behind before t) (letter_after before last t at) (at + 1) ts
 
 -- the Mongolian selectors U+180B to U+180D and U+180F
 abbrev pub is_mongolian_selector : Item → Bool
 is_mongolian_selector x = (nat_le 0x180B x.number && nat_le x.number 0x180D) || x.number == 0x180F
 
 -- a selector takes the form before it
-abbrev pub form_behind : Option ℕ → Item → ℕ → ℕ
-form_behind None x form = form
-form_behind (Some before) x form = if is_mongolian_selector x then before else form
+abbrev pub form_after : Option ℕ → Item → ℕ → ℕ
+form_after None x form = form
+form_after (Some before) x form = if is_mongolian_selector x then before else form
 
 abbrev pub forms_copied : Option ℕ → List Item → List ℕ → List ℕ
 forms_copied before [] fs = []
 forms_copied before (x ∷ xs) [] = []
-forms_copied before (x ∷ xs) (f ∷ fs) = let form : ℕ = form_behind before x f in form ∷ forms_copied (Some form) xs fs
+forms_copied before (x ∷ xs) (f ∷ fs) = let form : ℕ = form_after before x f in form ∷ forms_copied (Some form) xs fs
 
 abbrev pub settled_forms : Bool → List Item → List ℕ → List ℕ
 settled_forms true xs fs = forms_copied None xs fs

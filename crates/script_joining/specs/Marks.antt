@@ -29,7 +29,7 @@ classed class x = record x { class = class }
 abbrev pub reclassed : ℕ → ℕ → ℕ → Read → Read
 reclassed class from to r = record r { view = record r.view { items = changed_within (classed class) from to r.view.items } }
 
--- so many modifier marks, behind so many others, come to stand at the start of a run and take another class; the marks from the start of the run to their end merge
+-- so many modifier marks, after so many others, come to stand at the start of a run and take another class; the marks from the start of the run to their end merge
 abbrev pub led : ℕ → ℕ → ℕ → ℕ → View → Read
 led class start below leading v = if leading == 0 then with_events [] v else reclassed class start (start + leading) (with_move start below leading v)
 

@@ -5,7 +5,7 @@ ghost use Rattle.stage_rules.specs.Ready.{IsReady};
 ghost use Rattle.script_constants.specs.declared.joining_types.hb_arabic_joining_type_t.TheVariants.{U};
 ghost use Rattle.script_joining.specs.Flagged.{IsBehind, type_of_typed};
 ghost use Rattle.script_joining.specs.Forms.{letter_form};
-ghost use Rattle.script_joining.specs.Joining.{event_at, letter_behind, neighbour_events, neighbours_event};
+ghost use Rattle.script_joining.specs.Joining.{event_at, letter_after, neighbour_events, neighbours_event};
 ghost use Rattle.stage_rules.specs.Stages.{Happens};
 
 use crate::forms::letter_form;
@@ -33,8 +33,8 @@ pub(crate) fn flag_neighbours(start: hb_arabic_joining_type_t, buffer: &mut hb_b
     let mut last = None;
     for at in 0..count {
         let joining = type_at(buffer, at);
-        flag_behind(last, joining, at, buffer);
-        last = letter_behind(before, last, joining, at);
+        flag_after(last, joining, at, buffer);
+        last = letter_after(before, last, joining, at);
         before = nearest_behind(before, joining);
     }
 }
@@ -48,13 +48,13 @@ fn type_at(buffer: &hb_buffer_t, at: usize) -> hb_arabic_joining_type_t
     type_kept(&buffer.info_slice()[at])
 }
 
-fn letter_behind(
+fn letter_after(
     before: hb_arabic_joining_type_t,
     last: Option<Letter>,
     joining: hb_arabic_joining_type_t,
     at: usize,
 ) -> Option<Letter>
-    ensures { result ≡ letter_behind before last joining at }
+    ensures { result ≡ letter_after before last joining at }
 {
     if is_letter(joining) {
         Some(Letter {
@@ -69,7 +69,7 @@ fn letter_behind(
 
 /// Flags a letter and the one before it in the text, if there is one.
 #[tactic(auto, using(stage_rules::specs::Lemmas::Happened::nothing_happens))]
-fn flag_behind(
+fn flag_after(
     last: Option<Letter>,
     joining: hb_arabic_joining_type_t,
     at: usize,
@@ -111,7 +111,8 @@ fn flag_between(
 
 /// Whether a letter has the form that it has by itself before one that follows.
 fn keeps_form(letter: Letter, joining: hb_arabic_joining_type_t) -> bool
-    ensures { result ≡ (letter_form letter.before letter.joining joining == letter_form letter.before letter.joining U) }
+    ensures { result
+        ≡ (letter_form letter.before letter.joining joining == letter_form letter.before letter.joining U) }
 {
     letter_form(letter.before, letter.joining, joining)
         == letter_form(letter.before, letter.joining, hb_arabic_joining_type_t::U)

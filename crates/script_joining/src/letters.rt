@@ -4,7 +4,7 @@ ghost use Rattle.std.specs.Option.{option_map};
 ghost use Rattle.glyph_lists.specs.Items.{item_of};
 ghost use Rattle.script_joining.specs.Glyphs.{glyph_formed, glyph_joined, glyphs_copied, glyphs_formed, glyphs_settled, mask_of, nearest_or, type_kept};
 ghost use Rattle.script_joining.specs.Forms.{letter_form};
-ghost use Rattle.script_joining.specs.Joining.{form_behind, is_letter, is_mongolian_selector};
+ghost use Rattle.script_joining.specs.Joining.{form_after, is_letter, is_mongolian_selector};
 
 use crate::forms::letter_form;
 use crate::types::{is_letter, nearest_behind, type_kept};
@@ -95,14 +95,14 @@ fn copy_forms(glyphs: &mut [hb_glyph_info_t])
 {
     let mut before = None;
     for glyph in glyphs.iter_mut() {
-        let form = form_behind(before, glyph);
+        let form = form_after(before, glyph);
         glyph.auxiliary = form;
         before = Some(form);
     }
 }
 
-fn form_behind(before: Option<u8>, glyph: &hb_glyph_info_t) -> u8
-    ensures { result ≡ form_behind before (item_of glyph.now) glyph.now.auxiliary }
+fn form_after(before: Option<u8>, glyph: &hb_glyph_info_t) -> u8
+    ensures { result ≡ form_after before (item_of glyph.now) glyph.now.auxiliary }
 {
     match before {
         Some(form) if is_mongolian_selector(glyph) => form,

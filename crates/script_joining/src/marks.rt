@@ -22,7 +22,7 @@ const CCC22: u8 = 25;
 const CCC26: u8 = 26;
 
 /// Puts the modifier marks that lead those below the letter (class 220) in front of a run of marks in the order of their
-/// classes, and then those that lead the marks above it (class 230) behind these. What they pass merges with them.
+/// classes, and then those that lead the marks above it (class 230) after these. What they pass merges with them.
 /// It takes linear time and no memory.
 #[tactic(auto, using(crate::proofs::Reordered::both_led))]
 pub fn reorder_marks(buffer: &mut hb_buffer_t, start: usize, end: usize)
@@ -114,7 +114,7 @@ fn is_modifier_of(class: u8, glyph: &hb_glyph_info_t) -> bool
         )
 }
 
-/// Puts so many modifier marks, which stand behind others, at a start, with a class of their own.
+/// Puts so many modifier marks, which stand after others, at a start, with a class of their own.
 #[tactic(auto, using(crate::proofs::Reordered::none_led, crate::proofs::Reordered::led_followed))]
 fn put_first(buffer: &mut hb_buffer_t, start: usize, below: usize, leading: usize, new_class: u8)
     requires ready { IsReady buffer.old }

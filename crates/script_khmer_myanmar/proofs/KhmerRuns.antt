@@ -20,7 +20,7 @@ use Rattle.script_khmer_myanmar.specs.declared.khmer.KhmerMasks.{KhmerMasks}
 use Rattle.script_khmer_myanmar.specs.Khmer.{Step, is_coeng, khmer_at, khmer_walk, passed, vowel_moved}
 use Rattle.script_khmer_myanmar.specs.Runs.{IsPlain, IsRun, forms_masked, forms_moved, is_vowel, together}
 use Rattle.stage_rules.specs.Lemmas.Fronted.{all_moved_fronts, moved_one, moved_two, moves_seen}
-use Rattle.script_khmer_myanmar.proofs.KhmerSteps.{at_form, at_other, coeng_turned, front_turned, got_behind, got_next, met_if, within_at}
+use Rattle.script_khmer_myanmar.proofs.KhmerSteps.{at_form, at_other, coeng_turned, front_turned, got_after, got_next, met_if, within_at}
 
 abbrev kind : Item → ℕ
 kind x = x.category
@@ -44,7 +44,7 @@ single : (forms : Bool) (m : KhmerMasks) (k i c : ℕ) (x : Item) (front zs post
 single forms m k i c x front zs post at some other first later =
     let xs = front ++ (x ∷ (zs ++ post)) in
     let more : suc (length zs) + k ≡ suc (length zs + k) = omega arith in
-    let step = at_other m i c xs x (is_vowel x) (got_behind front x (zs ++ post) i at) other refl in
+    let step = at_other m i c xs x (is_vowel x) (got_after front x (zs ++ post) i at) other refl in
     let lt : nat_lt 0 i ≡ true = grind (arith, nat_tests, common_steps, some) in
     let test : is_vowel x ≡ (is_vowel x && nat_lt 0 i) = sym (ap (λ b. is_vowel x && b) lt ∙ and_true (is_vowel x)) in
     ap (λ j. khmer_walk m j i c xs) more
@@ -97,10 +97,10 @@ form_step m n i c x y t fs rest at plain coeng ra =
     let pair = masked m.pref x ∷ masked m.pref y ∷ [] in
     let ys = (pair ++ front) ++ far in
     let move : Event = Move InList 0 (order_of_move i 2) in
-    let first = at_form m i c xs x y (got_behind front x (y ∷ rest) i at) (got_next front x y rest i at) coeng ra in
+    let first = at_form m i c xs x y (got_after front x (y ∷ rest) i at) (got_next front x y rest i at) coeng ra in
     let long = length-append fs (t ∷ []) in
     let there : slice_get ys (i + 1) ≡ Some t =
-    ap (λ zs. slice_get (masked m.pref x ∷ masked m.pref y ∷ zs) (i + 1)) (append_assoc fs (t ∷ []) far) ∙ got_behind (pair ++ fs) t far (i + 1) (omega (arith, at, long)) in
+    ap (λ zs. slice_get (masked m.pref x ∷ masked m.pref y ∷ zs) (i + 1)) (append_assoc fs (t ∷ []) far) ∙ got_after (pair ++ fs) t far (i + 1) (omega (arith, at, long)) in
     let no_coeng : is_coeng 2 t ≡ false = ap (λ b. b && true) plain.0 in
     let again : khmer_at m (i + 1) 2 ys ≡ passed 2 ys = at_other m (i + 1) 2 ys t false there no_coeng plain.1 in
     let on : i + 1 + 1 ≡ i + 2 = omega arith in
@@ -216,9 +216,9 @@ again_stayed true m c x front zs post other stays a =
     no_coeng true f = cc
     no_coeng false f = refl
 
-form_behind : (m : KhmerMasks) (k i c : ℕ) (x y : Item) (front zs post : List Item) → i ≡ length front → together true x y ≡ true → IsBehind m c front (x ∷ y ∷ zs) post
+form_after : (m : KhmerMasks) (k i c : ℕ) (x y : Item) (front zs post : List Item) → i ≡ length front → together true x y ≡ true → IsBehind m c front (x ∷ y ∷ zs) post
     → ((turned : List Item) → i + 2 ≡ length turned → IsBehind m 2 turned zs post → Does true m k (i + 2) 2 turned zs post) → Does true m k i c front (x ∷ y ∷ zs) post
-form_behind m k i c x y front zs post at pair a later =
+form_after m k i c x y front zs post at pair a later =
     let far = masked m.cfar in
     let end = a.ends in
     let fs = end.0 in
@@ -274,7 +274,7 @@ run_walked true few m (x ∷ y ∷ zs) k i c front post at some counts run again
         → ((turned : List Item) → i + 2 ≡ length turned → IsBehind m 2 turned zs post → Does true m k (i + 2) 2 turned zs post)
         → ((turned : List Item) → i + 1 ≡ length turned → IsBehind m c turned (y ∷ zs) post → Does true m k (i + 1) c turned (y ∷ zs) post)
         → Does true m k i c front (x ∷ y ∷ zs) post
-    by_pair true e two one = form_behind m k i c x y front zs post at e again two
+    by_pair true e two one = form_after m k i c x y front zs post at e again two
     by_pair false e two one =
         let other : is_coeng c x ≡ false = ap (λ b. x.category == category.OT_H && b) counts ∙ alone_not (x.category == category.OT_H && few) (together true x y) e run.0 in
         let long = length-append front (x ∷ []) in

@@ -30,8 +30,8 @@ pub within_at : (rule : List Item → Rewritten) (from to : ℕ) (xs ws ms es : 
     → within from to rule xs ≡ record { items = ws ++ (rule ms).items ++ es; events = map (shifted (length ws)) (rule ms).events }
 within_at rule from to xs ws ms es a b e = ap (λ n. within n to rule xs) a ∙ ap (λ n. within (length ws) n rule xs) b ∙ ap (within (length ws) (length ws + length ms) rule) e ∙ within_middle rule ws ms es
 
-pub got_behind : (front : List Item) (x : Item) (rest : List Item) (i : ℕ) → i ≡ length front → slice_get (front ++ (x ∷ rest)) i ≡ Some x
-got_behind front x rest i e = ap (slice_get (front ++ (x ∷ rest))) e ∙ got front
+pub got_after : (front : List Item) (x : Item) (rest : List Item) (i : ℕ) → i ≡ length front → slice_get (front ++ (x ∷ rest)) i ≡ Some x
+got_after front x rest i e = ap (slice_get (front ++ (x ∷ rest))) e ∙ got front
   where
     got : (f : List Item) → slice_get (f ++ (x ∷ rest)) (length f) ≡ Some x
     got [] = refl
@@ -40,7 +40,7 @@ got_behind front x rest i e = ap (slice_get (front ++ (x ∷ rest))) e ∙ got f
 pub got_next : (front : List Item) (x y : Item) (rest : List Item) (i : ℕ) → i ≡ length front → slice_get (front ++ (x ∷ y ∷ rest)) (i + 1) ≡ Some y
 got_next front x y rest i e =
     let long = length-append front (x ∷ []) in
-    ap (λ ys. slice_get ys (i + 1)) (sym (append_assoc front (x ∷ []) (y ∷ rest))) ∙ got_behind (front ++ x ∷ []) y rest (i + 1) (omega (arith, long, e))
+    ap (λ ys. slice_get ys (i + 1)) (sym (append_assoc front (x ∷ []) (y ∷ rest))) ∙ got_after (front ++ x ∷ []) y rest (i + 1) (omega (arith, long, e))
 
 -- elements behind a front come before it
 pub front_turned : (i n : ℕ) (front ms rest : List Item) → i ≡ length front → n ≡ length ms → within 0 (i + n) (first_to_back i) (front ++ (ms ++ rest)) ≡ record { items = (ms ++ front) ++ rest; events = Move InList 0 (order_of_move i n) ∷ [] }

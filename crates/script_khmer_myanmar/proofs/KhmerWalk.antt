@@ -17,7 +17,7 @@ use Rattle.stage_rules.specs.Lemmas.Parts.{masked_size, range_seen, range_size, 
 use Rattle.script_khmer_myanmar.specs.declared.khmer.KhmerMasks.{KhmerMasks}
 use Rattle.script_khmer_myanmar.specs.Khmer.{khmer_at, khmer_walk, khmer_reordered}
 use Rattle.script_khmer_myanmar.specs.Runs.{IsRun, IsWalked, OpensForms, forms_masked, forms_moved, is_vowel, run_length, together}
-use Rattle.script_khmer_myanmar.specs.Lemmas.KhmerSize.{khmer_at_size, behind_size}
+use Rattle.script_khmer_myanmar.specs.Lemmas.KhmerSize.{khmer_at_size, after_size}
 use Rattle.script_khmer_myanmar.proofs.KhmerMoves.{masked_count, rewritten_even}
 use Rattle.script_khmer_myanmar.proofs.KhmerRuns.{formed_size, forms_walked, vowels_walked}
 use Rattle.script_khmer_myanmar.proofs.KhmerScan.{run_is}
@@ -248,4 +248,4 @@ reordered_does m start end a b c lt fits f g =
     let some : 0 < length xs = omega (arith, size, lt) in
     let first = rewritten_part (masked_all m.behind) start end 1 (length xs) (start + 1) end a b refl (omega (arith, size, le)) (omega (arith, some)) (omega (arith, size, le)) inside f in
     let P : ℕ → Type 0 = λ n. IsRewritten (khmer_walk m (n - 1) 1 0 (slice_range (items_of b) start end)) start end b c in
-    rewritten_next (within 1 (length xs) (masked_all m.behind) xs) (khmer_walk m (length xs - 1) 1 0) start end a b c le inside (behind_size m xs some ∙ size) first (subst P (sym size) g)
+    rewritten_next (within 1 (length xs) (masked_all m.behind) xs) (khmer_walk m (length xs - 1) 1 0) start end a b c le inside (after_size m xs some ∙ size) first (subst P (sym size) g)

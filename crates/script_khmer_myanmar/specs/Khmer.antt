@@ -36,7 +36,7 @@ pub record Step : Type 0 where
 abbrev pub passed : ℕ → List Item → Step
 passed count xs = record { rewritten = kept xs; count = count }
 
--- a coeng and the Ra behind it get a feature and go to the start, and what stands behind them gets another
+-- a coeng and the Ra after it get a feature and go to the start, and what stands after them gets another
 abbrev pub coeng_moved : KhmerMasks → ℕ → List Item → Rewritten
 coeng_moved m place xs = then_rule (then_rule (within place (place + 2) (masked_all m.pref) xs) (within 0 (place + 2) (first_to_back place))) (within (place + 2) (length xs) (masked_all m.cfar))
 
@@ -55,7 +55,7 @@ vowel_met place count xs x = if x.category == category.OT_VPre then record { rew
 abbrev pub is_coeng : ℕ → Item → Bool
 is_coeng count x = x.category == category.OT_H && nat_le count 2
 
--- what stands at an index, and what behind it
+-- what stands at an index, and what after it
 abbrev pub met : KhmerMasks → ℕ → ℕ → List Item → Option Item → Option Item → Step
 met m place count xs None next = passed count xs
 met m place count xs (Some x) None = vowel_met place count xs x
@@ -69,7 +69,7 @@ abbrev pub khmer_walk : KhmerMasks → ℕ → ℕ → ℕ → List Item → Rew
 khmer_walk m zero place count xs = kept xs
 khmer_walk m (suc n) place count xs = then_rule (khmer_at m place count xs).rewritten (khmer_walk m n (place + 1) (khmer_at m place count xs).count)
 
--- all behind the first item get the features of such, and indices from the second on are walked
+-- all after the first item get the features of such, and indices from the second on are walked
 abbrev pub khmer_reordered : KhmerMasks → List Item → Rewritten
 khmer_reordered m xs = then_rule (within 1 (length xs) (masked_all m.behind) xs) (khmer_walk m (length xs - 1) 1 0)
 

@@ -27,12 +27,12 @@ is_base c = list_any (λ b. c == b) base_categories
 abbrev pub place_below : ℕ → ℕ
 place_below c = if c == category.OT_A then position.POS_BEFORE_SUB else if c == category.OT_VBlw then position.POS_BELOW_C else position.POS_AFTER_SUB
 
--- the place of an item behind the base that goes where the others go, by the place that these have come to
+-- the place of an item after the base that goes where the others go, by the place that these have come to
 abbrev pub place_there : ℕ → ℕ → ℕ
 place_there now c =
     if now == position.POS_AFTER_MAIN && c == category.OT_VBlw then position.POS_BELOW_C else if now == position.POS_BELOW_C then place_below c else now
 
--- the place of an item behind the base, by the place that the others have come to and that of the item before it
+-- the place of an item after the base, by the place that the others have come to and that of the item before it
 abbrev pub place_of : ℕ → ℕ → ℕ → ℕ
 place_of now before c =
     if c == category.OT_MR then position.POS_PRE_C
@@ -43,13 +43,13 @@ place_of now before c =
 abbrev pub stays_apart : ℕ → Bool
 stays_apart c = c == category.OT_MR || c == category.OT_VPre || c == category.OT_VS
 
--- the place that the others have come to behind an item: an A in what stands below leaves it where it is
+-- the place that the others have come to after an item: an A in what stands below leaves it where it is
 abbrev pub place_behind : ℕ → ℕ → ℕ
 place_behind now c = if stays_apart c then now else if now == position.POS_BELOW_C && c == category.OT_A then now else place_there now c
 
-abbrev pub places_behind : ℕ → ℕ → List ℕ → List ℕ
-places_behind now before [] = []
-places_behind now before (c ∷ cs) = place_of now before c ∷ places_behind (place_behind now c) (place_of now before c) cs
+abbrev pub places_after : ℕ → ℕ → List ℕ → List ℕ
+places_after now before [] = []
+places_after now before (c ∷ cs) = place_of now before c ∷ places_after (place_behind now c) (place_of now before c) cs
 
 -- how many items are a kinzi, which a syllable may begin with
 abbrev pub kinzi : List ℕ → ℕ
@@ -58,13 +58,13 @@ kinzi cs = 0
 
 abbrev pub from_base : List ℕ → List ℕ
 from_base [] = []
-from_base (c ∷ cs) = position.POS_BASE_C ∷ places_behind position.POS_AFTER_MAIN position.POS_BASE_C cs
+from_base (c ∷ cs) = position.POS_BASE_C ∷ places_after position.POS_AFTER_MAIN position.POS_BASE_C cs
 
 -- where the base stands: the first consonant, else the first item
 abbrev pub base_of : List ℕ → ℕ
 base_of cs = if list_any is_base cs then position_or_len is_base cs else 0
 
--- the places of what stands behind a kinzi: before the base, the base, behind it
+-- the places of what stands after a kinzi: before the base, the base, after it
 abbrev pub based : List ℕ → List ℕ
 based cs = replicate (base_of cs) position.POS_PRE_C ++ from_base (drop (base_of cs) cs)
 
@@ -92,7 +92,7 @@ sorted_by_place xs = record { items = key_order (λ (x : Item). x.auxiliary) xs;
 abbrev pub is_left_matra : Item → Bool
 is_left_matra x = x.category == category.OT_VPre
 
--- a left matra and what stands behind it up to the next are a group
+-- a left matra and what stands after it up to the next are a group
 abbrev pub same_group : Item → Item → Bool
 same_group x y = not (is_left_matra y)
 

@@ -10,7 +10,7 @@ use Rattle.stage_rules.specs.Parts.{fronts_moved, masked, masked_all}
 use Rattle.script_khmer_myanmar.specs.declared.khmer.KhmerMasks.{KhmerMasks}
 use Rattle.script_khmer_myanmar.specs.Khmer.{khmer_walk}
 
--- a coeng and the Ra behind it, where coengs form
+-- a coeng and the Ra after it, where coengs form
 abbrev pub together : Bool → Item → Item → Bool
 together forms x y = forms && (x.category == category.OT_H && y.category == category.OT_Ra)
 
@@ -61,7 +61,7 @@ taken forms [] = 0
 taken forms (x ∷ []) = if is_vowel x then 1 else 0
 taken forms (x ∷ y ∷ zs) = if together forms x y then 2 else if is_vowel x then 1 else 0
 
--- from an index up to another, of which a form is first: what stands behind that, and forms, get their features, and then forms and left vowels go to the start
+-- from an index up to another, of which a form is first: what stands after that, and forms, get their features, and then forms and left vowels go to the start
 abbrev pub forms_moved : KhmerMasks → ℕ → ℕ → List Item → Rewritten
 forms_moved m place to xs =
     then_rule (then_rule (within (place + 2) (length xs) (masked_all m.cfar) xs) (within place to (λ ys. kept (forms_masked (together true) (masked m.pref) ys))))

@@ -10,7 +10,7 @@ glyphs_at [] gs = gs
 glyphs_at (p ∷ ps) [] = []
 glyphs_at (p ∷ ps) (g ∷ gs) = glyph_at p g ∷ glyphs_at ps gs
 
--- groups that begin with what a test picks, each in front of those before it: the group that stands in front, and what is behind it
+-- groups that begin with what a test picks, each in front of those before it: the group that stands in front, and what is after it
 abbrev pub leading_turned : {X : Type 0} → (X → Bool) → List X → List X → List X → List X
 leading_turned begins [] group done = group ++ done
 leading_turned begins (x ∷ xs) group done = if begins x then leading_turned begins xs (x ∷ []) (group ++ done) else leading_turned begins xs (group ++ x ∷ []) done

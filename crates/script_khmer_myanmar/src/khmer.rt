@@ -26,9 +26,9 @@ use unicode_tables::UnicodeTables;
 pub struct KhmerMasks {
     /// Of a coeng and its Ra.
     pub pref: hb_mask_t,
-    /// Of all behind the first glyph: blwf, abvf and pstf together.
+    /// Of all after the first glyph: blwf, abvf and pstf together.
     pub behind: hb_mask_t,
-    /// Of what stands behind a coeng form.
+    /// Of what stands after a coeng form.
     pub cfar: hb_mask_t,
 }
 
@@ -44,9 +44,9 @@ pub fn decompose(tables: &UnicodeTables, ab: char) -> Option<(char, char)>
     }
 }
 
-/// Reorders each Khmer syllable that is one: all behind its first glyph get the features of what follows a base. From the
-/// second glyph on, a coeng with Ra behind it and each left vowel go to the syllable's start, and all before them merge with
-/// them. A coeng is one with a glyph behind it while no more than two were counted; a coeng with Ra sets the count to two.
+/// Reorders each Khmer syllable that is one: all after its first glyph get the features of what follows a base. From the
+/// second glyph on, a coeng with Ra after it and each left vowel go to the syllable's start, and all before them merge with
+/// them. A coeng is one with a glyph after it while no more than two were counted; a coeng with Ra sets the count to two.
 pub fn reorder_khmer(masks: &KhmerMasks, buffer: &mut hb_buffer_t) -> Result<(), AllocError>
     requires ready { IsReady buffer.old }
     ensures { OnOk result
@@ -128,7 +128,8 @@ fn reorder_from(
     requires some { 0 < walk.place }
     requires there { start + walk.place < end }
     requires within { end ≤ length (all_glyphs buffer.old) }
-    ensures walked { IsWalked masks.now start end walk.place walk.count result.place result.count buffer.old buffer.new }
+    ensures walked { IsWalked masks.now start end walk.place walk.count
+        result.place result.count buffer.old buffer.new }
     ensures onward { walk.place < result.place }
 {
     let from = start + walk.place;
@@ -150,7 +151,8 @@ fn reorder_one(
     requires ready { IsReady buffer.old }
     requires there { start + walk.place < end }
     requires within { end ≤ length (all_glyphs buffer.old) }
-    ensures walked { IsWalked masks.now start end walk.place walk.count result.place result.count buffer.old buffer.new }
+    ensures walked { IsWalked masks.now start end walk.place walk.count
+        result.place result.count buffer.old buffer.new }
     ensures onward { result.place ≡ walk.place + 1 }
 {
     let count = reorder_at(masks, buffer, start, end, walk.place, walk.count);
@@ -178,7 +180,8 @@ fn reorder_run(
     requires run { IsRun forms (nat_le walk.count 2) (slice_range (items_of buffer.old) (start + walk.place)
         (start + (walk.place + run))) }
     requires long { 0 < run }
-    ensures walked { IsWalked masks.now start end walk.place walk.count result.place result.count buffer.old buffer.new }
+    ensures walked { IsWalked masks.now start end walk.place walk.count
+        result.place result.count buffer.old buffer.new }
     ensures onward { result.place ≡ walk.place + run }
 {
     let to = walk.place + run;

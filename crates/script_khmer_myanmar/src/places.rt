@@ -2,7 +2,7 @@
 ghost use Rattle.std.specs.Prelude.{◌≡◌, ◌≤◌, length, map, replicate};
 ghost use Rattle.glyph_lists.specs.declared.info.hb_glyph_info_t.{hb_glyph_info_t as Glyph};
 ghost use Rattle.script_constants.specs.declared.ot_position_t.TheConstants as position;
-ghost use Rattle.script_khmer_myanmar.specs.Myanmar.{base_of, based, from_base, is_base, kinzi, myanmar_places, place_behind, place_below, place_of, place_there, places_behind, stays_apart};
+ghost use Rattle.script_khmer_myanmar.specs.Myanmar.{base_of, based, from_base, is_base, kinzi, myanmar_places, place_behind, place_below, place_of, place_there, places_after, stays_apart};
 ghost use Rattle.script_khmer_myanmar.specs.Turned.{glyph_at, glyphs_at};
 
 use glyph_lists::info::hb_glyph_info_t;
@@ -15,7 +15,7 @@ use script_constants::ot_position_t::{
     Position,
 };
 
-/// The glyphs of a syllable get their places: a kinzi in front goes behind the base, which is the first consonant, else
+/// The glyphs of a syllable get their places: a kinzi in front goes after the base, which is the first consonant, else
 /// the first glyph after it.
 pub(crate) fn set_places(glyphs: &mut [hb_glyph_info_t])
     ensures { glyphs.new ≡ glyphs_at (myanmar_places (map (λ g. g.category) glyphs.old)) glyphs.old }
@@ -54,7 +54,7 @@ fn place_all(glyphs: &mut [hb_glyph_info_t], place: Position)
 
 #[tactic(auto, using(crate::proofs::Placing::placing_begun, crate::proofs::Placing::placing_done))]
 fn place_behind(glyphs: &mut [hb_glyph_info_t])
-    ensures { glyphs.new ≡ glyphs_at (places_behind position.POS_AFTER_MAIN position.POS_BASE_C
+    ensures { glyphs.new ≡ glyphs_at (places_after position.POS_AFTER_MAIN position.POS_BASE_C
         (map (λ g. g.category) glyphs.old)) glyphs.old }
 {
     let mut now = POS_AFTER_MAIN;
@@ -75,7 +75,7 @@ fn at_place(glyph: hb_glyph_info_t, place: Position) -> hb_glyph_info_t
     }
 }
 
-/// The place of a glyph behind the base, by the place that the others have come to and that of the glyph before it.
+/// The place of a glyph after the base, by the place that the others have come to and that of the glyph before it.
 fn place_of(now: Position, before: Position, category: Category) -> Position
     ensures { result ≡ place_of now before category }
 {
@@ -87,7 +87,7 @@ fn place_of(now: Position, before: Position, category: Category) -> Position
     }
 }
 
-/// The place that the others have come to behind a glyph.
+/// The place that the others have come to after a glyph.
 fn place_after(now: Position, category: Category) -> Position
     ensures { result ≡ place_behind now category }
 {

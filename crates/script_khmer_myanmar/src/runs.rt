@@ -90,7 +90,7 @@ fn ends_run(glyphs: &[hb_glyph_info_t], i: usize, forms: bool, few: bool) -> boo
     !(forms && is_form(&glyphs[i], &glyphs[i + 1]))
 }
 
-/// The forms of a run get their features, and all behind the first form those of what stands there; then forms and left
+/// The forms of a run get their features, and all after the first form those of what stands there; then forms and left
 /// vowels go to the start of the syllable.
 pub(crate) fn move_forms(
     masks: &KhmerMasks,
@@ -147,7 +147,7 @@ fn mask_forms(glyphs: &mut [hb_glyph_info_t], mask: hb_mask_t)
     }
 }
 
-/// Masks the form at an index, where one stands there; tells the index behind what stands there.
+/// Masks the form at an index, where one stands there; tells the index after what stands there.
 fn mask_at(glyphs: &mut [hb_glyph_info_t], i: usize, mask: hb_mask_t) -> usize
     requires there { i + 2 ≤ length glyphs.old }
     ensures masked { take result glyphs.new

@@ -11,7 +11,7 @@ use Rattle.script_hebrew_thai.specs.Hebrew.{first_three}
 
 -- ---- Arabic (UTR 53)
 
--- so many modifier marks, behind so many others, lead the run and take another class; all up to their end merge
+-- so many modifier marks, after so many others, lead the run and take another class; all up to their end merge
 abbrev pub led_by : ℕ → ℕ → ℕ → List Item → Arranged
 led_by class below leading run =
     if leading == 0 then kept run
@@ -21,7 +21,7 @@ led_by class below leading run =
 abbrev pub leading_first : ℕ → ℕ → List Item → Arranged
 leading_first class new run = led_by new (count_below class run) (count_leading class run) run
 
--- an arrangement of what stands behind so many
+-- an arrangement of what stands after so many
 abbrev pub behind : ℕ → (List Item → Arranged) → List Item → Arranged
 behind n order run = record { items = take n run ++ (order (drop n run)).items; events = map (shifted n) (order (drop n run)).events }
 

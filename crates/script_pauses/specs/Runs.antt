@@ -13,7 +13,7 @@ use Rattle.script_pauses.specs.Tiles.{is_fixed, is_tile}
 abbrev pub width : FaceParts → Item → ℕ
 width font x = if nat_le x.number 65535 then width_of x.number font else 0
 
--- a run before its tiles are measured, behind a word of a width
+-- a run before its tiles are measured, after a word of a width
 abbrev pub run_behind : ℤ → Run
 run_behind word = record { word = word; fixed = 0; repeating = 0; tiles = 0 }
 
@@ -30,7 +30,7 @@ with_tiles font r (x ∷ xs) = if is_tile x then with_tiles font (with_tile font
 
 -- ---- the run of each tile
 
--- the word that ends before a glyph; behind tiles it has yet to begin
+-- the word that ends before a glyph; after tiles it has yet to begin
 abbrev pub word_before : Before → ℤ
 word_before (Word w) = w
 word_before (Tiles r) = pos 0
@@ -43,7 +43,7 @@ abbrev pub run_here : FaceParts → Before → List Item → Run
 run_here font (Word w) xs = with_tiles font (run_behind w) xs
 run_here font (Tiles r) xs = r
 
--- what stands behind the first of some glyphs, by what stands before it
+-- what stands after the first of some glyphs, by what stands before it
 abbrev pub next_before : FaceParts → Before → List Item → Position → Before
 next_before font before [] p = before
 next_before font before (x ∷ xs) p = if is_tile x then Tiles (run_here font before (x ∷ xs)) else Word (word_behind before x p)

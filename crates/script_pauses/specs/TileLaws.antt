@@ -26,7 +26,7 @@ pub record Reaches (word width : ℤ) (copies : ℕ) : Type 0 where
   pub enough : word ≤ℤ width
   pub little : width <ℤ (word +ℤ pos copies)
 
--- where tiles behind a word get copies, the leftmost begins so far to the left of the word's end that all together are as wide as the word, but for less than one unit for each copy
+-- where tiles after a word get copies, the leftmost begins so far to the left of the word's end that all together are as wide as the word, but for less than one unit for each copy
 abbrev pub TilesReach : Type 0
 TilesReach = (font : FaceParts) (word : ℤ) (x : Item) (xs rest : List Item) (ps : List Position)
     → list_all is_tile (x ∷ xs) ≡ true → begins_otherwise rest ≡ true → length ps ≡ length ((x ∷ xs) ++ rest)

@@ -65,7 +65,7 @@ fn tile_run(before: Before) -> Option<Run>
     }
 }
 
-/// What stands behind the first of some glyphs.
+/// What stands after the first of some glyphs.
 fn next_before(
     face: &Face,
     before: Before,
@@ -128,7 +128,7 @@ fn word_before(before: Before) -> i128
     }
 }
 
-/// The run of the tiles in front, behind a word of a width. It takes the time of these tiles.
+/// The run of the tiles in front, after a word of a width. It takes the time of these tiles.
 #[tactic(auto, using(crate::proofs::Measured::none_measured, crate::proofs::Measured::one_measured, crate::proofs::Measured::others_stay, crate::proofs::Measured::all_measured))]
 pub fn run_of(face: &Face, word: i128, glyphs: &[hb_glyph_info_t]) -> Run
     ensures { result ≡ with_tiles face.now (run_behind word) (strip glyphs.now) }

@@ -24,7 +24,7 @@ lost : (m : Machine) (cs : List ℕ) → fold (led m) None cs ≡ None
 lost m [] = refl
 lost m (c ∷ cs) = lost m cs
 
--- categories that lead nowhere lead nowhere with more behind them
+-- categories that lead nowhere lead nowhere with more after them
 lost_on : (m : Machine) (cs : List ℕ) (i k : ℕ) → state_after m (take i cs) ≡ None → state_after m (take (i + k) cs) ≡ None
 lost_on m cs i k e =
     ap (state_after m) (take-add i k cs) ∙ fold-append (led m) (Some 0) (take i cs) (take k (drop i cs))

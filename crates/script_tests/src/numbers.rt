@@ -83,7 +83,7 @@ impl Numbers {
         char::from_u32(self.next()).unwrap_or('\u{FFFD}')
     }
 
-    /// A list of characters, behind its length.
+    /// A list of characters, after its length.
     pub fn text(&mut self, alloc: Global) -> Result<String, Fail> {
         let mut text = String::new(alloc);
         let count = self.next();

@@ -35,15 +35,15 @@ NoHalants (x ∷ xs) = (is_halant x ≡ false) × NoHalants xs
 -- ---- one left vowel after another
 
 got_at : (pre front : List Item) (x : Item) (rest : List Item) (i : ℕ) → i ≡ length pre + length front → slice_get (pre ++ (front ++ x ∷ rest)) i ≡ Some x
-got_at pre front x rest i e = ap (slice_get (pre ++ (front ++ x ∷ rest))) e ∙ got_behind pre
+got_at pre front x rest i e = ap (slice_get (pre ++ (front ++ x ∷ rest))) e ∙ got_after pre
   where
     got_front : (f : List Item) → slice_get (f ++ x ∷ rest) (length f) ≡ Some x
     got_front [] = refl
     got_front (y ∷ ys) = got_front ys
 
-    got_behind : (p : List Item) → slice_get (p ++ (front ++ x ∷ rest)) (length p + length front) ≡ Some x
-    got_behind [] = let none : 0 + length front ≡ length front = omega arith in ap (slice_get (front ++ x ∷ rest)) none ∙ got_front front
-    got_behind (y ∷ ys) = let more : suc (length ys) + length front ≡ suc (length ys + length front) = omega arith in ap (slice_get (y ∷ (ys ++ (front ++ x ∷ rest)))) more ∙ got_behind ys
+    got_after : (p : List Item) → slice_get (p ++ (front ++ x ∷ rest)) (length p + length front) ≡ Some x
+    got_after [] = let none : 0 + length front ≡ length front = omega arith in ap (slice_get (front ++ x ∷ rest)) none ∙ got_front front
+    got_after (y ∷ ys) = let more : suc (length ys) + length front ≡ suc (length ys + length front) = omega arith in ap (slice_get (y ∷ (ys ++ (front ++ x ∷ rest)))) more ∙ got_after ys
 
 -- what happens at an index where no halant stands
 abbrev step_if : Bool → ℕ → ℕ → List Item → Step

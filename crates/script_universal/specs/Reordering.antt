@@ -10,7 +10,7 @@ use Rattle.syllable_lists.specs.Pieces.{ArePermuted}
 use Rattle.stage_rules.specs.Rewriting.{Rewritten, kept, then_rule, within, in_syllables, by_syllable}
 use Rattle.stage_rules.specs.Parts.{first_to_back}
 
--- categories of what stands behind a base: finals, medials, vowels, their modifiers and those of finals
+-- categories of what stands after a base: finals, medials, vowels, their modifiers and those of finals
 abbrev pub post_base_categories : List ℕ
 post_base_categories =
     category.FAbv ∷ category.FBlw ∷ category.FPst ∷ category.MAbv ∷ category.MBlw ∷ category.MPst ∷ category.MPre ∷ category.VAbv ∷ category.VBlw ∷ category.VPst ∷ category.VPre
@@ -43,7 +43,7 @@ abbrev pub begins_with_reph : List Item → Bool
 begins_with_reph [] = false
 begins_with_reph (x ∷ xs) = x.category == category.R && nat_lt 0 (length xs)
 
--- how many items stand up to where a reph goes: it and those behind it that it passes
+-- how many items stand up to where a reph goes: it and those after it that it passes
 abbrev pub reph_end : List Item → ℕ
 reph_end xs = 1 + prefix_len (λ y. not (stops_reph y)) (drop 1 xs)
 
@@ -53,12 +53,12 @@ reph_moved xs = if begins_with_reph xs then within 0 (reph_end xs) (first_to_bac
 
 -- ---- left vowels
 
--- what is left of a syllable after an index, and the index behind the last halant before it
+-- what is left of a syllable after an index, and the index after the last halant before it
 pub record Step : Type 0 where
   pub rewritten : Rewritten
   pub behind : ℕ
 
--- an item goes behind the last halant, merged with those that it passes
+-- an item goes after the last halant, merged with those that it passes
 abbrev pub left_met : ℕ → ℕ → List Item → Item → Step
 left_met i behind xs x =
     if is_halant x then record { rewritten = kept xs; behind = i + 1 }

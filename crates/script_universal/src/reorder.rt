@@ -25,8 +25,8 @@ use stage_rules::syllable_fronts::move_fronts;
 use stage_rules::walk::{SyllableRule, each_syllable};
 use std::alloc::AllocError;
 
-/// Reorders each syllable of a kind that is: a reph in front goes before the first glyph behind the base or halant that no
-/// ligature took, else to the end; a left vowel goes behind the last such halant before it, else to the start. What moves
+/// Reorders each syllable of a kind that is: a reph in front goes before the first glyph after the base or halant that no
+/// ligature took, else to the end; a left vowel goes after the last such halant before it, else to the start. What moves
 /// merges with what it passes.
 pub fn reorder_use(buffer: &mut hb_buffer_t) -> Result<(), AllocError>
     requires ready { IsReady buffer.old }
@@ -126,7 +126,7 @@ fn passed_by_reph(glyphs: &[hb_glyph_info_t]) -> usize
     glyphs.len()
 }
 
-/// Each left vowel goes behind the last halant before it, else to the start.
+/// Each left vowel goes after the last halant before it, else to the start.
 #[tactic(auto, using(crate::proofs::Stretches::none_walked))]
 fn move_left(buffer: &mut hb_buffer_t, start: usize, end: usize)
     requires ready { IsReady buffer.old }
@@ -142,7 +142,7 @@ fn move_left(buffer: &mut hb_buffer_t, start: usize, end: usize)
     }
 }
 
-/// Moves the left vowels from an index up to the next halant; tells the index behind that, or the end.
+/// Moves the left vowels from an index up to the next halant; tells the index after that, or the end.
 fn move_left_from(buffer: &mut hb_buffer_t, start: usize, end: usize, i: usize) -> usize
     requires ready { IsReady buffer.old }
     requires there { start + i < end }

@@ -5,7 +5,7 @@ use Rattle.glyph_lists.specs.declared.info.hb_glyph_info_t.{hb_glyph_info_t}
 use Rattle.glyph_lists.specs.Items.{Item, item_of, strip}
 use Rattle.glyph_lists.specs.Lists.{seen_at, take_next, take_one}
 use Rattle.glyph_properties.specs.Categories.{is_decimal_number}
-use Rattle.shape_fractions.specs.Fractions.{digits, digits_before, digits_behind}
+use Rattle.shape_fractions.specs.Fractions.{digits, digits_before, digits_after}
 
 one_more : (n : ℕ) (b : Bool) → b ≡ true → (if b then n + 1 else 0) ≡ n + 1
 one_more n true e = refl
@@ -69,7 +69,7 @@ back_stops gs at start d le lt is b =
 -- ---- walking to the end
 
 pub record Ahead (gs : List hb_glyph_info_t) (at end : ℕ) : Type 0 where
-  pub count : digits_behind at (strip gs) ≡ (end - (at + 1)) + digits (drop end (strip gs))
+  pub count : digits_after at (strip gs) ≡ (end - (at + 1)) + digits (drop end (strip gs))
   pub from : at + 1 ≤ end
   pub within : end ≤ length gs
 
@@ -86,7 +86,7 @@ ahead_goes_on gs at end d lt is a =
     let start = a.from in
     record { count = omega (arith, before, one, start); from = omega (arith, start); within = omega (arith, lt) }
 
-pub ahead_is_all : (gs : List hb_glyph_info_t) (at end : ℕ) → length gs ≤ end → Ahead gs at end → end - (at + 1) ≡ digits_behind at (strip gs)
+pub ahead_is_all : (gs : List hb_glyph_info_t) (at end : ℕ) → length gs ≤ end → Ahead gs at end → end - (at + 1) ≡ digits_after at (strip gs)
 ahead_is_all gs at end le a =
     let same = length-map gs item_of in
     let none : digits (drop end (strip gs)) ≡ 0 = ap digits (drop_all end (strip gs) (omega (arith, le, same))) in
@@ -94,7 +94,7 @@ ahead_is_all gs at end le a =
     omega (arith, before, none)
 
 pub ahead_stops : (gs : List hb_glyph_info_t) (at end : ℕ) (d : hb_glyph_info_t) → end < length gs → is_decimal_number (item_of (get_or gs end d)) ≡ false
-    → Ahead gs at end → end - (at + 1) ≡ digits_behind at (strip gs)
+    → Ahead gs at end → end - (at + 1) ≡ digits_after at (strip gs)
 ahead_stops gs at end d lt is a =
     let none : digits (drop end (strip gs)) ≡ 0 =
     ap digits (drop_more (strip gs) end (item_of d) (within gs end lt) ∙ ap (λ x. x ∷ drop (end + 1) (strip gs)) (seen_at item_of gs end d))

@@ -23,7 +23,7 @@ use Rattle.stage_rules.specs.Lemmas.Happened.{call_happens, nothing_happens}
 use Rattle.stage_rules.specs.Lemmas.Written.{happened_followed, happens_followed}
 use Rattle.stage_rules.specs.Stages.{Becomes, Happens, IsFollowed}
 use Rattle.shape_fractions.specs.declared.fractions.FractionMasks.{FractionMasks}
-use Rattle.shape_fractions.specs.Fractions.{around_slash, at_place, digits_before, digits_behind, first_mask, fraction_items, fractions_to, is_slash, is_slash_at, last_mask, with_features_within, with_fractions}
+use Rattle.shape_fractions.specs.Fractions.{around_slash, at_place, digits_before, digits_after, first_mask, fraction_items, fractions_to, is_slash, is_slash_at, last_mask, with_features_within, with_fractions}
 use Rattle.shape_fractions.proofs.Stretches.{become_both, items_now}
 use Rattle.glyph_lists.specs.Lists.{seen_at}
 
@@ -136,7 +136,7 @@ read_alike : (f g : View → Read) (s new : Sides) → f (view_of s) ≡ g (view
 read_alike f g s new e h = record { follows = h.follows ∙ ap (λ r. run_after r (run_of s)) e; settings = h.settings; ready = h.ready }
 
 pub place_of_slash : (m : FractionMasks) (at before behind : ℕ) (d : hb_glyph_info_t) (s new : Sides) → at < length (all_glyphs s) → is_slash (item_of (get_or (all_glyphs s) at d)) ≡ true
-    → before ≡ digits_before at (items_of s) → behind ≡ digits_behind at (items_of s) → IsFollowed (always (around_slash m at before behind)) s new → IsFollowed (always (at_place m at)) s new
+    → before ≡ digits_before at (items_of s) → behind ≡ digits_after at (items_of s) → IsFollowed (always (around_slash m at before behind)) s new → IsFollowed (always (at_place m at)) s new
 place_of_slash m at before behind d s new lt e b a f =
     let there = slash_there (all_glyphs s) at d lt ∙ e in
     read_alike (around_slash m at before behind) (at_place m at) s new

@@ -22,12 +22,12 @@ abbrev pub digits : List Item → ℕ
 digits [] = 0
 digits (x ∷ xs) = if is_decimal_number x then digits xs + 1 else 0
 
--- how many of them stand directly before a place, and directly behind it
+-- how many of them stand directly before a place, and directly after it
 abbrev pub digits_before : ℕ → List Item → ℕ
 digits_before at xs = digits (reverse (take at xs))
 
-abbrev pub digits_behind : ℕ → List Item → ℕ
-digits_behind at xs = digits (drop (at + 1) xs)
+abbrev pub digits_after : ℕ → List Item → ℕ
+digits_after at xs = digits (drop (at + 1) xs)
 
 -- the features of a mask act on an item too, and on the items of a stretch
 abbrev pub with_features : ℕ → Item → Item
@@ -48,14 +48,14 @@ abbrev pub fraction_items : Direction → FractionMasks → ℕ → ℕ → ℕ 
 fraction_items d m start at end xs =
     with_features_within (last_mask d m) (at + 1) end (with_features_within m.frac at (at + 1) (with_features_within (first_mask d m) start at xs))
 
--- a slash with so many numbers before and behind it is a fraction, in which a break is unsafe; without a number on one side it may become one by text put there
+-- a slash with so many numbers before and after it is a fraction, in which a break is unsafe; without a number on one side it may become one by text put there
 abbrev pub around_slash : FractionMasks → ℕ → ℕ → ℕ → View → Read
 around_slash m at before behind v =
     if before == 0 || behind == 0 then with_events (Concat at (at + 1) ∷ []) v
     else with_events (Break (at - before) (at + 1 + behind) ∷ []) (record v { items = fraction_items v.direction m (at - before) at (at + 1 + behind) v.items })
 
 abbrev pub at_place : FractionMasks → ℕ → View → Read
-at_place m at v = if is_slash_at at v.items then around_slash m at (digits_before at v.items) (digits_behind at v.items) v else with_events [] v
+at_place m at v = if is_slash_at at v.items then around_slash m at (digits_before at v.items) (digits_after at v.items) v else with_events [] v
 
 -- the slashes among so many items, one after another
 abbrev pub fractions_to : FractionMasks → ℕ → View → Read

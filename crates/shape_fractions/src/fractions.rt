@@ -6,7 +6,7 @@ ghost use Rattle.glyph_buffer.specs.Readings.{always};
 ghost use Rattle.glyph_buffer.specs.Sides.{all_glyphs, items_of};
 ghost use Rattle.stage_rules.specs.Ready.{IsReady};
 ghost use Rattle.stage_rules.specs.Stages.{Becomes, IsFollowed};
-ghost use Rattle.shape_fractions.specs.Fractions.{around_slash, at_place, digits_before, digits_behind, first_mask, fraction_items, is_slash, last_mask, with_features_within, with_fractions};
+ghost use Rattle.shape_fractions.specs.Fractions.{around_slash, at_place, digits_before, digits_after, first_mask, fraction_items, is_slash, last_mask, with_features_within, with_fractions};
 
 use glyph_buffer::buffer::hb_buffer_t;
 use glyph_lists::info::{hb_glyph_info_t, hb_mask_t};
@@ -103,10 +103,10 @@ fn numbers_start(glyphs: &[hb_glyph_info_t], at: usize) -> usize
 }
 
 #[tactic(auto, using(crate::proofs::Digits::ahead_begins, crate::proofs::Digits::ahead_goes_on, crate::proofs::Digits::ahead_is_all, crate::proofs::Digits::ahead_stops))]
-/// Where the numbers behind a place end.
+/// Where the numbers after a place end.
 fn numbers_end(glyphs: &[hb_glyph_info_t], at: usize) -> usize
     requires { at < length glyphs.now }
-    ensures value { result - (at + 1) ≡ digits_behind at (strip glyphs.now) }
+    ensures value { result - (at + 1) ≡ digits_after at (strip glyphs.now) }
     ensures from { at < result }
     ensures within { result ≤ length glyphs.now }
 {

@@ -20,7 +20,7 @@ abbrev pub RunsOn : Bool → (List Item → Arranged) → List Item → List Ite
 RunsOn true reorders front run rest start i n old new = (n ≡ i + 1) × (length (arranged_run reorders run).items ≡ length run) × IsRearranged front (arranged_run reorders run) rest old new
 RunsOn false reorders front run rest start i n old new = (n ≡ start) × (new ≡ old)
 
--- the item at an index was met, behind a run from `start` on; the next run begins there
+-- the item at an index was met, after a run from `start` on; the next run begins there
 abbrev pub Meets : (List Item → Arranged) → ℕ → ℕ → ℕ → Sides → Sides → Type 0
 Meets reorders start i n old new = (front run : List Item) (y : Item) (ys : List Item) → items_of old ≡ front ++ (run ++ y ∷ ys) → length front ≡ start → start + length run ≡ i
     → RunsOn (mark_class y == 0) reorders front run (y ∷ ys) start i n old new
@@ -32,7 +32,7 @@ pub record HasItems (xs : List Item) (old new : Sides) : Type 0 where
   pub frame : frame_of new ≡ frame_of old
   pub ready : IsReady new
 
--- the item at an index, behind one of a class and before another, is shown where it is a joiner that keeps nothing apart
+-- the item at an index, after one of a class and before another, is shown where it is a joiner that keeps nothing apart
 abbrev pub ShowsAt : ℕ → ℕ → ℕ → Sides → Sides → Type 0
 ShowsAt k i n old new = (front : List Item) (before x y : Item) (ys : List Item) → items_of old ≡ front ++ (x ∷ y ∷ ys) → length front ≡ i → mark_class before ≡ k
     → (n ≡ mark_class x) × HasItems (front ++ (joiner_between before x y ∷ y ∷ ys)) old new

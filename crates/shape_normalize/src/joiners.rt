@@ -36,7 +36,7 @@ fn shown(info: &hb_glyph_info_t) -> hb_glyph_info_t
     }
 }
 
-/// Shows the item at an index, behind one of a class, where it is a joiner that keeps nothing apart; answers the item's class.
+/// Shows the item at an index, after one of a class, where it is a joiner that keeps nothing apart; answers the item's class.
 fn show_joiner(before: u8, i: usize, buffer: &mut hb_buffer_t) -> u8
     requires ready { IsReady buffer.old }
     requires there { i + 1 < length buffer.old.ahead }
@@ -69,7 +69,7 @@ fn show_between(count: usize, buffer: &mut hb_buffer_t)
     }
 }
 
-/// Shows each grapheme joiner between two items where the class behind it is 0, or not less than the one before it. It takes
+/// Shows each grapheme joiner between two items where the class after it is 0, or not less than the one before it. It takes
 /// linear time.
 pub(crate) fn show_joiners(buffer: &mut hb_buffer_t)
     requires ready { IsReady buffer.old }

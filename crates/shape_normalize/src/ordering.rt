@@ -74,7 +74,8 @@ fn arrange_run<N: Normalizing>(
     requires ready { IsReady buffer.old }
     requires ordered { start ≤ end }
     requires within { end ≤ length (all_glyphs buffer.old) }
-    ensures ok { OnOk result (Rearranges (arranged_run (N.normalizer by.now).reorders) start end buffer.old buffer.new) }
+    ensures ok { OnOk result (Rearranges (arranged_run (N.normalizer by.now).reorders) start end
+        buffer.old buffer.new) }
     ensures count { OnOk result (length (all_glyphs buffer.new) ≡ length (all_glyphs buffer.old)) }
     ensures err { IfErr result (λ e. e ≡ ShapeCause.OutOfMemory) }
 {
@@ -98,7 +99,7 @@ fn item_at(i: usize, buffer: &hb_buffer_t) -> hb_glyph_info_t
     buffer.info_slice()[i]
 }
 
-/// Goes on by one item behind the run from `start` on, and answers where the next run begins.
+/// Goes on by one item after the run from `start` on, and answers where the next run begins.
 fn arrange_next<N: Normalizing>(
     by: &N,
     alloc: Global,

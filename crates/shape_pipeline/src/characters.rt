@@ -86,7 +86,8 @@ impl<S: hb_ot_shaper_t, P: SyllableSpans> hb_ot_shape_context_t<'_, S, P> {
         ensures ok { OnOk result (IsFollowed
             (preprocessed (⟦<Self as Shaped>⟧.shaping self.now (text_settings buffer.old))) buffer.old buffer.new) }
         ensures err { IfErr result (λ e. e ≢ ShapeCause.OutOfMemory → read_of
-            (preprocessed (⟦<Self as Shaped>⟧.shaping self.now (text_settings buffer.old))) (run_of buffer.old) ≡ Err e) }
+            (preprocessed (⟦<Self as Shaped>⟧.shaping self.now (text_settings buffer.old)))
+            (run_of buffer.old) ≡ Err e) }
     {
         let plan = self.plan;
         plan.shaper
@@ -98,7 +99,8 @@ impl<S: hb_ot_shaper_t, P: SyllableSpans> hb_ot_shape_context_t<'_, S, P> {
     pub(crate) fn choose_characters(&self, buffer: &mut hb_buffer_t) -> Result<(), ShapeCause>
         requires { IsReady buffer.old }
         ensures ok { OnOk result (IsFollowed
-            (characters_chosen (⟦<Self as Shaped>⟧.shaping self.now (text_settings buffer.old))) buffer.old buffer.new) }
+            (characters_chosen (⟦<Self as Shaped>⟧.shaping self.now (text_settings buffer.old)))
+            buffer.old buffer.new) }
         ensures err { IfErr result (λ e. e ≢ ShapeCause.OutOfMemory → read_of
             (characters_chosen (⟦<Self as Shaped>⟧.shaping self.now (text_settings buffer.old))) (run_of buffer.old)
             ≡ Err e) }

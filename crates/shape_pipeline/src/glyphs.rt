@@ -76,7 +76,8 @@ impl<S: hb_ot_shaper_t, P: SyllableSpans> hb_ot_shape_context_t<'_, S, P> {
         requires ready { IsReady buffer.old }
         requires numbers { are_glyphs (items_of buffer.old) ≡ true }
         ensures ok { OnOk result (IsDone
-            (glyphs_substituted (⟦<Self as Shaped>⟧.shaping self.now (text_settings buffer.old))) buffer.old buffer.new) }
+            (glyphs_substituted (⟦<Self as Shaped>⟧.shaping self.now (text_settings buffer.old)))
+            buffer.old buffer.new) }
         ensures err { IfErr result (λ e. e ≢ ShapeCause.OutOfMemory → read_of
             (glyphs_substituted (⟦<Self as Shaped>⟧.shaping self.now (text_settings buffer.old)))
             (run_of buffer.old) ≡ Err e) }

@@ -126,7 +126,8 @@ impl<S: hb_ot_shaper_t, P: SyllableSpans> hb_ot_shape_context_t<'_, S, P> {
         ensures err { IfErr result (λ e. e ≢ ShapeCause.OutOfMemory → read_of
             (only_if self.now.plan.now.script_plan.choices.apply_gpos
             (positioned_by self.now.face.now self.now.plan.now.script_plan.map
-            (pauses_of (⟦<Self as Shaped>⟧.shaping self.now (text_settings buffer.old))))) (run_of buffer.old) ≡ Err e) }
+            (pauses_of (⟦<Self as Shaped>⟧.shaping self.now (text_settings buffer.old)))))
+            (run_of buffer.old) ≡ Err e) }
     {
         if !self.plan.script_plan.choices.apply_gpos {
             return Ok(());
@@ -153,7 +154,8 @@ impl<S: hb_ot_shaper_t, P: SyllableSpans> hb_ot_shape_context_t<'_, S, P> {
         ensures err { IfErr result (λ e. e ≢ ShapeCause.OutOfMemory → read_of
             (only_if self.now.plan.now.script_plan.choices.apply_gpos
             (positioned_by self.now.face.now self.now.plan.now.script_plan.map
-            (pauses_of (⟦<Self as Shaped>⟧.shaping self.now (text_settings buffer.old))))) (run_of buffer.old) ≡ Err e) }
+            (pauses_of (⟦<Self as Shaped>⟧.shaping self.now (text_settings buffer.old)))))
+            (run_of buffer.old) ≡ Err e) }
     {
         self.position_by_lookups(buffer)?;
         self.kern(buffer);
@@ -165,7 +167,8 @@ impl<S: hb_ot_shaper_t, P: SyllableSpans> hb_ot_shape_context_t<'_, S, P> {
         requires ready { IsReady buffer.old }
         requires numbers { are_glyphs (items_of buffer.old) ≡ true }
         ensures ok { OnOk result (IsDone
-            (positions_adjusted (⟦<Self as Shaped>⟧.shaping self.now (text_settings buffer.old))) buffer.old buffer.new) }
+            (positions_adjusted (⟦<Self as Shaped>⟧.shaping self.now (text_settings buffer.old)))
+            buffer.old buffer.new) }
         ensures err { IfErr result (λ e. e ≢ ShapeCause.OutOfMemory → read_of
             (positions_adjusted (⟦<Self as Shaped>⟧.shaping self.now (text_settings buffer.old)))
             (run_of buffer.old) ≡ Err e) }

@@ -55,7 +55,8 @@ impl<S: hb_ot_shaper_t, P: SyllableSpans> hb_ot_shape_context_t<'_, S, P> {
         ensures numbers { OnOk result (sets_glyphs (text_settings buffer.old) ≡ true
             → are_glyphs (items_of buffer.new) ≡ true) }
         ensures err { IfErr result (λ e. e ≢ ShapeCause.OutOfMemory → read_of
-            (after_ranges (⟦<Self as Shaped>⟧.shaping self.now (text_settings buffer.old))) (run_of buffer.old) ≡ Err e) }
+            (after_ranges (⟦<Self as Shaped>⟧.shaping self.now (text_settings buffer.old)))
+            (run_of buffer.old) ≡ Err e) }
     {
         self.take_glyphs(buffer);
         self.substitute_glyphs(buffer)?;

@@ -38,8 +38,8 @@ of_line direction =
     else on (codes "vert") F_GLOBAL_SEARCH ∷ []
 
 -- marks, composition and localised forms
-abbrev pub asked_behind : Direction → List Ask
-asked_behind direction =
+abbrev pub asked_after : Direction → List Ask
+asked_after direction =
     on (codes "Buzz") F_NONE ∷ on (codes "BUZZ") F_NONE ∷
     on (codes "abvm") F_NONE ∷ on (codes "blwm") F_NONE ∷ on (codes "ccmp") F_NONE ∷ on (codes "locl") F_NONE ∷
     on (codes "mark") F_MANUAL_JOINERS ∷ on (codes "mkmk") F_MANUAL_JOINERS ∷ on (codes "rlig") F_NONE ∷

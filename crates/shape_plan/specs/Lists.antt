@@ -162,7 +162,7 @@ features_of MYANMAR_SHAPER script has_rclt = myanmar_features
 features_of UNIVERSAL_SHAPER script has_rclt = universal_features
 features_of _ script has_rclt = []
 
--- what it asks behind what the user asked
+-- what it asks after what the user asked
 abbrev pub overrides_of : hb_ot_script_shaper_t → List Ask
 overrides_of HANGUL_SHAPER = off (codes "calt") ∷ []
 overrides_of INDIC_SHAPER = off (codes "liga") ∷ then_pause ClearSyllables ∷ []

@@ -5,7 +5,7 @@ use Rattle.shaping_text.specs.declared.direction.Direction.{Direction}
 use Rattle.feature_text.specs.declared.feature.Feature.{Feature}
 use Rattle.map_builder.specs.Compiled.{MapRequests}
 use Rattle.shape_plan.specs.Asks.{with_ask}
-use Rattle.shape_plan.specs.Common.{asked_first, asked_behind, ask_of}
+use Rattle.shape_plan.specs.Common.{asked_first, asked_after, ask_of}
 
 -- what a shaper asks, in two parts
 pub record Asking : Type 0 where
@@ -16,8 +16,8 @@ pub record Asking : Type 0 where
 abbrev pub with_user : List Feature → MapRequests → MapRequests
 with_user features b = fold with_ask b (map ask_of features)
 
--- all that is asked, in order: what every text asks first, what its shaper asks, what every text asks behind that, what the user
+-- all that is asked, in order: what every text asks first, what its shaper asks, what every text asks after that, what the user
 -- asks, and what the shaper wants whatever the user asked
 abbrev pub with_requests : Asking → Direction → Option Script → List Feature → MapRequests → MapRequests
 with_requests asking direction script features b =
-    asking.overrides script (with_user features (fold with_ask (asking.collects script (fold with_ask b (asked_first direction))) (asked_behind direction)))
+    asking.overrides script (with_user features (fold with_ask (asking.collects script (fold with_ask b (asked_first direction))) (asked_after direction)))

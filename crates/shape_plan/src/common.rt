@@ -1,7 +1,7 @@
 //! What every text asks.
 ghost use Rattle.std.specs.Prelude.{◌≡◌, fold, OnOk};
 ghost use Rattle.shape_plan.specs.Asks.{with_ask};
-ghost use Rattle.shape_plan.specs.Common.{asked_behind, asked_first, of_line, of_side};
+ghost use Rattle.shape_plan.specs.Common.{asked_after, asked_first, of_line, of_side};
 
 use crate::ask::{Ask, added, ask_all, on, tag};
 use map_builder::builder::hb_ot_map_builder_t;
@@ -89,9 +89,9 @@ pub fn ask_first(builder: &mut hb_ot_map_builder_t, direction: Direction) -> Res
     ask_all(builder, &FIRST)
 }
 
-/// Asks for what every text has behind what its shaper asks for.
-pub fn ask_behind(builder: &mut hb_ot_map_builder_t, direction: Direction) -> Result<(), AllocError>
-    ensures { OnOk result (builder.new ≡ fold with_ask builder.old (asked_behind direction)) }
+/// Asks for what every text has after what its shaper asks for.
+pub fn ask_after(builder: &mut hb_ot_map_builder_t, direction: Direction) -> Result<(), AllocError>
+    ensures { OnOk result (builder.new ≡ fold with_ask builder.old (asked_after direction)) }
 {
     ask_all(builder, &BEHIND)?;
     ask_of_line(builder, direction)

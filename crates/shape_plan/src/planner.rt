@@ -42,7 +42,8 @@ fn new_builder<'a, L: LanguageTags>(
     language: Option<&Language>,
 ) -> hb_ot_map_builder_t<'a>
     ensures { result
-        ≡ nothing_asked face.now script (wanted_language_tags (L.tags_of languages.now) (option_copied language.entry)) }
+        ≡ nothing_asked face.now script
+        (wanted_language_tags (L.tags_of languages.now) (option_copied language.entry)) }
 {
     let (scripts, languages) = tags_from_script_and_language(script, language, languages);
     hb_ot_map_builder_t::new(
@@ -128,7 +129,7 @@ impl<'a, S: PlannedShaper> hb_ot_shape_planner_t<'a, S> {
     {
         common::ask_first(&mut self.ot_map, self.direction)?;
         self.shaper.collect_features(&mut self.ot_map, self.script)?;
-        common::ask_behind(&mut self.ot_map, self.direction)?;
+        common::ask_after(&mut self.ot_map, self.direction)?;
         user::ask_features(&mut self.ot_map, features)?;
         self.shaper.override_features(&mut self.ot_map, self.script)
     }

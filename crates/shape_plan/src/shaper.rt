@@ -42,8 +42,8 @@ pub trait hb_ot_shaper_t: PlannedShaper {
     ) -> Result<(), ShapeCause>
         requires ready { IsReady buffer.old }
         ensures ok { OnOk result (IsFollowed
-            ((rules self.now plan.now).preprocesses face.now tables.now (text_settings buffer.old)) buffer.old
-            buffer.new) }
+            ((rules self.now plan.now).preprocesses face.now tables.now (text_settings buffer.old))
+            buffer.old buffer.new) }
         ensures err { IfErr result (λ e. e ≢ ShapeCause.OutOfMemory → read_of
             ((rules self.now plan.now).preprocesses face.now tables.now (text_settings buffer.old)) (run_of buffer.old)
             ≡ Err e) };
@@ -90,7 +90,8 @@ pub trait hb_ot_shaper_t: PlannedShaper {
     ) -> Result<(), ShapeCause>
         requires ready { IsReady buffer.old }
         ensures ok { OnOk result (IsFollowed
-            ((rules self.now plan.now).sets_masks face.now tables.now (text_settings buffer.old)) buffer.old buffer.new) }
+            ((rules self.now plan.now).sets_masks face.now tables.now (text_settings buffer.old))
+            buffer.old buffer.new) }
         ensures err { IfErr result (λ e. e ≢ ShapeCause.OutOfMemory → read_of
             ((rules self.now plan.now).sets_masks face.now tables.now (text_settings buffer.old)) (run_of buffer.old)
             ≡ Err e) };
@@ -130,7 +131,8 @@ pub trait hb_ot_shaper_t: PlannedShaper {
         ensures ok { OnOk result (IsDone
             ((rules self.now plan.now).postprocesses face.now (text_settings buffer.old)) buffer.old buffer.new) }
         ensures err { IfErr result (λ e. e ≢ ShapeCause.OutOfMemory → read_of
-            ((rules self.now plan.now).postprocesses face.now (text_settings buffer.old)) (run_of buffer.old) ≡ Err e) };
+            ((rules self.now plan.now).postprocesses face.now (text_settings buffer.old))
+            (run_of buffer.old) ≡ Err e) };
 
     /// Whether clusters that are in order stay so at the levels that keep them in order.
     fn keeps_cluster_order(&self) -> bool

@@ -23,7 +23,7 @@ is_other_extender u = (nat_le 0xFF9E u && nat_le u 0xFF9F) || (nat_le 0xE0020 u 
 abbrev pub is_extender : ℕ → Bool
 is_extender u = is_mark_character u || is_emoji_modifier u || (u == 0x200D) || is_other_extender u
 
--- the second of two regional indicators, and a pictographic behind a joiner
+-- the second of two regional indicators, and a pictographic after a joiner
 abbrev pub is_joined : Tables → Before → ℕ → Bool
 is_joined t before u =
     (is_regional_indicator u && is_regional_indicator before.character && not before.continues)

@@ -15,7 +15,7 @@ pub struct Before {
 }
 
 /// Whether a character goes on with the one before it: marks, emoji modifiers, joiners and extenders do; so does the
-/// second of two regional indicators, and a pictographic character behind a joiner.
+/// second of two regional indicators, and a pictographic character after a joiner.
 pub fn continues(tables: &UnicodeTables, before: Option<Before>, u: char) -> bool
     ensures { result ≡ continues tables.now before u }
 {

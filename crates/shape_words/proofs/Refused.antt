@@ -12,7 +12,7 @@ use Rattle.run_options.specs.declared.fault.RunFault.{RunFault}
 use Rattle.run_options.specs.declared.fault.RunFault.TheVariants.{Words}
 use Rattle.shaping_text.specs.declared.direction.Direction.TheVariants.{Invalid}
 use Rattle.shaping_text.specs.Direction.{direction_of_text}
-use Rattle.shape_words.specs.Words.{Lookup, and_then, asked, behind, features_in, features_of, parts_of, values_in, direction_in, file_in, hb_shape, options_of, or_words, read_or, script_in, settings_of, some_script, language_in, language_or_none, level_in, level_of_text, level_or_default}
+use Rattle.shape_words.specs.Words.{Lookup, and_then, asked, after, features_in, features_of, parts_of, values_in, direction_in, file_in, hb_shape, options_of, or_words, read_or, script_in, settings_of, some_script, language_in, language_or_none, level_in, level_of_text, level_or_default}
 
 -- a result that is refused by Words alone
 abbrev RefusedByWords : {A : Type 0} → Result A RunFault → Type 0
@@ -34,14 +34,14 @@ file-refused : (o : Option (List ℕ)) → RefusedByWords (ok_or o Words)
 file-refused None e same = cc
 file-refused (Some name) e same = let no : ⊥ = cc in absurd no
 
-behind-refused : (fs : List Feature) (rest : Result (List Feature) RunFault) → RefusedByWords rest → RefusedByWords (behind fs rest)
-behind-refused fs (Ok gs) h e same = let no : ⊥ = cc in absurd no
-behind-refused fs (Err f) h e same = let fault : f ≡ e = cc in h e (ap Err fault)
+after-refused : (fs : List Feature) (rest : Result (List Feature) RunFault) → RefusedByWords rest → RefusedByWords (after fs rest)
+after-refused fs (Ok gs) h e same = let no : ⊥ = cc in absurd no
+after-refused fs (Err f) h e same = let fault : f ≡ e = cc in h e (ap Err fault)
 
 features-refused : (parts : List (List ℕ)) → RefusedByWords (features_of parts)
 features-refused [] e same = let no : ⊥ = cc in absurd no
 features-refused (part ∷ parts) e same =
-    then_words (or_words (feature_of_text part)) _ (or_words-refused (feature_of_text part)) (λ f. behind-refused (f ∷ []) (features_of parts) (features-refused parts)) e same
+    then_words (or_words (feature_of_text part)) _ (or_words-refused (feature_of_text part)) (λ f. after-refused (f ∷ []) (features_of parts) (features-refused parts)) e same
 
 language-refused : (o : Option (List ℕ)) → RefusedByWords (language_or_none o)
 language-refused None e same = let no : ⊥ = cc in absurd no

@@ -170,14 +170,14 @@ abbrev pub parts_of : List ℕ → List (List ℕ)
 parts_of text = slice_split (λ byte. byte == 44) text
 
 -- features in front of others
-abbrev pub behind : List Feature → Result (List Feature) RunFault → Result (List Feature) RunFault
-behind features (Ok rest) = Ok (features ++ rest)
-behind features (Err e) = Err e
+abbrev pub after : List Feature → Result (List Feature) RunFault → Result (List Feature) RunFault
+after features (Ok rest) = Ok (features ++ rest)
+after features (Err e) = Err e
 
 -- the features that the parts write
 abbrev pub features_of : List (List ℕ) → Result (List Feature) RunFault
 features_of [] = Ok []
-features_of (part ∷ parts) = and_then (or_words (feature_of_text part)) (λ feature. behind (feature ∷ []) (features_of parts))
+features_of (part ∷ parts) = and_then (or_words (feature_of_text part)) (λ feature. after (feature ∷ []) (features_of parts))
 
 -- the features of the values of an option
 abbrev pub features_in : List (List ℕ) → Result (List Feature) RunFault

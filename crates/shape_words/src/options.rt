@@ -1,7 +1,7 @@
 ghost use Rattle.std.specs.Prelude.{◌≡◌, ◌≢◌, ◌≤◌, IfOk, IfErr, OnOk, Ok, Err, map, string_bytes};
 ghost use Rattle.feature_text.specs.FeatureText.{feature_of_text};
 ghost use Rattle.clap.specs.Words.{found_of, first_value};
-ghost use Rattle.shape_words.specs.Words.{options_of, refusal_of, settings_of, settings_in, file_in, direction_in, script_in, flag_of, flags_in, feature_values, features_in, features_of, parts_of, behind, or_words, language_in, language_of_text, level_in, level_of_text, buffer_flags_in};
+ghost use Rattle.shape_words.specs.Words.{options_of, refusal_of, settings_of, settings_in, file_in, direction_in, script_in, flag_of, flags_in, feature_values, features_in, features_of, parts_of, after, or_words, language_in, language_of_text, level_in, level_of_text, buffer_flags_in};
 ghost use Rattle.std.specs.Option.{option_map};
 ghost use Rattle.shaping_text.specs.Language.{language_text};
 
@@ -187,9 +187,9 @@ fn read_values(alloc: Global, values: &[&str]) -> Result<Vec<Feature>, RunFault>
 
 /// Adds the features of a value, with commas between them.
 fn add_features(alloc: Global, features: &mut Vec<Feature>, value: &str) -> Result<(), RunFault>
-    ensures ok { OnOk result (behind features.old.items (features_of (parts_of value.now)) ≡ Ok features.new.items) }
+    ensures ok { OnOk result (after features.old.items (features_of (parts_of value.now)) ≡ Ok features.new.items) }
     ensures refused { IfErr result (λ e. e ≢ RunFault.OutOfMemory
-        → behind features.old.items (features_of (parts_of value.now)) ≡ Err e) }
+        → after features.old.items (features_of (parts_of value.now)) ≡ Err e) }
 {
     let parts = split_at_commas(alloc, value)?;
     for part in &parts {

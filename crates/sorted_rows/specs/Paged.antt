@@ -37,19 +37,19 @@ module _ {R : Type 0} (number : R → ℕ) where
       let here : (number r == k) ≡ false = above_differs (number r) k (h 0 r (omega arith)) in
       rw here (none_above k rows (λ i d lt. h (suc i) d (omega (arith, lt))))
 
-  none_behind : (k : ℕ) (rows : List R) (e : ℕ) → ((i : ℕ) (d : R) → e ≤ i → i < length rows → k < number (get_or rows i d)) → row_of number k (drop e rows) ≡ None
-  none_behind k rows zero h = none_above k rows (λ i d lt. h i d (omega arith) lt)
-  none_behind k [] (suc e) h = refl
-  none_behind k (r ∷ rows) (suc e) h = none_behind k rows e (λ i d le lt. h (suc i) d (omega (arith, le)) (omega (arith, lt)))
+  none_after : (k : ℕ) (rows : List R) (e : ℕ) → ((i : ℕ) (d : R) → e ≤ i → i < length rows → k < number (get_or rows i d)) → row_of number k (drop e rows) ≡ None
+  none_after k rows zero h = none_above k rows (λ i d lt. h i d (omega arith) lt)
+  none_after k [] (suc e) h = refl
+  none_after k (r ∷ rows) (suc e) h = none_after k rows e (λ i d le lt. h (suc i) d (omega (arith, le)) (omega (arith, lt)))
 
   -- a number has no record where the records from it on begin where those from a greater number on begin
   none_between : (k : ℕ) (rows : List R) (low high s : ℕ) → low ≤ k → k < high → IsStart number rows low s → IsStart number rows high s → row_of number k rows ≡ None
   none_between k rows low high s le lt from to =
       let before : row_of number k (take s rows) ≡ None = none_before k rows s (λ i d l. let under = from.below i d l in omega (arith, under, le)) in
-      let behind : row_of number k (drop s rows) ≡ None = none_behind k rows s (λ i d l m. let over = to.rest i d l m in omega (arith, over, lt)) in
+      let after : row_of number k (drop s rows) ≡ None = none_after k rows s (λ i d l m. let over = to.rest i d l m in omega (arith, over, lt)) in
       let p : R → Bool = λ r. number r == k in
       ap (λ xs. row_of number k xs) (sym (take-append-drop s rows)) ∙ find-append p (take s rows) (drop s rows)
-      ∙ ap (λ o. option_or o (row_of number k (drop s rows))) before ∙ behind
+      ∙ ap (λ o. option_or o (row_of number k (drop s rows))) before ∙ after
 
   -- ---- rows that rise, in parts
 

@@ -34,6 +34,6 @@ elements_of xs s = slice_range xs s.start s.end
 abbrev pub cut : {X : Type 0} → List Syllable → List X → List (List X)
 cut ss xs = map (elements_of xs) ss
 
--- the syllables of a list, one behind the other, are the list
+-- the syllables of a list, one after the other, are the list
 abbrev pub CutsJoin : Type 0
 CutsJoin = (next : ℕ → ℕ × ℕ) (xs : List ℕ) → EndsInside next (length xs) → flat_map (λ ys. ys) (cut (syllables next (length xs)) xs) ≡ xs

@@ -6,7 +6,7 @@ use Rattle.std.proofs.Common.{sym, ap, subst, ◌∙◌}
 use Rattle.std.proofs.Math.Seq.{take-append_seam, drop-append_seam}
 use Rattle.std.proofs.lemmas.List.Sorted.{length_permutation}
 
--- each piece rewritten by itself, one behind the other
+-- each piece rewritten by itself, one after the other
 abbrev pub each_by_itself : {X : Type 0} → (List X → List X) → List (List X) → List X
 each_by_itself rule pieces = flat_map rule pieces
 

@@ -4,7 +4,7 @@ ghost use Rattle.syllable_lists.specs.Cuts.{CutsJoin};
 ghost use Rattle.syllable_lists.specs.Examples.{Examples};
 ghost use Rattle.syllable_lists.specs.Pieces.{PermutesEach};
 
-/// The syllables of a list, one behind the other, are the list.
+/// The syllables of a list, one after the other, are the list.
 #[tactic(auto, using(crate::proofs::Joined::cuts_join))]
 pub fn law_cuts_join()
     ensures { CutsJoin }
@@ -28,7 +28,7 @@ pub fn law_bytes_tell()
     ensures { BytesTell }
 {}
 
-/// Syllables that stand one behind the other have different bytes.
+/// Syllables that stand one after the other have different bytes.
 #[tactic(auto, using(crate::proofs::Bytewise::neighbours_differ))]
 pub fn law_neighbours_differ()
     ensures { NeighboursDiffer }

@@ -51,7 +51,7 @@ circle_item r x = record {
   mask = x.mask;
 }
 
--- an item that was there, or a circle that came in behind so many rephas of its syllable
+-- an item that was there, or a circle that came in after so many rephas of its syllable
 pub data Circled : Type 0 where
   There : Item → Circled
   Inserted : (rephas : ℕ) → Item → Circled
@@ -92,7 +92,7 @@ erased [] = []
 erased (There x ∷ ys) = x ∷ erased ys
 erased (Inserted n c ∷ ys) = erased ys
 
--- a circle comes in behind the last repha, in its cluster, else before the syllable's first item; its flags are that item's
+-- a circle comes in after the last repha, in its cluster, else before the syllable's first item; its flags are that item's
 abbrev pub circle_event : ℕ → ℕ → Event
 circle_event at zero = Circle false at at
 circle_event at (suc n) = Circle true (at - 1) (at - suc n)

@@ -60,7 +60,7 @@ abbrev pub first_joins : List (List Item) → Bool
 first_joins [] = false
 first_joins (s ∷ ss) = joins s
 
--- the form of a syllable that joins, by whether those before and behind it do
+-- the form of a syllable that joins, by whether those before and after it do
 abbrev pub form_of : FormMasks → Bool → Bool → ℕ
 form_of masks true true = masks.medi
 form_of masks true false = masks.fina
@@ -78,7 +78,7 @@ form_bits masks = all_forms masks - bit_and (all_forms masks) 0x8000_0007
 abbrev pub with_form : FormMasks → ℕ → Item → Item
 with_form masks form x = record x { mask = bit_or (x.mask - bit_and x.mask (form_bits masks)) (without_flags form) }
 
--- a syllable behind one that joins, if it does, and before others
+-- a syllable after one that joins, if it does, and before others
 abbrev pub formed : FormMasks → Bool → List Item → Bool → List Item
 formed masks before s behind = if joins s then map (with_form masks (form_of masks before behind)) s else s
 

@@ -36,7 +36,7 @@ pub struct CircleRule {
     pub position: u8,
 }
 
-/// Puts a dotted circle into each syllable of the kind `kind`: behind the rephas that it begins with and in the last one's
+/// Puts a dotted circle into each syllable of the kind `kind`: after the rephas that it begins with and in the last one's
 /// cluster, else before its first glyph and in that one's. The circle has the mask and the byte of the syllable's first
 /// glyph. A syllable with the byte of the last broken one before it gets none. Answers whether circles came in: none do
 /// where the buffer switches them off, where the font has none, and where no syllable is broken. It takes linear time.

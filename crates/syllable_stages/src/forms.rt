@@ -27,7 +27,7 @@ pub struct FormMasks {
 }
 
 impl FormMasks {
-    /// The form of a syllable, by whether those before and behind it join.
+    /// The form of a syllable, by whether those before and after it join.
     fn form(&self, before: bool, behind: bool) -> hb_mask_t
         ensures { result ≡ form_of self.now before behind }
     {

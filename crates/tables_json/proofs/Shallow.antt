@@ -9,7 +9,7 @@ use Rattle.json_values.specs.declared.fault.JsonFault.{JsonFault}
 use Rattle.json_values.specs.declared.fault.JsonFault.TheVariants.{WrongShape, FloatNumber, UnknownName, OutOfOrder, OutOfRange, SplitDepth}
 use Rattle.json_values.specs.Cell.{and_then, both, character, first_fault, in_characters, integer, integer_of, is_scalar_value, rank_of}
 use Rattle.json_values.specs.Parts.{four_in, in_natural_numbers_below, list_at, list_of, list_or_none, natural_number_below, row_of_four, row_of_three, row_of_two, text, three_in, two_in}
-use Rattle.json_values.specs.Rows.{behind, in_place, row_after, rows_after}
+use Rattle.json_values.specs.Rows.{after, in_place, row_after, rows_after}
 use Rattle.script_constants.specs.Indic.{ot_categories, ot_positions}
 use Rattle.script_constants.specs.Joining.{joining_type_names}
 use Rattle.script_constants.specs.Names.{number_of}
@@ -58,9 +58,9 @@ both_shallow (Ok a) (Err f) hr hs = hs
 both_shallow (Err e) (Ok b) hr hs = hr
 both_shallow (Err e) (Err f) hr hs = first_shallow e f hr hs
 
-behind_shallow : {R : Type 0} (front : List R) (rest : Result (List R) JsonFault) → Shallow rest → Shallow (behind front rest)
-behind_shallow front (Ok rows) h = tt
-behind_shallow front (Err e) h = h
+after_shallow : {R : Type 0} (front : List R) (rest : Result (List R) JsonFault) → Shallow rest → Shallow (after front rest)
+after_shallow front (Ok rows) h = tt
+after_shallow front (Err e) h = h
 
 some_shallow : {A : Type 0} (o : Option A) (e : JsonFault) → e ≢ SplitDepth → Shallow (ok_or o e)
 some_shallow (Some a) e h = tt
@@ -148,7 +148,7 @@ module _ {R : Type 0} (high low : R → ℕ) (row : Data → Result R JsonFault)
   rows_shallow before no_items = tt
   rows_shallow before (item d ds) =
       then_shallow (row_after (follows high low) (λ x. x) row before d) _ (then_shallow (row d) _ (h d) (place_shallow before))
-      (λ r. behind_shallow (r ∷ []) (rows_after (follows high low) (λ x. x) row (Some r) ds) (rows_shallow (Some r) ds))
+      (λ r. after_shallow (r ∷ []) (rows_after (follows high low) (λ x. x) row (Some r) ds) (rows_shallow (Some r) ds))
 
   at_shallow : (key : List ℕ) (d : Data) → Shallow (rows_at key high low row d)
   at_shallow key d = then_shallow (list_at key d) _ (list_or_none_shallow (get key d)) (rows_shallow None)

@@ -10,7 +10,7 @@ use Rattle.serde_json.specs.View.{view, items_view}
 use Rattle.serde_json.specs.declared.value.Value.{Value}
 use Rattle.json_values.specs.declared.fault.JsonFault.{JsonFault}
 use Rattle.json_values.specs.declared.fault.JsonFault.TheVariants.{WrongShape}
-use Rattle.json_values.specs.Rows.{behind, is_above, is_rising, rows_after}
+use Rattle.json_values.specs.Rows.{after, is_above, is_rising, rows_after}
 use Rattle.json_values.proofs.Rising.{rows_follow}
 use Rattle.serde_json.specs.Data.{Data, Items, item}
 use Rattle.language_tables.specs.declared.language_table.LanguageRow.{LanguageRow}
@@ -58,14 +58,14 @@ languages_pushed : (rows : List LanguageRow) (r : LanguageRow) → map language_
 languages_pushed [] r = refl
 languages_pushed (x ∷ rows) r = ap (λ ls. language_in x ∷ ls) (languages_pushed rows r)
 
-behind_both : (xs ys : List Language) (rest : Result (List Language) JsonFault) → behind (xs ++ ys) rest ≡ behind xs (behind ys rest)
-behind_both xs ys (Ok zs) = ap Ok (append_assoc xs ys zs)
-behind_both xs ys (Err e) = refl
+after_both : (xs ys : List Language) (rest : Result (List Language) JsonFault) → after (xs ++ ys) rest ≡ after xs (after ys rest)
+after_both xs ys (Ok zs) = ap Ok (append_assoc xs ys zs)
+after_both xs ys (Err e) = refl
 
 -- one row more
 pub row_pushed : (rows : List LanguageRow) (r : LanguageRow) (rest : Result (List Language) JsonFault)
-    → behind (map language_in (rows ++ r ∷ [])) rest ≡ behind (map language_in rows) (behind (language_in r ∷ []) rest)
-row_pushed rows r rest = rw (languages_pushed rows r) (behind_both (map language_in rows) (language_in r ∷ []) rest)
+    → after (map language_in (rows ++ r ∷ [])) rest ≡ after (map language_in rows) (after (language_in r ∷ []) rest)
+row_pushed rows r rest = rw (languages_pushed rows r) (after_both (map language_in rows) (language_in r ∷ []) rest)
 
 items_step : (vs : List Value) (i : ℕ) (v : Value) → i < length vs → v ≡ get_or vs i v → items_view (drop i vs) ≡ item (view v) (items_view (drop (i + 1) vs))
 items_step [] i v h e = absurd (omega (arith, h))
@@ -73,20 +73,20 @@ items_step (x ∷ vs) zero v h e = ap (λ w. item (view w) (items_view vs)) (sym
 items_step (x ∷ vs) (suc i) v h e = let low : i < length vs = omega (arith, h) in rw add-one (rw add-one at (items_step vs i v low e))
 
 one_taken : (row : Data → Result Language JsonFault) (before : Option (List ℕ)) (d : Data) (ds : Items) (l : Language) → row d ≡ Ok l → is_above (slice_cmp nat_cmp) before l.0 ≡ true
-    → rows_after (is_above (slice_cmp nat_cmp)) (λ x. x.0) row before (item d ds) ≡ behind (l ∷ []) (rows_after (is_above (slice_cmp nat_cmp)) (λ x. x.0) row (Some l.0) ds)
+    → rows_after (is_above (slice_cmp nat_cmp)) (λ x. x.0) row before (item d ds) ≡ after (l ∷ []) (rows_after (is_above (slice_cmp nat_cmp)) (λ x. x.0) row (Some l.0) ds)
 one_taken row before d ds l e above = rw e (rw above refl)
 
 -- a row that follows the one before it
 pub language_taken : (vs : List Value) (i : ℕ) (v : Value) (rows next : List LanguageRow) (r : LanguageRow) → i < length vs → v ≡ get_or vs i v
     → language (view v) ≡ Ok (language_in r) → is_above (slice_cmp nat_cmp) (last_text rows) (row_text r) ≡ true → next ≡ rows ++ r ∷ []
-    → behind (map language_in rows) (rows_after (is_above (slice_cmp nat_cmp)) (λ x. x.0) language (last_text rows) (items_view (drop i vs)))
-    ≡ behind (map language_in next) (rows_after (is_above (slice_cmp nat_cmp)) (λ x. x.0) language (last_text next) (items_view (drop (i + 1) vs)))
+    → after (map language_in rows) (rows_after (is_above (slice_cmp nat_cmp)) (λ x. x.0) language (last_text rows) (items_view (drop i vs)))
+    ≡ after (map language_in next) (rows_after (is_above (slice_cmp nat_cmp)) (λ x. x.0) language (last_text next) (items_view (drop (i + 1) vs)))
 language_taken vs i v rows next r h e read above pushed =
-    ap (λ ds. behind (map language_in rows) (rows_after (is_above (slice_cmp nat_cmp)) (λ x. x.0) language (last_text rows) ds)) (items_step vs i v h e)
-    ∙ ap (λ o. behind (map language_in rows) o) (one_taken language (last_text rows) (view v) (items_view (drop (i + 1) vs)) (language_in r) read above)
+    ap (λ ds. after (map language_in rows) (rows_after (is_above (slice_cmp nat_cmp)) (λ x. x.0) language (last_text rows) ds)) (items_step vs i v h e)
+    ∙ ap (λ o. after (map language_in rows) o) (one_taken language (last_text rows) (view v) (items_view (drop (i + 1) vs)) (language_in r) read above)
     ∙ sym (row_pushed rows r (rows_after (is_above (slice_cmp nat_cmp)) (λ x. x.0) language (Some (row_text r)) (items_view (drop (i + 1) vs))))
-    ∙ ap (λ t. behind (map language_in (rows ++ r ∷ [])) (rows_after (is_above (slice_cmp nat_cmp)) (λ x. x.0) language t (items_view (drop (i + 1) vs)))) (sym (last_pushed rows r))
-    ∙ ap (λ xs. behind (map language_in xs) (rows_after (is_above (slice_cmp nat_cmp)) (λ x. x.0) language (last_text xs) (items_view (drop (i + 1) vs)))) (sym pushed)
+    ∙ ap (λ t. after (map language_in (rows ++ r ∷ [])) (rows_after (is_above (slice_cmp nat_cmp)) (λ x. x.0) language t (items_view (drop (i + 1) vs)))) (sym (last_pushed rows r))
+    ∙ ap (λ xs. after (map language_in xs) (rows_after (is_above (slice_cmp nat_cmp)) (λ x. x.0) language (last_text xs) (items_view (drop (i + 1) vs)))) (sym pushed)
 
 texts_rise_from : (before : Option (List ℕ)) (rows : List LanguageRow) (k : ℕ) (d : LanguageRow) → is_rising (slice_cmp nat_cmp) before (map language_in rows) ≡ true
     → k + 1 < length rows → is_before (slice_index_or rows k d) (slice_index_or rows (k + 1) d) ≡ true

@@ -9,7 +9,7 @@ use Rattle.json_values.specs.declared.fault.JsonFault.TheVariants.{WrongShape}
 use Rattle.json_values.specs.Cell.{and_then}
 use Rattle.json_values.specs.Objects.{of_object}
 use Rattle.json_values.specs.Parts.{list_of, list_at, row_of_two, text, tag}
-use Rattle.json_values.specs.Rows.{behind, is_above, rows_after}
+use Rattle.json_values.specs.Rows.{after, is_above, rows_after}
 use Rattle.shaping_text.specs.declared.tag.Tag.{Tag}
 use Rattle.language_tables.specs.declared.language_table.LanguageRow.{LanguageRow}
 use Rattle.language_tables.specs.declared.language_table.LanguageTable.{LanguageTable}
@@ -36,7 +36,7 @@ item_count (item d ds) = suc (item_count ds)
 -- a list of tags
 abbrev pub tags_in : Items → Result (List Tag) JsonFault
 tags_in no_items = Ok []
-tags_in (item d ds) = and_then (tag d) (λ t. behind (t ∷ []) (tags_in ds))
+tags_in (item d ds) = and_then (tag d) (λ t. after (t ∷ []) (tags_in ds))
 
 -- at most three tags
 abbrev pub few_tags : Items → Result (List Tag) JsonFault

@@ -31,7 +31,8 @@ pub fn read_languages(alloc: Global, value: &Value) -> Result<LanguageTable, Jso
 
 fn read_rows(alloc: Global, values: &[Value]) -> Result<Vec<LanguageRow>, JsonFault>
     ensures ok { IfOk result (λ v. languages_in_order (items_view values.now) ≡ Ok (map language_in v.items)) }
-    ensures refused { IfErr result (λ e. e ≢ JsonFault.OutOfMemory → languages_in_order (items_view values.now) ≡ Err e) }
+    ensures refused { IfErr result (λ e. e ≢ JsonFault.OutOfMemory
+        → languages_in_order (items_view values.now) ≡ Err e) }
     ensures rising { IfOk result (λ v. TextsRise v.items) }
 {
     let mut rows: Vec<LanguageRow> = Vec::new(alloc);

@@ -127,7 +127,7 @@ impl UnicodeBuffer {
         self.buffer.set_pre_context(text);
     }
 
-    /// Keeps the first five characters of the text behind this one, which shape its last letters.
+    /// Keeps the first five characters of the text after this one, which shape its last letters.
     pub fn set_post_context(&mut self, text: &str)
         ensures { self.new ≡ with_post_context (take 5 (chars text.now)) self.old }
     {

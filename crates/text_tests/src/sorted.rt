@@ -153,7 +153,7 @@ fn letter_of(page: u32) -> u32 {
     page.wrapping_mul(128).wrapping_add(page % 100)
 }
 
-/// Whether each page's character is found, and the one behind it is not.
+/// Whether each page's character is found, and the one after it is not.
 fn are_found(table: &PagedRows<Letter>, count: u32) -> bool {
     (0..count).all(|page| {
         let character = letter_of(page);
@@ -166,7 +166,7 @@ fn has_pages(alloc: Global, count: u32) -> Result<bool, Fail> {
     Ok(are_found(&table, count) && table.get(letter_of(count)).is_none())
 }
 
-// The index has room for 188 pages; records behind those are searched for.
+// The index has room for 188 pages; records after those are searched for.
 #[test]
 fn pages(rt: HostRuntime) -> Result<(), Fail> {
     for count in [0, 1, 188, 189, 500] {

@@ -209,7 +209,7 @@ fn languages(rt: HostRuntime) -> Result<(), Fail> {
     Ok(())
 }
 
-// Scripts with their tags, one behind the other.
+// Scripts with their tags, one after the other.
 static TAGS_OF_SCRIPTS: [(Option<Script>, &str); 8] = [
     (Some(BENGALI), "bng3bng2beng"),
     (Some(MYANMAR), "mym2mymr"),

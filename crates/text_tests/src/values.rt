@@ -9,7 +9,7 @@ use std::alloc::Global;
 use std::process::Abort;
 use std::test::Fail;
 
-// What is asked of a value, the answer, and the value, with semicolons between: a character with a word behind it, of two faults
+// What is asked of a value, the answer, and the value, with semicolons between: a character with a word after it, of two faults
 // the one that comes first by its kind; a byte, a number below 70000 and a tag; a row of two, of three and of four; and how
 // many items stand in `k`, none where that is no list.
 const ANSWERS: &str = r#"pair;read;[97,-2]

@@ -19,13 +19,13 @@ rises_weaker high low before x (y ∷ ys) p r =
     let parts = and_parts (precedes high low x y) (rises_after high low (Some y) ys) r in
     and_from _ _ (below_trans (high before) (low before) (high x) (low x) (high y) (low y) p parts.0) parts.1
 
--- what stands behind a row is above it
-rises_behind : {R : Type 0} (high low : R → ℕ) (before : R) (front : List R) (row : R) (after : List R)
+-- what stands after a row is above it
+rise_after : {R : Type 0} (high low : R → ℕ) (before : R) (front : List R) (row : R) (after : List R)
     → rises_after high low (Some before) (front ++ row ∷ after) ≡ true → precedes high low before row ≡ true
-rises_behind high low before [] row after r = (and_parts _ _ r).0
-rises_behind high low before (y ∷ ys) row after r =
+rise_after high low before [] row after r = (and_parts _ _ r).0
+rise_after high low before (y ∷ ys) row after r =
     let parts = and_parts (precedes high low before y) (rises_after high low (Some y) (ys ++ row ∷ after)) r in
-    rises_behind high low before ys row after (rises_weaker high low before y (ys ++ row ∷ after) parts.0 parts.1)
+    rise_after high low before ys row after (rises_weaker high low before y (ys ++ row ∷ after) parts.0 parts.1)
 
 pub first_rises : {R : Type 0} (high low : R → ℕ) (before : Option R) (x : R) (xs : List R) → rises_after high low before (x ∷ xs) ≡ true → rises_after high low (Some x) xs ≡ true
 first_rises high low before x xs r = (and_parts (follows high low before x) (rises_after high low (Some x) xs) r).1
@@ -39,7 +39,7 @@ at_row : {R : Type 0} (high low : R → ℕ) (h l : ℕ) (front : List R) (row :
     → find (is_at high low h l) (front ++ row ∷ after) ≡ Some row
 at_row high low h l [] row after r p q = cond-true _ _ _ (between_is_at (high row) (low row) h l p q)
 at_row high low h l (y ∷ ys) row after r p q =
-    let under = rises_behind high low y ys row after r in
+    let under = rise_after high low y ys row after r in
     let apart : (high y == h && low y == l) ≡ false = grind (arith, nat_tests) in
     cond-false _ _ _ apart ∙ at_row high low h l ys row after (forget_first high low (Some y) (ys ++ row ∷ after) r) p q
 

@@ -20,20 +20,20 @@ beyond_last c r h = and_right _ _ (lt-leb c r.last h)
 within : (c : ℕ) (r : CharacterRange) → r.first ≤ c → c ≤ r.last → has_character c r ≡ true
 within c r low high = and_from _ _ (le-leb r.first c low) (le-leb c r.last high)
 
--- ranges behind one that begins above a character don't have it
-none_behind : (c : ℕ) (r : CharacterRange) (rs : List CharacterRange) → firsts_rise (Some r) rs ≡ true → c < r.first → is_in_ranges rs c ≡ false
-none_behind c r [] h lt = refl
-none_behind c r (q ∷ qs) h lt =
+-- ranges after one that begins above a character don't have it
+none_after : (c : ℕ) (r : CharacterRange) (rs : List CharacterRange) → firsts_rise (Some r) rs ≡ true → c < r.first → is_in_ranges rs c ≡ false
+none_after c r [] h lt = refl
+none_after c r (q ∷ qs) h lt =
     let parts = and_parts (precedes (λ (_ : CharacterRange). 0) (λ (r : CharacterRange). r.first) r q) (firsts_rise (Some q) qs) h in
     let above : r.first < q.first = grind (arith, nat_tests, parts.0) in
-    or_from _ _ (below_first c q (omega (arith, lt, above))) (none_behind c q qs parts.1 (omega (arith, lt, above)))
+    or_from _ _ (below_first c q (omega (arith, lt, above))) (none_after c q qs parts.1 (omega (arith, lt, above)))
 
-none_behind_widened : (c m : ℕ) (r : CharacterRange) (rs : List CharacterRange) → firsts_rise (Some r) rs ≡ true → c < r.first → is_in_ranges (widened m rs) c ≡ false
-none_behind_widened c m r [] h lt = refl
-none_behind_widened c m r (q ∷ qs) h lt =
+none_after_widened : (c m : ℕ) (r : CharacterRange) (rs : List CharacterRange) → firsts_rise (Some r) rs ≡ true → c < r.first → is_in_ranges (widened m rs) c ≡ false
+none_after_widened c m r [] h lt = refl
+none_after_widened c m r (q ∷ qs) h lt =
     let parts = and_parts (precedes (λ (_ : CharacterRange). 0) (λ (r : CharacterRange). r.first) r q) (firsts_rise (Some q) qs) h in
     let above : r.first < q.first = grind (arith, nat_tests, parts.0) in
-    or_from _ _ (below_first c (record q { last = max m q.last }) (omega (arith, lt, above))) (none_behind_widened c (max m q.last) q qs parts.1 (omega (arith, lt, above)))
+    or_from _ _ (below_first c (record q { last = max m q.last }) (omega (arith, lt, above))) (none_after_widened c (max m q.last) q qs parts.1 (omega (arith, lt, above)))
 
 -- widened ranges have the characters of the ranges
 has_widened : (c m : ℕ) (before : Option CharacterRange) (rs : List CharacterRange) → firsts_rise before rs ≡ true → m ≤ c - 1 → is_in_ranges (widened m rs) c ≡ is_in_ranges rs c
@@ -42,8 +42,8 @@ has_widened c m before (r ∷ rs) h le =
     let rest = first_rises (λ (_ : CharacterRange). 0) (λ (r : CharacterRange). r.first) before r rs h in
     elim (cases_lt c r.first) [
       | inl under ↦
-          or_from _ _ (below_first c (record r { last = max m r.last }) under) (none_behind_widened c (max m r.last) r rs rest under)
-          ∙ sym (or_from _ _ (below_first c r under) (none_behind c r rs rest under))
+          or_from _ _ (below_first c (record r { last = max m r.last }) under) (none_after_widened c (max m r.last) r rs rest under)
+          ∙ sym (or_from _ _ (below_first c r under) (none_after c r rs rest under))
       | inr from ↦
           elim (cases_lt (max m r.last) c) [
             | inl beyond ↦

@@ -77,9 +77,9 @@ fn is_in_widened(rows: &[CharacterRange], c: char) -> bool
     requires ends { ends_rise 0 rows.now ≡ true }
     ensures { result ≡ is_in_ranges rows.now c }
 {
-    let behind = first_from(rows, c as u32 + 1);
-    if behind == 0 {
+    let after = first_from(rows, c as u32 + 1);
+    if after == 0 {
         return false;
     }
-    c <= rows[behind - 1].last
+    c <= rows[after - 1].last
 }

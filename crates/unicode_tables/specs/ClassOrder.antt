@@ -6,7 +6,7 @@ use Rattle.stable_order.specs.Keys.{key_order}
 unfoldable pub run_order : {X : Type 0} → (X → ℕ) → List X → List X
 run_order class run = key_order class run
 
--- the order of a list behind the nonzero run that was met last
+-- the order of a list after the nonzero run that was met last
 abbrev pub order_after : {X : Type 0} → (X → ℕ) → List X → List X → List X
 order_after class run [] = run_order class run
 order_after class run (x ∷ xs) = if class x == 0 then run_order class run ++ x ∷ order_after class [] xs else order_after class (run ++ x ∷ []) xs

@@ -5,7 +5,7 @@ use Rattle.std.specs.Prelude.{ℕ, zero, suc, ◌≡◌, ◌==◌, Bool, true, f
 abbrev pub Splits : Type 0
 Splits = ℕ → Option (ℕ × ℕ)
 
--- a second part stands behind what the first part gives
+-- a second part stands after what the first part gives
 abbrev pub followed_by : ℕ → List ℕ → List ℕ
 followed_by b front = if b == 0 then front else front ++ b ∷ []
 

@@ -96,8 +96,8 @@ beside_order_after class c run (x ∷ xs) r =
           let left = beside_starters-append class c (run_order class run) (x ∷ order_after class [] xs) in
           let right = beside_starters-append class c run (x ∷ xs) in
           let front = beside_run_order class c run r ∙ sym (beside_in_run class c run r) in
-          let behind = starter_stays class c x (order_after class [] xs) z ∙ (ap (λ zs. x ∷ zs) (beside_order_after class c [] xs tt) ∙ sym (starter_stays class c x xs z)) in
-          ap (beside_starters class c) (cond-true _ _ _ at) ∙ (left ∙ (ap₂ (λ a b. a ++ b) front behind ∙ sym right))
+          let after = starter_stays class c x (order_after class [] xs) z ∙ (ap (λ zs. x ∷ zs) (beside_order_after class c [] xs tt) ∙ sym (starter_stays class c x xs z)) in
+          ap (beside_starters class c) (cond-true _ _ _ at) ∙ (left ∙ (ap₂ (λ a b. a ++ b) front after ∙ sym right))
       | inr n ↦
           let off : (class x == 0) ≡ false = ne_eqb (class x) 0 n in
           ap (beside_starters class c) (cond-false _ _ _ off) ∙ (beside_order_after class c (run ++ x ∷ []) xs (run_push class run x r n) ∙ ap (beside_starters class c) (append_assoc run (x ∷ []) xs))

@@ -64,7 +64,8 @@ impl hb_buffer_t {
         requires closed { self.old.is_open ≡ false }
         requires ordered { start ≤ end }
         requires within { end ≤ length (all_glyphs self.old) }
-        ensures sorted { OnOk result (self.new ≡ with_range_sorted start end (λ g. g.modified_combining_class) self.old) }
+        ensures sorted { OnOk result
+            (self.new ≡ with_range_sorted start end (λ g. g.modified_combining_class) self.old) }
         ensures items { OnOk result (items_of self.new
             ≡ take start (items_of self.old) ++ key_order (λ x. x.class) (slice_range (items_of self.old) start end)
             ++ drop end (items_of self.old)) }

@@ -1,4 +1,4 @@
--- Lists in which each number is related to all behind it, whatever the relation.
+-- Lists in which each number is related to all after it, whatever the relation.
 use Rattle.std.proofs.Common.{ℕ, ◌≡◌, List, [], ◌∷◌, ◌++◌, map, reverse}
 use Rattle.std.proofs.lemmas.Grind.{reverse_onto}
 use Rattle.glyph_lists.specs.Order.{AllFrom, IsChain}

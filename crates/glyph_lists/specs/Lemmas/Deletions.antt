@@ -111,7 +111,7 @@ front_united true p n front o low le ne =
     let test : nat_lt n p ≡ true = grind (arith, nat_tests, common_steps) in
     rw test (end_united p n front le o low)
 
--- what comes behind n stays as it is
+-- what comes after n stays as it is
 back_united : (falls : Bool) (p n : ℕ) (back : List ℕ) → Stands falls p n → ((k : ℕ) → Has back k → Stands falls n k × k ≢ n) → back ≡ map (united (min p n) (max p n)) back
 back_united falls p n back le far = sym (map_alike (united (min p n) (max p n)) (λ k. k) back (λ k h. outside falls p n k le (inr (far k h))) ∙ map-id back)
 
@@ -122,7 +122,7 @@ stands_both true m n h k = omega arith
 not_number : (o : Option ℕ) (m n : ℕ) → o ≡ Some m → is_number o n ≡ false → m ≢ n
 not_number o m n e off same = let yes : is_number o n ≡ true = rw (e, same) (grind (arith, common_steps)) in let bad : true ≡ false = sym yes ∙ off in cc
 
--- a number behind n is another where the next is
+-- a number after n is another where the next is
 back_differs : (falls : Bool) (n k : ℕ) (back : List ℕ) → IsChain (Stands falls) (n ∷ back) → is_number (first_of back) n ≡ false → Has back k → Stands falls n k × k ≢ n
 back_differs falls n k [] o off h = cc
 back_differs falls n k (q ∷ qs) o off h =
@@ -137,10 +137,10 @@ without_united : (front : List ℕ) (f : ℕ → ℕ) (n : ℕ) (back : List ℕ
 without_united front f n back = without_map f (length front) (front ++ n ∷ back) ∙ ap (map f) (rest_of front n back) ∙ map-append f front back
 
 -- the last number of the front, and n
-alone_behind : (level : BufferClusterLevel) (falls : Bool) (p : ℕ) (front : List ℕ) (n : ℕ) (back : List ℕ) → IsChain (Stands falls) (front ++ n ∷ back) → last_of front ≡ Some p → is_number (Some p) n ≡ false → is_number (first_of back) n ≡ false
+alone_after : (level : BufferClusterLevel) (falls : Bool) (p : ℕ) (front : List ℕ) (n : ℕ) (back : List ℕ) → IsChain (Stands falls) (front ++ n ∷ back) → last_of front ≡ Some p → is_number (Some p) n ≡ false → is_number (first_of back) n ≡ false
     → deleted_alone level (Some p) front n back ≡ without (length front) (united_all p n (front ++ n ∷ back))
-alone_behind level falls p [] n back o last off next = cc
-alone_behind level falls p (x ∷ xs) n back o last off next =
+alone_after level falls p [] n back o last off next = cc
+alone_after level falls p (x ∷ xs) n back o last off next =
     let R = Stands falls in
     let front = x ∷ xs in
     let f = united (min p n) (max p n) in
@@ -170,7 +170,7 @@ alone_first level falls (x ∷ xs) n back mono o last = let none = no_last (x �
 alone : (level : BufferClusterLevel) (falls : Bool) (before : Option ℕ) (front : List ℕ) (n : ℕ) (back : List ℕ) → IsMonotone level → IsInOrder falls (front ++ n ∷ back) → last_of front ≡ before → is_number before n ≡ false → is_number (first_of back) n ≡ false
     → deleted_alone level before front n back ≡ without (length front) (with_neighbour before (first_of back) n (front ++ n ∷ back))
 alone level falls None front n back mono o last off next = alone_first level falls front n back mono o last
-alone level falls (Some p) front n back mono o last off next = alone_behind level falls p front n back (stands_chain falls (front ++ n ∷ back) o) last off next
+alone level falls (Some p) front n back mono o last off next = alone_after level falls p front n back (stands_chain falls (front ++ n ∷ back) o) last off next
 
 by_neighbours : (level : BufferClusterLevel) (falls : Bool) (front : List ℕ) (n : ℕ) (back : List ℕ) → IsMonotone level → IsInOrder falls (front ++ n ∷ back) → (t : Bool) → (is_number (last_of front) n || is_number (first_of back) n) ≡ t
     → (if t then front ++ back else deleted_alone level (last_of front) front n back) ≡ without (length front) (if t then front ++ n ∷ back else with_neighbour (last_of front) (first_of back) n (front ++ n ∷ back))

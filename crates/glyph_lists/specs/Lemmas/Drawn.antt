@@ -30,11 +30,11 @@ drawn_drop zero xs = drawn_self xs
 drawn_drop (suc n) [] = nothing []
 drawn_drop (suc n) (x ∷ xs) = past x xs (drop n xs) (drawn_drop n xs)
 
--- behind the first elements comes what is drawn from the rest
-drawn_behind : (at : ℕ) (xs ys : List ℕ) → IsDrawn (drop at xs) ys → IsDrawn xs (take at xs ++ ys)
-drawn_behind zero xs ys d = d
-drawn_behind (suc at) [] ys d = d
-drawn_behind (suc at) (x ∷ xs) ys d = kept x xs (take at xs ++ ys) (past x xs (take at xs ++ ys) (drawn_behind at xs ys d))
+-- after the first elements comes what is drawn from the rest
+drawn_after : (at : ℕ) (xs ys : List ℕ) → IsDrawn (drop at xs) ys → IsDrawn xs (take at xs ++ ys)
+drawn_after zero xs ys d = d
+drawn_after (suc at) [] ys d = d
+drawn_after (suc at) (x ∷ xs) ys d = kept x xs (take at xs ++ ys) (past x xs (take at xs ++ ys) (drawn_after at xs ys d))
 
 -- what is drawn from the second of two lists
 pub drawn_second : (xs : List ℕ) {ys zs : List ℕ} → IsDrawn ys zs → IsDrawn (xs ++ ys) (xs ++ zs)
@@ -42,7 +42,7 @@ drawn_second [] d = d
 drawn_second (x ∷ xs) d = kept x _ _ (past x _ _ (drawn_second xs d))
 
 pub drawn_take : (n : ℕ) (xs : List ℕ) → IsDrawn xs (take n xs)
-drawn_take n xs = let front = drawn_behind n xs [] (nothing (drop n xs)) in rw append-nil at front
+drawn_take n xs = let front = drawn_after n xs [] (nothing (drop n xs)) in rw append-nil at front
 
 drawn_copies : (n x : ℕ) (xs ys : List ℕ) → IsDrawn (x ∷ xs) ys → IsDrawn (x ∷ xs) (replicate n x ++ ys)
 drawn_copies zero x xs ys d = d
@@ -69,7 +69,7 @@ replaced_at : (at given gone : ℕ) (xs rest : List ℕ) → drop at xs ≡ rest
 replaced_at at given gone xs [] e =
     let whole : take at xs ≡ xs = sym (append-nil (take at xs)) ∙ ap (λ ys. take at xs ++ ys) (sym e) ∙ take-append-drop at xs in
     rw (drop-nil, append-nil, whole) (drawn_last given xs)
-replaced_at at given gone xs (x ∷ rest) e = rw append_assoc (drawn_behind at xs (replicate given x ++ drop gone (x ∷ rest)) (rw e (drawn_copied given gone (x ∷ rest))))
+replaced_at at given gone xs (x ∷ rest) e = rw append_assoc (drawn_after at xs (replicate given x ++ drop gone (x ∷ rest)) (rw e (drawn_copied given gone (x ∷ rest))))
 
 -- so is a list in which items make room for others
 pub drawn_replaced : (at gone given : ℕ) (xs : List ℕ) → IsDrawn xs (replaced at gone given xs)
@@ -77,8 +77,8 @@ drawn_replaced at gone given xs = rw (← drop-drop gone at xs) (replaced_at at 
 
 -- or one goes
 pub drawn_without : (at : ℕ) (xs : List ℕ) → IsDrawn xs (without at xs)
-drawn_without at xs = drawn_behind at xs (drop (at + 1) xs) (rw (← drop-drop 1 at xs) (drawn_drop 1 (drop at xs)))
+drawn_without at xs = drawn_after at xs (drop (at + 1) xs) (rw (← drop-drop 1 at xs) (drawn_drop 1 (drop at xs)))
 
 -- or one is doubled
 pub drawn_doubled : (at : ℕ) (xs : List ℕ) → IsDrawn xs (take at xs ++ copies 2 (first_of (drop at xs)) ++ drop (at + 1) xs)
-drawn_doubled at xs = rw (append_assoc, ← drop-drop 1 at xs) (drawn_behind at xs (copies 2 (first_of (drop at xs)) ++ drop 1 (drop at xs)) (drawn_copied 2 1 (drop at xs)))
+drawn_doubled at xs = rw (append_assoc, ← drop-drop 1 at xs) (drawn_after at xs (copies 2 (first_of (drop at xs)) ++ drop 1 (drop at xs)) (drawn_copied 2 1 (drop at xs)))

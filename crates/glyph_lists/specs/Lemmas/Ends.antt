@@ -7,12 +7,12 @@ use Rattle.glyph_lists.specs.Order.{AllFrom, IsChain, IsInOrder}
 use Rattle.glyph_lists.specs.Lemmas.Parts.{Stands, stands_self}
 use Rattle.glyph_lists.specs.Lemmas.Numbers.{Has, has_cases, has_last_from}
 
--- a number behind another
+-- a number after another
 pub from_has : (R : ℕ → ℕ → Type 0) (m n : ℕ) (ns : List ℕ) → AllFrom R m ns → Has ns n → R m n
 from_has R m n [] h has = cc
 from_has R m n (k ∷ ks) h has = elim (has_cases k n ks has) [ inl e ↦ subst (R m) e h.0 | inr later ↦ from_has R m n ks h.1 later ]
 
--- it is the first, or behind it
+-- it is the first, or after it
 pub from_first : (R : ℕ → ℕ → Type 0) → ((x : ℕ) → R x x) → (m n : ℕ) (ns : List ℕ) → AllFrom R m ns → Has (m ∷ ns) n → R m n
 from_first R same m n ns h has = elim (has_cases m n ns has) [ inl e ↦ subst (R m) e (same m) | inr later ↦ from_has R m n ns h later ]
 

@@ -91,21 +91,21 @@ chain_across R m n (x ∷ xs) ys h hm hn = elim (has_cases x m xs hm) [
 before_rising : (x y n : ℕ) → x ≤ y → n ≤ x → n ≢ x → united (min x y) (max x y) n ≡ n
 before_rising x y n h k ne = grind (arith, nat_tests, common_steps)
 
-behind_rising : (x y n : ℕ) → x ≤ y → y ≤ n → n ≢ y → united (min x y) (max x y) n ≡ n
-behind_rising x y n h k ne = grind (arith, nat_tests, common_steps)
+after_rising : (x y n : ℕ) → x ≤ y → y ≤ n → n ≢ y → united (min x y) (max x y) n ≡ n
+after_rising x y n h k ne = grind (arith, nat_tests, common_steps)
 
 before_falling : (x y n : ℕ) → y ≤ x → x ≤ n → n ≢ x → united (min x y) (max x y) n ≡ n
 before_falling x y n h k ne = grind (arith, nat_tests, common_steps)
 
-behind_falling : (x y n : ℕ) → y ≤ x → n ≤ y → n ≢ y → united (min x y) (max x y) n ≡ n
-behind_falling x y n h k ne = grind (arith, nat_tests, common_steps)
+after_falling : (x y n : ℕ) → y ≤ x → n ≤ y → n ≢ y → united (min x y) (max x y) n ≡ n
+after_falling x y n h k ne = grind (arith, nat_tests, common_steps)
 
 -- a number on either side of a stretch stays as it is
 pub outside : (falls : Bool) (x y n : ℕ) → Stands falls x y → (Stands falls n x × n ≢ x) ⊎ (Stands falls y n × n ≢ y) → united (min x y) (max x y) n ≡ n
 outside false x y n h (inl k) = before_rising x y n h k.0 k.1
-outside false x y n h (inr k) = behind_rising x y n h k.0 k.1
+outside false x y n h (inr k) = after_rising x y n h k.0 k.1
 outside true x y n h (inl k) = before_falling x y n h k.0 k.1
-outside true x y n h (inr k) = behind_falling x y n h k.0 k.1
+outside true x y n h (inr k) = after_falling x y n h k.0 k.1
 
 pub stands_chain : (falls : Bool) (ns : List ℕ) → IsInOrder falls ns → IsChain (Stands falls) ns
 stands_chain false ns h = h

@@ -22,8 +22,8 @@ use Rattle.glyph_lists.specs.Events.{Event, origins_after_event, origins_after}
 
 -- ---- a part of a list that changes
 
-behind_both : (from to : ℕ) → from ≤ to → max from to ≡ to
-behind_both from to le = grind (arith, nat_tests, common_steps)
+after_both : (from to : ℕ) → from ≤ to → max from to ≡ to
+after_both from to le = grind (arith, nat_tests, common_steps)
 
 cut_from : {X : Type 0} (n m : ℕ) (xs : List X) → take n xs ++ take m (drop n xs) ++ drop (n + m) xs ≡ xs
 cut_from n m xs = append_assoc (take n xs) (take m (drop n xs)) (drop (n + m) xs) ∙ ap (λ ys. take n xs ++ (take m (drop n xs) ++ ys)) (sym (drop-drop m n xs)) ∙ ap (λ ys. take n xs ++ ys) (take-append-drop m (drop n xs)) ∙ take-append-drop n xs
@@ -144,14 +144,14 @@ origin_marked bits low g lt = by_test (g.cluster == low)
 pub origins_of_marked : (bits from to : ℕ) (gs : List hb_glyph_info_t) → bits < 8 → from ≤ to → origins (glyphs_marked bits from to gs) ≡ origins_marked bits from to (origins gs)
 origins_of_marked bits from to gs lt le =
     let low = least_number (stretch from to (clusters gs)) in
-    let last : drop to gs ≡ drop (max from to) gs = ap (λ n. drop n gs) (sym (behind_both from to le)) in
+    let last : drop to gs ≡ drop (max from to) gs = ap (λ n. drop n gs) (sym (after_both from to le)) in
     ap (λ ys. origins (take from gs ++ map (marked_outside bits low) (slice_range gs from to) ++ ys)) last
     ∙ within_seen origin_of (marked_outside bits low) (added_outside bits low) from to gs (λ g. origin_marked bits low g lt)
     ∙ ap (λ ns. changed_within (added_outside bits (least_number (stretch from to ns))) from to (origins gs)) (sym (numbers_origins gs))
 
 pub origins_of_flagged : (bits from to : ℕ) (gs : List hb_glyph_info_t) → bits < 8 → from ≤ to → origins (glyphs_flagged bits from to gs) ≡ origins_flagged bits from to (origins gs)
 origins_of_flagged bits from to gs lt le =
-    let last : drop to gs ≡ drop (max from to) gs = ap (λ n. drop n gs) (sym (behind_both from to le)) in
+    let last : drop to gs ≡ drop (max from to) gs = ap (λ n. drop n gs) (sym (after_both from to le)) in
     ap (λ ys. origins (take from gs ++ map (flagged bits) (slice_range gs from to) ++ ys)) last
     ∙ within_seen origin_of (flagged bits) (flags_added bits) from to gs (λ g. ap (λ f. record { cluster = g.cluster; flags = f }) (flags_set g.mask bits lt))
 

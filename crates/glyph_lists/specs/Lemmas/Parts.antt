@@ -10,7 +10,7 @@ use Rattle.glyph_lists.specs.Lemmas.Drawn.{IsDrawn, chain_drawn, drawn_replaced,
 use Rattle.glyph_lists.specs.Lemmas.Numbers.{Has, has_map, has_reverse, drawn_brings}
 use Rattle.glyph_lists.specs.Lemmas.Unions.{Unites, joined_unites, left_unites}
 
--- how a number stands to one behind it
+-- how a number stands to one after it
 abbrev pub Stands : Bool → ℕ → ℕ → Type 0
 Stands false x y = x ≤ y
 Stands true x y = y ≤ x

@@ -12,7 +12,7 @@ use Rattle.glyph_slices.specs.Groups.{joined_behind, group_length}
 use Rattle.glyph_slices.specs.Turning.{in_front, groups, groups_turned, all_turned, turned}
 use Rattle.glyph_slices.specs.Laws.{cut_into, GroupsAreAll, TurnsGroups}
 
--- the first group, and those behind it
+-- the first group, and those after it
 pub groups_cut : {X : Type 0} (p : X → X → Bool) (x : X) (xs : List X) → groups p (x ∷ xs) ≡ take (group_length p (x ∷ xs)) (x ∷ xs) ∷ groups p (drop (group_length p (x ∷ xs)) (x ∷ xs))
 groups_cut p x [] = refl
 groups_cut p x (y ∷ ys) =

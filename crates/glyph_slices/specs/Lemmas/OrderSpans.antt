@@ -37,14 +37,14 @@ got_among P [] i j h e = cc
 got_among P (k ∷ is) zero j h e = let same : k ≡ j = cc in subst P same (All-head P k is h)
 got_among P (k ∷ is) (suc i) j h e = got_among P is i j (All-tail P k is h) e
 
-got_behind : (k : ℕ) (is : List ℕ) (i : ℕ) → slice_get (drop k is) i ≡ slice_get is (k + i)
-got_behind zero is i = ap (slice_get is) (omega arith)
-got_behind (suc k) [] i = refl
-got_behind (suc k) (x ∷ is) i = let there : suc k + i ≡ suc (k + i) = omega arith in got_behind k is i ∙ ap (slice_get (x ∷ is)) (sym there)
+got_after : (k : ℕ) (is : List ℕ) (i : ℕ) → slice_get (drop k is) i ≡ slice_get is (k + i)
+got_after zero is i = ap (slice_get is) (omega arith)
+got_after (suc k) [] i = refl
+got_after (suc k) (x ∷ is) i = let there : suc k + i ≡ suc (k + i) = omega arith in got_after k is i ∙ ap (slice_get (x ∷ is)) (sym there)
 
--- behind a seam stand the indices from it on
-behind_seam : (keys : List ℕ) (k : ℕ) → k ≤ length keys → is_seam (order_of keys) k ≡ true → All (λ j. k ≤ j) (drop k (order_of keys))
-behind_seam keys k le seam =
+-- after a seam stand the indices from it on
+after_seam : (keys : List ℕ) (k : ℕ) → k ≤ length keys → is_seam (order_of keys) k ≡ true → All (λ j. k ≤ j) (drop k (order_of keys))
+after_seam keys k le seam =
     let key : ℕ → ℕ = λ i. slice_index_or keys i 0 in
     let n = length keys - k in
     let order = order_of keys in
@@ -82,7 +82,7 @@ order_stays keys = record { whole = all_inside keys; stays = stays }
     stays i j k at seam le =
         let lt = slice_get_within (order_of keys) i j at in
         let there : k + (i - k) ≡ i = omega arith in
-        got_among (λ m. k ≤ m) (drop k (order_of keys)) (i - k) j (behind_seam keys k (omega (arith, lt, order_length keys, le)) seam) (got_behind k (order_of keys) (i - k) ∙ ap (slice_get (order_of keys)) there ∙ at)
+        got_among (λ m. k ≤ m) (drop k (order_of keys)) (i - k) j (after_seam keys k (omega (arith, lt, order_length keys, le)) seam) (got_after k (order_of keys) (i - k) ∙ ap (slice_get (order_of keys)) there ∙ at)
 
 pub events_are_plain : EventsArePlain
 events_are_plain q joins xs at keys = (deletions_are_plain q 0 xs, groups_are_plain joins xs, (order_stays keys, tt))

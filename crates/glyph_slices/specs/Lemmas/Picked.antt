@@ -41,15 +41,15 @@ are_reversed all [] (z ∷ zs) h = absurd h
 are_reversed all (i ∷ is) [] h = absurd h
 are_reversed all (i ∷ is) (z ∷ zs) h = rw (reversed_onto i is, reversed_onto z zs) (are_both all (reverse is) (reverse zs) (i ∷ []) (z ∷ []) (are_reversed all is zs h.1) (h.0, tt))
 
-got_behind : {X : Type 0} (front : List X) (x : X) (xs : List X) → slice_get (front ++ x ∷ xs) (length front) ≡ Some x
-got_behind [] x xs = refl
-got_behind (y ∷ ys) x xs = got_behind ys x xs
+got_after : {X : Type 0} (front : List X) (x : X) (xs : List X) → slice_get (front ++ x ∷ xs) (length front) ≡ Some x
+got_after [] x xs = refl
+got_after (y ∷ ys) x xs = got_after ys x xs
 
--- all elements behind some, at their indices
+-- all elements after some, at their indices
 pub are_all : {X : Type 0} (front xs : List X) → AreAt (front ++ xs) (range_with_len (length front) (length xs)) xs
 are_all front [] = tt
 are_all front (x ∷ xs) =
     let rest = are_all (front ++ x ∷ []) xs in
     let long : length (front ++ x ∷ []) ≡ length front + 1 = length-append front (x ∷ []) in
     let at : AreAt ((front ++ x ∷ []) ++ xs) (range_with_len (length front + 1) (length xs)) xs = subst (λ n. AreAt ((front ++ x ∷ []) ++ xs) (range_with_len n (length xs)) xs) long rest in
-    (got_behind front x xs, subst (λ ys. AreAt ys (range_with_len (length front + 1) (length xs)) xs) (append_assoc front (x ∷ []) xs) at)
+    (got_after front x xs, subst (λ ys. AreAt ys (range_with_len (length front + 1) (length xs)) xs) (append_assoc front (x ∷ []) xs) at)

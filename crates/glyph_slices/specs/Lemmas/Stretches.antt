@@ -13,7 +13,7 @@ pub joined_within : {X : Type 0} (p : X → X → Bool) (x : X) (xs : List X) �
 joined_within p x [] = omega arith
 joined_within p x (y ∷ ys) = let rest = joined_within p y ys in elim (p x y) as (λ t. (if t then suc (joined_behind p y ys) else 0) ≤ suc (length ys)) [ true ↦ omega (arith, rest) | false ↦ omega arith ]
 
--- the length of the first group, and those of the groups behind it
+-- the length of the first group, and those of the groups after it
 pub lengths_cut : {X : Type 0} (p : X → X → Bool) (x : X) (xs : List X) → group_lengths p (x ∷ xs) ≡ group_length p (x ∷ xs) ∷ group_lengths p (drop (group_length p (x ∷ xs)) (x ∷ xs))
 lengths_cut p x xs =
     let n = group_length p (x ∷ xs) in

@@ -37,8 +37,8 @@ part_before start end xs le within =
     let cut : take end (front ++ drop end xs) ≡ front = ap (λ n. take n (front ++ drop end xs)) (sym long) ∙ take-append_seam front (drop end xs) in
     ap reverse cut ∙ reverse-append (take start xs) (reverse (slice_range xs start end)) ∙ ap (λ ys. ys ++ reverse (take start xs)) (reverse-reverse (slice_range xs start end))
 
-pub part_behind : {X : Type 0} (start end : ℕ) (xs : List X) → start ≤ end → end ≤ length xs → drop end (range_reversed start end xs) ≡ drop (end - start) (drop start xs)
-part_behind start end xs le within =
+pub part_after : {X : Type 0} (start end : ℕ) (xs : List X) → start ≤ end → end ≤ length xs → drop end (range_reversed start end xs) ≡ drop (end - start) (drop start xs)
+part_after start end xs le within =
     let front = take start xs ++ reverse (slice_range xs start end) in
     let long : length front ≡ end = part_front start end xs le within in
     let there : start + (end - start) ≡ end = omega arith in
@@ -49,7 +49,7 @@ beside_reverse MonotoneGraphemes range gs = sym (map-reverse _ gs)
 beside_reverse MonotoneCharacters range gs = sym (map-reverse _ gs)
 beside_reverse Characters range gs = refl
 
--- a merge behind a place, on both sides of it
+-- a merge after a place, on both sides of it
 merged_cut : (merge : Bool) (level : BufferClusterLevel) (start end : ℕ) (gs : List Glyph) → start ≤ end → start ≤ length gs
     → merged_if merge level start end gs ≡ beside_if merge level (stretch 0 (end - start) (clusters (drop start gs))) (take start gs) ++ merged_if merge level 0 (end - start) (drop start gs)
 merged_cut false level start end gs le within = sym (take-append-drop start gs)
@@ -82,7 +82,7 @@ merged_length : (merge : Bool) (level : BufferClusterLevel) (start end : ℕ) (g
 merged_length false level start end gs le = refl
 merged_length true level start end gs le = length_merged_at level start end gs le
 
--- a group was merged and turned round in its place: the glyphs up to its end in reversed order, and those behind it
+-- a group was merged and turned round in its place: the glyphs up to its end in reversed order, and those after it
 pub placed_glyphs : (merge : Bool) (level : BufferClusterLevel) (start end : ℕ) (gs mid new : List Glyph) → start ≤ end → end ≤ length gs → mid ≡ merged_if merge level start end gs → new ≡ range_reversed start end mid
     → (reverse (take end new) ≡ take (end - start) (merged_if merge level 0 (end - start) (drop start gs)) ++ beside_if merge level (stretch 0 (end - start) (clusters (drop start gs))) (reverse (take start gs)))
     × (drop end new ≡ drop (end - start) (merged_if merge level 0 (end - start) (drop start gs)))
@@ -97,7 +97,7 @@ placed_glyphs merge level start end gs mid new le within m n =
     let wide : end ≤ length mid = omega (arith, ap length m, merged_length merge level start end gs le) in
     let one : reverse (take end new) ≡ take (end - start) ahead ++ beside_if merge level range (reverse (take start gs)) =
     ap (λ ys. reverse (take end ys)) n ∙ part_before start end mid le wide ∙ ap (λ ys. take (end - start) ys ++ reverse (take start mid)) rest ∙ ap (λ ys. take (end - start) ahead ++ reverse ys) first ∙ ap (λ ys. take (end - start) ahead ++ ys) (beside_turned merge level range (take start gs)) in
-    let two : drop end new ≡ drop (end - start) ahead = ap (drop end) n ∙ part_behind start end mid le wide ∙ ap (drop (end - start)) rest in
+    let two : drop end new ≡ drop (end - start) ahead = ap (drop end) n ∙ part_after start end mid le wide ∙ ap (drop (end - start)) rest in
     (one, two)
 
 -- and its positions beside it
@@ -109,7 +109,7 @@ group_placed merge level start end gs mid new ps positions before marked le with
     let one = moved.0 in
     let two = moved.1 in
     let three : reverse (take end positions) ≡ take (end - start) (drop start ps) ++ reverse (take start ps) = ap (λ ys. reverse (take end ys)) p ∙ part_before start end ps le (omega arith) in
-    let four : drop end positions ≡ drop (end - start) (drop start ps) = ap (drop end) p ∙ part_behind start end ps le (omega arith) in
+    let four : drop end positions ≡ drop (end - start) (drop start ps) = ap (drop end) p ∙ part_after start end ps le (omega arith) in
     let five : marked ≡ is_marked_if merge level 0 (end - start) (clusters (drop start gs)) = k ∙ marked_cut merge level start end gs in
     rw (one, two, three, four, five) refl
 

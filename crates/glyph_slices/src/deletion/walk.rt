@@ -14,7 +14,7 @@ use glyph_lists::position::GlyphPosition;
 use glyph_lists::runs::last_cluster;
 
 /// How far a walk of deletions has come. Where clusters are in order the run at the end of the glyphs that stay takes a
-/// cluster only once another glyph stays behind it, so that it is written once.
+/// cluster only once another glyph stays after it, so that it is written once.
 #[derive(Clone, Copy)]
 pub(super) struct Walk {
     /// How many glyphs stay.

@@ -37,7 +37,7 @@ fn set_clusters(glyphs: &mut [hb_glyph_info_t], cluster: u32)
     }
 }
 
-/// Merges the glyphs from `start` up to before `end`, behind all that is due. What is of their first cluster goes to
+/// Merges the glyphs from `start` up to before `end`, after all that is due. What is of their first cluster goes to
 /// their least: it stands before them, and may be just what is due.
 pub(super) fn merge_falling(
     glyphs: &mut [hb_glyph_info_t],

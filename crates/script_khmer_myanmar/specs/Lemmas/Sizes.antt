@@ -12,7 +12,7 @@ use Rattle.glyph_slices.specs.Lemmas.GroupsTurned.{turned_onto}
 use Rattle.glyph_slices.specs.Lemmas.KeyOrder.{all_below, by_key_moves}
 use Rattle.script_constants.specs.declared.ot_category_t.TheConstants as category
 use Rattle.script_constants.specs.declared.ot_position_t.TheConstants as position
-use Rattle.script_khmer_myanmar.specs.Myanmar.{base_of, based, from_base, is_base, kinzi, myanmar_places, place_behind, place_of, places_behind}
+use Rattle.script_khmer_myanmar.specs.Myanmar.{base_of, based, from_base, is_base, kinzi, myanmar_places, place_behind, place_of, places_after}
 
 pub key_order_size : {X : Type 0} (key : X → ℕ) (xs : List X) → length (key_order key xs) ≡ length xs
 key_order_size key xs = (length_permutation xs (key_order key xs) (by_key_moves key (key_bound key xs) xs (all_below key (key_bound key xs) xs (omega arith))))
@@ -41,13 +41,13 @@ groups_turned_size p xs = turned_within p (length xs) xs (omega arith)
 
 -- ---- places
 
-pub behind_size : (now before : ℕ) (cs : List ℕ) → length (places_behind now before cs) ≡ length cs
-behind_size now before [] = refl
-behind_size now before (c ∷ cs) = ap suc (behind_size (place_behind now c) (place_of now before c) cs)
+pub after_size : (now before : ℕ) (cs : List ℕ) → length (places_after now before cs) ≡ length cs
+after_size now before [] = refl
+after_size now before (c ∷ cs) = ap suc (after_size (place_behind now c) (place_of now before c) cs)
 
 from_base_size : (cs : List ℕ) → length (from_base cs) ≡ length cs
 from_base_size [] = refl
-from_base_size (c ∷ cs) = ap suc (behind_size position.POS_AFTER_MAIN position.POS_BASE_C cs)
+from_base_size (c ∷ cs) = ap suc (after_size position.POS_AFTER_MAIN position.POS_BASE_C cs)
 
 pub base_within : (cs : List ℕ) → base_of cs ≤ length cs
 base_within cs = by_test (list_any is_base cs)

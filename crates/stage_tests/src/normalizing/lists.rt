@@ -17,7 +17,7 @@ use tables_json::read_tables;
 use unicode_tables::UnicodeTables;
 
 // A text with its clusters, what a shaper prefers, a font has and tables say, and some columns of the normalised list.
-// Among them are runs of 32 marks, which is put in order, and of 33, which stays; marks of one class, behind which no other
+// Among them are runs of 32 marks, which is put in order, and of 33, which stays; marks of one class, after which no other
 // reaches the letter; grapheme joiners, which keep two marks apart or do not; and selectors that nothing joins.
 const ROWS: &str =
     r#"{"mode":"ComposedDiacritics","level":0,"tables":{"classes":[[769,230],[803,220]]},"glyphs":[[769,1],[803,2]],"text":[[769,1],[803,0]],"characters":[803,769],"indices":[2,1],"clusters":[0,0]}

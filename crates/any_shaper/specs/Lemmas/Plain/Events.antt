@@ -1,4 +1,4 @@
--- Plain events, one list behind another, and rules that leave such.
+-- Plain events, one list after another, and rules that leave such.
 use Rattle.std.proofs.Common.{ℕ, ◌≡◌, List, [], ◌∷◌, ◌++◌, length, map, Ok, Err, refl, ap, subst}
 use Rattle.std.specs.Prelude.{slice_range}
 use Rattle.glyph_lists.specs.declared.level.BufferClusterLevel.{BufferClusterLevel}
