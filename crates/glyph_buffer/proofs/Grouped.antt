@@ -21,7 +21,7 @@ use Rattle.stable_order.specs.Keys.{key_order}
 use Rattle.glyph_slices.specs.DeletionWalk.{all_passed}
 use Rattle.glyph_slices.specs.Facts.{items_kept, positions_kept, positions_turned}
 use Rattle.glyph_slices.specs.Sorting.{range_sorted}
-use Rattle.glyph_slices.specs.Turning.{groups_turned, turned}
+use Rattle.glyph_slices.specs.Turning.{groups_turned, turning_of}
 use Rattle.glyph_slices.specs.Lemmas.Kept.{items_all, places_all}
 use Rattle.glyph_slices.specs.Lemmas.Regrouped.{items_turned, places_beside}
 use Rattle.glyph_slices.specs.Lemmas.SortedItems.{items_sorted}
@@ -29,8 +29,8 @@ use Rattle.glyph_buffer.specs.Grouping.{with_groups_turned, with_picked_deleted}
 use Rattle.glyph_buffer.specs.Sides.{Sides, all_glyphs, asks_of, items_of, origins_by, origins_of}
 use Rattle.glyph_buffer.specs.Sorting.{with_range_sorted}
 
-all_turned : (merge : Bool) (joins : Glyph → Glyph → Bool) (s : Sides) → all_glyphs (with_groups_turned merge joins s) ≡ (turned merge s.level joins (all_glyphs s) s.positions).glyphs
-all_turned merge joins s = take-append-drop s.read (turned merge s.level joins (all_glyphs s) s.positions).glyphs
+all_turned : (merge : Bool) (joins : Glyph → Glyph → Bool) (s : Sides) → all_glyphs (with_groups_turned merge joins s) ≡ (turning_of merge s.level joins (all_glyphs s) s.positions).glyphs
+all_turned merge joins s = take-append-drop s.read (turning_of merge s.level joins (all_glyphs s) s.positions).glyphs
 
 pub groups_items : (merge : Bool) (q : Item → Item → Bool) (s : Sides) → items_of (with_groups_turned merge (λ g h. q (item_of g) (item_of h)) s) ≡ groups_turned q (items_of s)
 groups_items merge q s = ap strip (all_turned merge (λ g h. q (item_of g) (item_of h)) s) ∙ items_turned merge s.level q (all_glyphs s) s.positions
@@ -64,13 +64,13 @@ sorted_origins start end k s le within = ap origins (all_sorted start end (λ g.
 
 -- both vectors, with the groups turned round
 pub grouped_view : (merge : Bool) (joins : Glyph → Glyph → Bool) (b : Inside) (info : Vec Glyph) (positions : Vec GlyphPosition) (order : ClusterOrder) (flags : ℕ) → b.have_output ≡ false
-    → info.items ≡ (turned merge b.cluster_level joins b.info.items b.pos.items).glyphs → positions.items ≡ (turned merge b.cluster_level joins b.info.items b.pos.items).positions
-    → flags ≡ telling_flags (turned merge b.cluster_level joins b.info.items b.pos.items).is_marked b.scratch_flags
+    → info.items ≡ (turning_of merge b.cluster_level joins b.info.items b.pos.items).glyphs → positions.items ≡ (turning_of merge b.cluster_level joins b.info.items b.pos.items).positions
+    → flags ≡ telling_flags (turning_of merge b.cluster_level joins b.info.items b.pos.items).is_marked b.scratch_flags
     → sides_of (record b { info = info; pos = positions; scratch_flags = flags; order = order }) ≡ with_groups_turned merge joins (sides_of b)
 grouped_view merge joins b info positions order flags h i p f = rw (h, take-append-drop b.idx b.info.items, i, p, f) refl
 
 pub groups_plain : (merge : Bool) (joins : Glyph → Glyph → Bool) (s : Sides) → merge ≡ false → all_glyphs (with_groups_turned merge joins s) ≡ groups_turned joins (all_glyphs s)
-groups_plain merge joins s off = all_turned merge joins s ∙ ap (λ t. (turned t s.level joins (all_glyphs s) s.positions).glyphs) off ∙ turned_plain s.level joins (all_glyphs s) s.positions
+groups_plain merge joins s off = all_turned merge joins s ∙ ap (λ t. (turning_of t s.level joins (all_glyphs s) s.positions).glyphs) off ∙ turned_plain s.level joins (all_glyphs s) s.positions
 
 -- the vector of glyphs, with a range in order
 pub sorted_view : (b : Inside) (info : Vec Glyph) (order : ClusterOrder) (start end : ℕ) (k : Glyph → ℕ) (flags : ℕ) → b.have_output ≡ false → b.idx ≤ length b.info.items

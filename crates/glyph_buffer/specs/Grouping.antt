@@ -3,7 +3,7 @@ use Rattle.std.specs.Prelude.{ℕ, zero, suc, ◌+◌, Bool, if◌then◌else◌
 use Rattle.glyph_lists.specs.declared.info.hb_glyph_info_t.{hb_glyph_info_t}
 use Rattle.glyph_lists.specs.Items.{clusters}
 use Rattle.glyph_lists.specs.Deleting.{Left, glyphs_deleted, deletion_marks}
-use Rattle.glyph_slices.specs.Turning.{Turning, turned}
+use Rattle.glyph_slices.specs.Turning.{Turning, turning_of}
 use Rattle.glyph_slices.specs.DeletionWalk.{Passed, all_passed}
 use Rattle.glyph_buffer.specs.Merging.{telling_flags}
 use Rattle.glyph_buffer.specs.Sides.{Sides, all_glyphs, moved_on, with_list}
@@ -13,7 +13,7 @@ with_turning t s = record (with_list t.glyphs t.positions s) { scratch_flags = t
 
 -- the order of the groups turned round, each merged before where that is asked for
 abbrev pub with_groups_turned : Bool → (hb_glyph_info_t → hb_glyph_info_t → Bool) → Sides → Sides
-with_groups_turned merge joins s = with_turning (turned merge s.level joins (all_glyphs s) s.positions) s
+with_groups_turned merge joins s = with_turning (turning_of merge s.level joins (all_glyphs s) s.positions) s
 
 -- what is left after a walk of deletions, with the cursor no further than behind the last
 abbrev pub with_passed : Passed → Sides → Sides

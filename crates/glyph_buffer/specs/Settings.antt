@@ -35,12 +35,12 @@ abbrev pub steps_limit : ℕ → ℤ → ℤ
 steps_limit count limit = if nat_le (count * 1024) 0x7FFF_FFFF then pos (max (count * 1024) 16384) else limit
 
 -- shaping begins: limits by the number of glyphs, no ligature number given, nothing told of the glyphs
-abbrev pub entered : Sides → Sides
-entered s = record s { max_len = length_limit (length (all_glyphs s)) s.max_len; max_ops = steps_limit (length (all_glyphs s)) s.max_ops; lig_id = 0; scratch_flags = 0 }
+abbrev pub after_enter : Sides → Sides
+after_enter s = record s { max_len = length_limit (length (all_glyphs s)) s.max_len; max_ops = steps_limit (length (all_glyphs s)) s.max_ops; lig_id = 0; scratch_flags = 0 }
 
 -- shaping ends: limits as at first, but never less than what is held
-abbrev pub left : Sides → Sides
-left s = record s { max_len = max 0x3FFF_FFFF (length (all_glyphs s)); max_ops = pos 0x1FFF_FFFF; lig_id = 0 }
+abbrev pub after_leave : Sides → Sides
+after_leave s = record s { max_len = max 0x3FFF_FFFF (length (all_glyphs s)); max_ops = pos 0x1FFF_FFFF; lig_id = 0 }
 
 -- the text around, nearest first
 abbrev pub with_pre_context : List ℕ → Sides → Sides

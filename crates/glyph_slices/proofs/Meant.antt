@@ -7,7 +7,7 @@ use Rattle.glyph_slices.specs.declared.due.Due.{Due}
 use Rattle.glyph_slices.specs.declared.due.Due.TheVariants.{Nothing, Falling}
 use Rattle.glyph_slices.specs.Turning.{merged_if, range_reversed}
 use Rattle.glyph_slices.specs.Falling.{carried, IsDueBefore}
-use Rattle.glyph_slices.specs.Due.{meant, IsDue, IsWithin, MayBeDue, MayBeRound}
+use Rattle.glyph_slices.specs.Due.{with_due, IsDue, IsWithin, MayBeDue, MayBeRound}
 use Rattle.glyph_slices.proofs.Carried.{drop_carried}
 use Rattle.glyph_slices.proofs.CarriedTurned.{carried_long, carried_turned, stretch_turned}
 
@@ -20,16 +20,16 @@ due_within level at n Nothing gs le h = tt
 due_within level at n (Falling d) gs le h = (h.1.ordered, omega (arith, h.1.before, le))
 
 -- as long as before
-pub meant_long : (level : Level) (at : ℕ) (due : Due) (gs : List Glyph) → at ≤ length gs → MayBeDue level at due gs → length (meant due gs) ≡ length gs
+pub meant_long : (level : Level) (at : ℕ) (due : Due) (gs : List Glyph) → at ≤ length gs → MayBeDue level at due gs → length (with_due due gs) ≡ length gs
 meant_long level at Nothing gs le h = refl
 meant_long level at (Falling d) gs le h = carried_long d gs h.1.ordered (omega (arith, h.1.before, le))
 
-pub meant_turned : (level : Level) (start end : ℕ) (due : Due) (gs : List Glyph) → start ≤ end → end ≤ length gs → MayBeDue level end due gs → MayBeRound start end due → meant due (range_reversed start end gs) ≡ range_reversed start end (meant due gs)
+pub meant_turned : (level : Level) (start end : ℕ) (due : Due) (gs : List Glyph) → start ≤ end → end ≤ length gs → MayBeDue level end due gs → MayBeRound start end due → with_due due (range_reversed start end gs) ≡ range_reversed start end (with_due due gs)
 meant_turned level start end Nothing gs le within h round = refl
 meant_turned level start end (Falling d) gs le within h round = carried_turned d start end gs le within h.1.ordered round
 
 -- a group that was merged is turned round in its place
-pub due_turned : (merge : Bool) (level : Level) (start end : ℕ) (due : Due) (old gs : List Glyph) → start ≤ end → end ≤ length gs → MayBeDue level end due gs → MayBeRound start end due → (merge ≡ false → due ≡ Nothing) → meant due gs ≡ merged_if merge level start end old → MayBeDue level end due (range_reversed start end gs)
+pub due_turned : (merge : Bool) (level : Level) (start end : ℕ) (due : Due) (old gs : List Glyph) → start ≤ end → end ≤ length gs → MayBeDue level end due gs → MayBeRound start end due → (merge ≡ false → due ≡ Nothing) → with_due due gs ≡ merged_if merge level start end old → MayBeDue level end due (range_reversed start end gs)
 due_turned merge level start end Nothing old gs le within h round plain e = (tt, tt)
 due_turned false level start end (Falling d) old gs le within h round plain e = let no = plain refl in cc
 due_turned true level start end (Falling d) old gs le within h round plain e = (h.0, stretch_turned level d start end old gs h.0 le within h.1 round e)
@@ -38,6 +38,6 @@ due_turned true level start end (Falling d) old gs le within h round plain e = (
 pub meant_ahead : (at : ℕ) (d : Stretch) (gs : List Glyph) → at ≤ length gs → IsDueBefore at d gs → drop at (carried d gs) ≡ drop at gs
 meant_ahead at d gs le h = drop_carried d gs at h.ordered (omega (arith, h.before, le)) h.before
 
-pub ahead_as_meant : (at : ℕ) (due : Due) (gs : List Glyph) → at ≤ length gs → IsDue at due gs → drop at (meant due gs) ≡ drop at gs
+pub ahead_as_meant : (at : ℕ) (due : Due) (gs : List Glyph) → at ≤ length gs → IsDue at due gs → drop at (with_due due gs) ≡ drop at gs
 ahead_as_meant at Nothing gs le h = refl
 ahead_as_meant at (Falling d) gs le h = meant_ahead at d gs le h

@@ -8,9 +8,9 @@ use Rattle.glyph_slices.specs.declared.due.Due.TheVariants.{Nothing, Falling}
 use Rattle.glyph_slices.specs.Falling.{carried, IsDueBefore, IsRound}
 
 -- the glyphs that are meant where something may be due
-abbrev pub meant : Due → List hb_glyph_info_t → List hb_glyph_info_t
-meant Nothing gs = gs
-meant (Falling d) gs = carried d gs
+abbrev pub with_due : Due → List hb_glyph_info_t → List hb_glyph_info_t
+with_due Nothing gs = gs
+with_due (Falling d) gs = carried d gs
 
 -- what is due before a place
 abbrev pub IsDue : ℕ → Due → List hb_glyph_info_t → Type 0

@@ -7,7 +7,7 @@ use Rattle.glyph_lists.specs.Items.{Item, Position, item_of, strip}
 use Rattle.glyph_lists.specs.Origins.{Asks, origins, origins_deleted}
 use Rattle.glyph_lists.specs.Events.{Sort, origins_after, IsPlain}
 use Rattle.glyph_lists.specs.Deleting.{glyphs_deleted}
-use Rattle.glyph_slices.specs.Turning.{groups, groups_turned, turned}
+use Rattle.glyph_slices.specs.Turning.{groups, groups_turned, turning_of}
 use Rattle.glyph_slices.specs.DeletionWalk.{all_passed}
 use Rattle.glyph_slices.specs.Events.{deletions, groups_reversed, order_of}
 use Rattle.glyph_slices.specs.Sorting.{is_seam, places_by_key, range_sorted}
@@ -46,7 +46,7 @@ DeletionsAreEvents = (asks : Asks) (level : BufferClusterLevel) (q : Item → Bo
 -- a reversal of groups is a list of events, one for each group and one for the list
 abbrev pub GroupsAreEvents : Type 0
 GroupsAreEvents = (asks : Asks) (merge : Bool) (level : BufferClusterLevel) (q : Item → Item → Bool) (gs : List hb_glyph_info_t) (ps : List Position)
-    → origins (turned merge level (λ g h. q (item_of g) (item_of h)) gs ps).glyphs ≡ origins_after asks level (groups_reversed merge q (strip gs)) (origins gs)
+    → origins (turning_of merge level (λ g h. q (item_of g) (item_of h)) gs ps).glyphs ≡ origins_after asks level (groups_reversed merge q (strip gs)) (origins gs)
 
 -- a sort of a range is one event
 abbrev pub SortIsEvent : Type 0

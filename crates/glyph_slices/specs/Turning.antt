@@ -74,5 +74,5 @@ abbrev pub turning_at : ℕ → List hb_glyph_info_t → List Position → Bool 
 turning_at start gs ps marked = record { glyphs = reverse (take start gs); positions = reverse (take start ps); ahead = drop start gs; positions_ahead = drop start ps; is_marked = marked }
 
 -- all groups, of which there are no more than glyphs
-abbrev pub turned : Bool → BufferClusterLevel → (hb_glyph_info_t → hb_glyph_info_t → Bool) → List hb_glyph_info_t → List Position → Turning
-turned merge level p gs ps = all_turned merge level p (length gs) (record { glyphs = []; positions = []; ahead = gs; positions_ahead = ps; is_marked = false })
+abbrev pub turning_of : Bool → BufferClusterLevel → (hb_glyph_info_t → hb_glyph_info_t → Bool) → List hb_glyph_info_t → List Position → Turning
+turning_of merge level p gs ps = all_turned merge level p (length gs) (record { glyphs = []; positions = []; ahead = gs; positions_ahead = ps; is_marked = false })

@@ -5,7 +5,7 @@ ghost use Rattle.glyph_lists.specs.Order.{IsOrdered};
 ghost use Rattle.glyph_lists.specs.Levels.{IsMonotone};
 ghost use Rattle.glyph_lists.specs.Glyphs.{glyphs_merged_at, is_marked_at};
 ghost use Rattle.glyph_slices.specs.declared.due.Due.TheVariants.{Nothing};
-ghost use Rattle.glyph_slices.specs.Due.{IsWithin, MayBeDue, MayBeRound, meant};
+ghost use Rattle.glyph_slices.specs.Due.{IsWithin, MayBeDue, MayBeRound, with_due};
 
 mod falling;
 
@@ -41,7 +41,7 @@ pub(crate) fn no_merges(
 ) -> Merges
     requires known { in_order ≡ true → IsMonotone level → IsOrdered (clusters glyphs.now) }
     ensures due { MayBeDue level 0 result.due glyphs.now }
-    ensures meant { meant result.due glyphs.now ≡ glyphs.now }
+    ensures with_due { with_due result.due glyphs.now ≡ glyphs.now }
     ensures marked { result.marked ≡ false }
     ensures none { in_order ≡ false → result.due ≡ Nothing }
 {
@@ -54,7 +54,7 @@ pub(crate) fn no_merges(
 fn no_due(glyphs: &[hb_glyph_info_t], level: BufferClusterLevel, in_order: bool) -> Due
     requires known { in_order ≡ true → IsMonotone level → IsOrdered (clusters glyphs.now) }
     ensures due { MayBeDue level 0 result glyphs.now }
-    ensures meant { meant result glyphs.now ≡ glyphs.now }
+    ensures with_due { with_due result glyphs.now ≡ glyphs.now }
     ensures none { in_order ≡ false → result ≡ Nothing }
 {
     if !in_order {
@@ -72,7 +72,7 @@ fn no_due(glyphs: &[hb_glyph_info_t], level: BufferClusterLevel, in_order: bool)
 fn no_stretch(glyphs: &[hb_glyph_info_t]) -> Due
     ensures due { (level : Level) → IsMonotone level → IsOrdered (clusters glyphs.now) →
         MayBeDue level 0 result glyphs.now }
-    ensures meant { meant result glyphs.now ≡ glyphs.now }
+    ensures with_due { with_due result glyphs.now ≡ glyphs.now }
 {
     if ends_lower(glyphs) {
         Due::Falling(Stretch {
@@ -97,11 +97,12 @@ pub(crate) fn merge_next(
 ) -> Merges
     requires some { start < end }
     requires within { end ≤ length glyphs.old }
-    requires known { in_order ≡ true → IsMonotone level → IsOrdered (clusters (meant merges.due glyphs.old)) }
+    requires known { in_order ≡ true → IsMonotone level → IsOrdered (clusters (with_due merges.due glyphs.old)) }
     requires due { MayBeDue level start merges.due glyphs.old }
-    ensures merged { meant result.due glyphs.new ≡ glyphs_merged_at level start end (meant merges.due glyphs.old) }
+    ensures merged { with_due result.due glyphs.new
+        ≡ glyphs_merged_at level start end (with_due merges.due glyphs.old) }
     ensures marked { result.marked
-        ≡ (merges.marked || is_marked_at level start end (clusters (meant merges.due glyphs.old))) }
+        ≡ (merges.marked || is_marked_at level start end (clusters (with_due merges.due glyphs.old))) }
     ensures due { MayBeDue level end result.due glyphs.new }
     ensures round { MayBeRound start end result.due }
 {
@@ -124,7 +125,7 @@ pub(crate) fn merge_next(
 /// What is due is carried out.
 pub(crate) fn settle(glyphs: &mut [hb_glyph_info_t], due: Due)
     requires { IsWithin (length glyphs.old) due }
-    ensures { glyphs.new ≡ meant due glyphs.old }
+    ensures { glyphs.new ≡ with_due due glyphs.old }
 {
     match due {
         Due::Nothing => {}

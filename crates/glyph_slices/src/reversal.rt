@@ -4,9 +4,9 @@ ghost use Rattle.glyph_lists.specs.Items.{clusters};
 ghost use Rattle.glyph_lists.specs.Order.{IsOrdered};
 ghost use Rattle.glyph_lists.specs.Levels.{IsMonotone};
 ghost use Rattle.glyph_slices.specs.declared.due.Due.TheVariants.{Nothing};
-ghost use Rattle.glyph_slices.specs.Due.{MayBeDue, MayBeRound, meant};
+ghost use Rattle.glyph_slices.specs.Due.{MayBeDue, MayBeRound, with_due};
 ghost use Rattle.glyph_slices.specs.Groups.{Decides};
-ghost use Rattle.glyph_slices.specs.Turning.{first_turned, is_marked_if, merged_if, range_reversed, turned, turning_at};
+ghost use Rattle.glyph_slices.specs.Turning.{first_turned, is_marked_if, merged_if, range_reversed, turning_of, turning_at};
 
 use crate::due::{Merges, merge_next, no_merges, settle};
 use crate::groups::end_of_group;
@@ -30,11 +30,11 @@ pub fn reverse_groups<F: Fn(&hb_glyph_info_t, &hb_glyph_info_t) -> bool>(
     requires placed { length positions.old ≡ length glyphs.old }
     requires known { in_order ≡ true → IsOrdered (clusters glyphs.old) }
     ensures glyphs { (joins : Glyph → Glyph → Bool) → Decides F.Fn group joins →
-        glyphs.new ≡ (turned merge level joins glyphs.old positions.old).glyphs }
+        glyphs.new ≡ (turning_of merge level joins glyphs.old positions.old).glyphs }
     ensures positions { (joins : Glyph → Glyph → Bool) → Decides F.Fn group joins →
-        positions.new ≡ (turned merge level joins glyphs.old positions.old).positions }
+        positions.new ≡ (turning_of merge level joins glyphs.old positions.old).positions }
     ensures marked { (joins : Glyph → Glyph → Bool) → Decides F.Fn group joins →
-        result ≡ (turned merge level joins glyphs.old positions.old).is_marked }
+        result ≡ (turning_of merge level joins glyphs.old positions.old).is_marked }
 {
     let mut merges = no_merges(glyphs, level, merge && in_order);
     let mut start = 0;
@@ -66,14 +66,14 @@ fn turn_group(
     requires within { end ≤ length glyphs.old }
     requires placed { length positions.old ≡ length glyphs.old }
     requires known { merge ≡ true → in_order ≡ true → IsMonotone level →
-        IsOrdered (clusters (meant merges.due glyphs.old)) }
+        IsOrdered (clusters (with_due merges.due glyphs.old)) }
     requires due { MayBeDue level start merges.due glyphs.old }
     requires plain { merge ≡ false → merges.due ≡ Nothing }
-    ensures turned { turning_at end (meant result.due glyphs.new) positions.new result.marked
+    ensures turned { turning_at end (with_due result.due glyphs.new) positions.new result.marked
         ≡ first_turned merge level (end - start)
-        (turning_at start (meant merges.due glyphs.old) positions.old merges.marked) }
-    ensures order { merge ≡ true → IsMonotone level → IsOrdered (clusters (meant merges.due glyphs.old)) →
-        IsOrdered (clusters (meant result.due glyphs.new)) }
+        (turning_at start (with_due merges.due glyphs.old) positions.old merges.marked) }
+    ensures order { merge ≡ true → IsMonotone level → IsOrdered (clusters (with_due merges.due glyphs.old)) →
+        IsOrdered (clusters (with_due result.due glyphs.new)) }
     ensures due { MayBeDue level end result.due glyphs.new }
     ensures plain { merge ≡ false → result.due ≡ Nothing }
 {
@@ -95,12 +95,12 @@ fn merge_group(
     requires some { start < end }
     requires within { end ≤ length glyphs.old }
     requires known { merge ≡ true → in_order ≡ true → IsMonotone level →
-        IsOrdered (clusters (meant merges.due glyphs.old)) }
+        IsOrdered (clusters (with_due merges.due glyphs.old)) }
     requires due { MayBeDue level start merges.due glyphs.old }
     requires plain { merge ≡ false → merges.due ≡ Nothing }
-    ensures merged { meant result.due glyphs.new ≡ merged_if merge level start end (meant merges.due glyphs.old) }
+    ensures merged { with_due result.due glyphs.new ≡ merged_if merge level start end (with_due merges.due glyphs.old) }
     ensures marked { result.marked
-        ≡ (merges.marked || is_marked_if merge level start end (clusters (meant merges.due glyphs.old))) }
+        ≡ (merges.marked || is_marked_if merge level start end (clusters (with_due merges.due glyphs.old))) }
     ensures due { MayBeDue level end result.due glyphs.new }
     ensures round { MayBeRound start end result.due }
     ensures plain { merge ≡ false → result.due ≡ Nothing }

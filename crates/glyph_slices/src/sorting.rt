@@ -4,7 +4,7 @@ ghost use Rattle.glyph_lists.specs.declared.info.hb_glyph_info_t.{hb_glyph_info_
 ghost use Rattle.glyph_lists.specs.Items.{clusters};
 ghost use Rattle.glyph_lists.specs.Order.{IsInOrder, IsOrdered};
 ghost use Rattle.stable_order.specs.Keys.{key_order};
-ghost use Rattle.glyph_slices.specs.Due.{MayBeDue, meant};
+ghost use Rattle.glyph_slices.specs.Due.{MayBeDue, with_due};
 ghost use Rattle.glyph_slices.specs.Sorting.{Gives, Spanned, glyph_at, keyed_from, put_in_order, range_merged, range_sorted, range_spanned, span_merged};
 
 use crate::due::{Merges, merge_next, no_merges, settle};
@@ -107,10 +107,10 @@ fn merge_span(
 ) -> Merges
     requires ordered { start ≤ end }
     requires within { end ≤ length glyphs.old }
-    requires known { in_order ≡ true → IsOrdered (clusters (meant merges.due glyphs.old)) }
+    requires known { in_order ≡ true → IsOrdered (clusters (with_due merges.due glyphs.old)) }
     requires due { MayBeDue level start merges.due glyphs.old }
-    ensures merged { record { glyphs = meant result.due glyphs.new; is_marked = result.marked }
-        ≡ span_merged level start end (record { glyphs = meant merges.due glyphs.old; is_marked = merges.marked }) }
+    ensures merged { record { glyphs = with_due result.due glyphs.new; is_marked = result.marked }
+        ≡ span_merged level start end (record { glyphs = with_due merges.due glyphs.old; is_marked = merges.marked }) }
     ensures due { MayBeDue level end result.due glyphs.new }
 {
     if end - start < 2 {

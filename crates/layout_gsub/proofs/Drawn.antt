@@ -18,7 +18,7 @@ use Rattle.stage_rules.specs.Buffers.{cut_of, frame_of, IsPassed}
 use Rattle.stage_rules.specs.Performing.{cut_with, Performs}
 use Rattle.stage_rules.specs.Lemmas.Performed.{performs_later, same_with}
 use Rattle.stage_rules.specs.Lemmas.Attempts.{cut_with_glyphs}
-use Rattle.layout_match.specs.Applied.{drawn}
+use Rattle.layout_match.specs.Applied.{next_random}
 use Rattle.layout_gsub.specs.Replacements.{substituted_cut, substituted}
 use Rattle.layout_gsub.specs.Alternates.{alternate_of, alternate_of_value, drawn_alternate, is_drawn}
 
@@ -45,7 +45,7 @@ replaced_from true cut es (Ok acted) r before after s new d = d
 replaced_from false cut es (Ok acted) r before after s new d = d
 replaced_from b cut es (Err cause) r before after s new d = d
 
-pub alternate_drawn : (gdef given : GlyphDefinition) (glyphs : List ℕ) (n k r after end : ℕ) (result : Result Bool ShapeCause) (s mid new : Sides) → given ≡ gdef → k ≡ drawn r % length glyphs → k < length glyphs → n ≡ get_or glyphs k 0 → after ≡ drawn r
+pub alternate_drawn : (gdef given : GlyphDefinition) (glyphs : List ℕ) (n k r after end : ℕ) (result : Result Bool ShapeCause) (s mid new : Sides) → given ≡ gdef → k ≡ next_random r % length glyphs → k < length glyphs → n ≡ get_or glyphs k 0 → after ≡ next_random r
     → IsPassed (Break 0 (length (whole (cut_of s))) ∷ []) s mid → Performs (substituted given (Some n) (cut_with after mid)) result after end mid new → Performs (drawn_alternate gdef glyphs (cut_with r s)) result r end s new
 alternate_drawn gdef given glyphs n k r after end result s mid new same at within is state passed performed =
     let es = Break 0 (length (whole (cut_of s))) ∷ [] in
@@ -55,9 +55,9 @@ alternate_drawn gdef given glyphs n k r after end result s mid new same at withi
     let D : Cut → Type 0 = λ d. Performs (later es (substituted given (Some n) d)) result r end s new in
     let R : GlyphDefinition → Type 0 = λ d. Performs (later es (substituted d (Some n) (cut_with after s))) result r end s new in
     let here = subst R same (subst D (same_with after s mid passed.cut_is) all) in
-    let there : Some n ≡ slice_get glyphs (drawn r % length glyphs) = ap Some is ∙ sym (slice_get-get_or glyphs k 0 within) ∙ ap (slice_get glyphs) at in
+    let there : Some n ≡ slice_get glyphs (next_random r % length glyphs) = ap Some is ∙ sym (slice_get-get_or glyphs k 0 within) ∙ ap (slice_get glyphs) at in
     let Q : Option ℕ → Type 0 = λ o. Performs (later es (substituted gdef o (cut_with after s))) result r end s new in
-    let S : ℕ → Type 0 = λ m. Performs (later es (substituted gdef (slice_get glyphs (drawn r % length glyphs)) (cut_with m s))) result r end s new in
+    let S : ℕ → Type 0 = λ m. Performs (later es (substituted gdef (slice_get glyphs (next_random r % length glyphs)) (cut_with m s))) result r end s new in
     subst S state (subst Q there here)
 
 -- whether an alternate is drawn decides

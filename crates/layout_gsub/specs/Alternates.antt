@@ -8,7 +8,7 @@ use Rattle.font_face.specs.declared.parts.GlyphDefinition.{GlyphDefinition}
 use Rattle.layout_substitutions.specs.declared.sequence.SequenceRow.{SequenceRow}
 use Rattle.layout_substitutions.specs.Substitutions.{glyphs_of}
 use Rattle.stage_rules.specs.Actions.{Passes, Action, whole, later, at_first}
-use Rattle.layout_match.specs.Applied.{drawn}
+use Rattle.layout_match.specs.Applied.{next_random}
 use Rattle.layout_gsub.specs.Replacements.{substituted}
 
 -- the value that a glyph's mask gives the feature whose bits are those of a lookup's mask
@@ -25,7 +25,7 @@ is_drawn random value glyphs = random && value == 255 && not (length glyphs == 0
 
 -- the state goes on, and since it hangs on the whole text no part of it may be shaped by itself
 abbrev pub drawn_alternate : GlyphDefinition → List ℕ → Action
-drawn_alternate gdef glyphs c = later (Break 0 (length (whole c)) ∷ []) (substituted gdef (slice_get glyphs (drawn c.random % length glyphs)) (record c { random = drawn c.random }))
+drawn_alternate gdef glyphs c = later (Break 0 (length (whole c)) ∷ []) (substituted gdef (slice_get glyphs (next_random c.random % length glyphs)) (record c { random = next_random c.random }))
 
 abbrev pub alternate_of : GlyphDefinition → Bool → ℕ → List ℕ → Action
 alternate_of gdef random value glyphs c = if is_drawn random value glyphs then drawn_alternate gdef glyphs c else substituted gdef (alternate_of_value value glyphs) c

@@ -41,5 +41,5 @@ abbrev pub context_search : Applied → List Item → Search
 context_search a rest = record { props = a.props; sets = a.font.gdef.sets; zwnj = positions_glyphs a.table || a.auto_zwnj; zwj = true; hidden = positions_glyphs a.table; mask = None; syllable = own_syllable a rest }
 
 -- the number drawn next, and the state after it (the minimal standard generator of Park and Miller, with multiplier 48271)
-abbrev pub drawn : ℕ → ℕ
-drawn state = state * 48271 % 2147483647
+abbrev pub next_random : ℕ → ℕ
+next_random state = state * 48271 % 2147483647

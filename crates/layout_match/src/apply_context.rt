@@ -1,7 +1,7 @@
 ghost use Rattle.std.specs.Prelude.{◌≡◌, ◌<◌, not, length, true, false};
 ghost use Rattle.glyph_lists.specs.Items.{item_of, strip};
 ghost use Rattle.layout_match.specs.Searches.{is_left_out, search_of};
-ghost use Rattle.layout_match.specs.Applied.{applied_of, context_search, drawn, own_search, own_syllable, positions_glyphs};
+ghost use Rattle.layout_match.specs.Applied.{applied_of, context_search, next_random, own_search, own_syllable, positions_glyphs};
 
 use crate::search::{GlyphSearch, is_left_out};
 use font_face::Face;
@@ -88,7 +88,7 @@ impl<'a> hb_ot_apply_context_t<'a> {
 
     /// Draws a number.
     pub fn random_number(&mut self) -> u32
-        ensures value { result ≡ drawn self.old.random_state }
+        ensures value { result ≡ next_random self.old.random_state }
         ensures state { self.new ≡ record self.old { random_state = result } }
     {
         self.random_state = (u64::from(self.random_state) * 48271 % 2147483647) as u32;

@@ -9,7 +9,7 @@ use Rattle.glyph_lists.specs.Items.{Item, Position, item_of, strip}
 use Rattle.glyph_buffer.specs.Readings.{View, Read, always, run_after, then_read, with_events}
 use Rattle.glyph_buffer.specs.Steps.{then_follows}
 use Rattle.glyph_slices.specs.Groups.{group_length}
-use Rattle.glyph_slices.specs.Turning.{Turning, groups_turned, turned}
+use Rattle.glyph_slices.specs.Turning.{Turning, groups_turned, turning_of}
 use Rattle.glyph_slices.specs.Facts.{group_lengths, positions_turned, stretches_turned}
 use Rattle.glyph_slices.specs.Events.{groups_reversed}
 use Rattle.glyph_slices.specs.Lemmas.Stretches.{lengths_cut}
@@ -59,7 +59,7 @@ pub turned_followed : (s mid : Sides) (joins : hb_glyph_info_t → hb_glyph_info
     → origins_of mid ≡ origins_by (groups_reversed merge goes_on (items_of s)) s → length (all_glyphs mid) ≡ length (all_glyphs s) → IsReady s
     → IsFollowed (always turned_text) s (with_segment (opposite s.direction) mid.script mid)
 turned_followed s mid joins merge m e items positions from count ready =
-    let t : Turning = turned merge s.level joins (all_glyphs s) s.positions in
+    let t : Turning = turning_of merge s.level joins (all_glyphs s) s.positions in
     let xs = groups_turned goes_on (items_of s) in
     let ps = positions_turned goes_on (items_of s) s.positions in
     let long = length-map (all_glyphs s) item_of in

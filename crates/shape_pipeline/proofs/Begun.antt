@@ -6,7 +6,7 @@ use Rattle.glyph_lists.specs.Items.{Item, item_masked, item_of}
 use Rattle.glyph_buffer.specs.Readings.{Run, Stage, always, read_of}
 use Rattle.glyph_buffer.specs.Steps.{follows_events}
 use Rattle.glyph_buffer.specs.Sides.{Sides, all_glyphs, items_of, run_of, settings_of, view_of}
-use Rattle.glyph_buffer.specs.Settings.{entered, length_limit, steps_limit}
+use Rattle.glyph_buffer.specs.Settings.{after_enter, length_limit, steps_limit}
 use Rattle.stage_rules.specs.Ready.{IsDone, IsReady}
 use Rattle.stage_rules.specs.Settings.{text_settings}
 use Rattle.stage_rules.specs.Stages.{IsFollowed}
@@ -21,14 +21,14 @@ use Rattle.shape_pipeline.specs.Shaping.{Shaping}
 use Rattle.shape_pipeline.specs.Lemmas.Chains.{done_followed, fourth_refused, six_followed}
 use Rattle.shape_pipeline.proofs.Sets.{circle_as_set, circle_refused_as_set, followed_as_set}
 
-pub entered_ready : (s : Sides) → IsReady s → IsReady (entered s)
+pub entered_ready : (s : Sides) → IsReady s → IsReady (after_enter s)
 entered_ready s ready = record { closed = ready.closed; front = ready.front; unread = ready.unread; placed = ready.placed; unrefused = ready.unrefused }
 
-pub entered_followed : (s : Sides) → IsReady s → IsFollowed (always begun) s (entered s)
+pub entered_followed : (s : Sides) → IsReady s → IsFollowed (always begun) s (after_enter s)
 entered_followed s ready = record {
   follows =
       let same = ap (λ n. record (view_of s) { max_len = length_limit n s.max_len; max_ops = steps_limit n s.max_ops; lig_id = 0; told = 0 }) (sym (length-map (all_glyphs s) item_of)) in
-      follows_events [] (begun (view_of s)).view (run_of s) (run_of (entered s)) same refl refl refl;
+      follows_events [] (begun (view_of s)).view (run_of s) (run_of (after_enter s)) same refl refl refl;
   settings = refl;
   ready = entered_ready s ready;
 }
@@ -44,23 +44,23 @@ characters_masked m s t d are = ap (λ (r : Run). are_characters r.view.items) d
 abbrev ordered : Shaping → Stage
 ordered q v = always (native_order q.settings.script) v
 
-pub text_begun_followed : (p : Shaping) (m : ℕ) (s b c d e new : Sides) → p.settings ≡ text_settings s → m ≡ p.map.global_mask → IsReady s → IsDone (always (with_one_mask m)) (entered s) b
+pub text_begun_followed : (p : Shaping) (m : ℕ) (s b c d e new : Sides) → p.settings ≡ text_settings s → m ≡ p.map.global_mask → IsReady s → IsDone (always (with_one_mask m)) (after_enter s) b
     → IsFollowed (always (with_properties p.tables)) b c → IsFollowed (first_circle p.tables p.font c.flags c.pre_context) c d → IsFollowed (always with_clusters) d e → IsFollowed (always (native_order e.script)) e new → IsFollowed (text_begun p) s new
 unfolding text_begun
 text_begun_followed p m s b c d e new set mask ready masked properties circle clusters order =
     let upto_c : settings_of c ≡ settings_of s = properties.settings ∙ masked.settings in
     let upto_e : settings_of e ≡ settings_of s = clusters.settings ∙ circle.settings ∙ upto_c in
-    let M : ℕ → Type 0 = λ n. IsFollowed (always (with_one_mask n)) (entered s) b in
+    let M : ℕ → Type 0 = λ n. IsFollowed (always (with_one_mask n)) (after_enter s) b in
     six_followed (always begun) (always (with_one_mask p.map.global_mask)) (always (with_properties p.tables)) (first_circle p.tables p.font p.settings.flags p.settings.pre_context) (always with_clusters)
-    (always (native_order p.settings.script)) s (entered s) b c d e new (entered_followed s ready) (subst M mask (done_followed (always (with_one_mask m)) (entered s) b masked)) properties
+    (always (native_order p.settings.script)) s (after_enter s) b c d e new (entered_followed s ready) (subst M mask (done_followed (always (with_one_mask m)) (after_enter s) b masked)) properties
     (circle_as_set p s c d set upto_c circle) clusters (followed_as_set ordered p s e new set upto_e order)
 
-pub text_begun_refused : (p : Shaping) (m : ℕ) (s b c : Sides) (cause : ShapeCause) → p.settings ≡ text_settings s → m ≡ p.map.global_mask → IsReady s → IsDone (always (with_one_mask m)) (entered s) b
+pub text_begun_refused : (p : Shaping) (m : ℕ) (s b c : Sides) (cause : ShapeCause) → p.settings ≡ text_settings s → m ≡ p.map.global_mask → IsReady s → IsDone (always (with_one_mask m)) (after_enter s) b
     → IsFollowed (always (with_properties p.tables)) b c → read_of (first_circle p.tables p.font c.flags c.pre_context) (run_of c) ≡ Err cause → read_of (text_begun p) (run_of s) ≡ Err cause
 unfolding text_begun
 text_begun_refused p m s b c cause set mask ready masked properties e =
     let upto_c : settings_of c ≡ settings_of s = properties.settings ∙ masked.settings in
-    let M : ℕ → Type 0 = λ n. IsFollowed (always (with_one_mask n)) (entered s) b in
+    let M : ℕ → Type 0 = λ n. IsFollowed (always (with_one_mask n)) (after_enter s) b in
     fourth_refused (always begun) (always (with_one_mask p.map.global_mask)) (always (with_properties p.tables)) (first_circle p.tables p.font p.settings.flags p.settings.pre_context)
-    (always with_clusters ∷ always (native_order p.settings.script) ∷ []) s (entered s) b c cause (entered_followed s ready) (subst M mask (done_followed (always (with_one_mask m)) (entered s) b masked)) properties
+    (always with_clusters ∷ always (native_order p.settings.script) ∷ []) s (after_enter s) b c cause (entered_followed s ready) (subst M mask (done_followed (always (with_one_mask m)) (after_enter s) b masked)) properties
     (circle_refused_as_set p s c cause set upto_c e)

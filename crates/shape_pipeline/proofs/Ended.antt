@@ -7,18 +7,18 @@ use Rattle.glyph_lists.specs.Items.{item_of}
 use Rattle.glyph_buffer.specs.Readings.{always}
 use Rattle.glyph_buffer.specs.Steps.{follows_events}
 use Rattle.glyph_buffer.specs.Sides.{Sides, all_glyphs, run_of, view_of}
-use Rattle.glyph_buffer.specs.Settings.{left}
+use Rattle.glyph_buffer.specs.Settings.{after_leave}
 use Rattle.glyph_buffer.specs.Segment.{with_segment}
 use Rattle.stage_rules.specs.Ready.{IsReady}
 use Rattle.stage_rules.specs.Stages.{IsFollowed}
 use Rattle.shape_pipeline.specs.Limits.{ended}
 
-pub left_followed : (d : Direction) (s turned new : Sides) → IsReady s → turned ≡ with_segment d s.script s → new ≡ left turned → IsFollowed (always (ended d)) s new
+pub left_followed : (d : Direction) (s turned new : Sides) → IsReady s → turned ≡ with_segment d s.script s → new ≡ after_leave turned → IsFollowed (always (ended d)) s new
 left_followed d s turned new ready t e =
     let P : Sides → Type 0 = λ n. IsFollowed (always (ended d)) s n in
-    let there = left (with_segment d s.script s) in
+    let there = after_leave (with_segment d s.script s) in
     let same = ap (λ n. record (view_of s) { max_len = max 0x3FFF_FFFF n; max_ops = pos 0x1FFF_FFFF; lig_id = 0; direction = d }) (sym (length-map (all_glyphs s) item_of)) in
-    subst P (sym (e ∙ ap left t)) (record {
+    subst P (sym (e ∙ ap after_leave t)) (record {
       follows = follows_events [] (ended d (view_of s)).view (run_of s) (run_of there) same refl refl refl;
       settings = refl;
       ready = record { closed = ready.closed; front = ready.front; unread = ready.unread; placed = ready.placed; unrefused = ready.unrefused };

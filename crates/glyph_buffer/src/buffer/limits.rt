@@ -1,6 +1,6 @@
 ghost use Rattle.std.specs.Prelude.{◌≡◌, ◌≤◌, ◌+◌, length, false};
 ghost use Rattle.glyph_buffer.specs.Sides.{with_max_len};
-ghost use Rattle.glyph_buffer.specs.Settings.{entered, left, length_limit, next_lig_id, steps_limit, with_lig_id, with_max_ops};
+ghost use Rattle.glyph_buffer.specs.Settings.{after_enter, after_leave, length_limit, next_lig_id, steps_limit, with_lig_id, with_max_ops};
 
 use super::hb_buffer_t;
 use shaping_text::constants::HB_BUFFER_SCRATCH_FLAG_DEFAULT;
@@ -49,7 +49,7 @@ impl hb_buffer_t {
     /// Shaping begins: sets the limits by the number of glyphs.
     pub fn enter(&mut self)
         requires { self.old.is_open ≡ false }
-        ensures { self.new ≡ entered self.old }
+        ensures { self.new ≡ after_enter self.old }
     {
         let count = self.info.len();
         self.max_len = length_limit(count, self.max_len);
@@ -61,7 +61,7 @@ impl hb_buffer_t {
     /// Shaping ends: sets the limits as they were at first; that of the length is never less than what is held.
     pub fn leave(&mut self)
         requires { self.old.is_open ≡ false }
-        ensures { self.new ≡ left self.old }
+        ensures { self.new ≡ after_leave self.old }
     {
         self.max_len = Self::MAX_LEN_DEFAULT.max(self.info.len());
         self.max_ops = Self::MAX_OPS_DEFAULT;

@@ -9,7 +9,7 @@ use Rattle.glyph_lists.specs.declared.info.hb_glyph_info_t.{hb_glyph_info_t as G
 use Rattle.glyph_lists.specs.declared.level.BufferClusterLevel.{BufferClusterLevel}
 use Rattle.glyph_lists.specs.Items.{Position}
 use Rattle.glyph_slices.specs.Groups.{joined_behind, group_length}
-use Rattle.glyph_slices.specs.Turning.{in_front, groups, groups_turned, all_turned, turned}
+use Rattle.glyph_slices.specs.Turning.{in_front, groups, groups_turned, all_turned, turning_of}
 use Rattle.glyph_slices.specs.Laws.{cut_into, GroupsAreAll, TurnsGroups}
 
 -- the first group, and those after it
@@ -40,7 +40,7 @@ all_plain (suc n) level p gs ps pa m (x ∷ xs) le =
     all_plain n level p (take k (x ∷ xs) ++ gs) (take k pa ++ ps) (drop k pa) _ (drop k (x ∷ xs)) few
     ∙ sym (append_assoc (groups_turned p (drop k (x ∷ xs))) (take k (x ∷ xs)) gs) ∙ ap (λ ys. ys ++ gs) (sym (turned_onto p x xs))
 
-pub turned_plain : (level : BufferClusterLevel) (p : Glyph → Glyph → Bool) (gs : List Glyph) (ps : List Position) → (turned false level p gs ps).glyphs ≡ groups_turned p gs
+pub turned_plain : (level : BufferClusterLevel) (p : Glyph → Glyph → Bool) (gs : List Glyph) (ps : List Position) → (turning_of false level p gs ps).glyphs ≡ groups_turned p gs
 turned_plain level p gs ps = all_plain (length gs) level p [] [] ps false gs (omega arith) ∙ append-nil (groups_turned p gs)
 
 onto_flat : {X : Type 0} (p : X → X → Bool) (x : X) (gss : List (List X)) → flat_map (λ ys. ys) (in_front p x gss) ≡ x ∷ flat_map (λ ys. ys) gss

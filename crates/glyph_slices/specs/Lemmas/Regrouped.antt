@@ -8,7 +8,7 @@ use Rattle.glyph_lists.specs.Items.{Item, Position, item_of, strip, clusters}
 use Rattle.glyph_lists.specs.Parts.{stretch}
 use Rattle.glyph_lists.specs.Lemmas.Glyphs.{strip_merged, strip_merged_at}
 use Rattle.glyph_slices.specs.Groups.{joined_behind, group_length}
-use Rattle.glyph_slices.specs.Turning.{groups_turned, merged_if, beside_if, all_turned, turned}
+use Rattle.glyph_slices.specs.Turning.{groups_turned, merged_if, beside_if, all_turned, turning_of}
 use Rattle.glyph_slices.specs.Facts.{group_lengths, stretches_turned, positions_turned}
 use Rattle.glyph_slices.specs.Lemmas.GroupsTurned.{turned_onto}
 use Rattle.glyph_slices.specs.Lemmas.Stretches.{lengths_cut}
@@ -67,7 +67,7 @@ items_many (suc n) merge level q gs ps pa m (x ∷ xs) le =
     ∙ ap (λ ys. ys ++ strip gs) (ap (λ j. groups_turned q (drop j (strip (x ∷ xs))) ++ take j (strip (x ∷ xs))) same ∙ sym (turned_onto q (item_of x) (strip xs)))
 
 -- the groups of the items are turned round
-pub items_turned : (merge : Bool) (level : Level) (q : Item → Item → Bool) (gs : List Glyph) (ps : List Position) → strip (turned merge level (λ g h. q (item_of g) (item_of h)) gs ps).glyphs ≡ groups_turned q (strip gs)
+pub items_turned : (merge : Bool) (level : Level) (q : Item → Item → Bool) (gs : List Glyph) (ps : List Position) → strip (turning_of merge level (λ g h. q (item_of g) (item_of h)) gs ps).glyphs ≡ groups_turned q (strip gs)
 items_turned merge level q gs ps = items_many (length gs) merge level q [] [] ps false gs (omega arith) ∙ append-nil (groups_turned q (strip gs))
 
 -- the lengths of the groups of items, by that of the first group of glyphs
@@ -90,5 +90,5 @@ places_many (suc n) merge level q gs ps pa m (x ∷ xs) le =
     ∙ ap (λ lens. stretches_turned lens pa ++ ps) (sym (lengths_ahead merge level q x xs))
 
 -- and so are the positions beside them
-pub places_beside : (merge : Bool) (level : Level) (q : Item → Item → Bool) (gs : List Glyph) (ps : List Position) → (turned merge level (λ g h. q (item_of g) (item_of h)) gs ps).positions ≡ positions_turned q (strip gs) ps
+pub places_beside : (merge : Bool) (level : Level) (q : Item → Item → Bool) (gs : List Glyph) (ps : List Position) → (turning_of merge level (λ g h. q (item_of g) (item_of h)) gs ps).positions ≡ positions_turned q (strip gs) ps
 places_beside merge level q gs ps = places_many (length gs) merge level q [] [] ps false gs (omega arith) ∙ append-nil (positions_turned q (strip gs) ps)

@@ -16,7 +16,7 @@ use Rattle.glyph_lists.specs.Lemmas.Origins.{origins_of_merged_at, slice_seen, o
 use Rattle.glyph_slices.specs.Events.{indices_reversed, group_event, group_events, groups_reversed}
 use Rattle.glyph_slices.specs.Facts.{group_lengths}
 use Rattle.glyph_slices.specs.Groups.{group_length}
-use Rattle.glyph_slices.specs.Turning.{range_reversed, merged_if, beside_if, all_turned, turned}
+use Rattle.glyph_slices.specs.Turning.{range_reversed, merged_if, beside_if, all_turned, turning_of}
 use Rattle.glyph_slices.specs.Lemmas.Picked.{AreAt, arranged_as, are_all, are_reversed}
 use Rattle.glyph_slices.specs.Lemmas.Regrouped.{of_items, few_ahead, lengths_ahead}
 use Rattle.glyph_slices.specs.Lemmas.Stretches.{joined_within}
@@ -81,7 +81,7 @@ groups_many (suc n) asks merge level q start gs found (x ∷ xs) ps pa m f a le 
     ∙ ap (λ lens. reverse (origins_after asks level (group_events merge start lens) (origins gs))) (sym (lengths_ahead merge level q x xs))
 
 -- where the glyphs come from once their groups were reversed
-pub groups_are_events : (asks : Asks) (merge : Bool) (level : Level) (q : Item → Item → Bool) (gs : List Glyph) (ps : List Position) → origins (turned merge level (λ g h. q (item_of g) (item_of h)) gs ps).glyphs ≡ origins_after asks level (groups_reversed merge q (strip gs)) (origins gs)
+pub groups_are_events : (asks : Asks) (merge : Bool) (level : Level) (q : Item → Item → Bool) (gs : List Glyph) (ps : List Position) → origins (turning_of merge level (λ g h. q (item_of g) (item_of h)) gs ps).glyphs ≡ origins_after asks level (groups_reversed merge q (strip gs)) (origins gs)
 groups_are_events asks merge level q gs ps = groups_many (length gs) asks merge level q 0 gs [] gs [] ps false refl refl (omega arith) ∙ sym (origins_after_both asks level (group_events merge 0 (group_lengths q (strip gs))) (Reverse ∷ []) (origins gs))
 
 events_plain : (at : ℕ) (lens : List ℕ) → IsPlain (group_events true at lens ++ Reverse ∷ [])

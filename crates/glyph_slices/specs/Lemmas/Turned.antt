@@ -17,7 +17,7 @@ use Rattle.glyph_lists.specs.Merging.{order_merged}
 use Rattle.glyph_lists.specs.Glyphs.{glyphs_merged_at, beside_merged, glyphs_merged, tells_apart}
 use Rattle.glyph_lists.specs.Lemmas.Glyphs.{merged_at_beyond, stretch_is, length_beside, length_merged_at, clusters_merged, cut_out, nothing_merged}
 use Rattle.glyph_slices.specs.Groups.{group_length}
-use Rattle.glyph_slices.specs.Turning.{Turning, range_reversed, merged_if, is_marked_if, beside_if, first_turned, group_turned, turning_at, all_turned, turned}
+use Rattle.glyph_slices.specs.Turning.{Turning, range_reversed, merged_if, is_marked_if, beside_if, first_turned, group_turned, turning_at, all_turned, turning_of}
 use Rattle.glyph_lists.specs.Lemmas.EventParts.{map-reverse}
 
 pub turned_put : {X : Type 0} (start end : ℕ) (xs range : List X) → start ≤ end → range ≡ reverse (slice_range xs start end) → put_mid start (end - start) xs range ≡ range_reversed start end xs
@@ -176,7 +176,7 @@ pub record Rest (merge : Bool) (level : BufferClusterLevel) (p : Glyph → Glyph
   pub enough : length gs - start ≤ most
   pub leads : all_turned merge level p most (turning_at start gs ps m) ≡ whole
 
-pub rest_begins : (merge : Bool) (level : BufferClusterLevel) (p : Glyph → Glyph → Bool) (gs : List Glyph) (ps : List Position) → Rest merge level p 0 gs ps false (turned merge level p gs ps)
+pub rest_begins : (merge : Bool) (level : BufferClusterLevel) (p : Glyph → Glyph → Bool) (gs : List Glyph) (ps : List Position) → Rest merge level p 0 gs ps false (turning_of merge level p gs ps)
 rest_begins merge level p gs ps = record { most = length gs; enough = omega arith; leads = refl }
 
 pub rest_goes_on : (merge : Bool) (level : BufferClusterLevel) (p : Glyph → Glyph → Bool) (start end : ℕ) (gs new : List Glyph) (ps positions : List Position) (m m' : Bool) (whole : Turning) → start < length gs → start < end → length new ≡ length gs → end ≡ start + group_length p (drop start gs)

@@ -5,8 +5,8 @@ use Rattle.glyph_lists.specs.Order.{IsOrdered}
 use Rattle.glyph_lists.specs.Levels.{IsMonotone}
 use Rattle.glyph_slices.specs.Groups.{Decides}
 use Rattle.glyph_slices.specs.declared.due.Due.TheVariants.{Nothing}
-use Rattle.glyph_slices.specs.Due.{MayBeDue, meant}
-use Rattle.glyph_slices.specs.Turning.{turned}
+use Rattle.glyph_slices.specs.Due.{MayBeDue, with_due}
+use Rattle.glyph_slices.specs.Turning.{turning_of}
 use Rattle.glyph_slices.specs.Lemmas.Turned.{Rest}
 use Rattle.glyph_slices.proofs.reversal.reverse_groups.Given as goal
 
@@ -15,10 +15,10 @@ abbrev pub invariant-loop-start : goal.invariant-loop-start
 invariant-loop-start g l = record {
   within : l.start ≤ length l.glyphs;
   placed : length l.positions ≡ length l.glyphs;
-  known : l.merge ≡ true → l.in_order ≡ true → IsMonotone l.level → IsOrdered (clusters (meant l.merges.due l.glyphs));
+  known : l.merge ≡ true → l.in_order ≡ true → IsMonotone l.level → IsOrdered (clusters (with_due l.merges.due l.glyphs));
   due : MayBeDue l.level l.start l.merges.due l.glyphs;
   plain : l.merge ≡ false → l.merges.due ≡ Nothing;
-  rest : (joins : Glyph → Glyph → Bool) → Decides g.F.Fn l.group joins → Rest l.merge l.level joins l.start (meant l.merges.due l.glyphs) l.positions l.merges.marked (turned l.merge l.level joins l.fn.glyphs l.fn.positions);
+  rest : (joins : Glyph → Glyph → Bool) → Decides g.F.Fn l.group joins → Rest l.merge l.level joins l.start (with_due l.merges.due l.glyphs) l.positions l.merges.marked (turning_of l.merge l.level joins l.fn.glyphs l.fn.positions);
 }
 
 abbrev pub decreases-loop-start : goal.decreases-loop-start

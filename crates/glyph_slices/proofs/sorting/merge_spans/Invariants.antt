@@ -3,7 +3,7 @@ use Rattle.std.specs.List.{list_all}
 use Rattle.glyph_lists.specs.Items.{clusters}
 use Rattle.glyph_lists.specs.Order.{IsInOrder, IsOrdered}
 use Rattle.glyph_slices.specs.declared.sorting.Keyed.{Keyed}
-use Rattle.glyph_slices.specs.Due.{MayBeDue, meant}
+use Rattle.glyph_slices.specs.Due.{MayBeDue, with_due}
 use Rattle.glyph_slices.specs.Sorting.{spans_merged, range_spanned}
 use Rattle.glyph_slices.proofs.sorting.merge_spans.Given as goal
 
@@ -11,9 +11,9 @@ use Rattle.glyph_slices.proofs.sorting.merge_spans.Given as goal
 abbrev pub invariant-loop-place : goal.invariant-loop-place
 invariant-loop-place l = record {
   begun : l.begin ≤ l.place;
-  known : l.in_order ≡ true → IsOrdered (clusters (meant l.merges.due l.glyphs));
-  direction : (falls : Bool) → IsInOrder falls (clusters l.fn.glyphs) → IsInOrder falls (clusters (meant l.merges.due l.glyphs));
+  known : l.in_order ≡ true → IsOrdered (clusters (with_due l.merges.due l.glyphs));
+  direction : (falls : Bool) → IsInOrder falls (clusters l.fn.glyphs) → IsInOrder falls (clusters (with_due l.merges.due l.glyphs));
   due : MayBeDue l.level (l.start + l.begin) l.merges.due l.glyphs;
   reach : (i : ℕ) → 0 < i → list_all (λ (e : Keyed). nat_lt e.place i) (take l.place l.order) ≡ nat_lt l.reach i;
-  rest : spans_merged l.level l.start l.order l.begin l.place (length l.order - l.place) (record { glyphs = meant l.merges.due l.glyphs; is_marked = l.merges.marked }) ≡ range_spanned l.level l.start l.order l.fn.glyphs;
+  rest : spans_merged l.level l.start l.order l.begin l.place (length l.order - l.place) (record { glyphs = with_due l.merges.due l.glyphs; is_marked = l.merges.marked }) ≡ range_spanned l.level l.start l.order l.fn.glyphs;
 }
