@@ -461,4 +461,3 @@ first_stands n g s moved at m le =
     past : (bs : List hb_glyph_info_t) → slice_get (bs ++ s.ahead) (length bs) ≡ Some g
     past [] = at
     past (b ∷ bs) = past bs
-
