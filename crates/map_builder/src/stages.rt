@@ -11,7 +11,7 @@ use map_features::per_table::TableIndex;
 use std::alloc::{AllocError, Global};
 
 /// The end of a stage.
-#[derive(Clone, Copy, PartialEq, Eq, Debug)]
+#[derive(Clone, Copy)]
 pub struct StageMap {
     /// How many lookups the table's stages have up to this one, it included.
     pub last_lookup: usize,
@@ -20,7 +20,7 @@ pub struct StageMap {
 }
 
 /// The feature that a language system always has on, and the stage in which it runs.
-#[derive(Clone, Copy, PartialEq, Eq, Debug)]
+#[derive(Clone, Copy)]
 pub struct RequiredFeature {
     pub index: u16,
     pub stage: usize,
