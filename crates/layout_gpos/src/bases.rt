@@ -94,7 +94,7 @@ fn farther(found: Result<usize, usize>, by: usize) -> Result<usize, usize>
 
 /// What is sought before the cursor: the glyphs behind the last search are looked at, and what that one found is not sought
 /// again.
-#[tactic(auto, using(crate::specs::Lemmas::Nearest::taken_before, crate::specs::Lemmas::Nearest::refused_before, crate::specs::Lemmas::Nearest::passed_before, crate::proofs::Kept::went_on))]
+#[tactic(auto, using(layout_match::specs::Lemmas::Nearest::taken_before, layout_match::specs::Lemmas::Nearest::refused_before, layout_match::specs::Lemmas::Nearest::passed_before, crate::proofs::Kept::went_on))]
 fn found_since(
     sought: Sought,
     ctx: &hb_ot_apply_context_t,
