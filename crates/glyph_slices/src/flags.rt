@@ -10,7 +10,7 @@ use glyph_lists::info::{
 use glyph_lists::run_flags::flags_of_run;
 
 /// Which of the glyph flags are asked for.
-#[derive(Clone, Copy, PartialEq, Eq, Debug)]
+#[derive(Clone, Copy)]
 pub struct AskedFlags {
     /// Where text may not be put together.
     pub concat: bool,
