@@ -26,7 +26,7 @@ use std::alloc::{AllocError, Global};
 use std::marker::Model;
 
 /// Collects requests for features and pauses between the stages of a font's layout tables.
-#[derive(Debug, Drop)]
+#[derive(Drop)]
 pub struct hb_ot_map_builder_t<'a> {
     tables: FontTables<'a>,
     requests: Vec<FeatureRequest>,

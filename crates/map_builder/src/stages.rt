@@ -12,7 +12,7 @@ use map_features::required::{RequiredFeature, required_index};
 use std::alloc::{AllocError, Global};
 
 /// The end of a stage.
-#[derive(Clone, Copy, PartialEq, Eq, Debug)]
+#[derive(Clone, Copy)]
 pub struct StageMap {
     /// How many lookups the table's stages have up to this one, it included.
     pub last_lookup: usize,

@@ -2,7 +2,7 @@ ghost use Rattle.std.specs.Prelude.{◌≡◌};
 ghost use Rattle.map_features.specs.Required.{required_index};
 
 /// The feature that a language system always has on, and the stage in which it runs.
-#[derive(Clone, Copy, PartialEq, Eq, Debug)]
+#[derive(Clone, Copy)]
 pub struct RequiredFeature {
     pub index: u16,
     pub stage: usize,
