@@ -1,7 +1,6 @@
 -- Glyphs that hang on others by links, and where they are drawn.
-use Rattle.std.specs.Prelude.{ℕ, zero, suc, ℤ, pos, ◌+ℤ◌, ◌-ℤ◌, nat_abs, ◌+◌, ◌==◌, Bool, true, false, int_le, int_lt, ◌&&◌, ◌||◌, if◌then◌else◌, List, get_or, set, map, length, slice_range, Option, Some, None}
+use Rattle.std.specs.Prelude.{ℕ, zero, suc, ◌+◌, ◌==◌, Bool, true, false, ◌||◌, if◌then◌else◌, List, set, map, length, slice_range, Option, Some, None}
 use Rattle.std.specs.List.{fold}
-use Rattle.std.specs.Int.{int_wrap, w32}
 use Rattle.glyph_lists.specs.Items.{Position}
 use Rattle.shaping_text.specs.declared.direction.Direction.{Direction}
 use Rattle.shaping_text.specs.Direction.{is_forward, is_horizontal}
