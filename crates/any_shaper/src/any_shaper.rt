@@ -14,7 +14,7 @@ use shape_plan::planned::{
 use shaping_text::tag::Tag;
 
 /// A shaper: that of most scripts, one that does as little as can be, or one made for some scripts.
-#[derive(Clone, Copy, PartialEq, Eq, Debug)]
+#[derive(Clone, Copy)]
 pub enum hb_ot_any_shaper_t {
     Default,
     Dumber,

@@ -17,7 +17,7 @@ use shaping_text::tag::Tag;
 use unicode_tables::UnicodeTables;
 
 /// What the shaper of Arabic reads of a map.
-#[derive(Clone, Copy, PartialEq, Eq, Debug)]
+#[derive(Clone, Copy)]
 pub struct arabic_shape_plan_t {
     /// The masks of ISOL, FINA, FIN2, FIN3, MEDI, MED2 and INIT, in this order.
     pub mask_array: [hb_mask_t; 7],

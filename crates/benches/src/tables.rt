@@ -15,7 +15,7 @@ use std::time::Instant;
 const COUNT: u32 = 1_000_000;
 
 /// A character with a class.
-#[derive(Clone, Copy, Debug)]
+#[derive(Clone, Copy)]
 struct Class {
     character: u32,
     class: u8,

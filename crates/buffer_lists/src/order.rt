@@ -7,7 +7,7 @@ use glyph_lists::info::hb_glyph_info_t;
 use glyph_lists::level::BufferClusterLevel;
 
 /// What is known of the order of the clusters of all glyphs.
-#[derive(Clone, Copy, PartialEq, Eq, Debug)]
+#[derive(Clone, Copy)]
 pub enum KnownOrder {
     Unknown,
     /// They never fall.
@@ -17,7 +17,7 @@ pub enum KnownOrder {
 }
 
 /// A glyph that was lent to be written.
-#[derive(Clone, Copy, PartialEq, Eq, Debug)]
+#[derive(Clone, Copy)]
 pub struct Lent {
     /// Whether it stands in the output; else it stands in the input.
     pub in_output: bool,
@@ -28,7 +28,7 @@ pub struct Lent {
 }
 
 /// What a buffer knows of the order of its clusters. A glyph that it lent counts by the cluster that it had.
-#[derive(Clone, Copy, PartialEq, Eq, Debug)]
+#[derive(Clone, Copy)]
 pub struct ClusterOrder {
     pub known: KnownOrder,
     pub lent: Option<Lent>,

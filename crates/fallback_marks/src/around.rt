@@ -16,7 +16,7 @@ use shape_fallback::boxes::{Marked, position_mark};
 use shaping_text::direction::Direction;
 
 /// What the marks of a text are placed by, beside the font.
-#[derive(Clone, Copy, PartialEq, Eq, Debug)]
+#[derive(Clone, Copy)]
 pub(crate) struct Placing {
     pub direction: Direction,
     /// Whether the components of a ligature stand from left to right.
@@ -26,7 +26,7 @@ pub(crate) struct Placing {
 }
 
 /// What stands around a base on the way over its marks.
-#[derive(Clone, Copy, PartialEq, Eq, Debug)]
+#[derive(Clone, Copy)]
 pub(crate) struct Around {
     pub base: Base,
     /// The box of the component that the last mark belongs to.
@@ -41,7 +41,7 @@ pub(crate) struct Around {
 }
 
 /// A mark where it stands, and what stands around its base then.
-#[derive(Clone, Copy, PartialEq, Eq, Debug)]
+#[derive(Clone, Copy)]
 pub(crate) struct Placed {
     pub position: GlyphPosition,
     pub around: Around,

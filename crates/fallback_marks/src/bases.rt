@@ -15,7 +15,7 @@ use glyph_lists::position::GlyphPosition;
 use position_sums::sums::plus;
 
 /// A base, as marks are put around it.
-#[derive(Clone, Copy, PartialEq, Eq, Debug)]
+#[derive(Clone, Copy)]
 pub(crate) struct Base {
     /// Its box, from the pen on and as wide as its advance.
     pub extents: hb_glyph_extents_t,

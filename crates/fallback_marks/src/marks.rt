@@ -23,7 +23,7 @@ use shaping_text::direction::Direction;
 use shaping_text::script::Script;
 
 /// What marks stand at.
-#[derive(Clone, Copy, PartialEq, Eq, Debug)]
+#[derive(Clone, Copy)]
 pub(crate) enum Before {
     Nothing,
     Boxless,
@@ -31,7 +31,7 @@ pub(crate) enum Before {
 }
 
 /// A glyph where it stands, and what the next one stands at.
-#[derive(Clone, Copy, PartialEq, Eq, Debug)]
+#[derive(Clone, Copy)]
 pub(crate) struct Step {
     pub position: GlyphPosition,
     pub before: Before,

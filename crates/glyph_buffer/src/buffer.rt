@@ -41,7 +41,7 @@ use std::marker::Model;
 
 /// A buffer of characters, later of glyphs: a list with a cursor, or while an output is open two lists, of which calls
 /// take glyphs from the one and put others behind the other.
-#[derive(Debug, Drop)]
+#[derive(Drop)]
 pub struct hb_buffer_t {
     info: Vec<hb_glyph_info_t>,
     pos: Vec<GlyphPosition>,

@@ -14,4 +14,5 @@ pub mod merges;
 pub mod names;
 pub mod position;
 pub mod ranges;
+pub mod run_flags;
 pub mod runs;

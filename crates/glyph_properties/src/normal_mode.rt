@@ -4,7 +4,7 @@
 pub const MAX_COMBINING_MARKS: usize = 32;
 
 /// What a shaper prefers to see of a text.
-#[derive(Clone, Copy, PartialEq, Eq, Debug, Default)]
+#[derive(Clone, Copy)]
 pub enum NormalizationMode {
     /// Characters that the font has stay whole, and nothing is composed.
     None,
@@ -15,12 +15,11 @@ pub enum NormalizationMode {
     /// Characters are split as far as the font has their parts, and marks composed again.
     ComposedDiacriticsNoShortCircuit,
     /// As `ComposedDiacritics`.
-    #[default]
     Auto,
 }
 
 /// How far characters are split.
-#[derive(Clone, Copy, PartialEq, Eq, Debug)]
+#[derive(Clone, Copy)]
 pub enum Reach {
     /// Only where the font lacks them.
     Least,

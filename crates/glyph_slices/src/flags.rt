@@ -1,16 +1,16 @@
-ghost use Rattle.std.specs.Prelude.{◌≡◌, ◌<◌, fold, length, map};
-ghost use Rattle.std.specs.Int.RustNames.{bit_and, bit_or};
-ghost use Rattle.glyph_lists.specs.Items.{flags_of, glyph_masked, item_masked, strip};
-ghost use Rattle.glyph_lists.specs.Origins.{concat_settled, origins, origins_spread, run_flags, settled, tatweel_settled};
+ghost use Rattle.std.specs.Prelude.{◌≡◌, ◌<◌, length, map};
+ghost use Rattle.std.specs.Int.RustNames.{bit_and};
+ghost use Rattle.glyph_lists.specs.Items.{glyph_masked, item_masked, strip};
+ghost use Rattle.glyph_lists.specs.Origins.{concat_settled, origins, origins_spread, settled, tatweel_settled};
 ghost use Rattle.glyph_slices.specs.Flags.{asks_of, cluster_flags};
 
-use crate::groups::front_of_cluster;
 use glyph_lists::info::{
     DEFINED, SAFE_TO_INSERT_TATWEEL, UNSAFE_TO_BREAK, UNSAFE_TO_CONCAT, hb_glyph_info_t, hb_mask_t,
 };
+use glyph_lists::run_flags::flags_of_run;
 
 /// Which of the glyph flags are asked for.
-#[derive(Clone, Copy, PartialEq, Eq, Debug)]
+#[derive(Clone, Copy)]
 pub struct AskedFlags {
     /// Where text may not be put together.
     pub concat: bool,
@@ -49,24 +49,6 @@ fn flags_of_cluster(
         Some(glyph) if glyph.cluster == cluster => glyph.mask & DEFINED,
         _ => settled(flags_of_run(glyphs, cluster), asked),
     }
-}
-
-/// The flags that a glyph of the run of a cluster at the front has.
-#[tactic(auto, using(crate::specs::Lemmas::Flags::run_folded))]
-fn flags_of_run(glyphs: &[hb_glyph_info_t], cluster: u32) -> hb_mask_t
-    ensures { result ≡ run_flags cluster (origins glyphs.now) }
-{
-    flags_of_any(&glyphs[..front_of_cluster(glyphs, cluster)])
-}
-
-/// The flags that one of the glyphs has.
-fn flags_of_any(glyphs: &[hb_glyph_info_t]) -> hb_mask_t
-    ensures { result ≡ fold bit_or 0 (flags_of glyphs.now) }
-{
-    glyphs
-        .iter()
-        .map(|glyph| glyph.mask & DEFINED)
-        .fold(0, |flags, own| flags | own)
 }
 
 fn settled(flags: hb_mask_t, asked: AskedFlags) -> hb_mask_t

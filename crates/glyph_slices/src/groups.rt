@@ -86,7 +86,7 @@ fn front_of_syllable(glyphs: &[hb_glyph_info_t], syllable: u8) -> usize
 
 /// How many glyphs from the front on are of the cluster.
 #[tactic(auto, using(crate::specs::Lemmas::Neighbours::front_within))]
-pub(crate) fn front_of_cluster(glyphs: &[hb_glyph_info_t], cluster: u32) -> usize
+fn front_of_cluster(glyphs: &[hb_glyph_info_t], cluster: u32) -> usize
     ensures front { result ≡ prefix_len (λ g. g.cluster == cluster) glyphs.now }
     ensures within { result ≤ length glyphs.now }
 {

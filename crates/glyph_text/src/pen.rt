@@ -6,7 +6,7 @@ use glyph_lists::flags::SerializeFlags;
 use glyph_lists::position::GlyphPosition;
 
 /// Where the pen stands, in font units.
-#[derive(Clone, Copy, PartialEq, Eq, Debug, Default)]
+#[derive(Clone, Copy, Default)]
 pub struct Pen {
     pub x: i128,
     pub y: i128,

@@ -1,3 +1,4 @@
 pub mod Items
 pub mod Pairs
 pub mod Rising
+pub mod Steps

@@ -15,7 +15,7 @@ use layout_match::{
 };
 
 /// A rule of a context or a chained context, in any of the formats.
-#[derive(Clone, Copy, Debug)]
+#[derive(Clone, Copy)]
 pub struct ChainRule<'a> {
     /// What stands before the input, the nearest first.
     pub backtrack: MatchSequence<'a>,

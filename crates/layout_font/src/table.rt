@@ -48,7 +48,7 @@ impl FeatureRecord {
 }
 
 /// The script of a table that serves a text.
-#[derive(Clone, Copy, Debug)]
+#[derive(Clone, Copy)]
 pub struct SelectedScript<'a> {
     /// The script is one of those that were wanted.
     pub found: bool,

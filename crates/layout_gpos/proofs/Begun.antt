@@ -1,11 +1,10 @@
 -- The pairs of a first glyph, found by halves.
-use Rattle.std.proofs.Common.{◌≡◌, ℕ, zero, suc, ◌<◌, ◌≤◌, ◌==◌, ◌&&◌, ◌||◌, Bool, true, false, List, [], ◌∷◌, length, get_or, Option, Some, None, refl, sym, ap, ◌∙◌, arith, ltb, nat_eq}
-use mathlib.Core.Bool.{false≢true}
+use Rattle.std.proofs.Common.{◌≡◌, ℕ, zero, suc, ◌<◌, ◌≤◌, ◌==◌, ◌||◌, Bool, true, false, List, [], ◌∷◌, length, get_or, Option, Some, None, refl, sym, ap, ◌∙◌, arith, ltb, nat_eq}
 use Rattle.std.specs.List.{list_any}
 use Rattle.std.specs.declared.cmp.Ordering.{Ordering}
 use Rattle.std.specs.Ordering.{is_lt, nat_cmp, ordering_then}
 use Rattle.std.specs.List.Sorted.{IsNonDecreasingBy, IsPartitionPoint, IsPartitionedBy}
-use Rattle.std.proofs.lemmas.Bool.{ltb-true, ltb-false, eqb-false, ne_eqb}
+use Rattle.std.proofs.lemmas.Bool.{ltb-true, ltb-false, eqb-false, ne_eqb, and_parts}
 use Rattle.std.proofs.lemmas.Bool.Decides.{nat_tests}
 use Rattle.std.proofs.lemmas.List.Folds.{list_any_none}
 use Rattle.std.proofs.lemmas.List.Sorted.{IsPartitionedBy-ltb}
@@ -25,15 +24,11 @@ pair_key r = (r.first, r.second)
 abbrev pub rise : Option (ℕ × ℕ) → List PairRow → Bool
 rise before rows = is_rising pair_order pair_key before rows
 
-both_parts : (a b : Bool) → (a && b) ≡ true → (a ≡ true) × (b ≡ true)
-both_parts true b h = (refl, h)
-both_parts false b h = absurd (false≢true h)
-
 rest_rises : (before : Option (ℕ × ℕ)) (r : PairRow) (rows : List PairRow) → rise before (r ∷ rows) ≡ true → rise (Some (r.first, r.second)) rows ≡ true
-rest_rises before r rows e = (both_parts (is_above pair_order before (pair_key r)) (rise (Some (r.first, r.second)) rows) e).1
+rest_rises before r rows e = (and_parts (is_above pair_order before (pair_key r)) (rise (Some (r.first, r.second)) rows) e).1
 
 next_above : (b : ℕ × ℕ) (r : PairRow) (rows : List PairRow) → rise (Some b) (r ∷ rows) ≡ true → b.0 ≤ r.first
-next_above b r rows e = is_above_first b.0 b.1 r.first r.second ((both_parts (is_above pair_order (Some b) (pair_key r)) (rise (Some (r.first, r.second)) rows) e).0)
+next_above b r rows e = is_above_first b.0 b.1 r.first r.second ((and_parts (is_above pair_order (Some b) (pair_key r)) (rise (Some (r.first, r.second)) rows) e).0)
 
 firsts_above : (b : ℕ × ℕ) (rows : List PairRow) (i : ℕ) (d : PairRow) → rise (Some b) rows ≡ true → i < length rows → b.0 ≤ (get_or rows i d).first
 firsts_above b [] i d e lt = absurd (omega (arith, lt))

@@ -16,7 +16,7 @@ use layout_match::search::GlyphSearch;
 use layout_match::{hb_ot_apply_context_t, match_t};
 
 /// What a mark is to hang on.
-#[derive(Clone, Copy, Debug)]
+#[derive(Clone, Copy)]
 pub enum Sought {
     /// A glyph that is neither a mark nor a later component of a multiple substitution.
     Base,
@@ -38,7 +38,7 @@ impl Sought {
 }
 
 /// What a search found, kept for the next one of the same lookup on the same glyphs.
-#[derive(Clone, Copy, Debug)]
+#[derive(Clone, Copy)]
 pub struct LastSearch {
     /// Before how many glyphs it searched.
     before: usize,
@@ -60,7 +60,7 @@ impl LastSearch {
 }
 
 /// The last searches of a lookup for bases and for ligatures, those of lookups nested in it included.
-#[derive(Clone, Copy, Debug)]
+#[derive(Clone, Copy)]
 pub struct LastSearches {
     /// For a base.
     pub base: LastSearch,
@@ -94,7 +94,7 @@ fn farther(found: Result<usize, usize>, by: usize) -> Result<usize, usize>
 
 /// What is sought before the cursor: the glyphs behind the last search are looked at, and what that one found is not sought
 /// again.
-#[tactic(auto, using(crate::specs::Lemmas::Nearest::taken_before, crate::specs::Lemmas::Nearest::refused_before, crate::specs::Lemmas::Nearest::passed_before, crate::proofs::Kept::went_on))]
+#[tactic(auto, using(layout_match::specs::Lemmas::Nearest::taken_before, layout_match::specs::Lemmas::Nearest::refused_before, layout_match::specs::Lemmas::Nearest::passed_before, crate::proofs::Kept::went_on))]
 fn found_since(
     sought: Sought,
     ctx: &hb_ot_apply_context_t,

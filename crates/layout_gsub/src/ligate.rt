@@ -85,7 +85,7 @@ fn ligature_info(
 }
 
 /// What marks behind a part of a ligature belong to.
-#[derive(Clone, Copy, Debug)]
+#[derive(Clone, Copy)]
 struct PartNumbering {
     /// Whether those between parts get another number.
     renumbers: bool,

@@ -42,7 +42,7 @@ fn component_count(places: &[usize], buffer: &hb_buffer_t) -> u64
 }
 
 /// What the parts of a ligature tell.
-#[derive(Clone, Copy, Debug)]
+#[derive(Clone, Copy)]
 pub(crate) struct LigatureParts {
     pub(crate) are_marks: bool,
     /// Whether they become a ligature with a number of its own.

@@ -9,7 +9,7 @@ use layout_substitutions::sequence::{AlternateSubst, MultipleSubst};
 use layout_substitutions::single::SingleSubst;
 
 /// Glyphs, and nothing around them.
-#[derive(Clone, Copy, Debug)]
+#[derive(Clone, Copy)]
 pub struct WouldApplyContext<'a> {
     pub glyphs: &'a [u16],
     /// Whether a rule that asks for anything before or after its input doesn't count.

@@ -7,7 +7,7 @@ use glyph_lists::position::GlyphPosition;
 pub use position_sums::sums::{minus, plus};
 
 /// Where the pen stands, in font units from the beginning of the line, modulo 2^32.
-#[derive(Clone, Copy, PartialEq, Eq, Debug)]
+#[derive(Clone, Copy)]
 pub(crate) struct Pen {
     pub x: i32,
     pub y: i32,

@@ -1,5 +1,4 @@
 pub mod Indexed
-pub mod Nearest
 pub mod Each
 pub mod Own
 pub mod Law

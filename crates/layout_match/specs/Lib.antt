@@ -4,3 +4,4 @@ pub mod Matches
 pub mod Applied
 pub mod Walks
 pub mod Laws
+pub mod Lemmas

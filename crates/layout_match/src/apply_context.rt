@@ -10,7 +10,7 @@ use glyph_lists::info::hb_glyph_info_t;
 use map_features::per_table::TableIndex;
 
 /// With what a lookup is applied.
-#[derive(Clone, Copy, Debug)]
+#[derive(Clone, Copy)]
 pub struct hb_ot_apply_context_t<'a> {
     pub table_index: TableIndex,
     pub face: &'a Face,

@@ -19,7 +19,7 @@ pub const MAX_CONTEXT_LENGTH: usize = 64;
 /// The indices of a match, counted from the cursor.
 pub type MatchPositions = ArrayVec<usize, MAX_CONTEXT_LENGTH>;
 
-#[tactic(auto, using(crate::proofs::Nearest::taken_there, crate::proofs::Nearest::refused_there, crate::proofs::Nearest::passed_there, crate::proofs::Nearest::ended_there))]
+#[tactic(auto, using(crate::specs::Lemmas::Nearest::taken_there, crate::specs::Lemmas::Nearest::refused_there, crate::specs::Lemmas::Nearest::passed_there, crate::specs::Lemmas::Nearest::ended_there))]
 /// The nearest glyph from an index ahead on that is the k-th of a sequence.
 pub(crate) fn nearest_ahead<'a>(
     search: &GlyphSearch<'a>,
@@ -55,7 +55,7 @@ fn behind(buffer: &hb_buffer_t, at: usize) -> &hb_glyph_info_t
     &buffer.out_info()[index]
 }
 
-#[tactic(auto, using(crate::proofs::Nearest::taken_before, crate::proofs::Nearest::refused_before, crate::proofs::Nearest::passed_before, crate::proofs::Nearest::ended_before))]
+#[tactic(auto, using(crate::specs::Lemmas::Nearest::taken_before, crate::specs::Lemmas::Nearest::refused_before, crate::specs::Lemmas::Nearest::passed_before, crate::specs::Lemmas::Nearest::ended_before))]
 /// As `nearest_ahead`, backward from the cursor.
 pub(crate) fn nearest_behind<'a>(
     search: &GlyphSearch<'a>,

@@ -9,7 +9,7 @@ use glyph_lists::info::{DEFINED, hb_glyph_info_t};
 use layout_common::flags::{IGNORE_FLAGS, MARK_ATTACHMENT_TYPE_MASK, USE_MARK_FILTERING_SET};
 
 /// What a search says of a glyph.
-#[derive(Clone, Copy, PartialEq, Eq, Debug)]
+#[derive(Clone, Copy)]
 pub enum match_t {
     /// It is what is asked for.
     MATCH,
@@ -20,7 +20,7 @@ pub enum match_t {
 }
 
 /// How glyphs are searched: which are passed over, and what each that is taken needs beside its test.
-#[derive(Clone, Copy, Debug)]
+#[derive(Clone, Copy)]
 pub struct GlyphSearch<'a> {
     pub face: &'a Face,
     /// The lookup's flag, and above its 16 bits the index of its mark filtering set.

@@ -7,7 +7,7 @@ use layout_common::class_definition::ClassDefinition;
 use layout_common::coverage::Coverage;
 
 /// The glyphs that a rule asks for, one after another (OpenType, chapter 2, sequence context formats 1 to 3).
-#[derive(Clone, Copy, Debug)]
+#[derive(Clone, Copy)]
 pub enum MatchSequence<'a> {
     /// Glyphs by their numbers.
     Glyphs(&'a [u16]),

@@ -14,7 +14,7 @@ use glyph_lists::info::hb_glyph_info_t;
 
 /// A walk from glyph to glyph, ahead or back from the cursor, over those that a lookup passes over. It holds no buffer: each
 /// call is given it.
-#[derive(Clone, Copy, Debug)]
+#[derive(Clone, Copy)]
 pub struct skipping_iterator_t<'a> {
     search: GlyphSearch<'a>,
     sequence: Option<MatchSequence<'a>>,

@@ -6,7 +6,7 @@ use layout_common::glyph_row::{GlyphRow, find_value};
 use sorted_rows::SortedRows;
 
 /// Where a glyph is joined to the one before it and to the one after it; none where it isn't.
-#[derive(Clone, Copy, PartialEq, Eq, Debug, Drop)]
+#[derive(Clone, Copy, Debug, Drop)]
 pub struct EntryExit {
     pub entry: Option<Anchor>,
     pub exit: Option<Anchor>,

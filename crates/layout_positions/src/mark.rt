@@ -8,7 +8,7 @@ use layout_common::glyph_row::{GlyphRow, find_value};
 use sorted_rows::{Keyed, SortedRows};
 
 /// A mark's class, and the point of the mark that is put on an anchor of that class; none where it isn't attached.
-#[derive(Clone, Copy, PartialEq, Eq, Debug, Drop)]
+#[derive(Clone, Copy, Debug, Drop)]
 pub struct MarkRecord {
     pub class: u16,
     pub anchor: Option<Anchor>,

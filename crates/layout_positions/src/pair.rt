@@ -8,7 +8,7 @@ use layout_common::coverage::Coverage;
 use sorted_rows::{Keyed, SortedRows};
 
 /// The adjustments of two glyphs; without a second one the second glyph may begin the next pair.
-#[derive(Clone, Copy, PartialEq, Eq, Debug, Drop)]
+#[derive(Clone, Copy, Debug, Drop)]
 pub struct PairValues {
     pub first: ValueRecord,
     pub second: Option<ValueRecord>,

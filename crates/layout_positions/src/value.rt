@@ -1,5 +1,5 @@
 /// What is added to a glyph's position, in font units (`ValueRecord`). A field that a font leaves out is 0.
-#[derive(Clone, Copy, PartialEq, Eq, Debug, Default, Drop)]
+#[derive(Clone, Copy, Debug, Drop)]
 pub struct ValueRecord {
     pub x_placement: i16,
     pub y_placement: i16,
@@ -8,7 +8,7 @@ pub struct ValueRecord {
 }
 
 /// A point by which a glyph is attached, in font units.
-#[derive(Clone, Copy, PartialEq, Eq, Debug, Drop)]
+#[derive(Clone, Copy, Debug, Drop)]
 pub struct Anchor {
     pub x: i16,
     pub y: i16,

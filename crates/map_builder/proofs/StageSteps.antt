@@ -1,8 +1,7 @@
 -- Stages one after another.
-use Rattle.std.proofs.Common.{ℕ, zero, suc, ◌≡◌, ◌<◌, ◌≤◌, ◌+◌, ◌-◌, ◌==◌, ◌&&◌, nat_le, Bool, true, false, List, [], ◌∷◌, ◌++◌, length, drop, get_or, Some, refl, sym, ap, ◌∙◌, arith, add-one, append_assoc}
+use Rattle.std.proofs.Common.{ℕ, ◌≡◌, ◌<◌, ◌+◌, List, [], ◌∷◌, ◌++◌, length, drop, get_or, Some, refl, sym, ap, ◌∙◌, add-one, append_assoc}
 use Rattle.std.specs.List.{flat_map}
 use Rattle.std.proofs.Math.Seq.{drop-cons}
-use Rattle.std.proofs.lemmas.Bool.Decides.{nat_tests}
 use Rattle.std.proofs.lemmas.List.{length-append}
 use Rattle.map_features.specs.declared.per_table.TableIndex.{TableIndex}
 use Rattle.map_features.specs.declared.lookup.lookup_map_t.{lookup_map_t}

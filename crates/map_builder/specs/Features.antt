@@ -7,10 +7,10 @@ use Rattle.map_features.specs.declared.per_table.TableIndex.{TableIndex}
 use Rattle.map_features.specs.declared.per_table.PerTable.{PerTable}
 use Rattle.map_features.specs.declared.request.MergedRequest.{MergedRequest}
 use Rattle.map_features.specs.declared.field.FeatureField.{FeatureField}
+use Rattle.map_features.specs.declared.required.RequiredFeature.{RequiredFeature}
 use Rattle.map_features.specs.Tables.{for_table}
 use Rattle.map_features.specs.Fields.{global_bit, field_among, kept_fields}
 use Rattle.map_builder.specs.declared.chosen_feature.feature_map_t.{feature_map_t}
-use Rattle.map_builder.specs.declared.stages.RequiredFeature.{RequiredFeature}
 use Rattle.map_builder.specs.Chosen.{ChosenTable, system_feature, listed_feature, required_feature}
 
 abbrev pub in_any : PerTable (Option ℕ) → Bool

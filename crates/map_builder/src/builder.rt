@@ -12,7 +12,7 @@ use crate::features::{
     wanted_requests,
 };
 use crate::map::{TableMap, hb_ot_map_t};
-use crate::stages::{RequiredFeature, TableFeatures, all_stages};
+use crate::stages::{TableFeatures, all_stages};
 use font_face::positioning::PositioningTable;
 use font_face::substitution::SubstitutionTable;
 use map_features::flags::{F_GLOBAL, hb_ot_map_feature_flags_t};
@@ -20,12 +20,13 @@ use map_features::kept::kept_fields;
 use map_features::merge::merged_requests;
 use map_features::per_table::{PerTable, TableIndex};
 use map_features::request::{FeatureRequest, MergedRequest};
+use map_features::required::RequiredFeature;
 use shaping_text::tag::Tag;
 use std::alloc::{AllocError, Global};
 use std::marker::Model;
 
 /// Collects requests for features and pauses between the stages of a font's layout tables.
-#[derive(Debug, Drop)]
+#[derive(Drop)]
 pub struct hb_ot_map_builder_t<'a> {
     tables: FontTables<'a>,
     requests: Vec<FeatureRequest>,

@@ -13,7 +13,7 @@ use shaping_text::tag::Tag;
 use std::marker::Model;
 
 /// A layout table, where the font has it, with the script and the language system that serve a text.
-#[derive(Debug, Drop)]
+#[derive(Drop)]
 pub struct ChosenTable<'a> {
     table: Option<&'a LayoutTable>,
     lookup_count: usize,
@@ -167,7 +167,7 @@ fn selected_system<'a>(script: Option<SelectedScript<'a>>, languages: &[Tag]) ->
 }
 
 /// The two layout tables of a font, each with the script and the language system that serve a text.
-#[derive(Debug, Drop)]
+#[derive(Drop)]
 pub struct FontTables<'a> {
     pub gsub: ChosenTable<'a>,
     pub gpos: ChosenTable<'a>,

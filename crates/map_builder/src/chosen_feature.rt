@@ -12,7 +12,7 @@ use std::cmp::Ordering;
 
 /// A feature of a map: its indices and stages by table, and its bits in the masks of glyphs. Features are equal, and
 /// ordered, by their tags.
-#[derive(Clone, Copy, Debug)]
+#[derive(Clone, Copy)]
 pub struct feature_map_t {
     pub tag: Tag,
     /// The feature in each table's list, where the table has it.

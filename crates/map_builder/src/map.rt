@@ -15,7 +15,7 @@ use sorted_rows::find_row;
 use std::marker::Model;
 use std::ops::Range;
 
-#[derive(Debug, Drop)]
+#[derive(Drop)]
 pub(crate) struct TableMap {
     pub(crate) found_script: bool,
     pub(crate) chosen_script: Option<Tag>,
@@ -62,7 +62,7 @@ impl TableMap {
 
 /// What a font does for the features that were asked for: the bits of glyph masks that stand for each feature, and for
 /// each table the stages of its lookups.
-#[derive(Debug, Drop)]
+#[derive(Drop)]
 pub struct hb_ot_map_t {
     pub(crate) global_mask: u32,
     pub(crate) features: Vec<feature_map_t>,

@@ -8,22 +8,16 @@ use map_features::field::GLOBAL_BIT;
 use map_features::lookup::lookup_map_t;
 use map_features::merge::merged_lookups;
 use map_features::per_table::TableIndex;
+use map_features::required::{RequiredFeature, required_index};
 use std::alloc::{AllocError, Global};
 
 /// The end of a stage.
-#[derive(Clone, Copy, PartialEq, Eq, Debug)]
+#[derive(Clone, Copy)]
 pub struct StageMap {
     /// How many lookups the table's stages have up to this one, it included.
     pub last_lookup: usize,
     /// The pause that ends the stage; the last stage ends without one.
     pub pause: Option<u8>,
-}
-
-/// The feature that a language system always has on, and the stage in which it runs.
-#[derive(Clone, Copy, PartialEq, Eq, Debug)]
-pub struct RequiredFeature {
-    pub index: u16,
-    pub stage: usize,
 }
 
 /// What the stages of a table are made of.
@@ -59,12 +53,9 @@ fn push_required(
 ) -> Result<(), AllocError>
     ensures { OnOk result (uses.new.items ≡ uses.old.items ++ required_lookups chosen.now stage required) }
 {
-    let Some(required) = required else {
+    let Some(index) = required_index(required, stage) else {
         return Ok(());
     };
-    if required.stage != stage {
-        return Ok(());
-    }
     let like = lookup_map_t {
         index: 0,
         mask: GLOBAL_BIT,
@@ -73,7 +64,7 @@ fn push_required(
         random: false,
         per_syllable: false,
     };
-    push_lookups(uses, chosen.feature_lookups(required.index), like)
+    push_lookups(uses, chosen.feature_lookups(index), like)
 }
 
 fn push_feature(

@@ -3,6 +3,7 @@ pub mod Groups
 pub mod Entering
 pub mod Requests
 pub mod Lookups
+pub mod Required
 pub mod Fields
 pub mod Rising
 pub mod Laws

@@ -15,7 +15,7 @@ pub const GLOBAL_BIT: u32 = 1 << GLOBAL_SHIFT;
 pub const FIRST_FEATURE_BIT: u32 = 4;
 
 /// The bits of a feature in the masks of glyphs.
-#[derive(Clone, Copy, PartialEq, Eq, Debug)]
+#[derive(Clone, Copy)]
 pub struct FeatureField {
     /// The lowest of the bits.
     pub shift: u32,

@@ -7,7 +7,7 @@ use crate::request::MergedRequest;
 use std::alloc::{AllocError, Global};
 
 /// A request and the bits of its feature.
-#[derive(Clone, Copy, PartialEq, Eq, Debug)]
+#[derive(Clone, Copy)]
 pub struct KeptField {
     pub request: MergedRequest,
     pub field: FeatureField,

@@ -9,3 +9,4 @@ pub mod lookup;
 pub mod merge;
 pub mod per_table;
 pub mod request;
+pub mod required;

@@ -2,7 +2,7 @@ ghost use Rattle.std.specs.Prelude.{◌≡◌};
 ghost use Rattle.map_features.specs.Lookups.{lookup_with};
 
 /// A lookup of a stage.
-#[derive(Clone, Copy, PartialEq, Eq, Debug)]
+#[derive(Clone, Copy)]
 pub struct lookup_map_t {
     /// The lookup in the table's list.
     pub index: u16,

@@ -2,7 +2,7 @@ ghost use Rattle.std.specs.Prelude.{◌≡◌};
 ghost use Rattle.map_features.specs.Tables.{for_table};
 
 /// A layout table of a font: substitution or positioning.
-#[derive(Clone, Copy, PartialEq, Eq, Debug)]
+#[derive(Clone, Copy)]
 pub enum TableIndex {
     GSUB,
     GPOS,
@@ -13,7 +13,7 @@ impl TableIndex {
 }
 
 /// A value for each of the two layout tables.
-#[derive(Clone, Copy, PartialEq, Eq, Debug)]
+#[derive(Clone, Copy)]
 pub struct PerTable<T> {
     pub gsub: T,
     pub gpos: T,

@@ -10,7 +10,7 @@ use shaping_text::tag::Tag;
 
 /// A request to give a feature a value: for every glyph with `F_GLOBAL`, else for ranges. Its stage for each table is
 /// the number of pauses before it.
-#[derive(Clone, Copy, PartialEq, Eq, Debug)]
+#[derive(Clone, Copy)]
 pub struct FeatureRequest {
     pub tag: Tag,
     pub flags: hb_ot_map_feature_flags_t,
@@ -19,7 +19,7 @@ pub struct FeatureRequest {
 }
 
 /// What the requests for one feature ask together.
-#[derive(Clone, Copy, PartialEq, Eq, Debug)]
+#[derive(Clone, Copy)]
 pub struct MergedRequest {
     pub tag: Tag,
     /// Every glyph has the value, and no range has another.

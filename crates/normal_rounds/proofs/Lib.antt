@@ -1,4 +1,3 @@
-pub mod Alone
 pub mod Supported
 pub mod Parts
 pub mod Put

@@ -12,7 +12,7 @@ use Rattle.glyph_lists.specs.Events.{Replace, origins_after}
 use Rattle.glyph_lists.specs.declared.level.BufferClusterLevel.{BufferClusterLevel}
 use Rattle.glyph_buffer.specs.Sides.{Sides, all_glyphs, asks_of}
 use Rattle.glyph_buffer.specs.Merging.{with_put, with_skipped}
-use Rattle.normal_rounds.proofs.Alone.{merged_alone}
+use Rattle.stage_rules.specs.Lemmas.Alone.{merged_alone}
 use Rattle.glyph_properties.specs.Arranged.{kept, replaced_by, shifted}
 use Rattle.glyph_properties.specs.Normalizer.{Normalizer, has_character}
 use Rattle.glyph_properties.specs.declared.normal_mode.Reach.{Reach}

@@ -17,7 +17,7 @@ use std::alloc::{AllocError, Global};
 use unicode_tables::UnicodeTables;
 
 /// A shaper of texts whose characters are split and not composed again.
-#[derive(Clone, Copy, Debug)]
+#[derive(Clone, Copy)]
 pub struct DecomposingShaper;
 
 impl PlannedShaper for DecomposingShaper {

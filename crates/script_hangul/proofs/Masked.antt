@@ -1,22 +1,13 @@
 -- Masks joined to those of glyphs.
-use Rattle.std.proofs.Common.{ℕ, ◌≡◌, ◌*◌, ◌/◌, ◌==◌, Bool, true, false, if◌then◌else◌, arith, refl, ap, sym, ◌∙◌}
+use Rattle.std.proofs.Common.{ℕ, ◌≡◌, ◌==◌, Bool, true, false, if◌then◌else◌, refl, ap, ◌∙◌}
 use Rattle.std.specs.Prelude.{bit_and, bit_or}
-use Rattle.std.proofs.lemmas.Nat.{and_mask, or_shr, and_or_apart}
+use Rattle.std.proofs.lemmas.Nat.{and_or_apart}
 use Rattle.glyph_lists.specs.declared.info.hb_glyph_info_t.{hb_glyph_info_t}
 use Rattle.glyph_lists.specs.Items.{item_of, without_flags}
 use Rattle.glyph_lists.specs.Origins.{origin_of}
 use Rattle.script_hangul.specs.declared.masks.JamoMasks.{JamoMasks}
 use Rattle.script_hangul.specs.Masks.{AreFlagless, mask_of, with_place_mask}
-
-without_flags_is : (m : ℕ) → without_flags m ≡ m / 8 * 8
-without_flags_is m = let low = and_mask m 3 in omega (arith, low)
-
--- the three flags don't tell what the bits above them become
-mask_above : (m mask : ℕ) → without_flags (bit_or m mask) ≡ without_flags (bit_or (without_flags m) mask)
-mask_above m mask =
-    let high : without_flags m / 8 ≡ m / 8 = (let is = without_flags_is m in omega (arith, is)) in
-    let same = or_shr m mask 3 ∙ ap (λ n. bit_or n (mask / 8)) (sym high) ∙ sym (or_shr (without_flags m) mask 3) in
-    without_flags_is (bit_or m mask) ∙ ap (λ n. n * 8) same ∙ sym (without_flags_is (bit_or (without_flags m) mask))
+use Rattle.stage_rules.specs.Lemmas.Masks.{mask_above}
 
 either : (t : Bool) (a b : ℕ) → bit_and a 7 ≡ 0 → bit_and b 7 ≡ 0 → bit_and (if t then a else b) 7 ≡ 0
 either true a b e f = e

@@ -9,7 +9,7 @@ use Rattle.glyph_lists.specs.Items.{Item, item_of, strip}
 use Rattle.glyph_lists.specs.Levels.{InOutput}
 use Rattle.glyph_lists.specs.Events.{Event, Move, Replace}
 use Rattle.glyph_lists.specs.Replacements.{item_numbered}
-use Rattle.glyph_buffer.specs.Sides.{Sides, Settings}
+use Rattle.glyph_buffer.specs.Sides.{Sides}
 use Rattle.stage_rules.specs.Moves.{moved, order_of_move}
 use Rattle.stage_rules.specs.Walks.{Exceeds, Walked, renumbered_first}
 use Rattle.stage_rules.specs.Lemmas.Moved.{moved_length}
@@ -18,14 +18,12 @@ use Rattle.script_hangul.specs.declared.jamo.Letters.{Letters}
 use Rattle.script_hangul.specs.declared.jamo.Letters.TheVariants.{Two, Three}
 use Rattle.script_hangul.specs.Steps.{apart, before_syllable, circle_for, circled, composed, grapheme_merged, kept, letters_from, numbers_of, parted, placed, put_before, split, with_circle}
 use Rattle.script_hangul.specs.Stepped.{Refuses, Stepped, is_two}
+use Rattle.stage_rules.specs.Lemmas.Fitting.{level_same}
 
 -- other words for the same
 renamed : (o r o' r' : List Item) (es es' : List Event) (s t : Sides) → Walked o r es s t → o ≡ o' → r ≡ r' → es ≡ es' → Walked o' r' es' s t
 renamed o r o' r' es es' s t w a b c =
     subst (λ fs. Walked o' r' fs s t) c (record { behind = w.behind ∙ a; ahead = w.ahead ∙ b; happened = w.happened; view = w.view; settings = w.settings; opened = w.opened; unrefused = w.unrefused })
-
-level_kept : (o r : List Item) (es : List Event) (s t : Sides) → Walked o r es s t → t.level ≡ s.level
-level_kept o r es s t w = ap (λ (st : Settings). st.level) w.settings
 
 first_seen : (g : hb_glyph_info_t) (gs : List hb_glyph_info_t) → slice_get gs 0 ≡ Some g → strip gs ≡ item_of g ∷ drop 1 (strip gs)
 first_seen g [] at = absurd (let bad = at in cc)
@@ -92,7 +90,7 @@ two_letters s a b w v =
 pub then_merged : (o r : List Item) (es : List Event) (at n : ℕ) (s m t : Sides) → Walked o r es s m → Walked (strip m.behind) (strip m.ahead) (grapheme_merged m.level at n) m t → Walked o r (es ++ grapheme_merged s.level at n) s t
 then_merged o r es at n s m t w v =
     let both = both_walked o r (strip m.behind) (strip m.ahead) es (grapheme_merged m.level at n) s m t w v in
-    renamed (strip m.behind) (strip m.ahead) o r (es ++ grapheme_merged m.level at n) (es ++ grapheme_merged s.level at n) s t both w.behind w.ahead (ap (λ l. es ++ grapheme_merged l at n) (level_kept o r es s m w))
+    renamed (strip m.behind) (strip m.ahead) o r (es ++ grapheme_merged m.level at n) (es ++ grapheme_merged s.level at n) s t both w.behind w.ahead (ap (λ l. es ++ grapheme_merged l at n) (level_same o r es s m w))
 
 pub apart_two : (count at : ℕ) (s b t : Sides) → count ≡ 2 → at ≡ length s.behind → Walked (strip s.behind ++ letters_from 1 (take 2 (strip s.ahead))) (drop 2 (strip s.ahead)) [] s b → Walked (strip b.behind) (strip b.ahead) (grapheme_merged b.level at 2) b t
     → Stepped (apart count (strip s.behind) (strip s.ahead)) at s t
@@ -112,7 +110,7 @@ apart_three count at s b t is len w v =
           (ap (λ ys. ys ++ letters_from 3 (take 1 (strip b.ahead))) w.behind ∙ ap (λ ys. (bs ++ letters_from 1 (take 2 xs)) ++ letters_from 3 (take 1 ys)) w.ahead
           ∙ append_assoc bs (letters_from 1 (take 2 xs)) (letters_from 3 (take 1 (drop 2 xs))) ∙ ap (λ ys. bs ++ ys) (letters_three xs))
           (ap (drop 1) w.ahead ∙ drop-drop 1 2 xs)
-          (ap (λ l. grapheme_merged l at 3) (level_kept (bs ++ letters_from 1 (take 2 xs)) (drop 2 xs) [] s b w) ∙ ap (λ k. grapheme_merged s.level k 3) (len ∙ sym (seen_long s)));
+          (ap (λ l. grapheme_merged l at 3) (level_same (bs ++ letters_from 1 (take 2 xs)) (drop 2 xs) [] s b w) ∙ ap (λ k. grapheme_merged s.level k 3) (len ∙ sym (seen_long s)));
       start = len ∙ sym (seen_long s);
     })
 
@@ -194,7 +192,7 @@ split_joined (Two l k) true at s m t j two some len w v =
           (Replace (length s.behind) 1 2 ∷ grapheme_merged m.level at 3) (Replace (length bs) 1 2 ∷ grapheme_merged s.level (length bs) 3) s t both
           (ap (λ ys. ys ++ letters_from 3 (take 1 (strip m.ahead))) w.behind ∙ ap (λ ys. (bs ++ letters_from 1 (parted (Two l k) xs)) ++ letters_from 3 (take 1 ys)) w.ahead ∙ joined_out l k bs xs (some_items s some))
           (ap (drop 1) w.ahead ∙ drop-drop 1 1 xs)
-          (ap₂ (λ i q. Replace i 1 2 ∷ grapheme_merged q at 3) (sym (seen_long s)) (level_kept (bs ++ letters_from 1 (parted (Two l k) xs)) (drop 1 xs) (Replace (length s.behind) 1 2 ∷ []) s m w) ∙ ap (λ i. Replace (length bs) 1 2 ∷ grapheme_merged s.level i 3) (len ∙ sym (seen_long s)));
+          (ap₂ (λ i q. Replace i 1 2 ∷ grapheme_merged q at 3) (sym (seen_long s)) (level_same (bs ++ letters_from 1 (parted (Two l k) xs)) (drop 1 xs) (Replace (length s.behind) 1 2 ∷ []) s m w) ∙ ap (λ i. Replace (length bs) 1 2 ∷ grapheme_merged s.level i 3) (len ∙ sym (seen_long s)));
       start = len ∙ sym (seen_long s);
     }
 

@@ -1,5 +1,5 @@
 -- A text of Hangul that is done step by step.
-use Rattle.std.proofs.Common.{ℕ, zero, suc, ◌≡◌, ◌≢◌, ◌<◌, ◌≤◌, ◌+◌, ◌-◌, ◌&&◌, inl, inr, not, Bool, true, false, nat_le, nat_lt, if◌then◌else◌, List, [], ◌∷◌, ◌++◌, Option, Some, None, Err, length, take, drop, refl, sym, ap, subst, ◌∙◌, append_assoc, arith}
+use Rattle.std.proofs.Common.{ℕ, zero, suc, ◌≡◌, ◌≢◌, ◌<◌, ◌≤◌, ◌+◌, ◌-◌, ◌&&◌, inl, inr, Bool, true, false, nat_le, nat_lt, if◌then◌else◌, List, [], ◌∷◌, ◌++◌, Option, Some, None, Err, length, take, drop, refl, sym, ap, subst, ◌∙◌, append_assoc, arith}
 use Rattle.std.proofs.lemmas.Bool.Decides.{nat_tests}
 use Rattle.std.proofs.lemmas.List.{append-nil, length-append, length-map, length-drop}
 use Rattle.glyph_lists.specs.declared.cause.ShapeCause.{ShapeCause}
@@ -9,7 +9,7 @@ use Rattle.shaping_text.specs.declared.constants.BufferFlags.{BufferFlags}
 use Rattle.font_face.specs.declared.parts.FaceParts.{FaceParts}
 use Rattle.glyph_lists.specs.Items.{Item, item_of, strip}
 use Rattle.glyph_lists.specs.Events.{Event}
-use Rattle.glyph_buffer.specs.Readings.{View, read_of}
+use Rattle.glyph_buffer.specs.Readings.{read_of}
 use Rattle.glyph_buffer.specs.Sides.{Sides, Settings, all_glyphs, items_of, run_of, with_output, synced, fits_joined}
 use Rattle.stage_rules.specs.Ready.{IsReady}
 use Rattle.stage_rules.specs.Stages.{IsFollowed}
@@ -22,6 +22,7 @@ use Rattle.script_hangul.specs.Actions.{action_on, has_character}
 use Rattle.script_hangul.specs.Steps.{Step, DOTTED_CIRCLE, before_syllable, circled, has_no_width, kept, letters_from, parted, performed, put_before, toned, with_circle}
 use Rattle.script_hangul.specs.Hangul.{character_at, events_behind, step, step_by, syllables_formed, text_behind, wants_circles}
 use Rattle.script_hangul.specs.Stepped.{Passes, Stepped}
+use Rattle.stage_rules.specs.Lemmas.Fitting.{limit_same, written_exceed, written_fit}
 
 -- what is behind and ahead comes to what all does
 pub record IsUnderway (font : FaceParts) (circles : Bool) (left start : ℕ) (s t : Sides) : Type 0 where
@@ -41,9 +42,6 @@ begun font circles n s e =
       whole = ap (λ k. events_behind font circles s.level k 0 [] (items_of s)) (sym same);
       few = omega (arith, e);
     }
-
-limit_same : (o r : List Item) (es : List Event) (s t : Sides) → Walked o r es s t → t.max_len ≡ s.max_len
-limit_same o r es s t w = ap (λ (v : View). v.max_len) w.view
 
 -- a step more
 stepped_more : (font : FaceParts) (circles : Bool) (k start n : ℕ) (s t u : Sides) → IsUnderway font circles (suc k) start s t → 0 < length t.ahead → Stepped (step font circles start (strip t.behind) (strip t.ahead)) n t u → IsUnderway font circles k n s u
@@ -126,32 +124,11 @@ all_walked font circles start s t h = by_ahead t.ahead refl
 abbrev formed : FaceParts → BufferFlags → Sides → List Item
 formed font flags s = text_behind font (wants_circles flags) (length (items_of s)) 0 [] (items_of s)
 
-count_within : (font : FaceParts) (circles : Bool) (start : ℕ) (s t : Sides) → IsUnderway font circles 0 start s t → length (all_glyphs t) ≡ length (text_behind font circles (length (items_of s)) 0 [] (items_of s))
-count_within font circles start s t h =
-    let w = all_walked font circles start s t h in
-    let a = length-append t.behind t.ahead in
-    let b = length-map t.behind item_of in
-    let c = ap (λ (xs : List Item). length xs) w.behind in
-    let d = length-map t.ahead item_of in
-    let e = ap (λ (xs : List Item). length xs) w.ahead in
-    omega (arith, a, b, c, d, e)
-
-fits_both : (a b : Bool) → (not a && b) ≡ true → b ≡ true
-fits_both true b e = cc
-fits_both false b e = e
-
-fits_neither : (a b : Bool) → a ≡ false → (not a && b) ≡ false → b ≡ false
-fits_neither true b n e = cc
-fits_neither false b n e = e
-
 pub text_followed : (font : FaceParts) (flags : BufferFlags) (start : ℕ) (s t new : Sides) → IsReady s → IsUnderway font (wants_circles flags) 0 start (with_output s) t → fits_joined t ≡ true → new ≡ synced t → IsFollowed (syllables_formed font flags) s new
 text_followed font flags start s t new ready h fits is =
     let w = all_walked font (wants_circles flags) start (with_output s) t h in
     let xs = formed font flags s in
-    let limit = limit_same xs [] (events_behind font (wants_circles flags) s.level (length (items_of s)) 0 [] (items_of s)) (with_output s) t w in
-    let many = count_within font (wants_circles flags) start (with_output s) t h in
-    let room = fits_both t.has_refused (nat_le (length (all_glyphs t) + 0) t.max_len) fits in
-    let within : nat_le (length xs) s.max_len ≡ true = grind (arith, nat_tests, room, many, limit) in
+    let within = written_fit xs (events_behind font (wants_circles flags) s.level (length (items_of s)) 0 [] (items_of s)) s t w fits in
     walked_followed (syllables_formed font flags) xs (events_behind font (wants_circles flags) s.level (length (items_of s)) 0 [] (items_of s)) (λ level. events_behind font (wants_circles flags) level (length (items_of s)) 0 [] (items_of s)) s t new ready w is (rw within refl) refl
 
 pub text_too_long : (font : FaceParts) (flags : BufferFlags) (start : ℕ) (e : ShapeCause) (s t : Sides) → IsReady s → IsUnderway font (wants_circles flags) 0 start (with_output s) t → (e ≢ OutOfMemory → (e ≡ TooLong) × (fits_joined t ≡ false)) → e ≢ OutOfMemory
@@ -159,11 +136,8 @@ pub text_too_long : (font : FaceParts) (flags : BufferFlags) (start : ℕ) (e : 
 text_too_long font flags start e s t ready h over other =
     let w = all_walked font (wants_circles flags) start (with_output s) t h in
     let xs = formed font flags s in
-    let limit = limit_same xs [] (events_behind font (wants_circles flags) s.level (length (items_of s)) 0 [] (items_of s)) (with_output s) t w in
-    let many = count_within font (wants_circles flags) start (with_output s) t h in
     let o = over other in
-    let room = fits_neither t.has_refused (nat_le (length (all_glyphs t) + 0) t.max_len) (w.unrefused ∙ ready.unrefused) o.1 in
-    let within : nat_le (length xs) s.max_len ≡ false = grind (arith, nat_tests, room, many, limit) in
+    let within = written_exceed xs (events_behind font (wants_circles flags) s.level (length (items_of s)) 0 [] (items_of s)) s t ready w o.1 in
     rw within (ap Err (sym o.0))
 
 -- ---- no step makes a text shorter

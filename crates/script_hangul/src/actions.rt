@@ -7,7 +7,7 @@ use font_face::Face;
 use unicode_tables::compose_hangul;
 
 /// What becomes of the characters at the front of a text.
-#[derive(Clone, Copy, PartialEq, Eq, Debug)]
+#[derive(Clone, Copy)]
 pub enum Action {
     /// The first stays; whether a tone mark may follow it as a syllable.
     Keep(bool),

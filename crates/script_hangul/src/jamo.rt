@@ -5,7 +5,7 @@ ghost use Rattle.script_hangul.specs.Jamo.{is_leading, is_syllable, is_tone, is_
 use unicode_tables::{compose_hangul, decompose_hangul};
 
 /// The letters of a syllable.
-#[derive(Clone, Copy, PartialEq, Eq, Debug)]
+#[derive(Clone, Copy)]
 pub enum Letters {
     Two(char, char),
     Three(char, char, char),

@@ -14,7 +14,7 @@ use glyph_lists::info::{hb_glyph_info_t, hb_mask_t};
 use stage_rules::glyphs::map_glyphs;
 
 /// The masks of the features for the letters of a syllable, by their places in it.
-#[derive(Clone, Copy, PartialEq, Eq, Debug)]
+#[derive(Clone, Copy)]
 pub struct JamoMasks {
     pub ljmo: hb_mask_t,
     pub vjmo: hb_mask_t,

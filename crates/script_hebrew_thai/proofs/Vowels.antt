@@ -1,5 +1,5 @@
 -- A text whose vowels are split one after another.
-use Rattle.std.proofs.Common.{ℕ, ◌≡◌, ◌≢◌, ◌<◌, ◌≤◌, ◌+◌, ◌-◌, ◌&&◌, not, Bool, true, false, nat_le, if◌then◌else◌, List, [], ◌∷◌, ◌++◌, Err, length, refl, sym, ap, subst, ◌∙◌, append_assoc, arith}
+use Rattle.std.proofs.Common.{ℕ, ◌≡◌, ◌≢◌, ◌<◌, ◌≤◌, ◌+◌, ◌-◌, Bool, true, false, nat_le, if◌then◌else◌, List, [], ◌∷◌, ◌++◌, Err, length, refl, sym, ap, subst, ◌∙◌, append_assoc, arith}
 use Rattle.std.proofs.lemmas.Bool.Decides.{nat_tests}
 use Rattle.std.proofs.lemmas.List.{append-nil, length-append, length-map}
 use Rattle.glyph_lists.specs.declared.cause.ShapeCause.{ShapeCause}
@@ -8,14 +8,15 @@ use Rattle.glyph_lists.specs.declared.info.hb_glyph_info_t.{hb_glyph_info_t}
 use Rattle.glyph_lists.specs.declared.level.BufferClusterLevel.{BufferClusterLevel}
 use Rattle.glyph_lists.specs.Items.{Item, item_of, strip}
 use Rattle.glyph_lists.specs.Events.{Event}
-use Rattle.glyph_buffer.specs.Readings.{View, read_of}
-use Rattle.glyph_buffer.specs.Sides.{Sides, Settings, all_glyphs, items_of, run_of, with_output, synced, fits_joined}
+use Rattle.glyph_buffer.specs.Readings.{read_of}
+use Rattle.glyph_buffer.specs.Sides.{Sides, all_glyphs, items_of, run_of, with_output, synced, fits_joined}
 use Rattle.stage_rules.specs.Ready.{IsReady}
 use Rattle.stage_rules.specs.Stages.{IsFollowed}
 use Rattle.stage_rules.specs.Walks.{Exceeds, Walked}
 use Rattle.stage_rules.specs.Lemmas.Walked.{both_walked, nothing_walked, walked_followed}
 use Rattle.script_hebrew_thai.proofs.Vowel.{vowel_long}
 use Rattle.script_hebrew_thai.specs.ThaiVowel.{is_sara_am, with_vowel, with_character, split_behind, events_of_character, events_behind, vowels_split}
+use Rattle.stage_rules.specs.Lemmas.Fitting.{level_same, limit_same, written_exceed, written_fit}
 
 -- what is behind and ahead comes to what all does
 pub record IsUnderway (left : ℕ) (s t : Sides) : Type 0 where
@@ -27,12 +28,6 @@ pub record IsUnderway (left : ℕ) (s t : Sides) : Type 0 where
 
 pub begun : (n : ℕ) (s : Sides) → length (all_glyphs s) ≡ n → IsUnderway n (with_output s) (with_output s)
 begun n s e = record { events = []; walked = nothing_walked (with_output s) refl; items = refl; whole = refl; count = e }
-
-level_same : (o r : List Item) (es : List Event) (s t : Sides) → Walked o r es s t → t.level ≡ s.level
-level_same o r es s t w = ap (λ (st : Settings). st.level) w.settings
-
-limit_same : (o r : List Item) (es : List Event) (s t : Sides) → Walked o r es s t → t.max_len ≡ s.max_len
-limit_same o r es s t w = ap (λ (v : View). v.max_len) w.view
 
 -- one character more
 pub more : (n : ℕ) (s t u : Sides) → 0 < n → IsUnderway n s t
@@ -79,41 +74,19 @@ all_walked s t h = by_ahead t.ahead refl
         subst (λ fs. Walked (split_behind [] (items_of s)) [] fs s t) es
         (record { behind = out; ahead = none; happened = w.happened; view = w.view; settings = w.settings; opened = w.opened; unrefused = w.unrefused })
 
-count_within : (s t : Sides) → IsUnderway 0 s t → length (all_glyphs t) ≡ length (split_behind [] (items_of s))
-count_within s t h =
-    let w = all_walked s t h in
-    let a = length-append t.behind t.ahead in
-    let b : length t.behind ≡ length (split_behind [] (items_of s)) = sym (length-map t.behind item_of) ∙ ap (λ (xs : List Item). length xs) w.behind in
-    let c : length t.ahead ≡ 0 = sym (length-map t.ahead item_of) ∙ ap (λ (xs : List Item). length xs) w.ahead in
-    omega (arith, a, b, c)
-
-fits_both : (a b : Bool) → (not a && b) ≡ true → b ≡ true
-fits_both true b e = cc
-fits_both false b e = e
-
-fits_neither : (a b : Bool) → a ≡ false → (not a && b) ≡ false → b ≡ false
-fits_neither true b n e = cc
-fits_neither false b n e = e
-
 pub text_followed : (s t new : Sides) → IsReady s → IsUnderway 0 (with_output s) t → fits_joined t ≡ true → new ≡ synced t → IsFollowed vowels_split s new
 text_followed s t new ready h fits is =
     let w = all_walked (with_output s) t h in
     let xs = split_behind [] (items_of s) in
-    let limit = limit_same xs [] (events_behind s.level [] (items_of s)) (with_output s) t w in
-    let many = count_within (with_output s) t h in
-    let room = fits_both t.has_refused (nat_le (length (all_glyphs t) + 0) t.max_len) fits in
-    let within : nat_le (length xs) s.max_len ≡ true = grind (arith, nat_tests, room, many, limit) in
+    let within = written_fit xs (events_behind s.level [] (items_of s)) s t w fits in
     walked_followed vowels_split xs (events_behind s.level [] (items_of s)) (λ level. events_behind level [] (items_of s)) s t new ready w is (rw within refl) refl
 
 pub text_too_long : (e : ShapeCause) (s t : Sides) → IsReady s → IsUnderway 0 (with_output s) t → (e ≢ OutOfMemory → (e ≡ TooLong) × (fits_joined t ≡ false)) → e ≢ OutOfMemory → read_of vowels_split (run_of s) ≡ Err e
 text_too_long e s t ready h over other =
     let w = all_walked (with_output s) t h in
     let xs = split_behind [] (items_of s) in
-    let limit = limit_same xs [] (events_behind s.level [] (items_of s)) (with_output s) t w in
-    let many = count_within (with_output s) t h in
     let o = over other in
-    let room = fits_neither t.has_refused (nat_le (length (all_glyphs t) + 0) t.max_len) (w.unrefused ∙ ready.unrefused) o.1 in
-    let within : nat_le (length xs) s.max_len ≡ false = grind (arith, nat_tests, room, many, limit) in
+    let within = written_exceed xs (events_behind s.level [] (items_of s)) s t ready w o.1 in
     rw within (ap Err (sym o.0))
 
 vowel_grows : (out : List Item) (x : Item) → length out ≤ length (with_vowel out x)

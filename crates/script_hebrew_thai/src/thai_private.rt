@@ -14,7 +14,7 @@ use script_constants::thai_action::{RD, SD, SDL, SL};
 use unicode_tables::UnicodeTables;
 
 /// How consonants differ for the marks on them.
-#[derive(Clone, Copy, PartialEq, Eq, Debug)]
+#[derive(Clone, Copy)]
 pub enum Consonant {
     /// One without an upper or a lower part.
     NC,
@@ -27,7 +27,7 @@ pub enum Consonant {
     NotConsonant,
 }
 
-#[derive(Clone, Copy, PartialEq, Eq, Debug)]
+#[derive(Clone, Copy)]
 pub enum Mark {
     /// A vowel above.
     AV,
@@ -39,7 +39,7 @@ pub enum Mark {
 }
 
 /// What stands above the last consonant.
-#[derive(Clone, Copy, PartialEq, Eq, Debug)]
+#[derive(Clone, Copy)]
 pub enum Above {
     /// Nothing.
     T0,
@@ -52,7 +52,7 @@ pub enum Above {
 }
 
 /// What stands below the last consonant.
-#[derive(Clone, Copy, PartialEq, Eq, Debug)]
+#[derive(Clone, Copy)]
 pub enum Below {
     /// Nothing.
     B0,
@@ -63,7 +63,7 @@ pub enum Below {
 }
 
 /// What stands on the last consonant.
-#[derive(Clone, Copy, PartialEq, Eq, Debug)]
+#[derive(Clone, Copy)]
 pub struct State {
     pub above: Above,
     pub below: Below,

@@ -1,10 +1,10 @@
 -- The letters of a text, joined.
-use Rattle.std.proofs.Common.{ℕ, zero, suc, ◌≡◌, ◌/◌, ◌*◌, Bool, true, false, if◌then◌else◌, List, [], ◌∷◌, ◌++◌, Option, Some, None, length, map, arith, refl, sym, ap, subst, ◌∙◌}
-use Rattle.std.specs.Prelude.{bit_and, bit_or, find, unwrap_or}
+use Rattle.std.proofs.Common.{ℕ, zero, suc, ◌≡◌, Bool, true, false, if◌then◌else◌, List, [], ◌∷◌, ◌++◌, Option, Some, None, length, map, arith, refl, sym, ap, subst, ◌∙◌}
+use Rattle.std.specs.Prelude.{bit_and, find, unwrap_or}
 use Rattle.std.proofs.lemmas.List.{length-map}
-use Rattle.std.proofs.lemmas.Nat.{and_mask, or_shr, and_or_apart}
+use Rattle.std.proofs.lemmas.Nat.{and_or_apart}
 use Rattle.glyph_lists.specs.declared.info.hb_glyph_info_t.{hb_glyph_info_t}
-use Rattle.glyph_lists.specs.Items.{Item, item_of, strip, without_flags}
+use Rattle.glyph_lists.specs.Items.{Item, item_of, strip}
 use Rattle.glyph_lists.specs.Origins.{Origin, origin_of, origins}
 use Rattle.glyph_lists.specs.Events.{Event, origins_after}
 use Rattle.glyph_buffer.specs.Readings.{Run, View, always}
@@ -19,6 +19,7 @@ use Rattle.script_joining.specs.Forms.{letter_form}
 use Rattle.script_joining.specs.Joining.{form_after, forms, forms_copied, is_letter, joined, joined_items, mask_of, nearest, nearest_behind, neighbour_events, settled_forms, types_of_characters, types_of_items, with_form, with_forms}
 use Rattle.script_joining.specs.Flagged.{type_of_typed}
 use Rattle.script_joining.specs.Glyphs.{AreFlagless, glyph_joined, glyphs_copied, glyphs_formed, glyphs_settled, item_typed, nearest_or, number_of, type_kept, type_numbered}
+use Rattle.stage_rules.specs.Lemmas.Masks.{mask_above}
 
 -- ---- types that are kept
 
@@ -105,16 +106,6 @@ settled_length true xs fs e = copied_length None xs fs e
 settled_length false xs fs e = e
 
 -- ---- masks
-
-without_flags_is : (m : ℕ) → without_flags m ≡ m / 8 * 8
-without_flags_is m = let low = and_mask m 3 in omega (arith, low)
-
--- the three flags don't tell what the bits above them become
-mask_above : (m mask : ℕ) → without_flags (bit_or m mask) ≡ without_flags (bit_or (without_flags m) mask)
-mask_above m mask =
-    let high : without_flags m / 8 ≡ m / 8 = (let is = without_flags_is m in omega (arith, is)) in
-    let same = or_shr m mask 3 ∙ ap (λ n. bit_or n (mask / 8)) (sym high) ∙ sym (or_shr (without_flags m) mask 3) in
-    without_flags_is (bit_or m mask) ∙ ap (λ n. n * 8) same ∙ sym (without_flags_is (bit_or (without_flags m) mask))
 
 abbrev item_joined : List ℕ → Item → Item
 item_joined masks x = with_form masks x x.auxiliary

@@ -14,7 +14,7 @@ use glyph_buffer::buffer::hb_buffer_t;
 use script_constants::hb_arabic_joining_type_t;
 
 /// A letter that stands in the text: its index, its type, and that of the nearest letter before it.
-#[derive(Clone, Copy, PartialEq, Eq, Debug)]
+#[derive(Clone, Copy)]
 pub struct Letter {
     pub at: usize,
     pub joining: hb_arabic_joining_type_t,

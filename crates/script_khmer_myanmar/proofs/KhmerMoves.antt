@@ -7,21 +7,15 @@ use Rattle.script_constants.specs.Shapers.{is_reordered}
 use Rattle.stage_rules.specs.Ready.{IsReady}
 use Rattle.glyph_lists.specs.Items.{Item}
 use Rattle.glyph_buffer.specs.Sides.{Sides, all_glyphs, items_of}
-use Rattle.stage_rules.specs.Rewriting.{Rewritten, kept, then_rule, within}
+use Rattle.stage_rules.specs.Rewriting.{kept, then_rule, within}
 use Rattle.stage_rules.specs.SyllableBuffers.{IsRewritten}
-use Rattle.stage_rules.specs.Lemmas.Rewritings.{rewritten_next, rewritten_same, rewritten_count, counted}
+use Rattle.stage_rules.specs.Lemmas.Rewritings.{rewritten_next, rewritten_same, counted}
 use Rattle.stage_rules.specs.Parts.{masked_all, first_to_back}
 use Rattle.stage_rules.specs.Lemmas.Parts.{rewritten_part, range_size, masked_size, moved_size}
 use Rattle.script_khmer_myanmar.specs.declared.khmer.KhmerMasks.{KhmerMasks}
 use Rattle.script_khmer_myanmar.specs.Khmer.{Step, passed, is_coeng, coeng_met, vowel_met, khmer_at, coeng_moved, vowel_moved, khmer_reordered, khmer_syllable}
 use Rattle.script_khmer_myanmar.specs.Lemmas.KhmerSize.{coeng_pref_size, coeng_moved_size}
-
--- a stretch of as many items as were there
-pub rewritten_even : (r : Rewritten) (from to : ℕ) (a b : Sides) → from ≤ to → to ≤ length (all_glyphs a) → length r.items ≡ length (slice_range (items_of a) from to) → IsRewritten r from to a b → length (all_glyphs b) ≡ length (all_glyphs a)
-rewritten_even r from to a b le fits len f =
-    let n = counted a in
-    let inside : to ≤ length (items_of a) = omega (arith, n, fits) in
-    rewritten_count r from to a b le inside (len ∙ range_size from to (items_of a) le inside) f
+use Rattle.stage_rules.specs.Lemmas.Counts.{rewritten_even}
 
 pub masked_count : (bits from to : ℕ) (a b : Sides) → from ≤ to → to ≤ length (all_glyphs a) → IsRewritten (masked_all bits (slice_range (items_of a) from to)) from to a b → length (all_glyphs b) ≡ length (all_glyphs a)
 masked_count bits from to a b le fits f = rewritten_even (masked_all bits (slice_range (items_of a) from to)) from to a b le fits (masked_size bits (slice_range (items_of a) from to)) f

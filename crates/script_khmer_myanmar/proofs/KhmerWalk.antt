@@ -18,9 +18,10 @@ use Rattle.script_khmer_myanmar.specs.declared.khmer.KhmerMasks.{KhmerMasks}
 use Rattle.script_khmer_myanmar.specs.Khmer.{khmer_at, khmer_walk, khmer_reordered}
 use Rattle.script_khmer_myanmar.specs.Runs.{IsRun, IsWalked, OpensForms, forms_masked, forms_moved, is_vowel, run_length, together}
 use Rattle.script_khmer_myanmar.specs.Lemmas.KhmerSize.{khmer_at_size, after_size}
-use Rattle.script_khmer_myanmar.proofs.KhmerMoves.{masked_count, rewritten_even}
+use Rattle.script_khmer_myanmar.proofs.KhmerMoves.{masked_count}
 use Rattle.script_khmer_myanmar.proofs.KhmerRuns.{formed_size, forms_walked, vowels_walked}
 use Rattle.script_khmer_myanmar.proofs.KhmerScan.{run_is}
+use Rattle.stage_rules.specs.Lemmas.Counts.{rewritten_even}
 
 -- ---- one part after another
 

@@ -35,19 +35,15 @@ use Rattle.stage_rules.specs.Lemmas.Ordered.{clusters_among}
 use Rattle.stage_rules.specs.Rewriting.{Rewritten, kept, then_rule, within}
 use Rattle.stage_rules.specs.SyllableBuffers.{IsRewritten}
 use Rattle.stage_rules.specs.Lemmas.Rewritings.{counted, rewritten_count, rewritten_next, rewritten_same}
-use Rattle.stage_rules.specs.Lemmas.Parts.{order_put, part_clusters, part_written, range_size, rewritten_part}
+use Rattle.stage_rules.specs.Lemmas.Parts.{order_put, part_clusters, part_written, range_size, rewritten_part, range_seen}
 use Rattle.script_khmer_myanmar.specs.Myanmar.{all_placed, groups_reversed, has_two_matras, is_left_at, is_left_matra, matras_of, matras_reversed, myanmar_places, myanmar_reordered, myanmar_syllable, same_group, sorted_by_place, with_place, with_places}
 use Rattle.script_khmer_myanmar.specs.Turned.{glyphs_at, leading_turned}
 use Rattle.script_khmer_myanmar.specs.Lemmas.MyanmarSize.{all_placed_size, sorted_size}
 use Rattle.script_khmer_myanmar.specs.Lemmas.Sizes.{groups_turned_size, places_size}
 use Rattle.script_khmer_myanmar.proofs.Groups.{turned_all, turned_at, turned_seen}
+use Rattle.stage_rules.specs.Lemmas.Elements.{split_at}
 
 -- ---- what is seen of glyphs
-
-split_at : (gs : List hb_glyph_info_t) (i : ℕ) (g : hb_glyph_info_t) → slice_get gs i ≡ Some g → drop i gs ≡ g ∷ drop (i + 1) gs
-split_at [] i g e = cc
-split_at (h ∷ gs) zero g e = let same : h ≡ g = cc in ap (λ k. k ∷ gs) same
-split_at (h ∷ gs) (suc i) g e = let next : suc i + 1 ≡ suc (i + 1) = omega arith in split_at gs i g e ∙ ap (λ n. g ∷ drop n (h ∷ gs)) (sym next)
 
 abbrev pub matras_from : List hb_glyph_info_t → ℕ → ℕ
 matras_from gs i = i + matras_of (strip (drop i gs))
@@ -101,9 +97,6 @@ no_second gs i b met le f = by_met met ∙ ap (are_two met) (sym (drop_all i gs 
     by_met : (m : Bool) → false ≡ are_two m []
     by_met true = refl
     by_met false = refl
-
-range_seen : {X Y : Type 0} (v : X → Y) (from to : ℕ) (xs : List X) → map v (slice_range xs from to) ≡ slice_range (map v xs) from to
-range_seen v from to xs = sym (take-map v (to - from) (drop from xs)) ∙ ap (take (to - from)) (sym (drop-map v from xs))
 
 kinds_seen : (gs : List hb_glyph_info_t) → map (λ (g : hb_glyph_info_t). g.category) gs ≡ map (λ (x : Item). x.category) (strip gs)
 kinds_seen [] = refl

@@ -22,7 +22,7 @@ use std::alloc::AllocError;
 use unicode_tables::UnicodeTables;
 
 /// The masks of the features that parts of a syllable get.
-#[derive(Clone, Copy, PartialEq, Eq, Debug)]
+#[derive(Clone, Copy)]
 pub struct KhmerMasks {
     /// Of a coeng and its Ra.
     pub pref: hb_mask_t,

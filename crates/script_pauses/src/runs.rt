@@ -11,7 +11,7 @@ use glyph_lists::position::GlyphPosition;
 use std::alloc::{AllocFailed, Global};
 
 /// What the tiles of a run are laid over, and how wide they are, in font units.
-#[derive(Clone, Copy, PartialEq, Eq, Debug)]
+#[derive(Clone, Copy)]
 pub struct Run {
     /// The advances of the word in front.
     pub word: i128,
@@ -24,7 +24,7 @@ pub struct Run {
 }
 
 /// What stands directly before a glyph.
-#[derive(Clone, Copy, PartialEq, Eq, Debug)]
+#[derive(Clone, Copy)]
 pub enum Before {
     /// A word of a width.
     Word(i128),

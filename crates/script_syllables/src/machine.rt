@@ -3,7 +3,7 @@ use std::alloc::Global;
 use unicode_rows::Keyed;
 
 /// In a state a category leads to another state.
-#[derive(Clone, Copy, PartialEq, Eq, Debug)]
+#[derive(Clone, Copy)]
 pub struct Step {
     pub state: u32,
     pub category: u8,
@@ -25,7 +25,7 @@ impl Keyed for Step {
 }
 
 /// In a state a syllable of a kind may end.
-#[derive(Clone, Copy, PartialEq, Eq, Debug)]
+#[derive(Clone, Copy)]
 pub struct Accept {
     pub state: u32,
     pub kind: u8,
@@ -46,7 +46,7 @@ impl Keyed for Accept {
 }
 
 /// The rows of a machine, which begins in state 0.
-#[derive(Debug, Drop)]
+#[derive(Drop)]
 pub struct SyllableMachine {
     /// How many states there are.
     pub states: u32,
@@ -74,7 +74,7 @@ impl SyllableMachine {
 }
 
 /// The machines of the shapers that see syllables.
-#[derive(Debug, Drop)]
+#[derive(Drop)]
 pub struct SyllableMachines {
     pub indic: SyllableMachine,
     pub khmer: SyllableMachine,

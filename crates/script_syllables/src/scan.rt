@@ -8,7 +8,7 @@ use crate::machine::SyllableMachine;
 use unicode_rows::find_row;
 
 /// A front of a list that is a syllable.
-#[derive(Clone, Copy, PartialEq, Eq, Debug)]
+#[derive(Clone, Copy)]
 pub struct Front {
     pub length: usize,
     pub kind: u8,

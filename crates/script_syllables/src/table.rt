@@ -16,7 +16,7 @@ use std::marker::Model;
 use unicode_rows::TablesFault;
 
 /// The machines of all shapers, whose states and kinds are known.
-#[derive(Debug, Drop)]
+#[derive(Drop)]
 pub struct SyllableTable {
     machines: SyllableMachines,
 }

@@ -4,7 +4,7 @@ use script_constants::hb_ot_script_shaper_t;
 use script_syllables::SyllableSpans;
 
 /// Each glyph is a syllable of one kind.
-#[derive(Clone, Copy, PartialEq, Eq, Debug)]
+#[derive(Clone, Copy)]
 pub struct SingleGlyphs {
     pub kind: u8,
 }

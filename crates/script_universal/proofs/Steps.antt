@@ -1,9 +1,9 @@
 -- The steps of a syllable on a buffer.
-use Rattle.std.proofs.Common.{ℕ, zero, suc, ◌≡◌, ◌≤◌, ◌<◌, ◌+◌, ◌-◌, Bool, true, false, if◌then◌else◌, List, [], ◌∷◌, length, take, drop, get_or, Some, slice_get, refl, sym, ap, subst, ◌∙◌, arith}
+use Rattle.std.proofs.Common.{ℕ, ◌≡◌, ◌≤◌, ◌<◌, ◌+◌, ◌-◌, Bool, true, false, if◌then◌else◌, List, length, drop, get_or, Some, slice_get, refl, sym, ap, subst, ◌∙◌, arith}
 use Rattle.std.specs.Prelude.{bit_and, not, slice_range}
 use Rattle.std.specs.List.{prefix_len}
 use Rattle.std.proofs.lemmas.Option.{slice_get-get_or}
-use Rattle.std.proofs.lemmas.List.{length-map, drop_all, drop-map, get_or-take, get_or-drop, take-map}
+use Rattle.std.proofs.lemmas.List.{length-map, drop_all, get_or-take, get_or-drop}
 use Rattle.glyph_lists.specs.declared.info.hb_glyph_info_t.{hb_glyph_info_t}
 use Rattle.script_constants.specs.declared.shaper.hb_ot_script_shaper_t.TheVariants.{UNIVERSAL_SHAPER}
 use Rattle.script_constants.specs.Shapers.{is_reordered}
@@ -14,10 +14,12 @@ use Rattle.stage_rules.specs.Ready.{IsReady}
 use Rattle.stage_rules.specs.Rewriting.{Rewritten, kept, within}
 use Rattle.stage_rules.specs.Parts.{first_to_back}
 use Rattle.stage_rules.specs.SyllableBuffers.{IsRewritten}
-use Rattle.stage_rules.specs.Lemmas.Rewritings.{counted, rewritten_count, rewritten_next, rewritten_same}
-use Rattle.stage_rules.specs.Lemmas.Parts.{range_size, rewritten_part}
+use Rattle.stage_rules.specs.Lemmas.Rewritings.{counted, rewritten_next, rewritten_same}
+use Rattle.stage_rules.specs.Lemmas.Parts.{range_size, rewritten_part, range_seen}
 use Rattle.script_universal.specs.Reordering.{begins_with_reph, is_halant, left_walk, reph_end, reph_moved, stops_reph, universal_reordered, universal_syllable}
 use Rattle.script_universal.specs.Lemmas.Sizes.{reph_size}
+use Rattle.stage_rules.specs.Lemmas.Elements.{split_at}
+use Rattle.stage_rules.specs.Lemmas.Counts.{rewritten_even}
 
 -- ---- items of a part
 
@@ -28,9 +30,6 @@ there gs start end i d lt fits =
     slice_get-get_or (slice_range (strip gs) start end) i (item_of d) inside
     ∙ ap Some (get_or-take (end - start) (drop start (strip gs)) i (item_of d) (omega (arith, lt)) ∙ get_or-drop start (strip gs) i (item_of d) ∙ seen_at item_of gs (start + i) d)
 
-range_seen : (start end : ℕ) (gs : List hb_glyph_info_t) → strip (slice_range gs start end) ≡ slice_range (strip gs) start end
-range_seen start end gs = sym (take-map item_of (end - start) (drop start gs)) ∙ ap (take (end - start)) (sym (drop-map item_of start gs))
-
 -- ---- what a reph passes
 
 abbrev pub passed : List Item → ℕ
@@ -38,11 +37,6 @@ passed xs = prefix_len (λ (y : Item). not (stops_reph y)) xs
 
 abbrev pub passed_from : List hb_glyph_info_t → ℕ → ℕ
 passed_from gs i = i + passed (strip (drop i gs))
-
-split_at : (gs : List hb_glyph_info_t) (i : ℕ) (g : hb_glyph_info_t) → slice_get gs i ≡ Some g → drop i gs ≡ g ∷ drop (i + 1) gs
-split_at [] i g e = cc
-split_at (h ∷ gs) zero g e = let same : h ≡ g = cc in ap (λ k. k ∷ gs) same
-split_at (h ∷ gs) (suc i) g e = let next : suc i + 1 ≡ suc (i + 1) = omega arith in split_at gs i g e ∙ ap (λ n. g ∷ drop n (h ∷ gs)) (sym next)
 
 pub passed_next : (gs : List hb_glyph_info_t) (i n : ℕ) (g : hb_glyph_info_t) → slice_get gs i ≡ Some g → stops_reph (item_of g) ≡ false → passed_from gs i ≡ n → passed_from gs (i + 1) ≡ n
 passed_next gs i n g at e f =
@@ -94,7 +88,7 @@ pub reph_none : (start end : ℕ) (gs : List hb_glyph_info_t) (a : Sides) → st
     → IsRewritten (reph_moved (slice_range (items_of a) start end)) start end a a
 reph_none start end gs a le ready e f =
     let xs = slice_range (items_of a) start end in
-    let none : begins_with_reph xs ≡ false = sym (ap (λ hs. begins_with_reph (strip (slice_range hs start end))) e ∙ ap begins_with_reph (range_seen start end (all_glyphs a))) ∙ f in
+    let none : begins_with_reph xs ≡ false = sym (ap (λ hs. begins_with_reph (strip (slice_range hs start end))) e ∙ ap begins_with_reph (range_seen item_of start end (all_glyphs a))) ∙ f in
     subst (λ r. IsRewritten r start end a a) (sym (ap (reph_if xs) none)) (rewritten_same start end a le ready)
 
 pub reph_inside : (start end n : ℕ) (gs : List hb_glyph_info_t) (a : Sides) → start ≤ end → end ≤ length (all_glyphs a) → gs ≡ all_glyphs a → n ≤ length (slice_range gs start end) → start + n ≤ end
@@ -107,7 +101,7 @@ pub reph_some : (start end n : ℕ) (gs : List hb_glyph_info_t) (a b : Sides) �
     → IsRewritten (first_to_back 1 (slice_range (items_of a) start (start + n))) start (start + n) a b → IsRewritten (reph_moved (slice_range (items_of a) start end)) start end a b
 reph_some start end n gs a b le fits e few f count g =
     let xs = slice_range (items_of a) start end in
-    let seen : strip (slice_range gs start end) ≡ xs = ap (λ hs. strip (slice_range hs start end)) e ∙ range_seen start end (all_glyphs a) in
+    let seen : strip (slice_range gs start end) ≡ xs = ap (λ hs. strip (slice_range hs start end)) e ∙ range_seen item_of start end (all_glyphs a) in
     let yes_reph : begins_with_reph xs ≡ true = ap begins_with_reph (sym seen) ∙ f in
     let at : n ≡ reph_end xs = count ∙ ap reph_end seen in
     let inside = reph_inside start end n gs a le fits e few in
@@ -115,12 +109,6 @@ reph_some start end n gs a b le fits e few f count g =
     subst (λ r. IsRewritten r start end a b) (sym (ap (reph_if xs) yes_reph)) (subst (λ k. IsRewritten (within 0 k (first_to_back 1) xs) start end a b) at h)
 
 -- ---- the walk
-
-rewritten_even : (r : Rewritten) (from to : ℕ) (a b : Sides) → from ≤ to → to ≤ length (all_glyphs a) → length r.items ≡ length (slice_range (items_of a) from to) → IsRewritten r from to a b → length (all_glyphs b) ≡ length (all_glyphs a)
-rewritten_even r from to a b le fits len f =
-    let n = counted a in
-    let inside : to ≤ length (items_of a) = omega (arith, n, fits) in
-    rewritten_count r from to a b le inside (len ∙ range_size from to (items_of a) le inside) f
 
 pub reph_count : (start end : ℕ) (a b : Sides) → start ≤ end → end ≤ length (all_glyphs a) → IsRewritten (reph_moved (slice_range (items_of a) start end)) start end a b → length (all_glyphs b) ≡ length (all_glyphs a)
 reph_count start end a b le fits f = rewritten_even (reph_moved (slice_range (items_of a) start end)) start end a b le fits (reph_size (slice_range (items_of a) start end)) f

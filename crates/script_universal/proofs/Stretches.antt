@@ -4,7 +4,7 @@ use Rattle.std.specs.Prelude.{slice_range}
 use Rattle.std.specs.List.{prefix_len}
 use Rattle.std.proofs.lemmas.Bool.Decides.{nat_tests}
 use Rattle.std.proofs.lemmas.Grind.{common_steps}
-use Rattle.std.proofs.lemmas.List.{length-append, length-drop, length-map, length-take-le, drop-map, drop-drop, drop-take, take-map}
+use Rattle.std.proofs.lemmas.List.{length-append, length-drop, length-map, length-take-le, drop-drop, drop-take}
 use Rattle.std.proofs.lemmas.Option.{slice_get-get_or}
 use Rattle.glyph_lists.specs.declared.info.hb_glyph_info_t.{hb_glyph_info_t}
 use Rattle.glyph_lists.specs.Items.{Item, item_of, strip}
@@ -22,10 +22,11 @@ use Rattle.stage_rules.specs.Moves.{IsGrowing}
 use Rattle.stage_rules.specs.SyllableBuffers.{IsRewritten}
 use Rattle.stage_rules.specs.Parts.{first_to_back, fronts_moved}
 use Rattle.stage_rules.specs.Lemmas.Fronts.{part_moves, shift_moves}
-use Rattle.stage_rules.specs.Lemmas.Parts.{moved_range, range_size, rewritten_part, within_size}
+use Rattle.stage_rules.specs.Lemmas.Parts.{moved_range, range_size, rewritten_part, within_size, range_seen}
 use Rattle.stage_rules.specs.Lemmas.Rewritings.{counted, middle, rewritten_count, rewritten_next, rewritten_same, rewritten_slice, whole_cut}
 use Rattle.script_universal.specs.Reordering.{Step, is_halant, is_left, left_at, left_walk}
 use Rattle.script_universal.specs.Walked.{IsWalked, together}
+use Rattle.stage_rules.specs.Lemmas.Elements.{split_at}
 
 -- none of some items is a halant
 abbrev pub NoHalants : List Item → Type 0
@@ -153,14 +154,11 @@ got_from [] (suc n) = refl
 got_from (x ∷ xs) zero = refl
 got_from (x ∷ xs) (suc n) = got_from xs n
 
-range_seen : (start end : ℕ) (gs : List hb_glyph_info_t) → strip (slice_range gs start end) ≡ slice_range (strip gs) start end
-range_seen start end gs = sym (take-map item_of (end - start) (drop start gs)) ∙ ap (take (end - start)) (sym (drop-map item_of start gs))
-
 -- what stands from an index of a part on
 part_from : (start end i : ℕ) (gs : List hb_glyph_info_t) → start + i ≤ end → strip (slice_range gs (start + i) end) ≡ drop i (slice_range (strip gs) start end)
 part_from start end i gs le =
     let n : end - start ≡ i + (end - (start + i)) = omega (arith, le) in
-    range_seen (start + i) end gs
+    range_seen item_of (start + i) end gs
     ∙ sym (ap (λ m. drop i (take m (drop start (strip gs)))) n ∙ drop-take i (end - (start + i)) (drop start (strip gs)) ∙ ap (take (end - (start + i))) (drop-drop i start (strip gs)))
 
 -- ---- a stretch that was rewritten
@@ -308,11 +306,6 @@ all_walked start end j a b le past f =
 abbrev pub left_reach : ℕ → ℕ → List hb_glyph_info_t → ℕ
 left_reach n i gs = reach n (front_moves together is_left i (strip (drop i gs)))
 
-split_at : (gs : List hb_glyph_info_t) (i : ℕ) (g : hb_glyph_info_t) → slice_get gs i ≡ Some g → drop i gs ≡ g ∷ drop (i + 1) gs
-split_at [] i g e = cc
-split_at (h ∷ gs) zero g e = let same : h ≡ g = cc in ap (λ k. k ∷ gs) same
-split_at (h ∷ gs) (suc i) g e = let next : suc i + 1 ≡ suc (i + 1) = omega arith in split_at gs i g e ∙ ap (λ n. g ∷ drop n (h ∷ gs)) (sym next)
-
 left_step : (gs : List hb_glyph_info_t) (i n : ℕ) (g : hb_glyph_info_t) (t : Bool) → slice_get gs i ≡ Some g → (is_left (item_of g) && nat_lt 0 i) ≡ t → left_reach n i gs ≡ left_reach (if t then i + 1 else n) (i + 1) gs
 left_step gs i n g t at e =
     ap (λ hs. reach n (front_moves together is_left i (strip hs))) (split_at gs i g at) ∙ ap (reach n) (moves_alone is_left i (item_of g) (strip (drop (i + 1) gs))) ∙ ap (λ b. reach n (if b then record { passed = i; taken = 1 } ∷ rest else rest)) e ∙ by_test t
@@ -370,7 +363,7 @@ no_moves (x ∷ xs) lt = by_moves (front_moves together is_left 0 (x ∷ xs)) gr
 
 pub reach_told : (start end n : ℕ) (gs hs : List hb_glyph_info_t) → gs ≡ hs → n ≡ left_reach 1 0 (slice_range gs start end) → n ≡ reach 1 (front_moves together is_left 0 (slice_range (strip hs) start end))
 reach_told start end n gs hs same e =
-    e ∙ ap (λ ks. left_reach 1 0 (slice_range ks start end)) same ∙ ap (λ xs. reach 1 (front_moves together is_left 0 xs)) (range_seen start end hs)
+    e ∙ ap (λ ks. left_reach 1 0 (slice_range ks start end)) same ∙ ap (λ xs. reach 1 (front_moves together is_left 0 xs)) (range_seen item_of start end hs)
 
 pub stretch_stays : (start end n : ℕ) (gs : List hb_glyph_info_t) (a : Sides) → IsReady a → start ≤ end → end ≤ length (all_glyphs a) → gs ≡ all_glyphs a → n ≡ left_reach 1 0 (slice_range gs start end) → n < 2
     → IsRewritten (fronts_moved together is_left 0 (slice_range (items_of a) start end)) start end a a

@@ -17,7 +17,7 @@ use stage_rules::glyphs::map_glyphs;
 use unicode_tables::{CharTablesExt, UnicodeTables};
 
 /// What decides how a character stands in its line.
-#[derive(Clone, Copy, PartialEq, Eq, Debug)]
+#[derive(Clone, Copy)]
 pub struct Rotation {
     /// The direction that was asked for.
     pub target_direction: Direction,

@@ -8,14 +8,14 @@ use position_sums::sums::{minus, plus};
 use shaping_text::direction::Direction;
 
 /// How far up a mark is moved, in font units, and the box that it leaves for the next one.
-#[derive(Clone, Copy, PartialEq, Eq, Debug)]
+#[derive(Clone, Copy)]
 pub struct Stacked {
     pub y: i32,
     pub extents: hb_glyph_extents_t,
 }
 
 /// A mark where it stands, and the box that it leaves for the next one.
-#[derive(Clone, Copy, PartialEq, Eq, Debug)]
+#[derive(Clone, Copy)]
 pub struct Marked {
     pub position: GlyphPosition,
     pub extents: hb_glyph_extents_t,

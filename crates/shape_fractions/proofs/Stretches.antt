@@ -1,10 +1,10 @@
 -- Stretches of glyphs on which features act.
-use Rattle.std.proofs.Common.{ℕ, ◌≡◌, ◌≤◌, ◌-◌, ◌*◌, ◌/◌, List, [], ◌∷◌, ◌++◌, length, map, take, drop, arith, refl, sym, ap, ◌∙◌}
-use Rattle.std.specs.Prelude.{bit_and, bit_or, slice_range}
+use Rattle.std.proofs.Common.{ℕ, ◌≡◌, ◌≤◌, ◌-◌, List, [], ◌∷◌, ◌++◌, length, map, take, drop, refl, sym, ap, ◌∙◌}
+use Rattle.std.specs.Prelude.{bit_and, slice_range}
 use Rattle.std.proofs.lemmas.List.{drop-map, length-map, map-append, map-id, take-map}
-use Rattle.std.proofs.lemmas.Nat.{and_mask, and_or_apart, or_shr}
+use Rattle.std.proofs.lemmas.Nat.{and_or_apart}
 use Rattle.glyph_lists.specs.declared.info.hb_glyph_info_t.{hb_glyph_info_t}
-use Rattle.glyph_lists.specs.Items.{Item, item_of, strip, without_flags}
+use Rattle.glyph_lists.specs.Items.{Item, item_of, strip}
 use Rattle.glyph_lists.specs.Origins.{Origin, origin_of, origins}
 use Rattle.glyph_buffer.specs.Readings.{View}
 use Rattle.glyph_lists.specs.Glyphs.{flagged, glyphs_flagged}
@@ -15,16 +15,7 @@ use Rattle.stage_rules.specs.Ready.{IsReady}
 use Rattle.stage_rules.specs.Lemmas.Written.{written_becomes}
 use Rattle.stage_rules.specs.Stages.{Becomes}
 use Rattle.shape_fractions.specs.Fractions.{with_features, with_features_within}
-
-without_flags_is : (m : ℕ) → without_flags m ≡ m / 8 * 8
-without_flags_is m = let low = and_mask m 3 in omega (arith, low)
-
--- the three flags don't tell what the bits above them become
-mask_above : (m mask : ℕ) → without_flags (bit_or m mask) ≡ without_flags (bit_or (without_flags m) mask)
-mask_above m mask =
-    let high : without_flags m / 8 ≡ m / 8 = (let is = without_flags_is m in omega (arith, is)) in
-    let same = or_shr m mask 3 ∙ ap (λ n. bit_or n (mask / 8)) (sym high) ∙ sym (or_shr (without_flags m) mask 3) in
-    without_flags_is (bit_or m mask) ∙ ap (λ n. n * 8) same ∙ sym (without_flags_is (bit_or (without_flags m) mask))
+use Rattle.stage_rules.specs.Lemmas.Masks.{mask_above}
 
 item_flagged : (mask : ℕ) (g : hb_glyph_info_t) → item_of (flagged mask g) ≡ with_features mask (item_of g)
 item_flagged mask g = ap (λ n. record (item_of g) { mask = n }) (mask_above g.mask mask)

@@ -17,7 +17,7 @@ use shaping_text::direction::Direction;
 const FRACTION_SLASH: u32 = 0x2044;
 
 /// The masks of the features that make a fraction, of its numerator and of its denominator.
-#[derive(Clone, Copy, PartialEq, Eq, Debug)]
+#[derive(Clone, Copy)]
 pub struct FractionMasks {
     pub frac: hb_mask_t,
     pub numr: hb_mask_t,

@@ -9,7 +9,7 @@ use shaping_text::tag::Tag;
 use std::alloc::AllocError;
 
 /// A feature with the flags and the value that it is asked for with, or the end of a stage with what is then done.
-#[derive(Clone, Copy, PartialEq, Eq, Debug)]
+#[derive(Clone, Copy)]
 pub enum Ask {
     Feature {
         tag: Tag,

@@ -3,7 +3,7 @@ ghost use Rattle.std.specs.Prelude.{◌≡◌};
 ghost use Rattle.shape_plan.specs.Pauses.{number_of_pause, pause_number, pause_of_number, NumbersLeadBack};
 
 /// A pause with a body of its own.
-#[derive(Clone, Copy, PartialEq, Eq, Debug)]
+#[derive(Clone, Copy)]
 pub enum hb_script_pause_t {
     RecordStch,
     SetupSyllables,

@@ -11,7 +11,7 @@ use shaping_text::script::Script;
 use shaping_text::tag::Tag;
 
 /// What a plan decides, beside its map.
-#[derive(Clone, Copy, PartialEq, Eq, Debug)]
+#[derive(Clone, Copy)]
 pub struct PlanChoices {
     /// The font has a feature for fractions, or for numerators and denominators.
     pub has_frac: bool,

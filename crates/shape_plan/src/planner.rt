@@ -24,7 +24,7 @@ use shaping_text::tag::Tag;
 use std::alloc::{AllocError, Global};
 
 /// Collects what is asked of a font, and compiles a plan.
-#[derive(Debug, Drop)]
+#[derive(Drop)]
 pub struct hb_ot_shape_planner_t<'a, S: PlannedShaper> {
     pub face: &'a Face,
     pub direction: Direction,

@@ -8,7 +8,7 @@ use unicode_chars::{CharExt, GeneralCategoryExt};
 use unicode_tables::{CharTablesExt, UnicodeTables};
 
 /// A character that was met, and whether it goes on with the one before it.
-#[derive(Clone, Copy, PartialEq, Eq, Debug)]
+#[derive(Clone, Copy)]
 pub struct Before {
     pub character: char,
     pub continues: bool,

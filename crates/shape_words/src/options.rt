@@ -22,7 +22,7 @@ use std::convert::AsStr;
 use std::str::FromStr;
 
 /// What the words of the command line ask for.
-#[derive(Debug, Drop)]
+#[derive(Drop)]
 pub struct CommandLine {
     /// The name of the file of the tables.
     pub tables: String,

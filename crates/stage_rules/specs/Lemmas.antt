@@ -25,3 +25,7 @@ pub mod Cuts
 pub mod Syllables
 pub mod Numbers
 pub mod Fronts
+pub mod Masks
+pub mod Elements
+pub mod Fitting
+pub mod Counts

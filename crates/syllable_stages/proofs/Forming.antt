@@ -1,5 +1,5 @@
 -- Syllables that take their forms, one after another.
-use Rattle.std.proofs.Common.{ℕ, zero, suc, ◌≡◌, ◌≤◌, ◌<◌, ◌+◌, ◌-◌, ◌*◌, ◌/◌, ◌%◌, ◌==◌, Bool, true, false, if◌then◌else◌, List, [], ◌∷◌, ◌++◌, length, map, take, drop, refl, sym, ap, subst, ◌∙◌, arith}
+use Rattle.std.proofs.Common.{ℕ, zero, suc, ◌≡◌, ◌≤◌, ◌<◌, ◌+◌, ◌-◌, ◌/◌, ◌%◌, ◌==◌, Bool, true, false, if◌then◌else◌, List, [], ◌∷◌, ◌++◌, length, map, take, drop, refl, sym, ap, subst, ◌∙◌, arith}
 use Rattle.std.specs.Prelude.{bit_and, slice_range}
 use Rattle.std.specs.Int.RustNames.{bit_or}
 use Rattle.std.specs.Int.Bits.{and_zero_r}
@@ -22,6 +22,7 @@ use Rattle.stage_rules.specs.Lemmas.Syllables.{syllable_end, syllables_cut}
 use Rattle.syllable_stages.specs.declared.forms.FormMasks.{FormMasks}
 use Rattle.syllable_stages.specs.Features.{all_forms, each_formed, first_joins, form_bits, form_of, formed, joins, topography, with_form}
 use Rattle.syllable_stages.specs.Formed.{glyph_with_form}
+use Rattle.stage_rules.specs.Lemmas.Masks.{high_cleared, without_flags_is}
 
 -- ---- one mask
 
@@ -31,17 +32,6 @@ no_flags_in a =
     let seven = and_mask (a % 8) 3 in
     let most = and_le_l a 0x8000_0007 in
     omega (arith, low, seven, most)
-
-without_flags_is : (m : ℕ) → without_flags m ≡ m / 8 * 8
-without_flags_is m = let low = and_mask m 3 in omega (arith, low)
-
-high_cleared : (m under : ℕ) → (m - bit_and m under) / 8 ≡ m / 8 - bit_and (m / 8) (under / 8)
-high_cleared m under =
-    let high = and_shr m under 3 in
-    let low = and_mod m under 3 in
-    let few = and_le_l (m % 8) (under % 8) in
-    let some = and_le_l (m / 8) (under / 8) in
-    omega (arith, high, low, few, some)
 
 -- bits are cleared above the flags as without them
 cleared_above : (m under : ℕ) → under % 8 ≡ 0 → without_flags (m - bit_and m under) ≡ without_flags m - bit_and (without_flags m) under

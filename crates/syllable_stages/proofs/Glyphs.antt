@@ -11,18 +11,7 @@ use Rattle.stage_rules.specs.Buffers.{are_glyphs}
 use Rattle.stage_rules.specs.Stages.{IsFollowed}
 use Rattle.syllable_stages.specs.declared.circles.CircleRule.{CircleRule}
 use Rattle.syllable_stages.specs.Circles.{Circled, There, Inserted, Due, begins, begun, circle_events, circle_item, circled, circled_items, circles_put, is_repha, with_circles}
-
-both : (a b : Bool) → a ≡ true → b ≡ true → (a && b) ≡ true
-both true b e f = f
-both false b e f = cc
-
-left : (a b : Bool) → (a && b) ≡ true → a ≡ true
-left true b e = refl
-left false b e = cc
-
-right : (a b : Bool) → (a && b) ≡ true → b ≡ true
-right true b e = e
-right false b e = cc
+use Rattle.std.proofs.lemmas.Bool.{and_from, and_parts}
 
 -- a circle that is due is a glyph
 abbrev IsDue : CircleRule → Option Due → Type 0
@@ -41,25 +30,25 @@ begun_glyphs r last x rest le e h = by_tests (begins r last x) (is_repha r x.syl
     by_tests : (s t : Bool) → AreGlyphs (if s then (if t then There x ∷ rest x.syllable (Some (record { rephas = 1; circle = circle_item r x })) else Inserted 0 (circle_item r x) ∷ There x ∷ rest x.syllable None) else There x ∷ rest last None)
     by_tests true true =
         let due : Option Due = Some (record { rephas = 1; circle = circle_item r x }) in
-        both (nat_le x.number 65535) (are_glyphs (circled_items (rest x.syllable due))) e (h x.syllable due refl)
-    by_tests true false = both (nat_le r.glyph 65535) (nat_le x.number 65535 && are_glyphs (circled_items (rest x.syllable None))) (circle_fits r (circle_item r x) le refl) (both (nat_le x.number 65535) (are_glyphs (circled_items (rest x.syllable None))) e (h x.syllable None tt))
-    by_tests false t = both (nat_le x.number 65535) (are_glyphs (circled_items (rest last None))) e (h last None tt)
+        and_from (nat_le x.number 65535) (are_glyphs (circled_items (rest x.syllable due))) e (h x.syllable due refl)
+    by_tests true false = and_from (nat_le r.glyph 65535) (nat_le x.number 65535 && are_glyphs (circled_items (rest x.syllable None))) (circle_fits r (circle_item r x) le refl) (and_from (nat_le x.number 65535) (are_glyphs (circled_items (rest x.syllable None))) e (h x.syllable None tt))
+    by_tests false t = and_from (nat_le x.number 65535) (are_glyphs (circled_items (rest last None))) e (h last None tt)
 
 circled_glyphs : (r : CircleRule) (xs : List Item) (last : ℕ) (d : Option Due) → r.glyph ≤ 65535 → are_glyphs xs ≡ true → IsDue r d → AreGlyphs (circled r xs last d)
 circled_glyphs r [] last None le e due = refl
-circled_glyphs r [] last (Some d) le e due = both (nat_le d.circle.number 65535) true (circle_fits r d.circle le due) refl
+circled_glyphs r [] last (Some d) le e due = and_from (nat_le d.circle.number 65535) true (circle_fits r d.circle le due) refl
 circled_glyphs r (x ∷ xs) last None le e due =
-    begun_glyphs r last x (circled r xs) le (left (nat_le x.number 65535) (are_glyphs xs) e) (λ n d h. circled_glyphs r xs n d le (right (nat_le x.number 65535) (are_glyphs xs) e) h)
-circled_glyphs r (x ∷ xs) last (Some d) le e due = by_test (is_repha r last x) (λ n f h. circled_glyphs r xs n f le (right (nat_le x.number 65535) (are_glyphs xs) e) h)
+    begun_glyphs r last x (circled r xs) le ((and_parts (nat_le x.number 65535) (are_glyphs xs) e).0) (λ n d h. circled_glyphs r xs n d le ((and_parts (nat_le x.number 65535) (are_glyphs xs) e).1) h)
+circled_glyphs r (x ∷ xs) last (Some d) le e due = by_test (is_repha r last x) (λ n f h. circled_glyphs r xs n f le ((and_parts (nat_le x.number 65535) (are_glyphs xs) e).1) h)
   where
     by_test : (t : Bool) → ((n : ℕ) (f : Option Due) → IsDue r f → AreGlyphs (circled r xs n f))
         → AreGlyphs (if t then There x ∷ circled r xs last (Some (record { rephas = suc d.rephas; circle = d.circle })) else Inserted d.rephas d.circle ∷ begun r last x (circled r xs))
     by_test true h =
         let later : Option Due = Some (record { rephas = suc d.rephas; circle = d.circle }) in
-        both (nat_le x.number 65535) (are_glyphs (circled_items (circled r xs last later))) (left (nat_le x.number 65535) (are_glyphs xs) e) (h last later due)
+        and_from (nat_le x.number 65535) (are_glyphs (circled_items (circled r xs last later))) ((and_parts (nat_le x.number 65535) (are_glyphs xs) e).0) (h last later due)
     by_test false h =
-        both (nat_le d.circle.number 65535) (are_glyphs (circled_items (begun r last x (circled r xs)))) (circle_fits r d.circle le due)
-        (begun_glyphs r last x (circled r xs) le (left (nat_le x.number 65535) (are_glyphs xs) e) h)
+        and_from (nat_le d.circle.number 65535) (are_glyphs (circled_items (begun r last x (circled r xs)))) (circle_fits r d.circle le due)
+        (begun_glyphs r last x (circled r xs) le ((and_parts (nat_le x.number 65535) (are_glyphs xs) e).0) h)
 
 -- where circles came in, all are glyphs that were before
 pub put_keeps_glyphs : (r : CircleRule) (a b : Sides) → IsFollowed (λ v. circles_put (with_circles r v.items) v) a b → r.glyph ≤ 65535 → are_glyphs (items_of a) ≡ true → are_glyphs (items_of b) ≡ true

@@ -1,16 +1,12 @@
 -- The next glyph but grapheme joiners.
-use Rattle.std.proofs.Common.{ℕ, zero, suc, ◌≡◌, ◌≤◌, ◌+◌, Bool, true, false, if◌then◌else◌, List, [], ◌∷◌, Some, length, drop, slice_get, ap, sym, ◌∙◌, arith}
+use Rattle.std.proofs.Common.{ℕ, ◌≡◌, ◌≤◌, ◌+◌, Bool, true, false, if◌then◌else◌, List, Some, length, drop, slice_get, ap, sym, ◌∙◌}
 use Rattle.std.specs.Prelude.{find, not}
 use Rattle.std.proofs.lemmas.List.{drop_all}
 use Rattle.glyph_properties.specs.Characters.{is_mark}
 use Rattle.glyph_lists.specs.declared.info.hb_glyph_info_t.{hb_glyph_info_t}
 use Rattle.glyph_lists.specs.Items.{Item, item_of, strip}
 use Rattle.syllable_stages.specs.Spans.{is_grapheme_joiner, mark_or_none, stands_before_mark}
-
-split_at : (gs : List hb_glyph_info_t) (i : ℕ) (g : hb_glyph_info_t) → slice_get gs i ≡ Some g → drop i gs ≡ g ∷ drop (i + 1) gs
-split_at [] i g e = cc
-split_at (h ∷ gs) zero g e = let same : h ≡ g = cc in ap (λ k. k ∷ gs) same
-split_at (h ∷ gs) (suc i) g e = let next : suc i + 1 ≡ suc (i + 1) = omega arith in split_at gs i g e ∙ ap (λ n. g ∷ drop n (h ∷ gs)) (sym next)
+use Rattle.stage_rules.specs.Lemmas.Elements.{split_at}
 
 abbrev first_is : Item → List Item → Bool → Bool
 first_is x xs t = mark_or_none (if not t then Some x else find (λ y. not (is_grapheme_joiner y)) xs)

@@ -11,6 +11,7 @@ use Rattle.std.specs.List.{list_any}
 use Rattle.syllable_stages.specs.declared.circles.CircleRule.{CircleRule}
 use Rattle.syllable_stages.specs.Circles.{is_broken}
 use Rattle.syllable_stages.specs.Rules.{IsCircled}
+use Rattle.stage_rules.specs.Lemmas.Elements.{split_at}
 
 put_all : (g : hb_glyph_info_t) (s : Sides) → origins_of (with_put g s) ≡ origins s.behind ++ (origin_of g ∷ origins s.ahead)
 put_all g s = ap origins (append_assoc s.behind (g ∷ []) s.ahead) ∙ map-append origin_of s.behind (g ∷ s.ahead)
@@ -87,9 +88,6 @@ first_origin i g circle s at same = seen (all_glyphs s) i at ∙ ap Some (sym sa
     seen (h ∷ hs) (suc j) e = seen hs j e
 
 -- ---- the search for a broken syllable
-
-split_at : (gs : List hb_glyph_info_t) (i : ℕ) (g : hb_glyph_info_t) → slice_get gs i ≡ Some g → drop i gs ≡ g ∷ drop (i + 1) gs
-split_at gs i g at = let e : i + 1 ≡ suc i = omega arith in first_from gs i g at ∙ ap (λ n. g ∷ drop n gs) (sym e)
 
 pub broken_here : (r : CircleRule) (gs : List hb_glyph_info_t) (i : ℕ) (g : hb_glyph_info_t) (b : Bool) → slice_get gs i ≡ Some g → is_broken r (item_of g) ≡ true → list_any (is_broken r) (strip (drop i gs)) ≡ b → true ≡ b
 broken_here r gs i g b at e f = sym (ap (λ t. t || list_any (is_broken r) (strip (drop (i + 1) gs))) e) ∙ ap (λ hs. list_any (is_broken r) (strip hs)) (sym (split_at gs i g at)) ∙ f

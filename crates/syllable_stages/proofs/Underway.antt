@@ -1,6 +1,5 @@
 -- Circles that come in before what is ahead of the cursor.
 use Rattle.std.proofs.Common.{ℕ, zero, suc, ◌≡◌, ◌≢◌, ◌≤◌, ◌<◌, ◌+◌, ◌*◌, ◌-◌, ◌==◌, ◌&&◌, Bool, true, false, nat_le, not, if◌then◌else◌, List, [], ◌∷◌, ◌++◌, length, map, take, drop, Option, Some, None, Ok, Err, slice_get, refl, sym, ap, subst, ◌∙◌, arith, append_assoc}
-use Rattle.std.specs.Prelude.{Result, IfErr, IsErrAnd}
 use Rattle.std.specs.List.{prefix_len}
 use Rattle.std.proofs.lemmas.Bool.Decides.{nat_tests}
 use Rattle.std.proofs.lemmas.Grind.{common_steps}
@@ -462,8 +461,3 @@ first_stands n g s moved at m le =
     past : (bs : List hb_glyph_info_t) → slice_get (bs ++ s.ahead) (length bs) ≡ Some g
     past [] = at
     past (b ∷ bs) = past bs
-
--- what `?` hands on
-pub passed_on : {A E : Type 0} (r : Result A E) (e : E) (P : E → Type 0) → IsErrAnd r (λ (f : E). f ≡ e) → P e → IfErr r P
-passed_on (Ok a) e P h p = tt
-passed_on (Err f) e P h p = subst P (sym h) p

@@ -22,7 +22,7 @@ use shaping_text::constants::BufferFlags;
 pub const DOTTED_CIRCLE: char = '\u{25CC}';
 
 /// Which syllables get a circle, and what it is.
-#[derive(Clone, Copy, PartialEq, Eq, Debug)]
+#[derive(Clone, Copy)]
 pub struct CircleRule {
     /// The font's glyph of U+25CC.
     pub glyph: u16,

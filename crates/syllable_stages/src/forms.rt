@@ -18,7 +18,7 @@ use script_constants::syllable_kinds::universal::{HIEROGLYPH_CLUSTER, NON_CLUSTE
 const GLOBAL_BIT: hb_mask_t = 0x8000_0000;
 
 /// The masks of the forms of syllables, 0 where the font has none.
-#[derive(Clone, Copy, PartialEq, Eq, Debug)]
+#[derive(Clone, Copy)]
 pub struct FormMasks {
     pub isol: hb_mask_t,
     pub init: hb_mask_t,

@@ -18,14 +18,14 @@ use script_syllables::SyllableSpans;
 use std::alloc::Global;
 
 /// The glyphs of a text that syllables count.
-#[derive(Debug, Drop)]
+#[derive(Drop)]
 pub(crate) struct Counted {
     categories: Vec<u8>,
     places: Places,
 }
 
 /// Where they stand.
-#[derive(Debug, Drop)]
+#[derive(Drop)]
 pub(crate) struct Places {
     indices: Vec<usize>,
     end: usize,

@@ -29,7 +29,7 @@ pub trait SyllablePlaces {
 }
 
 /// Each glyph counts.
-#[derive(Clone, Copy, PartialEq, Eq, Debug)]
+#[derive(Clone, Copy)]
 pub struct Each;
 
 impl SyllablePlaces for Each {

@@ -1,5 +1,5 @@
 /// A tile as it is laid, in font units.
-#[derive(Clone, Copy, PartialEq, Eq, Debug)]
+#[derive(Clone, Copy)]
 pub struct Tile {
     /// How many copies of it stand beside it.
     pub copies: u32,

@@ -10,7 +10,7 @@ use std::alloc::{AllocError, Global};
 use std::marker::Model;
 
 /// Ranges of characters in the order of their first ones.
-#[derive(Debug, Drop)]
+#[derive(Drop)]
 pub struct CharacterRanges {
     rows: Vec<CharacterRange>,
     widened: Vec<CharacterRange>,

@@ -20,7 +20,7 @@ const THAI_ACTIONS: u32 = 4;
 const CLASSES: u32 = 256;
 
 /// A character and the two parts into which it splits.
-#[derive(Clone, Copy, Debug)]
+#[derive(Clone, Copy)]
 pub struct Split {
     pub whole: char,
     pub first: char,
@@ -68,7 +68,7 @@ impl Row<3> for Split {
 }
 
 /// Two characters and the character that they compose to.
-#[derive(Clone, Copy, Debug)]
+#[derive(Clone, Copy)]
 pub struct Pair {
     pub first: char,
     pub second: char,
@@ -107,7 +107,7 @@ impl Row<3> for Pair {
 }
 
 /// A character and its combining class, as shaping has modified it.
-#[derive(Clone, Copy, Debug)]
+#[derive(Clone, Copy)]
 pub struct CharacterClass {
     pub character: char,
     pub class: u8,
@@ -152,7 +152,7 @@ impl Row<2> for CharacterClass {
 }
 
 /// A character and the one that takes its place in another direction.
-#[derive(Clone, Copy, Debug)]
+#[derive(Clone, Copy)]
 pub struct Counterpart {
     pub character: char,
     pub counterpart: char,
@@ -197,7 +197,7 @@ impl Row<2> for Counterpart {
 }
 
 /// The characters from the first to the last.
-#[derive(Clone, Copy, Debug)]
+#[derive(Clone, Copy)]
 pub struct CharacterRange {
     pub first: char,
     pub last: char,
@@ -242,7 +242,7 @@ impl Row<2> for CharacterRange {
 }
 
 /// A character and the number of its joining type.
-#[derive(Clone, Copy, Debug)]
+#[derive(Clone, Copy)]
 pub struct JoiningRow {
     pub character: char,
     /// U L R D ALAPH DALATH_RISH T, from 0.
@@ -288,7 +288,7 @@ impl Row<2> for JoiningRow {
 }
 
 /// A character and the numbers of its syllabic category and its position.
-#[derive(Clone, Copy, Debug)]
+#[derive(Clone, Copy)]
 pub struct IndicRow {
     pub character: char,
     pub category: u8,
@@ -335,7 +335,7 @@ impl Row<3> for IndicRow {
 }
 
 /// A character and the number of its category for the universal shaper.
-#[derive(Clone, Copy, Debug)]
+#[derive(Clone, Copy)]
 pub struct UniversalRow {
     pub character: char,
     pub category: u8,
@@ -380,7 +380,7 @@ impl Row<2> for UniversalRow {
 }
 
 /// The private characters that stand for a character after an action.
-#[derive(Clone, Copy, Debug)]
+#[derive(Clone, Copy)]
 pub struct ThaiRow {
     pub character: char,
     /// SD SDL SL RD, from 0.
@@ -422,7 +422,7 @@ impl Row<4> for ThaiRow {
 }
 
 /// The rows of all tables as they are handed in.
-#[derive(Debug, Drop)]
+#[derive(Drop)]
 pub struct UnicodeRows {
     /// A character, its first part, its second part or 0.
     pub splits: Vec<[u32; 3]>,

@@ -5,7 +5,7 @@ use unicode_rows::{
 };
 
 /// The records of all tables, each in the order of its keys.
-#[derive(Debug, Drop)]
+#[derive(Drop)]
 pub struct UnicodeRecords {
     pub splits: Vec<Split>,
     pub pairs: Vec<Pair>,

@@ -19,7 +19,7 @@ use unicode_rows::{
 
 /// What is known of characters by tables that were handed in: Unicode data files, modified combining classes,
 /// and the numbers of the shapers' categories.
-#[derive(Debug, Drop)]
+#[derive(Drop)]
 pub struct UnicodeTables {
     splits: PagedRows<Split>,
     pairs: Vec<Pair>,

@@ -1,7 +1,8 @@
 use Rattle.std.proofs.Common.{sym, ap, ◌∙◌}
 use Rattle.glyph_buffer.specs.Sides.{moved_on}
-use Rattle.syllable_stages.proofs.Underway.{circle_put, circle_refused, passed_on, rephas_refused, first_stands, less_circled, rephas_within}
+use Rattle.syllable_stages.proofs.Underway.{circle_put, circle_refused, rephas_refused, first_stands, less_circled, rephas_within}
 use Rattle.syllable_stages.proofs.circles.put_circles.Goals as goal
+use Rattle.stage_rules.specs.Lemmas.Walked.{passed_on}
 
 pub put_circle-requires-clause-passed : goal.put_circle-requires-clause-passed
 put_circle-requires-clause-passed c =

@@ -1,14 +1,14 @@
--- One glyph more is asked.
-use Rattle.std.proofs.Common.{ℕ, ◌≡◌, ◌≤◌, ◌+◌, List, [], ◌∷◌, length, drop, reverse, map, Ok, Err, Some, slice_get, refl, sym, ap, ◌∙◌, arith}
-use mathlib.Core.List.{reverse_aux}
+-- What a search finds, one glyph after another, from a glyph on and back from the cursor.
+use Rattle.std.proofs.Common.{ℕ, ◌≡◌, ◌≤◌, ◌+◌, List, ◌∷◌, length, drop, reverse, Ok, Err, Some, slice_get, refl, sym, ap, ◌∙◌, arith}
 use Rattle.std.specs.Prelude.{option_map}
-use Rattle.std.proofs.lemmas.Option.{slice_get_within, get_or_from_slice_get, slice_get-map}
-use Rattle.std.proofs.lemmas.List.{drop_more, drop_all, length-map, length-reverse}
+use Rattle.std.proofs.lemmas.Option.{slice_get-map, slice_get_within, get_or_from_slice_get}
+use Rattle.std.proofs.lemmas.List.{drop_all, length-map, length-reverse, drop_more}
 use Rattle.glyph_lists.specs.declared.info.hb_glyph_info_t.{hb_glyph_info_t}
 use Rattle.glyph_lists.specs.Items.{Item, item_of, strip}
 use Rattle.layout_match.specs.declared.search.match_t.{match_t}
 use Rattle.layout_match.specs.declared.search.match_t.TheVariants.{MATCH, SKIP, NOT_MATCH}
 use Rattle.layout_match.specs.Matches.{by_answer, nearest_from}
+use Rattle.glyph_lists.specs.Lemmas.EventParts.{map-reverse}
 
 some_left : {X : Type 0} (xs : List X) (k : ℕ) (x : X) → slice_get xs k ≡ Some x → drop k xs ≡ x ∷ drop (k + 1) xs
 some_left xs k x at = drop_more xs k x (slice_get_within xs k x at) ∙ ap (λ y. y ∷ drop (k + 1) xs) (get_or_from_slice_get xs k x x at)
@@ -17,7 +17,7 @@ some_left xs k x at = drop_more xs k x (slice_get_within xs k x at) ∙ ap (λ y
 nearest_there : (ask : Item → match_t) (at : ℕ) (xs : List Item) (x : Item) (r : match_t) → slice_get xs at ≡ Some x → r ≡ ask x → nearest_from ask at xs ≡ by_answer r at (nearest_from ask (at + 1) xs)
 nearest_there ask at xs x r there told = rw (some_left xs at x there, told) refl
 
-item_there : (gs : List hb_glyph_info_t) (at : ℕ) (g : hb_glyph_info_t) → slice_get gs at ≡ Some g → slice_get (strip gs) at ≡ Some (item_of g)
+pub item_there : (gs : List hb_glyph_info_t) (at : ℕ) (g : hb_glyph_info_t) → slice_get gs at ≡ Some g → slice_get (strip gs) at ≡ Some (item_of g)
 item_there gs at g there = slice_get-map item_of gs at ∙ ap (option_map item_of) there
 
 pub taken_there : (ask : Item → match_t) (at : ℕ) (gs : List hb_glyph_info_t) (g : hb_glyph_info_t) (r : match_t) → slice_get gs at ≡ Some g → r ≡ ask (item_of g) → r ≡ MATCH → nearest_from ask at (strip gs) ≡ Ok at
@@ -37,12 +37,8 @@ ended_there ask at gs e = nearest_end ask at (strip gs) (length-map gs item_of �
 
 -- ---- the same backward
 
-map_onto : {X Y : Type 0} (f : X → Y) (xs ys : List X) → map f (reverse_aux xs ys) ≡ reverse_aux (map f xs) (map f ys)
-map_onto f [] ys = refl
-map_onto f (x ∷ xs) ys = map_onto f xs (x ∷ ys)
-
-strip_reversed : (gs : List hb_glyph_info_t) → reverse (strip gs) ≡ strip (reverse gs)
-strip_reversed gs = sym (map_onto item_of gs [])
+pub strip_reversed : (gs : List hb_glyph_info_t) → reverse (strip gs) ≡ strip (reverse gs)
+strip_reversed gs = sym (map-reverse item_of gs)
 
 pub taken_before : (ask : Item → match_t) (at : ℕ) (gs : List hb_glyph_info_t) (g : hb_glyph_info_t) (r : match_t) → slice_get (reverse gs) at ≡ Some g → r ≡ ask (item_of g) → r ≡ MATCH → nearest_from ask at (reverse (strip gs)) ≡ Ok at
 taken_before ask at gs g r there told e = rw (strip_reversed gs) (taken_there ask at (reverse gs) g r there told e)

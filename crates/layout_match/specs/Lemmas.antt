@@ -1,0 +1,2 @@
+-- Lemmas for what stands above: searches from a glyph on and back.
+pub mod Nearest
