@@ -43,8 +43,8 @@ turned_from d stop zero i new ps = ps
 turned_from d stop (suc fuel) i new ps = turned_beyond d (turned_from d stop fuel) (position_at i ps) (old_parent stop i ps) (set ps i new)
 
 -- the chain of a cursive child is turned round, and the child is its root; of another glyph nothing changes
-abbrev pub turned : Direction → ℕ → ℕ → List Position → List Position
-turned d stop i ps = if (position_at i ps).attach_type == 2 then turned_from d stop (length ps) i (without_link (position_at i ps)) ps else ps
+abbrev pub chain_turned : Direction → ℕ → ℕ → List Position → List Position
+chain_turned d stop i ps = if (position_at i ps).attach_type == 2 then turned_from d stop (length ps) i (without_link (position_at i ps)) ps else ps
 
 -- a child hangs on its parent at an offset across the line
 abbrev pub joined_across : Bool → ℤ → ℤ → ℤ → Position → Position
@@ -68,7 +68,7 @@ abbrev pub joined_at : Direction → ℕ → ℕ → ℤ → ℤ → List Positi
 joined_at d child to x y ps = set ps child (joined_across (is_horizontal d) x y (link_to child to) (position_at child ps))
 
 abbrev pub cursive_hung : Direction → ℕ → ℕ → ℤ → ℤ → List Position → List Position
-cursive_hung d child to x y ps = if is_near child to then freed d child to (joined_at d child to x y (turned d to child ps)) else ps
+cursive_hung d child to x y ps = if is_near child to then freed d child to (joined_at d child to x y (chain_turned d to child ps)) else ps
 
 -- ---- advances of a join: the first ends at its exit, the second begins at its entry
 

@@ -2,7 +2,7 @@
 ghost use Rattle.std.specs.Prelude.{◌≡◌, ◌<◌, true, length};
 ghost use Rattle.shaping_text.specs.Direction.{is_forward, is_horizontal};
 ghost use Rattle.position_chains.specs.Links.{is_near, parent, without_link};
-ghost use Rattle.position_chains.specs.Cursive.{cursive_hung, first_ends, freed, freed_across, joined_across, joined_advances, joined_at, negated, old_parent, shifted, turned, turned_across, turned_from, turned_link};
+ghost use Rattle.position_chains.specs.Cursive.{cursive_hung, first_ends, freed, freed_across, joined_across, joined_advances, joined_at, negated, old_parent, shifted, chain_turned, turned_across, turned_from, turned_link};
 
 use crate::links::{is_near, link_to, linked};
 use glyph_lists::position::GlyphPosition;
@@ -94,7 +94,7 @@ fn turn_from(
 /// after as many links as there are glyphs at the latest.
 pub fn turn(positions: &mut [GlyphPosition], stop: usize, start: usize, direction: Direction)
     requires here { start < length positions.old }
-    ensures { positions.new ≡ turned direction stop start positions.old }
+    ensures { positions.new ≡ chain_turned direction stop start positions.old }
 {
     let first = positions[start];
     if first.attach_type == 2 {

@@ -6,7 +6,7 @@ use Rattle.shaping_text.specs.declared.direction.Direction.{Direction}
 use Rattle.shaping_text.specs.Direction.{is_forward, is_horizontal}
 use Rattle.layout_positions.specs.declared.value.Anchor.{Anchor}
 use Rattle.position_chains.specs.Links.{parent, position_at, is_near}
-use Rattle.position_chains.specs.Cursive.{cursive_hung, freed, freed_across, is_child_of, joined, joined_advances, joined_at, joined_on, turned}
+use Rattle.position_chains.specs.Cursive.{cursive_hung, freed, freed_across, is_child_of, joined, joined_advances, joined_at, joined_on, chain_turned}
 use Rattle.position_chains.specs.Lemmas.Turned.{turned_length}
 
 freed_length : (d : Direction) (child to : ℕ) (ps : List Position) → length (freed d child to ps) ≡ length ps
@@ -23,7 +23,7 @@ hung_length : (d : Direction) (child to : ℕ) (x y : ℤ) (ps : List Position) 
 hung_length d child to x y ps = by_near (is_near child to)
   where
     inner : List Position
-    inner = turned d to child ps
+    inner = chain_turned d to child ps
 
     by_near : (b : Bool) → length (if b then freed d child to (joined_at d child to x y inner) else ps) ≡ length ps
     by_near true = freed_length d child to (joined_at d child to x y inner) ∙ length-set inner child _ ∙ turned_length d to child ps

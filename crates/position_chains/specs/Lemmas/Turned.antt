@@ -5,7 +5,7 @@ use Rattle.shaping_text.specs.declared.direction.Direction.{Direction}
 use Rattle.std.proofs.lemmas.List.{length-set}
 use Rattle.position_chains.specs.Links.{position_at, parent, without_link}
 use Rattle.position_chains.specs.Lemmas.Linked.{linked_there}
-use Rattle.position_chains.specs.Cursive.{turned, unless_at, old_parent, turned_position, turned_beyond, turned_from}
+use Rattle.position_chains.specs.Cursive.{chain_turned, unless_at, old_parent, turned_position, turned_beyond, turned_from}
 
 pub turned_none : (d : Direction) (stop i : ℕ) (new : Position) (ps : List Position) → turned_from d stop 0 i new ps ≡ ps
 unfolding turned_from
@@ -48,7 +48,7 @@ turned_from_length d stop (suc fuel) i new ps = ap length (turned_step d stop (s
     beyond None before = length-set ps i new
     beyond (Some j) before = before j _ (set ps i new) ∙ length-set ps i new
 
-pub turned_length : (d : Direction) (stop i : ℕ) (ps : List Position) → length (turned d stop i ps) ≡ length ps
+pub turned_length : (d : Direction) (stop i : ℕ) (ps : List Position) → length (chain_turned d stop i ps) ≡ length ps
 turned_length d stop i ps = by_kind ((position_at i ps).attach_type == 2)
   where
     by_kind : (b : Bool) → length (if b then turned_from d stop (length ps) i (without_link (position_at i ps)) ps else ps) ≡ length ps
