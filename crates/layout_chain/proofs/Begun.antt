@@ -15,6 +15,7 @@ use Rattle.layout_chain.specs.Lemmas.Steps.{then_left}
 use Rattle.layout_chain.specs.Nested.{Walks, Stops, cut_at, cut_behind, by_place, has_budget, holds, nested_at, nested_there, one_record, spent}
 use Rattle.layout_chain.specs.Nesting.{IsLeft, Nests}
 use Rattle.layout_chain.specs.Records.{Begins, IsMoved, IsMoveRefusal, IsSpent}
+use Rattle.std.proofs.lemmas.Bool.{and_from, and_left, and_right}
 
 pub absent : (r : SequenceLookupRecord) (ps : List ℕ) (s : Sides) → None ≡ slice_get ps r.sequence_index → Begins r ps (Ok None) s s
 absent r ps s e = (refl, λ random act end. ap (λ o. by_place act r o (cut_with random s) ps end) (sym e))
@@ -23,18 +24,6 @@ by_test : (r : SequenceLookupRecord) (ps : List ℕ) (p : ℕ) (s : Sides) (b : 
     → one_record act r (cut_with random s) ps end ≡ (if b then nested_at act r p (spent (cut_with random s)) ps end else Walks (cut_with random s) ps end [])
 by_test r ps p s b e t random act end = ap (λ o. by_place act r o (cut_with random s) ps end) (sym e) ∙ ap (λ b. if b then nested_at act r p (spent (cut_with random s)) ps end else Walks (cut_with random s) ps end []) t
 
-not_first : (a b : Bool) → a ≡ false → (a && b) ≡ false
-not_first true b e = cc
-not_first false b e = refl
-
-not_second : (a b : Bool) → b ≡ false → (a && b) ≡ false
-not_second true b e = e
-not_second false b e = refl
-
-both : (a b : Bool) → a ≡ true → b ≡ true → (a && b) ≡ true
-both true b e f = f
-both false b e f = cc
-
 is_under : (p n : ℕ) → p < n → nat_lt p n ≡ true
 is_under p n lt = grind (arith, lt)
 
@@ -42,14 +31,14 @@ isnt_under : (p n : ℕ) → n ≤ p → nat_lt p n ≡ false
 isnt_under p n le = grind (arith, le)
 
 pub beyond : (r : SequenceLookupRecord) (ps : List ℕ) (p : ℕ) (s : Sides) → Some p ≡ slice_get ps r.sequence_index → length (whole (cut_of s)) ≤ p → Begins r ps (Ok None) s s
-beyond r ps p s e le = (refl, by_test r ps p s false e (not_first (nat_lt p (length (whole (cut_of s)))) (has_budget (cut_of s)) (isnt_under p (length (whole (cut_of s))) le)))
+beyond r ps p s e le = (refl, by_test r ps p s false e (and_left (nat_lt p (length (whole (cut_of s)))) (has_budget (cut_of s)) (isnt_under p (length (whole (cut_of s))) le)))
 
 pub unpaid : (r : SequenceLookupRecord) (ps : List ℕ) (p : ℕ) (s t : Sides) → Some p ≡ slice_get ps r.sequence_index → has_budget (cut_of s) ≡ false → t ≡ s → Begins r ps (Ok None) s t
-unpaid r ps p s t e off same = (same, by_test r ps p s false e (not_second (nat_lt p (length (whole (cut_of s)))) (has_budget (cut_of s)) off))
+unpaid r ps p s t e off same = (same, by_test r ps p s false e (and_right (nat_lt p (length (whole (cut_of s)))) (has_budget (cut_of s)) off))
 
 paid : (r : SequenceLookupRecord) (ps : List ℕ) (p : ℕ) (s : Sides) → Some p ≡ slice_get ps r.sequence_index → p < length (whole (cut_of s)) → has_budget (cut_of s) ≡ true → (random : ℕ) (act : ℕ → Action) (end : ℕ)
     → one_record act r (cut_with random s) ps end ≡ nested_at act r p (spent (cut_with random s)) ps end
-paid r ps p s e lt on = by_test r ps p s true e (both (nat_lt p (length (whole (cut_of s)))) (has_budget (cut_of s)) (is_under p (length (whole (cut_of s))) lt) on)
+paid r ps p s e lt on = by_test r ps p s true e (and_from (nat_lt p (length (whole (cut_of s)))) (has_budget (cut_of s)) (is_under p (length (whole (cut_of s))) lt) on)
 
 -- whether there is room doesn't depend on budget and random state
 same_room : (p : ℕ) (s t : Sides) → IsSpent s t → holds p (cut_of t) ≡ holds p (cut_of s)

@@ -11,6 +11,7 @@ use Rattle.layout_match.specs.Sequences.{test_at}
 use Rattle.stage_rules.specs.Actions.{Cut, Passes, Action, at_first, later, attempt_around}
 use Rattle.layout_chain.specs.Nested.{each_nested, cut_behind}
 use Rattle.layout_chain.specs.Chains.{Chain, begins, by_backtrack, by_input, by_lookahead, chain_at, chain_rule}
+use Rattle.std.proofs.lemmas.Bool.{and_from, and_left, and_right}
 
 pub map_behind_first : {X Y : Type 0} (f : X → Y) (xs ys : List X) → ys ≡ drop 1 xs → map f ys ≡ drop 1 (map f xs)
 map_behind_first f xs ys e = ap (map f) e ∙ sym (drop-map f 1 xs)
@@ -22,23 +23,11 @@ begins_by : (tests : List (Item → Bool)) (x : Item) → test_at tests 0 x ≡ 
 begins_by [] x = refl
 begins_by (test ∷ tests) x = refl
 
-not_first : (a b : Bool) → a ≡ false → (a && b) ≡ false
-not_first true b e = cc
-not_first false b e = refl
-
-not_second : (a b : Bool) → b ≡ false → (a && b) ≡ false
-not_second true b e = e
-not_second false b e = refl
-
-both : (a b : Bool) → a ≡ true → b ≡ true → (a && b) ≡ true
-both true b e f = f
-both false b e f = cc
-
 off : (nest : Option (ℕ → Action)) (a : Applied) (r : Chain) (x : Item) (c : Cut) → first_of c.rest ≡ Some x → (begins r.input x && nat_le (length r.input) 64) ≡ false → chain_rule nest a r c ≡ Passes []
 off nest a r x c e f = at_item nest a r x c e ∙ ap (λ b. if b then by_input nest a r (input_end (own_search a c.rest) (drop 1 r.input) c.rest) c else Passes []) f
 
 pub other_first : (nest : Option (ℕ → Action)) (a : Applied) (r : Chain) (x : Item) (c : Cut) → first_of c.rest ≡ Some x → test_at r.input 0 x ≡ false → chain_rule nest a r c ≡ Passes []
-other_first nest a r x c e f = off nest a r x c e (not_first (begins r.input x) (nat_le (length r.input) 64) (sym (begins_by r.input x) ∙ f))
+other_first nest a r x c e f = off nest a r x c e (and_left (begins r.input x) (nat_le (length r.input) 64) (sym (begins_by r.input x) ∙ f))
 
 is_over : (n : ℕ) → 64 < n → nat_le n 64 ≡ false
 is_over n lt = grind (arith, lt)
@@ -47,12 +36,12 @@ is_under : (n : ℕ) → n ≤ 64 → nat_le n 64 ≡ true
 is_under n le = grind (arith, le)
 
 pub too_many : (nest : Option (ℕ → Action)) (a : Applied) (r : Chain) (x : Item) (c : Cut) → first_of c.rest ≡ Some x → 64 < length r.input → chain_rule nest a r c ≡ Passes []
-too_many nest a r x c e lt = off nest a r x c e (not_second (begins r.input x) (nat_le (length r.input) 64) (is_over (length r.input) lt))
+too_many nest a r x c e lt = off nest a r x c e (and_right (begins r.input x) (nat_le (length r.input) 64) (is_over (length r.input) lt))
 
 tried : (nest : Option (ℕ → Action)) (a : Applied) (r : Chain) (x : Item) (c : Cut) → first_of c.rest ≡ Some x → test_at r.input 0 x ≡ true → length r.input ≤ 64 → (end : Result ℕ ℕ) → input_end (own_search a c.rest) (drop 1 r.input) c.rest ≡ end
     → chain_rule nest a r c ≡ by_input nest a r end c
 tried nest a r x c e f le end is =
-    let on = both (begins r.input x) (nat_le (length r.input) 64) (sym (begins_by r.input x) ∙ f) (is_under (length r.input) le) in
+    let on = and_from (begins r.input x) (nat_le (length r.input) 64) (sym (begins_by r.input x) ∙ f) (is_under (length r.input) le) in
     at_item nest a r x c e ∙ ap (λ b. if b then by_input nest a r (input_end (own_search a c.rest) (drop 1 r.input) c.rest) c else Passes []) on ∙ ap (λ (n : Result ℕ ℕ). by_input nest a r n c) is
 
 pub input_fails : (nest : Option (ℕ → Action)) (a : Applied) (r : Chain) (x : Item) (c : Cut) (ahead : ℕ) → first_of c.rest ≡ Some x → test_at r.input 0 x ≡ true → length r.input ≤ 64 → input_end (own_search a c.rest) (drop 1 r.input) c.rest ≡ Err ahead

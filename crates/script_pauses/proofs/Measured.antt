@@ -1,5 +1,5 @@
 -- Tiles that are measured one after another.
-use Rattle.std.proofs.Common.{ℕ, ℤ, zero, suc, ◌≡◌, ◌≤◌, ◌+◌, ◌*◌, ◌^◌, Bool, true, false, if◌then◌else◌, List, [], ◌∷◌, Some, length, drop, slice_get, refl, sym, ap, ◌∙◌, arith}
+use Rattle.std.proofs.Common.{ℕ, ℤ, ◌≡◌, ◌≤◌, ◌+◌, ◌*◌, ◌^◌, Bool, true, false, if◌then◌else◌, List, Some, length, drop, slice_get, refl, sym, ap, ◌∙◌, arith}
 use Rattle.std.proofs.lemmas.List.{drop_all}
 use Rattle.glyph_lists.specs.declared.info.hb_glyph_info_t.{hb_glyph_info_t}
 use Rattle.font_face.specs.declared.parts.FaceParts.{FaceParts}
@@ -7,11 +7,7 @@ use Rattle.glyph_lists.specs.Items.{Item, item_of, strip}
 use Rattle.script_pauses.specs.declared.runs.Run.{Run}
 use Rattle.script_pauses.specs.Tiles.{is_tile}
 use Rattle.script_pauses.specs.Runs.{run_behind, with_tile, with_tiles}
-
-split_at : (gs : List hb_glyph_info_t) (i : ℕ) (g : hb_glyph_info_t) → slice_get gs i ≡ Some g → drop i gs ≡ g ∷ drop (i + 1) gs
-split_at [] i g e = cc
-split_at (h ∷ gs) zero g e = let same : h ≡ g = cc in ap (λ k. k ∷ gs) same
-split_at (h ∷ gs) (suc i) g e = let next : suc i + 1 ≡ suc (i + 1) = omega arith in split_at gs i g e ∙ ap (λ n. g ∷ drop n (h ∷ gs)) (sym next)
+use Rattle.stage_rules.specs.Lemmas.Elements.{split_at}
 
 -- so many tiles were measured, and each made the run so much wider at most
 pub record IsMeasured (font : FaceParts) (word : ℤ) (gs : List hb_glyph_info_t) (i : ℕ) (r : Run) : Type 0 where

@@ -5,24 +5,17 @@ use Rattle.std.proofs.Math.Nat.{div-le_self, div-mul-le_self, lt-div-mul-add, di
 use Rattle.script_pauses.specs.declared.runs.Run.{Run}
 use Rattle.script_pauses.specs.Copies.{copies, left_of_word, natural}
 use Rattle.script_pauses.specs.Laying.{fits, overlap, run_in_range}
-
-and_left : (a b : Bool) → (a && b) ≡ true → a ≡ true
-and_left true b e = refl
-and_left false b e = cc
-
-and_right : (a b : Bool) → (a && b) ≡ true → b ≡ true
-and_right true b e = e
-and_right false b e = cc
+use Rattle.std.proofs.lemmas.Bool.{and_parts}
 
 word_small : (w : ℤ) → fits w ≡ true → natural w ≤ 0x7FFF_FFFF
 word_small (pos n) e = grind (arith, nat_tests, e)
 word_small (negsuc n) e = omega arith
 
 left_small : (r : Run) → run_in_range r ≡ true → left_of_word r ≤ 0x7FFF_FFFF
-left_small r e = let a = word_small r.word (and_left (fits r.word) (nat_le r.fixed 0x7FFF_FFFF) (and_left (fits r.word && nat_le r.fixed 0x7FFF_FFFF) (nat_le r.repeating 0x7FFF_FFFF) e)) in omega (arith, a)
+left_small r e = let a = word_small r.word ((and_parts (fits r.word) (nat_le r.fixed 0x7FFF_FFFF) ((and_parts (fits r.word && nat_le r.fixed 0x7FFF_FFFF) (nat_le r.repeating 0x7FFF_FFFF) e).0)).0) in omega (arith, a)
 
 repeating_small : (r : Run) → run_in_range r ≡ true → r.repeating ≤ 0x7FFF_FFFF
-repeating_small r e = let a = and_right (fits r.word && nat_le r.fixed 0x7FFF_FFFF) (nat_le r.repeating 0x7FFF_FFFF) e in grind (arith, nat_tests, a)
+repeating_small r e = let a = (and_parts (fits r.word && nat_le r.fixed 0x7FFF_FFFF) (nat_le r.repeating 0x7FFF_FFFF) e).1 in grind (arith, nat_tests, a)
 
 copies_if : (t : Bool) (m w : ℕ) → (if t then (m - 1) / w else 0) ≤ m
 copies_if true m w = let a = div-le_self (m - 1) w in omega (arith, a)
@@ -39,8 +32,8 @@ pub record IsEnough (left w c : ℕ) : Type 0 where
 enough_if : (t : Bool) (left w : ℕ) → (nat_lt 0 w && nat_lt w left) ≡ t → 0 < (if t then (left - 1) / w else 0) → IsEnough left w (if t then (left - 1) / w else 0)
 enough_if false left w e lt = absurd (omega (arith, lt))
 enough_if true left w e lt =
-    let some : 0 < w = (let a = and_left (nat_lt 0 w) (nat_lt w left) e in grind (arith, nat_tests, a)) in
-    let more : w < left = (let a = and_right (nat_lt 0 w) (nat_lt w left) e in grind (arith, nat_tests, a)) in
+    let some : 0 < w = (let a = (and_parts (nat_lt 0 w) (nat_lt w left) e).0 in grind (arith, nat_tests, a)) in
+    let more : w < left = (let a = (and_parts (nat_lt 0 w) (nat_lt w left) e).1 in grind (arith, nat_tests, a)) in
     let c = (left - 1) / w in
     let a : left - 1 < c * w + w = lt-div-mul-add some in
     let b = div-mul-le_self (left - 1) w in
@@ -83,8 +76,8 @@ pub record AreWide (left w : ℕ) : Type 0 where
 wide_if : (t : Bool) (left w : ℕ) → (nat_lt 0 w && nat_lt w left) ≡ t → 0 < (if t then (left - 1) / w else 0) → AreWide left w
 wide_if false left w e lt = absurd (omega (arith, lt))
 wide_if true left w e lt =
-    let some : 0 < w = (let a = and_left (nat_lt 0 w) (nat_lt w left) e in grind (arith, nat_tests, a)) in
-    let more : w < left = (let a = and_right (nat_lt 0 w) (nat_lt w left) e in grind (arith, nat_tests, a)) in
+    let some : 0 < w = (let a = (and_parts (nat_lt 0 w) (nat_lt w left) e).0 in grind (arith, nat_tests, a)) in
+    let more : w < left = (let a = (and_parts (nat_lt 0 w) (nat_lt w left) e).1 in grind (arith, nat_tests, a)) in
     record { repeating = some; some = omega (arith, some, more) }
 
 pub repeats_some : (r : Run) → 0 < copies r → AreWide (left_of_word r) r.repeating

@@ -1,5 +1,5 @@
 -- A text whose tiles are copied one after another.
-use Rattle.std.proofs.Common.{ℕ, ◌≡◌, ◌≢◌, ◌<◌, ◌≤◌, ◌+◌, ◌&&◌, not, Bool, true, false, nat_le, List, [], ◌∷◌, ◌++◌, Option, Err, length, drop, get_or, refl, sym, ap, subst, ◌∙◌, append_assoc, arith}
+use Rattle.std.proofs.Common.{ℕ, ◌≡◌, ◌≢◌, ◌<◌, ◌≤◌, ◌+◌, true, false, nat_le, List, [], ◌∷◌, ◌++◌, Option, Err, length, drop, get_or, refl, sym, ap, subst, ◌∙◌, append_assoc, arith}
 use Rattle.std.specs.Prelude.{replicate}
 use Rattle.std.proofs.lemmas.Bool.Decides.{nat_tests}
 use Rattle.std.proofs.lemmas.List.{append-nil, length-append, length-map, length-replicate, drop_more, drop_all}
@@ -8,7 +8,7 @@ use Rattle.glyph_lists.specs.declared.cause.ShapeCause.TheVariants.{OutOfMemory,
 use Rattle.glyph_lists.specs.declared.info.hb_glyph_info_t.{hb_glyph_info_t}
 use Rattle.glyph_lists.specs.Items.{Item, item_of, strip}
 use Rattle.glyph_lists.specs.Events.{Event}
-use Rattle.glyph_buffer.specs.Readings.{View, read_of}
+use Rattle.glyph_buffer.specs.Readings.{read_of}
 use Rattle.glyph_buffer.specs.Sides.{Sides, all_glyphs, items_of, run_of, with_output, synced, fits_joined}
 use Rattle.stage_rules.specs.Ready.{IsReady}
 use Rattle.stage_rules.specs.Stages.{IsFollowed}
@@ -16,6 +16,7 @@ use Rattle.stage_rules.specs.Walks.{Exceeds, Walked}
 use Rattle.stage_rules.specs.Lemmas.Walked.{both_walked, nothing_walked, walked_followed}
 use Rattle.tile_places.specs.declared.tile.Tile.{Tile}
 use Rattle.script_pauses.specs.Copying.{copied, copies_in, copy_events, events_from, tiles_copied}
+use Rattle.stage_rules.specs.Lemmas.Fitting.{limit_same, written_exceed, written_fit}
 
 -- the glyphs before a place are behind with their copies
 pub record IsUnderway (ts : List (Option Tile)) (at : ℕ) (s t : Sides) : Type 0 where
@@ -27,9 +28,6 @@ pub record IsUnderway (ts : List (Option Tile)) (at : ℕ) (s t : Sides) : Type 
 
 pub begun : (ts : List (Option Tile)) (s : Sides) → length ts ≡ length (all_glyphs s) → IsUnderway ts 0 (with_output s) (with_output s)
 begun ts s e = record { events = []; walked = nothing_walked (with_output s) refl; items = refl; whole = refl; count = (let n : length (all_glyphs s) + 0 ≡ length (all_glyphs s) = omega arith in n ∙ sym e) }
-
-limit_same : (o r : List Item) (es : List Event) (s t : Sides) → Walked o r es s t → t.max_len ≡ s.max_len
-limit_same o r es s t w = ap (λ (v : View). v.max_len) w.view
 
 -- one glyph more
 pub more : (ts : List (Option Tile)) (at : ℕ) (d : Option Tile) (s t u : Sides) → at < length ts → IsUnderway ts at s t
@@ -82,30 +80,11 @@ all_walked ts at s t past h = by_ahead t.ahead refl
         subst (λ fs. Walked (copied (items_of s) ts) [] fs s t) es
         (record { behind = out; ahead = none; happened = w.happened; view = w.view; settings = w.settings; opened = w.opened; unrefused = w.unrefused })
 
-count_within : (ts : List (Option Tile)) (at : ℕ) (s t : Sides) → length ts ≤ at → IsUnderway ts at s t → length (all_glyphs t) ≡ length (copied (items_of s) ts)
-count_within ts at s t past h =
-    let w = all_walked ts at s t past h in
-    let a = length-append t.behind t.ahead in
-    let b : length t.behind ≡ length (copied (items_of s) ts) = sym (length-map t.behind item_of) ∙ ap (λ (xs : List Item). length xs) w.behind in
-    let c : length t.ahead ≡ 0 = sym (length-map t.ahead item_of) ∙ ap (λ (xs : List Item). length xs) w.ahead in
-    omega (arith, a, b, c)
-
-fits_both : (a b : Bool) → (not a && b) ≡ true → b ≡ true
-fits_both true b e = cc
-fits_both false b e = e
-
-fits_neither : (a b : Bool) → a ≡ false → (not a && b) ≡ false → b ≡ false
-fits_neither true b n e = cc
-fits_neither false b n e = e
-
 pub text_followed : (ts : List (Option Tile)) (at : ℕ) (s t new : Sides) → IsReady s → length ts ≤ at → IsUnderway ts at (with_output s) t → (fits_joined t ≡ true) × (new ≡ synced t) → IsFollowed (tiles_copied ts) s new
 text_followed ts at s t new ready past h done =
     let w = all_walked ts at (with_output s) t past h in
     let xs = copied (items_of s) ts in
-    let limit = limit_same xs [] (events_from 0 ts) (with_output s) t w in
-    let many = count_within ts at (with_output s) t past h in
-    let room = fits_both t.has_refused (nat_le (length (all_glyphs t) + 0) t.max_len) done.0 in
-    let within : nat_le (length xs) s.max_len ≡ true = grind (arith, nat_tests, room, many, limit) in
+    let within = written_fit xs (events_from 0 ts) s t w done.0 in
     walked_followed (tiles_copied ts) xs (events_from 0 ts) (λ level. events_from 0 ts) s t new ready w done.1 (rw within refl) refl
 
 pub text_too_long : (ts : List (Option Tile)) (at : ℕ) (e : ShapeCause) (s t : Sides) → IsReady s → length ts ≤ at → IsUnderway ts at (with_output s) t → (e ≢ OutOfMemory → (e ≡ TooLong) × (fits_joined t ≡ false)) → e ≢ OutOfMemory
@@ -113,11 +92,8 @@ pub text_too_long : (ts : List (Option Tile)) (at : ℕ) (e : ShapeCause) (s t :
 text_too_long ts at e s t ready past h over other =
     let w = all_walked ts at (with_output s) t past h in
     let xs = copied (items_of s) ts in
-    let limit = limit_same xs [] (events_from 0 ts) (with_output s) t w in
-    let many = count_within ts at (with_output s) t past h in
     let o = over other in
-    let room = fits_neither t.has_refused (nat_le (length (all_glyphs t) + 0) t.max_len) (w.unrefused ∙ ready.unrefused) o.1 in
-    let within : nat_le (length xs) s.max_len ≡ false = grind (arith, nat_tests, room, many, limit) in
+    let within = written_exceed xs (events_from 0 ts) s t ready w o.1 in
     rw within (ap Err (sym o.0))
 
 -- a glyph whose copies were too many

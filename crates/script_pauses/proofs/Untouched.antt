@@ -20,20 +20,17 @@ use Rattle.script_pauses.specs.Laying.{is_in_range, tiles}
 use Rattle.script_pauses.specs.Copying.{copied, events_from}
 use Rattle.tile_places.specs.Placing.{laid}
 use Rattle.script_pauses.specs.Stretch.{laid_over, text_runs, tiles_laid}
+use Rattle.std.proofs.lemmas.Bool.{or_parts}
 
 pub any_seen : (gs : List hb_glyph_info_t) → list_any (λ (g : hb_glyph_info_t). is_tile (item_of g)) gs ≡ list_any is_tile (strip gs)
 any_seen [] = refl
 any_seen (g ∷ gs) = ap (λ b. is_tile (item_of g) || b) (any_seen gs)
 
-neither : (a b : Bool) → (a || b) ≡ false → (a ≡ false) × (b ≡ false)
-neither true b e = cc
-neither false b e = (refl, e)
-
 no_runs : (font : FaceParts) (w : ℤ) (xs : List Item) (ps : List Position) → list_any is_tile xs ≡ false → length ps ≡ length xs → runs font (Word w) xs ps ≡ replicate (length xs) None
 no_runs font w [] ps e long = refl
 no_runs font w (x ∷ xs) [] e long = absurd (omega (arith, long))
 no_runs font w (x ∷ xs) (p ∷ ps) e long =
-    let n = neither (is_tile x) (list_any is_tile xs) e in
+    let n = or_parts (is_tile x) (list_any is_tile xs) e in
     let v = word_behind (Word w) x p in
     let b : next_before font (Word w) (x ∷ xs) p ≡ Word v = ap (λ t. if t then Tiles (run_here font (Word w) (x ∷ xs)) else Word v) n.0 in
     ap (λ q. tile_run q ∷ runs font q xs ps) b ∙ ap (λ rs. None ∷ rs) (no_runs font v xs ps n.1 (omega (arith, long)))

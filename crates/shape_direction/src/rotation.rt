@@ -80,7 +80,7 @@ fn raises_chars(rotation: Rotation) -> bool
     rotation.target_direction.is_vertical() && !rotation.has_vert
 }
 
-#[tactic(auto, using(crate::proofs::Rotated::mask_above, std::proofs::lemmas::Nat::and_or_apart))]
+#[tactic(auto, using(stage_rules::specs::Lemmas::Masks::mask_above, std::proofs::lemmas::Nat::and_or_apart))]
 fn mirrored(
     tables: &UnicodeTables,
     face: &Face,

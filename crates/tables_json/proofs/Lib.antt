@@ -1,2 +1,3 @@
+mod Keys
 pub mod Shallow
 pub mod Texts
