@@ -17,7 +17,8 @@ use Rattle.stage_rules.specs.Buffers.{IsPassed, cut_of}
 use Rattle.stage_rules.specs.Performing.{Performed, cut_with}
 use Rattle.stage_rules.specs.Lemmas.Frames.{same_lengths}
 use Rattle.stage_rules.specs.Lemmas.Performed.{passes_nothing}
-use Rattle.layout_gpos.specs.Anchors.{is_near, mark_hung, told_if}
+use Rattle.layout_gpos.specs.Anchors.{mark_hung, told_if}
+use Rattle.position_chains.specs.Links.{is_near}
 use Rattle.layout_gpos.specs.Moving.{break_around}
 use Rattle.layout_gpos.specs.Marks.{attach, attach_if, base_before, is_there, mark_on_base, mark_to_base, on_base, with_found}
 use Rattle.layout_gpos.specs.Lemmas.Placed.{break_passed, front_count}

@@ -1,17 +1,9 @@
 -- Glyphs that hang on others by anchors, on a list of positions.
-use Rattle.std.specs.Prelude.{ℕ, ℤ, pos, ◌-ℤ◌, ◌-◌, nat_le, ◌&&◌, if◌then◌else◌, List, Bool, set}
+use Rattle.std.specs.Prelude.{ℕ, ℤ, ◌-ℤ◌, if◌then◌else◌, List, Bool, set}
 use Rattle.std.specs.Int.RustNames.{bit_or}
 use Rattle.glyph_lists.specs.Items.{Position}
 use Rattle.layout_positions.specs.declared.value.Anchor.{Anchor}
-use Rattle.layout_links.specs.Links.{position_at}
-
--- how far a link may lead
-abbrev pub is_near : ℕ → ℕ → Bool
-is_near child parent = nat_le (child - parent) 32767 && nat_le (parent - child) 32767
-
--- the way from a glyph to another, as a link
-abbrev pub link_to : ℕ → ℕ → ℤ
-link_to child parent = pos parent -ℤ pos child
+use Rattle.position_chains.specs.Links.{position_at, is_near, link_to}
 
 -- a mark whose anchor lies on that of its base, both seen from where their glyphs are drawn
 abbrev pub anchored : Anchor → Anchor → ℤ → Position → Position

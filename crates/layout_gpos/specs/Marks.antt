@@ -18,7 +18,8 @@ use Rattle.layout_match.specs.Searches.{Search, answer, is_skippable}
 use Rattle.layout_match.specs.declared.search.match_t.{match_t}
 use Rattle.layout_match.specs.declared.search.match_t.TheVariants.{MATCH, SKIP, NOT_MATCH}
 use Rattle.stage_rules.specs.Actions.{Cut, Action, Passes, Acts, at_first, attempt_around}
-use Rattle.layout_gpos.specs.Anchors.{mark_hung, is_near, told_if}
+use Rattle.layout_gpos.specs.Anchors.{mark_hung, told_if}
+use Rattle.position_chains.specs.Links.{is_near}
 use Rattle.layout_gpos.specs.Moving.{break_around, placed_past}
 
 -- ---- the item that a mark hangs on; the first before the cut has the index 0

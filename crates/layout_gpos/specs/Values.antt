@@ -4,7 +4,8 @@ use Rattle.glyph_lists.specs.Items.{Position}
 use Rattle.shaping_text.specs.declared.direction.Direction.{Direction}
 use Rattle.shaping_text.specs.Direction.{is_horizontal}
 use Rattle.layout_positions.specs.declared.value.ValueRecord.{ValueRecord}
-use Rattle.layout_links.specs.Links.{plus, minus, position_at}
+use Rattle.position_sums.specs.Sums.{plus, minus}
+use Rattle.position_chains.specs.Links.{position_at}
 
 -- an advance along the line grows; downward it grows by what is taken from it
 abbrev pub advanced : Bool → ValueRecord → Position → Position

@@ -1,29 +1,11 @@
 //! Marks that hang on other glyphs, on a list of positions.
-ghost use Rattle.std.specs.Prelude.{◌≡◌, ◌<◌, ◌-ℤ◌, true, length};
-ghost use Rattle.layout_gpos.specs.Anchors.{anchored, is_near, link_to, mark_hung};
+ghost use Rattle.std.specs.Prelude.{◌≡◌, ◌<◌, ◌-ℤ◌, length};
+ghost use Rattle.layout_gpos.specs.Anchors.{anchored, mark_hung};
+ghost use Rattle.position_chains.specs.Links.{is_near, link_to};
 
 use glyph_lists::position::GlyphPosition;
 use layout_positions::value::Anchor;
-
-/// Whether a link may lead from one index to the other: over at most 32,767 glyphs.
-pub fn is_near(child: usize, parent: usize) -> bool
-    ensures { result ≡ is_near child parent }
-{
-    child.saturating_sub(parent) <= 32767 && parent.saturating_sub(child) <= 32767
-}
-
-pub fn link_to(child: usize, parent: usize) -> i16
-    requires near { is_near child parent ≡ true }
-    ensures { result ≡ link_to child parent }
-{
-    if parent < child {
-        let back = child - parent;
-        -(back as i16)
-    } else {
-        let on = parent - child;
-        on as i16
-    }
-}
+use position_chains::links::{is_near, link_to};
 
 fn difference(a: i16, b: i16) -> i32
     ensures { result ≡ a -ℤ b }

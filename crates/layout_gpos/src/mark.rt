@@ -5,12 +5,13 @@ ghost use Rattle.sorted_rows.specs.Keys.{row_of};
 ghost use Rattle.layout_match.specs.Applied.{applied_of};
 ghost use Rattle.stage_rules.specs.Buffers.{are_glyphs};
 ghost use Rattle.stage_rules.specs.Performing.{Performed, cut_with};
-ghost use Rattle.layout_gpos.specs.Anchors.{is_near, mark_hung, told_if};
+ghost use Rattle.layout_gpos.specs.Anchors.{mark_hung, told_if};
+ghost use Rattle.position_chains.specs.Links.{is_near};
 ghost use Rattle.layout_gpos.specs.Bases.{IsKept, any_sought};
 ghost use Rattle.layout_gpos.specs.declared.bases.Sought.TheVariants.{Base};
 ghost use Rattle.layout_gpos.specs.Marks.{attach, attach_if, is_there, mark_to_base, on_base, with_found};
 
-use crate::anchor::{hang_mark, is_near};
+use crate::anchor::hang_mark;
 use crate::apply::Apply;
 use crate::bases::{LastSearch, Sought, found_before};
 use crate::marking::{mark_attempt, mark_match};
@@ -20,6 +21,7 @@ use glyph_buffer::buffer::hb_buffer_t;
 use layout_match::hb_ot_apply_context_t;
 use layout_positions::mark::{MarkBasePos, MarkRecord};
 use layout_positions::value::Anchor;
+use position_chains::links::is_near;
 use shaping_text::constants::HB_BUFFER_SCRATCH_FLAG_HAS_GPOS_ATTACHMENT;
 
 #[tactic(auto, using(crate::specs::Lemmas::Placed::hung_back))]

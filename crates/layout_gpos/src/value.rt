@@ -3,8 +3,8 @@ ghost use Rattle.std.specs.Prelude.{◌≡◌, ◌<◌, length};
 ghost use Rattle.layout_gpos.specs.Values.{adjusted, adjusted_at, advanced, is_zero, moved};
 
 use glyph_lists::position::GlyphPosition;
-use layout_links::sums::{minus, plus};
 use layout_positions::value::ValueRecord;
+use position_sums::sums::{minus, plus};
 use shaping_text::direction::Direction;
 
 fn moved(value: ValueRecord, position: GlyphPosition) -> GlyphPosition

@@ -12,12 +12,14 @@ use Rattle.shaping_text.specs.declared.direction.Direction.{Direction}
 use Rattle.shaping_text.specs.Direction.{is_forward, is_horizontal}
 use Rattle.glyph_buffer.specs.Sides.{zero_position}
 use Rattle.layout_links.specs.declared.sums.Pen.{Pen}
-use Rattle.layout_links.specs.Links.{position_at, linked, parent, without_link, unlinked, plus, minus, offset_by, back_over, on_over, mark_drawn, child_drawn, drawn_position, has_kind, kind_tested, kinds_tested, hung, hung_on, followed, followed_from, all_followed, finished}
+use Rattle.layout_links.specs.Links.{unlinked, plus, minus, offset_by, back_over, on_over, mark_drawn, child_drawn, drawn_position, has_kind, kind_tested, kinds_tested, hung, hung_on, followed, followed_from, all_followed, finished}
+use Rattle.position_chains.specs.Links.{position_at, linked, parent, without_link}
 use Rattle.layout_links.specs.Sums.{Fits, AllFit, pen_down, pen_after, pen_of, pen_way, pen_before, with_pen, summed_from, summed, apart_from, taken_apart, back_by, on_by, after_parent, mark_by_sums, drawn_by_sums}
 use Rattle.layout_links.specs.Walks.{is_link, is_open, are_shut}
 use Rattle.layout_links.specs.Trees.{only_advances}
 use Rattle.layout_links.specs.Marks.{total}
-use Rattle.layout_links.proofs.Going.{followed_step, followed_none, linked_there}
+use Rattle.position_chains.specs.Lemmas.Linked.{linked_there}
+use Rattle.layout_links.proofs.Going.{followed_step, followed_none}
 use Rattle.layout_links.proofs.Shut.{unlinked_closed}
 use Rattle.layout_links.proofs.Drawn.{drawn_advances}
 use Rattle.layout_links.proofs.Totals.{pen_forward, fold_back, fold_on, twice}

@@ -10,9 +10,11 @@ use Rattle.glyph_lists.specs.Lemmas.Origins.{slice_seen}
 use Rattle.shaping_text.specs.declared.direction.Direction.{Direction}
 use Rattle.shaping_text.specs.Direction.{is_forward, is_horizontal}
 use Rattle.glyph_buffer.specs.Sides.{zero_position}
-use Rattle.layout_links.specs.Links.{position_at, linked, parent, without_link, unlinked, offset_by, back_over, on_over, mark_drawn, child_drawn, drawn_position, hung, hung_on, followed, followed_from, all_followed, kinds_tested}
+use Rattle.layout_links.specs.Links.{unlinked, offset_by, back_over, on_over, mark_drawn, child_drawn, drawn_position, hung, hung_on, followed, followed_from, all_followed, kinds_tested}
+use Rattle.position_chains.specs.Links.{position_at, linked, parent, without_link}
 use Rattle.layout_links.specs.Trees.{HaveDepths, only_advances, drawn_from, final, AreDrawn, TreesAreDrawn, ArePartlyDrawn}
-use Rattle.layout_links.proofs.Going.{followed_step, linked_there, elsewhere}
+use Rattle.position_chains.specs.Lemmas.Linked.{linked_there}
+use Rattle.layout_links.proofs.Going.{followed_step, elsewhere}
 
 -- ---- what is drawn reads only the advances of others
 

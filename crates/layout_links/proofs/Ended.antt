@@ -9,7 +9,8 @@ use Rattle.glyph_buffer.specs.Readings.{View, Read, always, with_events, Follows
 use Rattle.glyph_buffer.specs.Lending.{refilled, with_positions_refilled}
 use Rattle.glyph_buffer.specs.Sides.{Sides, run_of, zero_position, told_of, view_of}
 use Rattle.stage_rules.specs.Ready.{IsDone, IsReady}
-use Rattle.layout_links.specs.Links.{finished, position_at}
+use Rattle.layout_links.specs.Links.{finished}
+use Rattle.position_chains.specs.Links.{position_at}
 use Rattle.layout_links.specs.Finishing.{has_attachments, all_drawn, drawn_if, links_followed}
 use Rattle.layout_links.specs.Starting.{links_cleared, unattached}
 use Rattle.layout_links.proofs.Kept.{finished_length}

@@ -1,15 +1,17 @@
 -- A walk's steps.
-use Rattle.std.proofs.Common.{ℕ, suc, ℤ, pos, negsuc, ◌+ℤ◌, ◌≡◌, ◌≢◌, ◌<◌, ◌+◌, ◌-◌, ◌==◌, ◌&&◌, inl, inr, Bool, true, false, not, if◌then◌else◌, List, [], ◌∷◌, Option, Some, None, length, set, arith, refl, ap, sym, subst, ◌∙◌, add-one}
+use Rattle.std.proofs.Common.{ℕ, suc, ℤ, pos, ◌+ℤ◌, ◌≡◌, ◌≢◌, ◌<◌, ◌+◌, ◌-◌, ◌==◌, ◌&&◌, inl, inr, Bool, true, false, not, if◌then◌else◌, List, [], ◌∷◌, Option, Some, None, length, set, arith, refl, ap, sym, subst, ◌∙◌, add-one}
 use Rattle.std.specs.Prelude.{nat_abs, int_le, int_lt}
 use Rattle.std.proofs.lemmas.Int.{ints}
-use Rattle.std.proofs.lemmas.Bool.Decides.{nat_tests, eqb_tells}
+use Rattle.std.proofs.lemmas.Bool.Decides.{eqb_tells}
 use Rattle.std.proofs.lemmas.List.{map-set, length-set, get_or-set_same, get_or-set_other, set-get_or}
 use Rattle.glyph_lists.specs.Items.{Position}
 use Rattle.shaping_text.specs.declared.direction.Direction.{Direction}
 use Rattle.glyph_buffer.specs.Sides.{zero_position}
-use Rattle.layout_links.specs.Links.{position_at, linked, parent, without_link, unlinked, Drawing, hung, hung_on, followed}
+use Rattle.layout_links.specs.Links.{unlinked, Drawing, hung, hung_on, followed}
+use Rattle.position_chains.specs.Links.{position_at, linked, parent, without_link}
 use Rattle.layout_links.specs.Sums.{drawn_by_sums}
 use Rattle.layout_links.specs.Walks.{is_link, is_open, opened, shut, all_shut, are_shut, Apart, Trail, unwound, IsWalk, IsGoing, IsComing, Stops, Goes, CameFrom, GoesBack}
+use Rattle.position_chains.specs.Lemmas.Linked.{linked_there}
 use Rattle.layout_links.proofs.Shut.{shut_at, shut_closed, open_opened, parent_shut, parent_open, unlinked_open, unlinked_shut, opened_shut, hung_shut, drawn_hold, unlinked_closed}
 
 pub followed_step : (draw : Drawing) (fuel next at : ℕ) (ps : List Position) → fuel ≡ suc next → followed draw fuel at ps ≡ hung_on draw (followed draw next) at (parent at ps) ps
@@ -21,25 +23,6 @@ unfolding followed
 followed_none draw at ps = refl
 
 -- ---- where a link leads
-
-both_tests : (a b : Bool) (m j : ℕ) → (if a && b then Some m else None) ≡ Some j → (b ≡ true) × (m ≡ j)
-both_tests true true m j e = (refl, cc)
-both_tests true false m j e = cc
-both_tests false b m j e = cc
-
-inside_is : (n : ℕ) (t : ℤ) (j : ℕ) → (if int_le (pos 0) t && int_lt t (pos n) then Some (nat_abs t) else None) ≡ Some j → (j < n) × (pos j ≡ t)
-inside_is n (pos m) j e =
-    let both = both_tests (int_le (pos 0) (pos m)) (int_lt (pos m) (pos n)) m j e in
-    let less : m < n = grind (arith, nat_tests, both.0) in
-    (omega (arith, less, both.1), ap pos (sym both.1))
-inside_is n (negsuc m) j e = cc
-
-linked_by : (none : Bool) (n : ℕ) (t : ℤ) (j : ℕ) → (if none then None else if int_le (pos 0) t && int_lt t (pos n) then Some (nat_abs t) else None) ≡ Some j → (j < n) × (pos j ≡ t)
-linked_by true n t j e = cc
-linked_by false n t j e = inside_is n t j e
-
-pub linked_there : (n i : ℕ) (d : ℤ) (j : ℕ) → linked n i d ≡ Some j → (j < n) × (pos j ≡ pos i +ℤ d)
-linked_there n i d j e = linked_by (nat_abs d == 0) n (pos i +ℤ d) j e
 
 -- a link that leads somewhere isn't 0
 linked_moves_by : (none : Bool) (o : Option ℕ) (j : ℕ) → (if none then None else o) ≡ Some j → not none ≡ true

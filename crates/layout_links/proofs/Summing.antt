@@ -8,7 +8,8 @@ use Rattle.std.proofs.lemmas.Nat.{pow_pos}
 use Rattle.glyph_lists.specs.Items.{Position}
 use Rattle.glyph_buffer.specs.Sides.{zero_position}
 use Rattle.layout_links.specs.declared.sums.Pen.{Pen}
-use Rattle.layout_links.specs.Links.{position_at, kind_tested, kinds_tested}
+use Rattle.layout_links.specs.Links.{kind_tested, kinds_tested}
+use Rattle.position_chains.specs.Links.{position_at}
 use Rattle.layout_links.specs.Sums.{Fits, AllFit, pen_down, pen_after, pen_of, pen_way, with_pen, summed_from, summed, apart_from, taken_apart}
 use Rattle.layout_links.specs.Summing.{IsSumming, IsParting}
 

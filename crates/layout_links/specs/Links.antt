@@ -1,24 +1,15 @@
 -- Glyphs that hang on others by links, and where they are drawn.
-use Rattle.std.specs.Prelude.{ℕ, zero, suc, ℤ, pos, ◌+ℤ◌, ◌-ℤ◌, nat_abs, ◌+◌, ◌==◌, Bool, true, false, int_le, int_lt, ◌&&◌, ◌||◌, if◌then◌else◌, List, get_or, set, map, length, slice_range, Option, Some, None}
+use Rattle.std.specs.Prelude.{ℕ, zero, suc, ◌+◌, ◌==◌, Bool, true, false, ◌||◌, if◌then◌else◌, List, set, map, length, slice_range, Option, Some, None}
 use Rattle.std.specs.List.{fold}
-use Rattle.std.specs.Int.{int_wrap, w32}
 use Rattle.glyph_lists.specs.Items.{Position}
 use Rattle.shaping_text.specs.declared.direction.Direction.{Direction}
 use Rattle.shaping_text.specs.Direction.{is_forward, is_horizontal}
-use Rattle.glyph_buffer.specs.Sides.{zero_position}
 pub use Rattle.position_sums.specs.Sums.{minus, plus}
-
--- the position with a number
-abbrev pub position_at : ℕ → List Position → Position
-position_at i ps = get_or ps i zero_position
+use Rattle.position_chains.specs.Links.{position_at, without_link, parent}
 
 -- a link is a mark's (1) or a cursive child's (2)
 abbrev pub has_kind : Position → Bool
 has_kind p = p.attach_type == 1 || p.attach_type == 2
-
--- the position without its link
-abbrev pub without_link : Position → Position
-without_link p = record p { attach_chain = pos 0 }
 
 -- a link of any other kind is none
 abbrev pub kind_tested : Position → Position
@@ -26,14 +17,6 @@ kind_tested p = if has_kind p then p else without_link p
 
 abbrev pub kinds_tested : List Position → List Position
 kinds_tested ps = map kind_tested ps
-
--- where a link of position i leads to, among n positions: to none where it is 0 or leads outside
-abbrev pub linked : ℕ → ℕ → ℤ → Option ℕ
-linked n i d = if nat_abs d == 0 then None else if int_le (pos 0) (pos i +ℤ d) && int_lt (pos i +ℤ d) (pos n) then Some (nat_abs (pos i +ℤ d)) else None
-
--- what a glyph hangs on
-abbrev pub parent : ℕ → List Position → Option ℕ
-parent i ps = linked (length ps) i (position_at i ps).attach_chain
 
 -- a glyph's link is cleared
 abbrev pub unlinked : ℕ → List Position → List Position

@@ -4,7 +4,8 @@ use Rattle.std.specs.Int.{int_wrap, w32}
 use Rattle.glyph_lists.specs.Items.{Position}
 use Rattle.shaping_text.specs.declared.direction.Direction.{Direction}
 use Rattle.shaping_text.specs.Direction.{is_forward}
-use Rattle.layout_links.specs.Links.{position_at, parent, kinds_tested, finished}
+use Rattle.layout_links.specs.Links.{kinds_tested, finished}
+use Rattle.position_chains.specs.Links.{position_at, parent}
 use Rattle.layout_links.specs.Trees.{HaveDepths}
 
 -- a sum over positions

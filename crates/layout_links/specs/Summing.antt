@@ -2,7 +2,8 @@
 use Rattle.std.specs.Prelude.{ℕ, ◌≡◌, ◌≤◌, ◌<◌, List, ◌++◌, length, take, drop}
 use Rattle.glyph_lists.specs.Items.{Position}
 use Rattle.layout_links.specs.declared.sums.Pen.{Pen}
-use Rattle.layout_links.specs.Links.{position_at, kinds_tested}
+use Rattle.layout_links.specs.Links.{kinds_tested}
+use Rattle.position_chains.specs.Links.{position_at}
 use Rattle.layout_links.specs.Sums.{Fits, summed_from, summed, apart_from, taken_apart}
 
 -- those that are left to be summed up lead to all

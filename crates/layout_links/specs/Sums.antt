@@ -5,7 +5,8 @@ use Rattle.glyph_lists.specs.Items.{Position}
 use Rattle.shaping_text.specs.declared.direction.Direction.{Direction}
 use Rattle.shaping_text.specs.Direction.{is_forward, is_horizontal}
 use Rattle.layout_links.specs.declared.sums.Pen.{Pen}
-use Rattle.layout_links.specs.Links.{plus, minus, position_at, offset_by, child_drawn}
+use Rattle.layout_links.specs.Links.{plus, minus, offset_by, child_drawn}
+use Rattle.position_chains.specs.Links.{position_at}
 
 -- the pen at the beginning
 abbrev pub pen_down : Pen

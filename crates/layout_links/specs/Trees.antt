@@ -2,7 +2,8 @@
 use Rattle.std.specs.Prelude.{ℕ, pos, ◌≡◌, ◌<◌, Bool, true, false, List, map, set, length, Option, Some, None}
 use Rattle.glyph_lists.specs.Items.{Position}
 use Rattle.shaping_text.specs.declared.direction.Direction.{Direction}
-use Rattle.layout_links.specs.Links.{position_at, parent, without_link, drawn_position, kinds_tested, finished}
+use Rattle.layout_links.specs.Links.{drawn_position, kinds_tested, finished}
+use Rattle.position_chains.specs.Links.{position_at, parent, without_link}
 
 -- links form no ring: each glyph has a depth, and hangs on one of a lesser depth
 pub record HaveDepths (depth : ℕ → ℕ) (ps : List Position) : Type 0 where

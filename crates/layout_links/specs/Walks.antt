@@ -2,7 +2,8 @@
 use Rattle.std.specs.Prelude.{ℕ, ℤ, pos, ◌+ℤ◌, ◌+◌, ◌-◌, ◌<◌, ◌≡◌, ◌≢◌, Bool, true, false, nat_le, nat_abs, not, ◌&&◌, ◌==◌, ◌⊎◌, List, [], ◌∷◌, map, set, length, Some, None}
 use Rattle.glyph_lists.specs.Items.{Position}
 use Rattle.shaping_text.specs.declared.direction.Direction.{Direction}
-use Rattle.layout_links.specs.Links.{position_at, parent, unlinked, hung, followed}
+use Rattle.layout_links.specs.Links.{unlinked, hung, followed}
+use Rattle.position_chains.specs.Links.{position_at, parent}
 use Rattle.layout_links.specs.Sums.{drawn_by_sums}
 
 -- whether a position has a link

@@ -1,9 +1,8 @@
 -- Glyphs joined at the cursor.
-use Rattle.std.proofs.Common.{ℕ, ℤ, ◌≡◌, ◌<◌, ◌≤◌, ◌+◌, ◌-◌, Bool, true, false, if◌then◌else◌, List, [], ◌∷◌, Option, Some, None, Result, Ok, length, set, drop, reverse, arith, refl, sym, ap, subst, ◌∙◌, slice_get}
-use Rattle.std.proofs.lemmas.List.{take_at, length-set}
+use Rattle.std.proofs.Common.{ℕ, ◌≡◌, ◌<◌, ◌≤◌, ◌+◌, ◌-◌, Bool, true, false, List, [], ◌∷◌, Option, Some, None, Result, Ok, length, drop, reverse, arith, refl, sym, ap, subst, ◌∙◌, slice_get}
+use Rattle.std.proofs.lemmas.List.{take_at}
 use Rattle.glyph_lists.specs.declared.info.hb_glyph_info_t.{hb_glyph_info_t}
 use Rattle.shaping_text.specs.declared.direction.Direction.{Direction}
-use Rattle.shaping_text.specs.Direction.{is_forward, is_horizontal}
 use Rattle.glyph_lists.specs.Items.{Position}
 use Rattle.glyph_lists.specs.Events.{Break}
 use Rattle.glyph_buffer.specs.Lending.{with_positions_refilled}
@@ -12,56 +11,21 @@ use Rattle.layout_common.specs.declared.glyph_row.GlyphRow.{GlyphRow}
 use Rattle.layout_match.specs.Applied.{Applied}
 use Rattle.layout_positions.specs.declared.cursive.EntryExit.{EntryExit}
 use Rattle.layout_positions.specs.declared.value.Anchor.{Anchor}
-use Rattle.layout_links.specs.Links.{parent, position_at}
 use Rattle.stage_rules.specs.Actions.{Cut, Outcome, at_first, attempt_around}
 use Rattle.stage_rules.specs.Buffers.{IsPassed, Frame, cut_of}
 use Rattle.stage_rules.specs.Performing.{Performed, cut_with}
 use Rattle.stage_rules.specs.Lemmas.Frames.{same_lengths}
 use Rattle.stage_rules.specs.Lemmas.Glyphs.{first_item}
 use Rattle.stage_rules.specs.Lemmas.Performed.{passes_nothing}
-use Rattle.layout_gpos.specs.Anchors.{is_near, told_if}
-use Rattle.layout_positioning.specs.Cursive.{cursive_hung, freed, freed_across, is_child_of, joined_advances, joined_at, turned}
-use Rattle.layout_positioning.specs.Joins.{cursive_subtable, entry_of, exit_of, from_entry, hangs_earlier, join, join_if, joined, joined_on, on_exit}
+use Rattle.layout_gpos.specs.Anchors.{told_if}
+use Rattle.position_chains.specs.Links.{is_near}
+use Rattle.position_chains.specs.Cursive.{hangs_earlier, joined}
+use Rattle.position_chains.specs.Lemmas.Joined.{joined_length}
+use Rattle.layout_positioning.specs.Joins.{cursive_subtable, entry_of, exit_of, from_entry, join, join_if, on_exit}
 use Rattle.layout_gpos.specs.Marks.{item_before, with_found}
 use Rattle.layout_gpos.specs.Moving.{break_around}
 use Rattle.layout_gpos.specs.Lemmas.Performed.{found_is, marked_told, told_same}
 use Rattle.layout_gpos.specs.Lemmas.Placed.{break_passed, front_count}
-use Rattle.layout_positioning.proofs.Turned.{turned_length}
-
--- ---- as many positions as before
-
-freed_length : (d : Direction) (child to : ℕ) (ps : List Position) → length (freed d child to ps) ≡ length ps
-freed_length d child to ps = by_child (is_child_of child (parent to ps))
-  where
-    free : Position
-    free = freed_across (is_horizontal d) (position_at to ps)
-
-    by_child : (b : Bool) → length (if b then set ps to free else ps) ≡ length ps
-    by_child true = length-set ps to free
-    by_child false = refl
-
-hung_length : (d : Direction) (child to : ℕ) (x y : ℤ) (ps : List Position) → length (cursive_hung d child to x y ps) ≡ length ps
-hung_length d child to x y ps = by_near (is_near child to)
-  where
-    inner : List Position
-    inner = turned d to child ps
-
-    by_near : (b : Bool) → length (if b then freed d child to (joined_at d child to x y inner) else ps) ≡ length ps
-    by_near true = freed_length d child to (joined_at d child to x y inner) ∙ length-set inner child _ ∙ turned_length d to child ps
-    by_near false = refl
-
-advances_length : (forward across : Bool) (first second : ℕ) (exit entry : Anchor) (ps : List Position) → length (joined_advances forward across first exit second entry ps) ≡ length ps
-advances_length true across first second exit entry ps = length-set (set ps first _) second _ ∙ length-set ps first _
-advances_length false across first second exit entry ps = length-set (set ps first _) second _ ∙ length-set ps first _
-
-on_length : (d : Direction) (earlier : Bool) (first second : ℕ) (exit entry : Anchor) (ps : List Position) → length (joined_on d earlier first exit second entry ps) ≡ length ps
-on_length d true first second exit entry ps = hung_length d first second _ _ ps
-on_length d false first second exit entry ps = hung_length d second first _ _ ps
-
-joined_length : (d : Direction) (earlier : Bool) (first second : ℕ) (exit entry : Anchor) (ps : List Position) → length (joined d earlier first exit second entry ps) ≡ length ps
-joined_length d earlier first second exit entry ps =
-    let inner = joined_advances (is_forward d) (is_horizontal d) first exit second entry ps in
-    on_length d earlier first second exit entry inner ∙ advances_length (is_forward d) (is_horizontal d) first second exit entry ps
 
 pub joined_back : (ps : List Position) (d : Direction) (earlier : Bool) (first second : ℕ) (exit entry : Anchor) (s new : Sides) → new ≡ with_positions_refilled ps s → ps ≡ joined d earlier first exit second entry s.positions
     → new ≡ record s { positions = joined d earlier first exit second entry s.positions }

@@ -1,5 +1,3 @@
-pub mod Linked
-pub mod Turned
 pub mod Joined
 pub mod Passed
 pub mod Levels

@@ -1,8 +1,7 @@
 -- Cursive attachment at a cut (OpenType, GPOS lookup type 3): the item before exits where the item at the cut enters.
-use Rattle.std.specs.Prelude.{ℕ, ◌-ℤ◌, ◌+◌, ◌-◌, ◌==◌, Bool, true, false, not, List, [], length, Option, Some, None, option_and_then, bit_and}
+use Rattle.std.specs.Prelude.{ℕ, ◌+◌, ◌-◌, List, [], length, Option, Some, None, option_and_then}
 use Rattle.shaping_text.specs.declared.direction.Direction.{Direction}
-use Rattle.shaping_text.specs.Direction.{is_forward, is_horizontal}
-use Rattle.glyph_lists.specs.Items.{Item, Position}
+use Rattle.glyph_lists.specs.Items.{Item}
 use Rattle.glyph_lists.specs.Parts.{first_of}
 use Rattle.layout_common.specs.Rows.{value_of}
 use Rattle.layout_common.specs.declared.glyph_row.GlyphRow.{GlyphRow}
@@ -10,23 +9,11 @@ use Rattle.layout_positions.specs.declared.cursive.EntryExit.{EntryExit}
 use Rattle.layout_positions.specs.declared.value.Anchor.{Anchor}
 use Rattle.layout_match.specs.Applied.{Applied}
 use Rattle.stage_rules.specs.Actions.{Action, Passes, Acts, at_first, attempt_around}
-use Rattle.layout_gpos.specs.Anchors.{is_near, told_if}
-use Rattle.layout_positioning.specs.Cursive.{cursive_hung, joined_advances}
+use Rattle.layout_gpos.specs.Anchors.{told_if}
+use Rattle.position_chains.specs.Links.{is_near}
+use Rattle.position_chains.specs.Cursive.{hangs_earlier, joined}
 use Rattle.layout_gpos.specs.Marks.{item_before, with_found}
 use Rattle.layout_gpos.specs.Moving.{break_around, placed_past}
-
--- a lookup with RIGHT_TO_LEFT hangs the earlier glyph on the later one
-abbrev pub hangs_earlier : ℕ → Bool
-hangs_earlier props = not (bit_and props 1 == 0)
-
--- the child hangs on its parent, at the parent's anchor less its own across the line
-abbrev pub joined_on : Direction → Bool → ℕ → Anchor → ℕ → Anchor → List Position → List Position
-joined_on d true first exit second entry ps = cursive_hung d first second (entry.x -ℤ exit.x) (entry.y -ℤ exit.y) ps
-joined_on d false first exit second entry ps = cursive_hung d second first (exit.x -ℤ entry.x) (exit.y -ℤ entry.y) ps
-
--- two glyphs joined: along the line the first ends at its exit and the second begins at its entry
-abbrev pub joined : Direction → Bool → ℕ → Anchor → ℕ → Anchor → List Position → List Position
-joined d earlier first exit second entry ps = joined_on d earlier first exit second entry (joined_advances (is_forward d) (is_horizontal d) first exit second entry ps)
 
 abbrev pub join : Direction → Applied → Anchor → Anchor → ℕ → Action
 join d a exit entry back c = Acts (record (placed_past 1 (joined d (hangs_earlier a.props) (length c.front - (back + 1)) exit (length c.front) entry c.positions) c) {

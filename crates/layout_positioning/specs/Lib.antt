@@ -1,4 +1,3 @@
-pub mod Cursive
 pub mod Joins
 pub mod Lookups
 pub mod Positioning

@@ -1,18 +1,14 @@
 //! Cursive attachment.
-ghost use Rattle.std.specs.Prelude.{ℕ, ◌≡◌, ◌<◌, ◌≤◌, ◌-ℤ◌, IfErr, IfOk, Ok, false, true, length};
-ghost use Rattle.shaping_text.specs.Direction.{is_forward, is_horizontal};
+ghost use Rattle.std.specs.Prelude.{ℕ, ◌≡◌, ◌<◌, ◌≤◌, IfErr, IfOk, Ok, false, true, length};
 ghost use Rattle.glyph_buffer.specs.Sides.{all_glyphs, items_of};
 ghost use Rattle.layout_match.specs.Applied.{applied_of};
 ghost use Rattle.stage_rules.specs.Buffers.{are_glyphs};
 ghost use Rattle.stage_rules.specs.Performing.{Performed, cut_with};
-ghost use Rattle.layout_positioning.specs.Joins.{cursive_subtable, entry_of, exit_of, hangs_earlier, join, join_if, joined, joined_on, on_exit};
+ghost use Rattle.layout_positioning.specs.Joins.{cursive_subtable, entry_of, exit_of, join, join_if, on_exit};
+ghost use Rattle.position_chains.specs.Cursive.{joined};
 ghost use Rattle.layout_gpos.specs.Marks.{with_found};
 
-use crate::cursive_chain::{hang_child, join_advances};
 use glyph_buffer::buffer::hb_buffer_t;
-use glyph_lists::position::GlyphPosition;
-use layout_common::flags::RIGHT_TO_LEFT;
-use layout_gpos::anchor::is_near;
 use layout_gpos::mark::tell_attached;
 use layout_gpos::marking::{mark_attempt, mark_match};
 use layout_gpos::placing::pass;
@@ -20,66 +16,8 @@ use layout_gpos::search::{glyph_before, item_before};
 use layout_match::hb_ot_apply_context_t;
 use layout_positions::cursive::CursivePos;
 use layout_positions::value::Anchor;
-use shaping_text::direction::Direction;
-
-fn hangs_earlier(props: u32) -> bool
-    ensures { result ≡ hangs_earlier props }
-{
-    props & u32::from(RIGHT_TO_LEFT) != 0
-}
-
-fn difference(a: i16, b: i16) -> i32
-    ensures { result ≡ a -ℤ b }
-{
-    i32::from(a) - i32::from(b)
-}
-
-/// Two glyphs that are joined: their indices, where the first is left and the second is entered.
-#[derive(Clone, Copy)]
-struct Joint {
-    first: usize,
-    exit: Anchor,
-    second: usize,
-    entry: Anchor,
-}
-
-/// Hangs one of two glyphs on the other: the earlier on the later, or the later on the earlier.
-fn join_on(positions: &mut [GlyphPosition], earlier: bool, join: Joint, direction: Direction)
-    requires first { join.first < length positions.old }
-    requires second { join.second < length positions.old }
-    ensures { positions.new ≡ joined_on direction earlier join.first join.exit join.second join.entry positions.old }
-{
-    let Joint {
-        first,
-        exit,
-        second,
-        entry,
-    } = join;
-    if earlier {
-        let (x, y) = (difference(entry.x, exit.x), difference(entry.y, exit.y));
-        hang_child(positions, first, second, x, y, direction);
-        return;
-    }
-    let (x, y) = (difference(exit.x, entry.x), difference(exit.y, entry.y));
-    hang_child(positions, second, first, x, y, direction);
-}
-
-/// Joins two glyphs along the line and across it.
-fn join_both(positions: &mut [GlyphPosition], earlier: bool, join: Joint, direction: Direction)
-    requires first { join.first < length positions.old }
-    requires second { join.second < length positions.old }
-    ensures { positions.new ≡ joined direction earlier join.first join.exit join.second join.entry positions.old }
-{
-    join_advances(
-        positions,
-        join.first,
-        join.exit,
-        join.second,
-        join.entry,
-        direction,
-    );
-    join_on(positions, earlier, join, direction);
-}
+use position_chains::cursive_join::{Joint, hangs_earlier, join_both};
+use position_chains::links::is_near;
 
 #[tactic(auto, using(crate::proofs::Joined::joined_back))]
 fn join_at(buffer: &mut hb_buffer_t, earlier: bool, join: Joint)

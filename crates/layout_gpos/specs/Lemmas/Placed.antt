@@ -16,9 +16,10 @@ use Rattle.stage_rules.specs.Buffers.{IsPassed, are_glyphs, cut_of}
 use Rattle.stage_rules.specs.Performing.{IsMade, Performed, cut_with}
 use Rattle.stage_rules.specs.Lemmas.Glyphs.{first_item}
 use Rattle.stage_rules.specs.Lemmas.Performed.{passes_nothing}
-use Rattle.layout_links.specs.Links.{position_at}
+use Rattle.position_chains.specs.Links.{position_at}
 use Rattle.layout_positions.specs.declared.value.Anchor.{Anchor}
-use Rattle.layout_gpos.specs.Anchors.{anchored, is_near, link_to, mark_hung}
+use Rattle.layout_gpos.specs.Anchors.{anchored, mark_hung}
+use Rattle.position_chains.specs.Links.{is_near, link_to}
 use Rattle.layout_gpos.specs.Values.{adjusted_at}
 use Rattle.layout_gpos.specs.Moving.{break_around, placed_past}
 use Rattle.layout_gpos.specs.Singles.{single_adjusted, single_subtable}

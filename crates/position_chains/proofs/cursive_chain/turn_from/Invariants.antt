@@ -1,6 +1,6 @@
 use Rattle.std.proofs.Common.{◌-◌, ◌<◌, ◌≡◌, length}
-use Rattle.layout_positioning.specs.Cursive.{turned_from}
-use Rattle.layout_positioning.proofs.cursive_chain.turn_from.Given as goal
+use Rattle.position_chains.specs.Cursive.{turned_from}
+use Rattle.position_chains.proofs.cursive_chain.turn_from.Given as goal
 
 -- what is left to turn, from here, gives the whole
 abbrev pub invariant-loop-done : goal.invariant-loop-done

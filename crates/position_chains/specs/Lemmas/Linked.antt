@@ -2,7 +2,7 @@
 use Rattle.std.proofs.Common.{ℕ, ℤ, pos, negsuc, ◌+ℤ◌, ◌≡◌, ◌<◌, ◌==◌, ◌&&◌, Bool, true, false, if◌then◌else◌, Some, None, arith, refl, ap, sym}
 use Rattle.std.specs.Prelude.{nat_abs, int_le, int_lt}
 use Rattle.std.proofs.lemmas.Bool.Decides.{nat_tests}
-use Rattle.layout_links.specs.Links.{linked}
+use Rattle.position_chains.specs.Links.{linked}
 
 both_tests : (a b : Bool) (m j : ℕ) → (if a && b then Some m else None) ≡ Some j → (b ≡ true) × (m ≡ j)
 both_tests true true m j e = (refl, cc)

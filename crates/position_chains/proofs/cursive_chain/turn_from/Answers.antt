@@ -1,10 +1,10 @@
 use Rattle.std.proofs.Common.{ℕ, ◌≡◌, ◌+◌, ◌-◌, Bool, length, set, Some, arith, ap, sym, ◌∙◌, rules}
 use Rattle.std.proofs.lemmas.List.{length-set}
 use Rattle.glyph_lists.specs.Items.{Position}
-use Rattle.layout_links.specs.Links.{position_at}
-use Rattle.layout_positioning.specs.Cursive.{old_parent, turned_across, turned_position, turned_from}
-use Rattle.layout_positioning.proofs.Turned.{turned_none, turned_goes, old_parent_within}
-use Rattle.layout_positioning.proofs.cursive_chain.turn_from.Goals as goal
+use Rattle.position_chains.specs.Links.{position_at}
+use Rattle.position_chains.specs.Cursive.{old_parent, turned_across, turned_position, turned_from}
+use Rattle.position_chains.specs.Lemmas.Turned.{turned_none, turned_goes, old_parent_within}
+use Rattle.position_chains.proofs.cursive_chain.turn_from.Goals as goal
 
 pub loop-done-preserved : goal.loop-done-preserved
 loop-done-preserved c =

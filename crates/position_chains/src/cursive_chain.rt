@@ -1,15 +1,13 @@
 //! Cursive joins, on a list of positions.
 ghost use Rattle.std.specs.Prelude.{◌≡◌, ◌<◌, true, length};
 ghost use Rattle.shaping_text.specs.Direction.{is_forward, is_horizontal};
-ghost use Rattle.layout_links.specs.Links.{parent, without_link};
-ghost use Rattle.layout_gpos.specs.Anchors.{is_near};
-ghost use Rattle.layout_positioning.specs.Cursive.{cursive_hung, first_ends, freed, freed_across, joined_across, joined_advances, joined_at, negated, old_parent, shifted, turned, turned_across, turned_from, turned_link};
+ghost use Rattle.position_chains.specs.Links.{is_near, parent, without_link};
+ghost use Rattle.position_chains.specs.Cursive.{cursive_hung, first_ends, freed, freed_across, joined_across, joined_advances, joined_at, negated, old_parent, shifted, turned, turned_across, turned_from, turned_link};
 
+use crate::links::{is_near, link_to, linked};
 use glyph_lists::position::GlyphPosition;
-use layout_gpos::anchor::{is_near, link_to};
-use layout_links::links::linked;
-use layout_links::sums::{minus, plus};
 use layout_positions::value::Anchor;
+use position_sums::sums::{minus, plus};
 use shaping_text::direction::Direction;
 
 /// What a glyph hangs on.
@@ -67,7 +65,7 @@ fn without_link(position: GlyphPosition) -> GlyphPosition
 }
 
 /// A glyph becomes another, and the chain from it on is turned round, over at most as many links as there are glyphs.
-#[tactic(auto, using(crate::proofs::Turned::turned_none, crate::proofs::Turned::turned_stops, crate::proofs::Turned::turned_goes, crate::proofs::Turned::old_parent_within))]
+#[tactic(auto, using(crate::specs::Lemmas::Turned::turned_none, crate::specs::Lemmas::Turned::turned_stops, crate::specs::Lemmas::Turned::turned_goes, crate::specs::Lemmas::Turned::old_parent_within))]
 fn turn_from(
     positions: &mut [GlyphPosition],
     stop: usize,

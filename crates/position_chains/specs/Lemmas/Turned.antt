@@ -3,9 +3,9 @@ use Rattle.std.proofs.Common.{ℕ, zero, suc, refl, length, set, ◌≡◌, ◌<
 use Rattle.glyph_lists.specs.Items.{Position}
 use Rattle.shaping_text.specs.declared.direction.Direction.{Direction}
 use Rattle.std.proofs.lemmas.List.{length-set}
-use Rattle.layout_links.specs.Links.{position_at, parent, without_link}
-use Rattle.layout_positioning.proofs.Linked.{linked_there}
-use Rattle.layout_positioning.specs.Cursive.{turned, unless_at, old_parent, turned_position, turned_beyond, turned_from}
+use Rattle.position_chains.specs.Links.{position_at, parent, without_link}
+use Rattle.position_chains.specs.Lemmas.Linked.{linked_there}
+use Rattle.position_chains.specs.Cursive.{turned, unless_at, old_parent, turned_position, turned_beyond, turned_from}
 
 pub turned_none : (d : Direction) (stop i : ℕ) (new : Position) (ps : List Position) → turned_from d stop 0 i new ps ≡ ps
 unfolding turned_from

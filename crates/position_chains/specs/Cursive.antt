@@ -1,12 +1,12 @@
 -- Cursive attachment (OpenType, GPOS lookup type 3), on a list of positions.
-use Rattle.std.specs.Prelude.{ℕ, zero, suc, ℤ, pos, neg_ℤ, ◌==◌, Bool, true, false, if◌then◌else◌, List, set, length, Option, Some, None}
+use Rattle.std.specs.Prelude.{ℕ, zero, suc, ℤ, pos, neg_ℤ, ◌-ℤ◌, ◌==◌, Bool, true, false, not, if◌then◌else◌, List, set, length, Option, Some, None, bit_and}
 use Rattle.std.specs.Int.{int_wrap, w16}
 use Rattle.glyph_lists.specs.Items.{Position}
 use Rattle.shaping_text.specs.declared.direction.Direction.{Direction}
-use Rattle.shaping_text.specs.Direction.{is_horizontal}
+use Rattle.shaping_text.specs.Direction.{is_forward, is_horizontal}
 use Rattle.layout_positions.specs.declared.value.Anchor.{Anchor}
-use Rattle.layout_links.specs.Links.{plus, minus, position_at, parent, without_link}
-use Rattle.layout_gpos.specs.Anchors.{is_near, link_to}
+use Rattle.position_sums.specs.Sums.{plus, minus}
+use Rattle.position_chains.specs.Links.{position_at, parent, without_link, is_near, link_to}
 
 -- ---- cursive joins
 
@@ -87,3 +87,18 @@ change_at f i ps = set ps i (f (position_at i ps))
 abbrev pub joined_advances : Bool → Bool → ℕ → Anchor → ℕ → Anchor → List Position → List Position
 joined_advances true across first exit second entry ps = change_at (shifted across entry) second (change_at (first_ends across exit) first ps)
 joined_advances false across first exit second entry ps = change_at (first_ends across entry) second (change_at (shifted across exit) first ps)
+
+-- ---- two glyphs joined
+
+-- a lookup with RIGHT_TO_LEFT hangs the earlier glyph on the later one
+abbrev pub hangs_earlier : ℕ → Bool
+hangs_earlier props = not (bit_and props 1 == 0)
+
+-- the child hangs on its parent, at the parent's anchor less its own across the line
+abbrev pub joined_on : Direction → Bool → ℕ → Anchor → ℕ → Anchor → List Position → List Position
+joined_on d true first exit second entry ps = cursive_hung d first second (entry.x -ℤ exit.x) (entry.y -ℤ exit.y) ps
+joined_on d false first exit second entry ps = cursive_hung d second first (exit.x -ℤ entry.x) (exit.y -ℤ entry.y) ps
+
+-- two glyphs joined: along the line the first ends at its exit and the second begins at its entry
+abbrev pub joined : Direction → Bool → ℕ → Anchor → ℕ → Anchor → List Position → List Position
+joined d earlier first exit second entry ps = joined_on d earlier first exit second entry (joined_advances (is_forward d) (is_horizontal d) first exit second entry ps)

@@ -1,0 +1,3 @@
+pub mod Linked
+pub mod Turned
+pub mod Joined
