@@ -1,5 +1,6 @@
 pub mod Chains
 pub mod Decisions
 pub mod Expansions
+mod Faults
 pub mod Steps
 pub mod Syllables
