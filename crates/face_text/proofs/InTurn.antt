@@ -6,20 +6,20 @@ use Rattle.serde_json.specs.Data.{Data, Items, no_items, item}
 use Rattle.json_values.specs.declared.fault.JsonFault.{JsonFault}
 use Rattle.json_values.specs.Cell.{and_then}
 use Rattle.json_values.specs.Parts.{list_of}
-use Rattle.json_values.specs.Rows.{behind, in_place, rows_after, ok_cons}
+use Rattle.json_values.specs.Rows.{after, in_place, rows_after, ok_cons}
 use Rattle.sorted_rows.specs.Keys.{is_above, is_rising}
 use Rattle.face_json.specs.Lists.{rows_in_turn}
 use Rattle.face_json.specs.Sorted.{rows_by_key}
 
 module _ {R K : Type 0} (order : K → K → Ordering) (key : R → K) (read : Data → Result R JsonFault) where
   one_row : (before : Option K) (ds : Items) (x : Result R JsonFault) (rows : List R)
-      → and_then x (λ r. behind (r ∷ []) (rows_in_turn read ds)) ≡ Ok rows → is_rising order key before rows ≡ true
+      → and_then x (λ r. after (r ∷ []) (rows_in_turn read ds)) ≡ Ok rows → is_rising order key before rows ≡ true
       → ((r : R) (xs : List R) → rows_in_turn read ds ≡ Ok xs → is_rising order key (Some (key r)) xs ≡ true → rows_after (is_above order) key read (Some (key r)) ds ≡ Ok xs)
-      → and_then (and_then x (in_place (is_above order) key before)) (λ r. behind (r ∷ []) (rows_after (is_above order) key read (Some (key r)) ds)) ≡ Ok rows
+      → and_then (and_then x (in_place (is_above order) key before)) (λ r. after (r ∷ []) (rows_after (is_above order) key read (Some (key r)) ds)) ≡ Ok rows
   one_row before ds (Err e) rows is rising more = let no : ⊥ = cc in absurd no
   one_row before ds (Ok r) rows is rising more =
       ok_cons r (rows_in_turn read ds) rows
-      (λ xs. is_rising order key before xs ≡ true → and_then (and_then (Ok r) (in_place (is_above order) key before)) (λ y. behind (y ∷ []) (rows_after (is_above order) key read (Some (key y)) ds)) ≡ Ok xs)
+      (λ xs. is_rising order key before xs ≡ true → and_then (and_then (Ok r) (in_place (is_above order) key before)) (λ y. after (y ∷ []) (rows_after (is_above order) key read (Some (key y)) ds)) ≡ Ok xs)
       is
       (λ xs was up.
       let parts = and_parts (is_above order before (key r)) (is_rising order key (Some (key r)) xs) up in
@@ -43,22 +43,22 @@ module _ {R K : Type 0} (order : K → K → Ordering) (key : R → K) (read : D
 -- ---- parts in turn
 
 module _ {R : Type 0} (read : Data → Result R JsonFault) where
-  none_before : (x : Result (List R) JsonFault) → x ≡ behind [] x
+  none_before : (x : Result (List R) JsonFault) → x ≡ after [] x
   none_before (Ok xs) = refl
   none_before (Err e) = refl
 
-  pub first_parts : (ds : Items) (front : List R) → front ≡ [] → rows_in_turn read ds ≡ behind front (rows_in_turn read ds)
-  first_parts ds front e = none_before (rows_in_turn read ds) ∙ ap (λ xs. behind xs (rows_in_turn read ds)) (sym e)
+  pub first_parts : (ds : Items) (front : List R) → front ≡ [] → rows_in_turn read ds ≡ after front (rows_in_turn read ds)
+  first_parts ds front e = none_before (rows_in_turn read ds) ∙ ap (λ xs. after xs (rows_in_turn read ds)) (sym e)
 
-  after_twice : (front : List R) (r : R) (x : Result (List R) JsonFault) → behind front (behind (r ∷ []) x) ≡ behind (front ++ r ∷ []) x
+  after_twice : (front : List R) (r : R) (x : Result (List R) JsonFault) → after front (after (r ∷ []) x) ≡ after (front ++ r ∷ []) x
   after_twice front r (Ok xs) = ap (λ ys. Ok ys) (sym (append_assoc front (r ∷ []) xs))
   after_twice front r (Err e) = refl
 
   pub one_more : (front : List R) (d : Data) (es ds : Items) (r : R) (all : List R) → ds ≡ item d es → read d ≡ Ok r → all ≡ front ++ r ∷ []
-      → behind front (rows_in_turn read ds) ≡ behind all (rows_in_turn read es)
+      → after front (rows_in_turn read ds) ≡ after all (rows_in_turn read es)
   one_more front d es ds r all is one pushed =
-      ap (λ x. behind front (rows_in_turn read x)) is ∙ ap (λ x. behind front (and_then x (λ y. behind (y ∷ []) (rows_in_turn read es)))) one ∙ after_twice front r (rows_in_turn read es)
-      ∙ ap (λ xs. behind xs (rows_in_turn read es)) (sym pushed)
+      ap (λ x. after front (rows_in_turn read x)) is ∙ ap (λ x. after front (and_then x (λ y. after (y ∷ []) (rows_in_turn read es)))) one ∙ after_twice front r (rows_in_turn read es)
+      ∙ ap (λ xs. after xs (rows_in_turn read es)) (sym pushed)
 
-  pub last_parts : (front : List R) (ds : Items) → no_items ≡ ds → behind front (rows_in_turn read ds) ≡ Ok front
-  last_parts front ds e = ap (λ x. behind front (rows_in_turn read x)) (sym e) ∙ ap (λ ys. Ok ys) (append-nil front)
+  pub last_parts : (front : List R) (ds : Items) → no_items ≡ ds → after front (rows_in_turn read ds) ≡ Ok front
+  last_parts front ds e = ap (λ x. after front (rows_in_turn read x)) (sym e) ∙ ap (λ ys. Ok ys) (append-nil front)

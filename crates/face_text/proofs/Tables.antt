@@ -11,7 +11,7 @@ use Rattle.json_values.specs.declared.fault.JsonFault.{JsonFault}
 use Rattle.json_values.specs.declared.fault.JsonFault.TheVariants.{WrongShape}
 use Rattle.json_values.specs.Cell.{and_then}
 use Rattle.json_values.specs.Parts.{list_of, list_or_none}
-use Rattle.json_values.specs.Rows.{behind, ok_cons}
+use Rattle.json_values.specs.Rows.{after, ok_cons}
 use Rattle.face_json.specs.Lists.{item_count, count_of, is_object, rows_at, rows_in_turn}
 use Rattle.face_json.specs.Sorted.{rows_by_key}
 use Rattle.face_json.specs.Split.{count_is_length}
@@ -34,7 +34,7 @@ list_found read (Some d) None none h = absurd h
 list_found read (Some d) (Some a) none e = e
 
 module _ {L : Type 0} (read : Data → Result L JsonFault) where
-  one_length : (ds : Items) (x : Result L JsonFault) (rows : List L) → and_then x (λ r. behind (r ∷ []) (rows_in_turn read ds)) ≡ Ok rows
+  one_length : (ds : Items) (x : Result L JsonFault) (rows : List L) → and_then x (λ r. after (r ∷ []) (rows_in_turn read ds)) ≡ Ok rows
       → ((xs : List L) → rows_in_turn read ds ≡ Ok xs → item_count ds ≡ length xs) → suc (item_count ds) ≡ length rows
   one_length ds (Err e) rows is more = absurd (cc)
   one_length ds (Ok r) rows is more = ok_cons r (rows_in_turn read ds) rows (λ xs. suc (item_count ds) ≡ length xs) is (λ xs was. ap suc (more xs was))
