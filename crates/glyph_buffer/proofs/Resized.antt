@@ -8,9 +8,9 @@ use Rattle.glyph_buffer.specs.declared.buffer.hb_buffer_t.TheInside.{Inside}
 use Rattle.buffer_lists.specs.declared.order.ClusterOrder.{ClusterOrder}
 use Rattle.glyph_buffer.specs.Inside.{sides_of}
 use Rattle.glyph_lists.specs.declared.info.hb_glyph_info_t.{hb_glyph_info_t}
-use Rattle.glyph_lists.specs.Items.{item_of, strip}
+use Rattle.glyph_lists.specs.Items.{item_of, strip, zero_position}
 use Rattle.glyph_buffer.specs.Moving.{of_length, with_len, zero_glyph}
-use Rattle.glyph_buffer.specs.Sides.{Sides, all_glyphs, items_of, zero_position, origins_of}
+use Rattle.glyph_buffer.specs.Sides.{Sides, all_glyphs, items_of, origins_of}
 use Rattle.glyph_buffer.specs.Text.{unflagged_origin}
 use Rattle.glyph_lists.specs.Origins.{origin_of, origins}
 

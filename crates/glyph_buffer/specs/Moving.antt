@@ -3,7 +3,8 @@ use Rattle.std.specs.Prelude.{ℕ, ◌+◌, ◌-◌, ◌&&◌, Bool, true, not, 
 use Rattle.glyph_lists.specs.declared.info.hb_glyph_info_t.{hb_glyph_info_t}
 pub use Rattle.glyph_slices.specs.Events.{indices_reversed}
 pub use Rattle.glyph_slices.specs.Turning.{range_reversed}
-use Rattle.glyph_buffer.specs.Sides.{Sides, all_glyphs, with_list, zero_position}
+use Rattle.glyph_buffer.specs.Sides.{Sides, all_glyphs, with_list}
+use Rattle.glyph_lists.specs.Items.{zero_position}
 use Rattle.glyph_buffer.specs.Text.{added_glyph}
 
 -- the cursor stands in front of the i-th of all glyphs; glyphs that come back were not read

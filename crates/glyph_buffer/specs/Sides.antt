@@ -4,7 +4,7 @@ use Rattle.glyph_lists.specs.declared.info.hb_glyph_info_t.{hb_glyph_info_t}
 use Rattle.glyph_lists.specs.declared.level.BufferClusterLevel.{BufferClusterLevel}
 use Rattle.glyph_lists.specs.declared.level.BufferClusterLevel.TheVariants.{MonotoneGraphemes}
 pub use Rattle.glyph_lists.specs.Items.{flags_of}
-use Rattle.glyph_lists.specs.Items.{Item, Position, strip}
+use Rattle.glyph_lists.specs.Items.{Item, Position, strip, zero_position}
 use Rattle.glyph_lists.specs.Origins.{Origin, origins, Asks}
 use Rattle.glyph_lists.specs.Events.{Event, origins_after}
 use Rattle.glyph_buffer.specs.Readings.{View, Run}
@@ -97,9 +97,6 @@ settings_of s = record {
   not_found_variation_selector = s.not_found_variation_selector;
   flags = s.flags;
 }
-
-abbrev pub zero_position : Position
-zero_position = record { x_advance = pos 0; y_advance = pos 0; x_offset = pos 0; y_offset = pos 0; attach_chain = pos 0; attach_type = 0 }
 
 -- so many positions of nothing
 abbrev pub zero_positions : ℕ → List Position

@@ -1,5 +1,5 @@
 -- Glyphs without their clusters.
-use Rattle.std.specs.Prelude.{ℕ, ◌-◌, List, map}
+use Rattle.std.specs.Prelude.{ℕ, ℤ, pos, ◌-◌, List, map}
 use Rattle.std.specs.Int.RustNames.{bit_and}
 use Rattle.glyph_lists.specs.declared.info.hb_glyph_info_t.{hb_glyph_info_t}
 use Rattle.glyph_lists.specs.declared.position.GlyphPosition.{GlyphPosition}
@@ -60,3 +60,7 @@ flags_of gs = map glyph_flags gs
 -- where a glyph stands: two advances and two offsets, and its link
 abbrev pub Position : Type 0
 Position = GlyphPosition
+
+-- no advances, no offsets, no link
+abbrev pub zero_position : Position
+zero_position = record { x_advance = pos 0; y_advance = pos 0; x_offset = pos 0; y_offset = pos 0; attach_chain = pos 0; attach_type = 0 }

@@ -7,7 +7,7 @@ ghost use Rattle.glyph_lists.specs.declared.names.hb_glyph_extents_t.{hb_glyph_e
 pub struct GlyphId(pub u16);
 
 /// The box of a glyph's ink in font units; the height is negative where y grows upward.
-#[derive(Clone, Copy, Debug, Default)]
+#[derive(Clone, Copy, PartialEq, Eq, Debug, Default)]
 pub struct hb_glyph_extents_t {
     pub x_bearing: i32,
     pub y_bearing: i32,

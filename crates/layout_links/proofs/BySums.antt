@@ -6,11 +6,10 @@ use Rattle.std.specs.List.{fold}
 use Rattle.std.proofs.lemmas.Bool.Decides.{nat_tests, eqb_tells}
 use Rattle.std.proofs.lemmas.Int.{ints, int_wrap-add_same, int_wrap-add_left, int_wrap-sub_right}
 use Rattle.std.proofs.lemmas.List.{length-set}
-use Rattle.glyph_lists.specs.Items.{Position}
+use Rattle.glyph_lists.specs.Items.{Position, zero_position}
 use Rattle.glyph_lists.specs.Lists.{seen_at}
 use Rattle.shaping_text.specs.declared.direction.Direction.{Direction}
 use Rattle.shaping_text.specs.Direction.{is_forward, is_horizontal}
-use Rattle.glyph_buffer.specs.Sides.{zero_position}
 use Rattle.layout_links.specs.declared.sums.Pen.{Pen}
 use Rattle.layout_links.specs.Links.{unlinked, plus, minus, offset_by, back_over, on_over, mark_drawn, child_drawn, drawn_position, has_kind, kind_tested, kinds_tested, hung, hung_on, followed, followed_from, all_followed, finished}
 use Rattle.position_chains.specs.Links.{position_at, linked, parent, without_link}

@@ -4,9 +4,8 @@ use Rattle.std.specs.Prelude.{nat_abs, int_le, int_lt}
 use Rattle.std.proofs.lemmas.Int.{ints}
 use Rattle.std.proofs.lemmas.Bool.Decides.{eqb_tells}
 use Rattle.std.proofs.lemmas.List.{map-set, length-set, get_or-set_same, get_or-set_other, set-get_or}
-use Rattle.glyph_lists.specs.Items.{Position}
+use Rattle.glyph_lists.specs.Items.{Position, zero_position}
 use Rattle.shaping_text.specs.declared.direction.Direction.{Direction}
-use Rattle.glyph_buffer.specs.Sides.{zero_position}
 use Rattle.layout_links.specs.Links.{unlinked, Drawing, hung, hung_on, followed}
 use Rattle.position_chains.specs.Links.{position_at, linked, parent, without_link}
 use Rattle.layout_links.specs.Sums.{drawn_by_sums}

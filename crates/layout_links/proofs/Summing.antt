@@ -5,8 +5,7 @@ use Rattle.std.proofs.lemmas.List.{length-set, get_or-set_same, get_or-set_other
 use Rattle.std.specs.Int.{int_wrap, w32}
 use Rattle.std.proofs.lemmas.Int.{int_wrap_fits, fits_signed_from_abs}
 use Rattle.std.proofs.lemmas.Nat.{pow_pos}
-use Rattle.glyph_lists.specs.Items.{Position}
-use Rattle.glyph_buffer.specs.Sides.{zero_position}
+use Rattle.glyph_lists.specs.Items.{Position, zero_position}
 use Rattle.layout_links.specs.declared.sums.Pen.{Pen}
 use Rattle.layout_links.specs.Links.{kind_tested, kinds_tested}
 use Rattle.position_chains.specs.Links.{position_at}

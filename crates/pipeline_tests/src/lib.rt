@@ -3,7 +3,8 @@
 
 #[cfg(test)]
 mod data;
-pub mod decomposing;
+#[cfg(test)]
+mod decomposing;
 #[cfg(test)]
 mod plans;
 #[cfg(test)]

@@ -10,11 +10,11 @@ use Rattle.ucd_category.specs.declared.GeneralCategory.TheVariants.{SpaceSeparat
 use Rattle.unicode_chars.specs.Category.{category_number}
 use Rattle.font_face.specs.declared.parts.FaceParts.{FaceParts}
 use Rattle.glyph_properties.specs.Properties.{properties_of}
-use Rattle.glyph_lists.specs.Items.{Item, Position}
+use Rattle.glyph_lists.specs.Items.{Item, Position, zero_position}
 use Rattle.glyph_lists.specs.Events.{Reverse}
 use Rattle.glyph_buffer.specs.Readings.{View, always, with_events}
 use Rattle.glyph_buffer.specs.Graphemes.{is_default_ignorable}
-use Rattle.glyph_buffer.specs.Sides.{zero_position, zero_positions}
+use Rattle.glyph_buffer.specs.Sides.{zero_positions}
 use Rattle.layout_links.specs.Finishing.{drawn_if, has_attachments, links_followed}
 use Rattle.layout_links.specs.Starting.{links_cleared, unattached}
 use Rattle.glyph_lists.specs.LigatureWords as ligatures

@@ -11,9 +11,8 @@ use Rattle.shaping_text.specs.declared.direction.Direction.TheVariants.{LeftToRi
 use Rattle.font_face.specs.declared.parts.FaceParts.{FaceParts}
 use Rattle.font_face.specs.Glyphs.{nominal_glyph, width_of}
 use Rattle.glyph_properties.specs.Properties.{is_mark_character}
-use Rattle.glyph_lists.specs.Items.{Item, Position}
+use Rattle.glyph_lists.specs.Items.{Item, Position, zero_position}
 use Rattle.glyph_buffer.specs.Readings.{Read, Run}
-use Rattle.glyph_buffer.specs.Sides.{zero_position}
 use Rattle.glyph_properties.specs.declared.normal_mode.NormalizationMode.TheVariants as mode
 use Rattle.shape_direction.specs.NativeOrder.{script_direction}
 use Rattle.shape_plan.specs.Rules.{plain_rules}

@@ -1,7 +1,6 @@
 -- Positions that are linked to others.
 use Rattle.std.specs.Prelude.{ℕ, ℤ, pos, ◌+ℤ◌, ◌-ℤ◌, nat_abs, nat_le, ◌-◌, ◌==◌, Bool, int_le, int_lt, ◌&&◌, if◌then◌else◌, List, get_or, length, Option, Some, None}
-use Rattle.glyph_lists.specs.Items.{Position}
-use Rattle.glyph_buffer.specs.Sides.{zero_position}
+use Rattle.glyph_lists.specs.Items.{Position, zero_position}
 
 -- the position with a number
 abbrev pub position_at : ℕ → List Position → Position

@@ -9,7 +9,8 @@ mod joining;
 mod marks;
 #[cfg(test)]
 mod numbers;
-pub mod spans;
+#[cfg(test)]
+mod spans;
 #[cfg(test)]
 mod syllables;
 #[cfg(test)]

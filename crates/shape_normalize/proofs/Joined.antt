@@ -6,9 +6,9 @@ use Rattle.std.proofs.lemmas.Bool.Decides.{nat_tests}
 use Rattle.std.proofs.lemmas.List.{append-nil, map-append, length-map, length-replicate}
 use Rattle.glyph_lists.specs.declared.cause.ShapeCause.{ShapeCause}
 use Rattle.glyph_lists.specs.declared.cause.ShapeCause.TheVariants.{OutOfMemory, TooLong}
-use Rattle.glyph_lists.specs.Items.{item_of, strip}
+use Rattle.glyph_lists.specs.Items.{item_of, strip, zero_position}
 use Rattle.glyph_buffer.specs.Readings.{Read, View}
-use Rattle.glyph_buffer.specs.Sides.{Sides, all_glyphs, told_of, items_of, view_of, origins_by, settings_of, with_output, synced, fits_joined, has_room, zero_position, zero_positions}
+use Rattle.glyph_buffer.specs.Sides.{Sides, all_glyphs, told_of, items_of, view_of, origins_by, settings_of, with_output, synced, fits_joined, has_room, zero_positions}
 use Rattle.stage_rules.specs.Ready.{IsReady}
 use Rattle.glyph_properties.specs.Arranged.{Arranged}
 use Rattle.normal_rounds.specs.Lemmas.Chain.{all_shifted_none}

@@ -6,11 +6,11 @@ use Rattle.std.proofs.lemmas.List.{append-nil, length-map, length-replicate}
 use Rattle.glyph_lists.specs.declared.cause.ShapeCause.{ShapeCause}
 use Rattle.glyph_lists.specs.declared.cause.ShapeCause.TheVariants.{TooLong}
 use Rattle.glyph_lists.specs.declared.info.hb_glyph_info_t.{hb_glyph_info_t}
-use Rattle.glyph_lists.specs.Items.{Item, Position, item_of, strip}
+use Rattle.glyph_lists.specs.Items.{Item, Position, item_of, strip, zero_position}
 use Rattle.glyph_lists.specs.Events.{Event, origins_after}
 use Rattle.glyph_buffer.specs.Readings.{View, read_of}
 use Rattle.glyph_lists.specs.Lemmas.Origins.{origins_after_both}
-use Rattle.glyph_buffer.specs.Sides.{Sides, Settings, all_glyphs, asks_of, items_of, origins_by, origins_of, run_of, settings_of, view_of, zero_position, zero_positions}
+use Rattle.glyph_buffer.specs.Sides.{Sides, Settings, all_glyphs, asks_of, items_of, origins_by, origins_of, run_of, settings_of, view_of, zero_positions}
 use Rattle.stage_rules.specs.Stages.{IsFollowed}
 use Rattle.stage_rules.specs.Lemmas.Written.{happened_followed}
 use Rattle.glyph_properties.specs.Arranged.{Arranged, kept}

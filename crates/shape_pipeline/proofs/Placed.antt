@@ -8,12 +8,12 @@ use Rattle.std.proofs.lemmas.List.Folds.{list_all-append}
 use Rattle.std.specs.Prelude.{◌&&◌}
 use Rattle.shaping_text.specs.Direction.{is_backward}
 use Rattle.shaping_text.specs.declared.direction.Direction.{Direction}
-use Rattle.glyph_lists.specs.Items.{item_of, strip}
+use Rattle.glyph_lists.specs.Items.{item_of, strip, zero_position}
 use Rattle.glyph_lists.specs.Origins.{origin_of, origins}
 use Rattle.glyph_lists.specs.Events.{Reverse}
 use Rattle.glyph_buffer.specs.Readings.{Follows, Run, View, always, with_events}
 use Rattle.glyph_buffer.specs.Steps.{follows_events}
-use Rattle.glyph_buffer.specs.Sides.{Sides, all_glyphs, items_of, reversed, run_of, view_of, with_cleared_positions, zero_position}
+use Rattle.glyph_buffer.specs.Sides.{Sides, all_glyphs, items_of, reversed, run_of, view_of, with_cleared_positions}
 use Rattle.stage_rules.specs.Buffers.{are_glyphs}
 use Rattle.stage_rules.specs.Ready.{IsDone, IsReady}
 use Rattle.stage_rules.specs.Settings.{text_flags}

@@ -8,11 +8,11 @@ use Rattle.glyph_lists.specs.declared.info.hb_glyph_info_t.{hb_glyph_info_t}
 use Rattle.unicode_tables.specs.Tables.{Tables}
 use Rattle.font_face.specs.declared.parts.FaceParts.{FaceParts}
 use Rattle.glyph_properties.specs.Properties.{scratch_flags_of}
-use Rattle.glyph_lists.specs.Items.{item_of, strip}
+use Rattle.glyph_lists.specs.Items.{item_of, strip, zero_position}
 use Rattle.glyph_lists.specs.Origins.{origins, origins_circled}
 use Rattle.glyph_lists.specs.Events.{Circle}
 use Rattle.glyph_buffer.specs.Readings.{View, with_events, as_it_is}
-use Rattle.glyph_buffer.specs.Sides.{Sides, all_glyphs, items_of, told_of, view_of, zero_position, zero_positions}
+use Rattle.glyph_buffer.specs.Sides.{Sides, all_glyphs, items_of, told_of, view_of, zero_positions}
 use Rattle.stage_rules.specs.Ready.{IsReady}
 use Rattle.stage_rules.specs.Stages.{IsFollowed}
 use Rattle.stage_rules.specs.Lemmas.Written.{happened_followed}

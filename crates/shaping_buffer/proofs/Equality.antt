@@ -25,9 +25,9 @@ the_extents x y w h = record { x_bearing = x; y_bearing = y; width = w; height =
 abbrev the_position : ℤ → ℤ → ℤ → ℤ → ℤ → ℕ → GlyphPosition
 the_position x y u v c t = record { x_advance = x; y_advance = y; x_offset = u; y_offset = v; attach_chain = c; attach_type = t }
 
-pub extents : (a b : hb_glyph_extents_t) (r s t u : Bool) → Decides r (a.x_bearing ≡ b.x_bearing) → Decides s (a.y_bearing ≡ b.y_bearing)
-    → Decides t (a.width ≡ b.width) → Decides u (a.height ≡ b.height) → Decides (r && (s && (t && u))) (a ≡ b)
-extents a b r s t u p q v w = carried (r && (s && (t && u))) same fields (four r s t u p q v w)
+pub extents : (a b : hb_glyph_extents_t) → Decides (int_eq a.x_bearing b.x_bearing && (int_eq a.y_bearing b.y_bearing && (int_eq a.width b.width && int_eq a.height b.height))) (a ≡ b)
+extents a b = carried (int_eq a.x_bearing b.x_bearing && (int_eq a.y_bearing b.y_bearing && (int_eq a.width b.width && int_eq a.height b.height))) same fields
+    (four (int_eq a.x_bearing b.x_bearing) (int_eq a.y_bearing b.y_bearing) (int_eq a.width b.width) (int_eq a.height b.height) (Decides-int_eq a.x_bearing b.x_bearing) (Decides-int_eq a.y_bearing b.y_bearing) (Decides-int_eq a.width b.width) (Decides-int_eq a.height b.height))
   where
     same : (a.x_bearing ≡ b.x_bearing) × ((a.y_bearing ≡ b.y_bearing) × ((a.width ≡ b.width) × (a.height ≡ b.height))) → a ≡ b
     same f = ap (λ v. the_extents (v) (a.y_bearing) (a.width) (a.height)) f.0 ∙ ap (λ v. the_extents (b.x_bearing) (v) (a.width) (a.height)) f.1.0 ∙ ap (λ v. the_extents (b.x_bearing) (b.y_bearing) (v) (a.height)) f.1.1.0 ∙ ap (λ v. the_extents (b.x_bearing) (b.y_bearing) (b.width) (v)) f.1.1.1

@@ -71,19 +71,10 @@ pub fn positions_are_equal(left: &GlyphPosition, right: &GlyphPosition) -> bool
     left == right
 }
 
-fn are_same(left: &i32, right: &i32) -> bool
-    ensures { Decides result (left.now ≡ right.now) }
-{
-    left == right
-}
-
-/// Boxes are equal where their four numbers are.
 pub fn extents_are_equal(left: &hb_glyph_extents_t, right: &hb_glyph_extents_t) -> bool
     ensures { Decides result (left.now ≡ right.now) }
 {
-    are_same(&left.x_bearing, &right.x_bearing)
-        & (are_same(&left.y_bearing, &right.y_bearing)
-            & (are_same(&left.width, &right.width) & are_same(&left.height, &right.height)))
+    left == right
 }
 
 /// Languages are equal where their tags are.

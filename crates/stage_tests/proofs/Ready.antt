@@ -3,8 +3,8 @@ use Rattle.std.proofs.Common.{zero, suc, ℕ, ◌≡◌, ◌+◌, List, [], ◌�
 use Rattle.std.specs.Prelude.{slice_set}
 use Rattle.std.proofs.lemmas.List.{length-append, length-set}
 use Rattle.glyph_lists.specs.declared.info.hb_glyph_info_t.{hb_glyph_info_t}
-use Rattle.glyph_lists.specs.Items.{Item, Position}
-use Rattle.glyph_buffer.specs.Sides.{Sides, with_added, zero_position}
+use Rattle.glyph_lists.specs.Items.{Item, Position, zero_position}
+use Rattle.glyph_buffer.specs.Sides.{Sides, with_added}
 use Rattle.glyph_buffer.specs.Lending.{with_glyph_ahead, with_positions_refilled}
 use Rattle.stage_rules.specs.Ready.{IsReady}
 use Rattle.glyph_properties.specs.Arranged.{kept}

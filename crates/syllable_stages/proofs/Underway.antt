@@ -9,11 +9,11 @@ use Rattle.std.proofs.Math.Seq.{take-add}
 use Rattle.glyph_lists.specs.declared.cause.ShapeCause.{ShapeCause}
 use Rattle.glyph_lists.specs.declared.cause.ShapeCause.TheVariants.{OutOfMemory, TooLong}
 use Rattle.glyph_lists.specs.declared.info.hb_glyph_info_t.{hb_glyph_info_t}
-use Rattle.glyph_lists.specs.Items.{Item, item_of, strip}
+use Rattle.glyph_lists.specs.Items.{Item, item_of, strip, zero_position}
 use Rattle.glyph_lists.specs.Origins.{origins}
 use Rattle.glyph_lists.specs.Events.{Event, origins_after}
 use Rattle.glyph_buffer.specs.Readings.{View, with_events}
-use Rattle.glyph_buffer.specs.Sides.{Sides, all_glyphs, items_of, moved_on, origins_by, origins_of, settings_of, synced, view_of, with_output, zero_position, zero_positions, fits_joined, has_room, asks_of}
+use Rattle.glyph_buffer.specs.Sides.{Sides, all_glyphs, items_of, moved_on, origins_by, origins_of, settings_of, synced, view_of, with_output, zero_positions, fits_joined, has_room, asks_of}
 use Rattle.stage_rules.specs.Ready.{IsReady}
 use Rattle.stage_rules.specs.Stages.{IsFollowed}
 use Rattle.stage_rules.specs.Lemmas.Written.{happened_followed}

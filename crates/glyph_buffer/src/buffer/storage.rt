@@ -1,7 +1,7 @@
 ghost use Rattle.std.specs.Prelude.{◌≡◌, ◌+◌, ◌≤◌, ◌<◌, ◌^◌, ◌==◌, ◌++◌, ◌∷◌, [], length, not, nat_le, false, true, Ok, OnOk, OnErr, IfOk, IsTrue, vec_len, vec_capacity};
 ghost use Rattle.std.specs.Str.{chars};
-ghost use Rattle.glyph_buffer.specs.Sides.{all_glyphs, items_of, with_added, has_room, refused, zero_position, zero_positions, origins_of};
-ghost use Rattle.glyph_lists.specs.Items.{clusters, item_of};
+ghost use Rattle.glyph_buffer.specs.Sides.{all_glyphs, items_of, with_added, has_room, refused, zero_positions, origins_of};
+ghost use Rattle.glyph_lists.specs.Items.{clusters, item_of, zero_position};
 ghost use Rattle.buffer_lists.specs.Known.{HasOrder};
 ghost use Rattle.glyph_buffer.specs.Text.{added_glyph, added_text, fits_text, offsets_fit, text_items, unflagged_origin, text_origins};
 ghost use Rattle.glyph_buffer.specs.Moving.{of_length, with_len, zero_glyph};

@@ -4,10 +4,10 @@ use Rattle.std.specs.Prelude.{Result, IfErr, IsErrAnd}
 use Rattle.std.proofs.lemmas.List.{map-append, length-map, length-replicate}
 use Rattle.glyph_lists.specs.declared.cause.ShapeCause.{ShapeCause}
 use Rattle.glyph_lists.specs.declared.cause.ShapeCause.TheVariants.{TooLong}
-use Rattle.glyph_lists.specs.Items.{item_of, strip}
+use Rattle.glyph_lists.specs.Items.{item_of, strip, zero_position}
 use Rattle.glyph_buffer.specs.Readings.{View, Reading, Run, Follows, read_of}
 use Rattle.glyph_buffer.specs.Steps.{follows_then, follows_from, refused_first, refused_then}
-use Rattle.glyph_buffer.specs.Sides.{Sides, all_glyphs, run_of, items_of, with_output, synced, fits_joined, zero_positions, zero_position}
+use Rattle.glyph_buffer.specs.Sides.{Sides, all_glyphs, run_of, items_of, with_output, synced, fits_joined, zero_positions}
 use Rattle.layout_match.specs.Applied.{Applied}
 use Rattle.stage_rules.specs.Actions.{view_at, uncut, Action}
 use Rattle.stage_rules.specs.Buffers.{are_glyphs, IsStill}

@@ -5,13 +5,13 @@ use Rattle.std.proofs.lemmas.List.{append-nil, map-append, length-append, length
 use Rattle.std.proofs.Math.Seq.{take-append_seam, drop-append_seam}
 use Rattle.glyph_lists.specs.declared.info.hb_glyph_info_t.{hb_glyph_info_t}
 use Rattle.glyph_lists.specs.declared.level.BufferClusterLevel.{BufferClusterLevel}
-use Rattle.glyph_lists.specs.Items.{Item, item_of, strip}
+use Rattle.glyph_lists.specs.Items.{Item, item_of, strip, zero_position}
 use Rattle.glyph_lists.specs.Origins.{origin_of, origins, arranged, manner, merged_as}
 use Rattle.glyph_lists.specs.Levels.{InOutput}
 use Rattle.glyph_lists.specs.Events.{Event, Merge, Move, origins_after}
 use Rattle.glyph_buffer.specs.Readings.{View, Stage, Follows}
 use Rattle.glyph_lists.specs.Lemmas.Origins.{origins_after_both}
-use Rattle.glyph_buffer.specs.Sides.{Sides, Settings, all_glyphs, asks_of, items_of, origins_of, origins_by, settings_of, view_of, run_of, with_output, synced, moved_on, zero_position, zero_positions}
+use Rattle.glyph_buffer.specs.Sides.{Sides, Settings, all_glyphs, asks_of, items_of, origins_of, origins_by, settings_of, view_of, run_of, with_output, synced, moved_on, zero_positions}
 use Rattle.glyph_buffer.specs.Merging.{with_output_merged, output_merged_at}
 use Rattle.glyph_buffer.specs.Lending.{refilled, with_refilled, with_output_refilled}
 use Rattle.stage_rules.specs.Ready.{IsReady}
