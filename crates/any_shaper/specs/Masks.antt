@@ -42,7 +42,7 @@ jamo_masks m = record { ljmo = mask_at_one (codes "ljmo") m; vjmo = mask_at_one 
 abbrev pub khmer_masks : OtMapValue → KhmerMasks
 khmer_masks m = record {
   pref = mask_at_one (codes "pref") m;
-  behind = bit_or (bit_or (mask_at_one (codes "blwf") m) (mask_at_one (codes "abvf") m)) (mask_at_one (codes "pstf") m);
+  post_base = bit_or (bit_or (mask_at_one (codes "blwf") m) (mask_at_one (codes "abvf") m)) (mask_at_one (codes "pstf") m);
   cfar = mask_at_one (codes "cfar") m;
 }
 

@@ -15,7 +15,7 @@ pub fn khmer_masks(map: &hb_ot_map_t) -> KhmerMasks
     let pstf = map.get_1_mask(Tag::from_bytes(b"pstf"));
     KhmerMasks {
         pref: map.get_1_mask(Tag::from_bytes(b"pref")),
-        behind: (blwf | abvf) | pstf,
+        post_base: (blwf | abvf) | pstf,
         cfar: map.get_1_mask(Tag::from_bytes(b"cfar")),
     }
 }

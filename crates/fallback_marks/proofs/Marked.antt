@@ -28,9 +28,9 @@ none_of : (at n : ℕ) (b : Bool) → b ≡ true → event_of at n b ≡ []
 none_of at n true e = refl
 none_of at n false e = cc e
 
-none_behind : (at n : ℕ) (b : Bool) → n ≡ 0 → event_of at n b ≡ []
-none_behind at n true e = refl
-none_behind at n false e = rw e refl
+none_after : (at n : ℕ) (b : Bool) → n ≡ 0 → event_of at n b ≡ []
+none_after at n true e = refl
+none_after at n false e = rw e refl
 
 some_after : (at n : ℕ) (b : Bool) → b ≡ false → (n == 0) ≡ false → event_of at n b ≡ Break at (at + 1 + n) ∷ []
 some_after at n true e f = cc e
@@ -48,7 +48,7 @@ pub base_alone : (at n : ℕ) (d : hb_glyph_info_t) (s : Sides) → at < length 
     → Happens (first_event at (drop at (items_of s))) s s
 base_alone at n d s lt is le ready =
     let none : marks (drop (at + 1) (items_of s)) ≡ 0 = sym is ∙ omega (arith, le) in
-    subst (λ es. Happens es s s) (sym (event_there at d s lt ∙ none_behind at (marks (drop (at + 1) (items_of s))) (is_mark (item_of (get_or (all_glyphs s) at d))) none)) (nothing_happens s ready)
+    subst (λ es. Happens es s s) (sym (event_there at d s lt ∙ none_after at (marks (drop (at + 1) (items_of s))) (is_mark (item_of (get_or (all_glyphs s) at d))) none)) (nothing_happens s ready)
 
 pub base_marked : (at n : ℕ) (d : hb_glyph_info_t) (s new : Sides) → at < length (all_glyphs s) → is_mark (item_of (get_or (all_glyphs s) at d)) ≡ false → n ≡ marks (drop (at + 1) (items_of s)) → 0 < n
     → Happens (Break at (at + 1 + n) ∷ []) s new → Happens (first_event at (drop at (items_of s))) s new

@@ -32,7 +32,7 @@ pub record Sides : Type 0 where
   pub direction : Direction
   pub script : Option Script
   pub language : Option Language
-  -- the characters in front of the text and behind it, nearest first
+  -- the characters before the text and after it, nearest first
   pub pre_context : List ℕ
   pub post_context : List ℕ
   -- the glyphs that stand for what is not to be seen, and for a selector that the font does not know

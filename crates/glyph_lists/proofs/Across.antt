@@ -1,4 +1,4 @@
--- The least cluster of two lists, one behind the other.
+-- The least cluster of two lists, one after the other.
 use Rattle.std.specs.Prelude.{not}
 use Rattle.std.specs.List.{list_any}
 use Rattle.std.proofs.Common.{ℕ, ◌≡◌, ◌<◌, ◌==◌, ◌||◌, min, Bool, true, false, List, [], ◌∷◌, ◌++◌, fold, length, refl, arith, ap, sym, ◌∙◌, append-nil}

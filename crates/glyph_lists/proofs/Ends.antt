@@ -164,7 +164,7 @@ passed_back c low at i gs d one le e before =
     let cut : drop i gs ≡ get_or gs i d ∷ drop at gs = drop_more gs i d lt ∙ ap (λ n. get_or gs i d ∷ drop n gs) one in
     rw (cut, before, in_it c low (get_or gs i d) e) refl
 
--- and behind them
+-- and after them
 pub passed_front : (c low at : ℕ) (gs : List hb_glyph_info_t) (d : hb_glyph_info_t) → at < length gs → (get_or gs at d).cluster ≡ c
     → renamed c low (take at gs) ≡ map (in_cluster low) (take at gs) → renamed c low (take (at + 1) gs) ≡ map (in_cluster low) (take (at + 1) gs)
 passed_front c low at gs d lt e before =

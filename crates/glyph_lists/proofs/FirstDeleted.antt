@@ -13,8 +13,8 @@ use Rattle.glyph_lists.specs.Lemmas.Glyphs.{length_merged_at}
 use Rattle.glyph_lists.specs.Deleting.{Deletes}
 use Rattle.glyph_lists.specs.OneDeleted.{deletes_as}
 
-pub behind_front : (at : ℕ) (gs ys : List Glyph) → at ≤ length gs → drop (at + 1) (take at gs ++ ys) ≡ drop 1 ys
-behind_front at gs ys le =
+pub beyond_front : (at : ℕ) (gs ys : List Glyph) → at ≤ length gs → drop (at + 1) (take at gs ++ ys) ≡ drop 1 ys
+beyond_front at gs ys le =
     let long : length (take at gs) ≡ at = length-take-le at gs le in
     ap (λ n. drop (n + 1) (take at gs ++ ys)) (sym long) ∙ drop-append-add (take at gs) ys 1
 
@@ -57,5 +57,5 @@ next_none gs at c le = let none : drop at gs ≡ [] = drop_all at gs le in rw no
 -- the rest of a list, from a place on
 pub rest_deletes : (level : Level) (at : ℕ) (gs front rest new : List Glyph) (m : Bool) → at ≤ length gs → front ≡ take at gs → rest ≡ drop at gs → Deletes level [] rest [] (drop 1 new) m → Deletes level [] (drop at gs) [] (drop (at + 1) (front ++ new)) m
 rest_deletes level at gs front rest new m le f r gone =
-    let behind : drop (at + 1) (front ++ new) ≡ drop 1 new = ap (λ hs. drop (at + 1) (hs ++ new)) f ∙ behind_front at gs new le in
-    subst (λ (hs : List Glyph). Deletes level [] (drop at gs) [] hs m) (sym behind) (subst (λ (hs : List Glyph). Deletes level [] hs [] (drop 1 new) m) r gone)
+    let beyond : drop (at + 1) (front ++ new) ≡ drop 1 new = ap (λ hs. drop (at + 1) (hs ++ new)) f ∙ beyond_front at gs new le in
+    subst (λ (hs : List Glyph). Deletes level [] (drop at gs) [] hs m) (sym beyond) (subst (λ (hs : List Glyph). Deletes level [] hs [] (drop 1 new) m) r gone)

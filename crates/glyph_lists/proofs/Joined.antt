@@ -38,7 +38,7 @@ ordered_from : (falls : Bool) (ns : List ℕ) → IsChain (Stands falls) ns → 
 ordered_from false ns h = inl h
 ordered_from true ns h = inr h
 
--- the numbers before a range, the range and those behind it
+-- the numbers before a range, the range and those after it
 record IsCut (ns front range back : List ℕ) : Type 0 where
   whole : ns ≡ front ++ (range ++ back)
 
@@ -60,18 +60,18 @@ by_range (x ∷ xs) first last f l k =
     let is : x ≡ first = some_is f in
     k xs (ap (λ n. n ∷ xs) is) (sym (some_is (sym (last_is x xs) ∙ l)) ∙ ap (λ n. last_from n xs) is)
 
--- the cluster that begins a range stands in order behind those before it
+-- the cluster that begins a range stands in order after those before it
 pub order_front : (gs : List hb_glyph_info_t) (i j first last : ℕ) → i ≤ j → first_of (clusters (slice_range gs i j)) ≡ Some first → last_of (clusters (slice_range gs i j)) ≡ Some last → IsOrdered (clusters gs) → IsOrdered (clusters (take i gs) ++ first ∷ [])
 order_front gs i j first last le f l o = by_range (clusters (slice_range gs i j)) first last f l (λ xs is _. by_order (clusters gs) o (λ falls chain.
     let whole = subst (IsChain (Stands falls)) ((cut_at gs i j le).whole ∙ ap (λ ns. clusters (take i gs) ++ (ns ++ clusters (drop j gs))) is) chain in
     ordered_from falls (clusters (take i gs) ++ first ∷ []) (first_front (Stands falls) (clusters (take i gs)) first xs (clusters (drop j gs)) whole)))
 
--- and the one that ends it before those behind it
+-- and the one that ends it before those after it
 pub order_back : (gs : List hb_glyph_info_t) (i j first last : ℕ) → i ≤ j → first_of (clusters (slice_range gs i j)) ≡ Some first → last_of (clusters (slice_range gs i j)) ≡ Some last → IsOrdered (clusters gs) → IsOrdered (last ∷ clusters (drop (j - i) (drop i gs)))
 order_back gs i j first last le f l o =
     let there : i + (j - i) ≡ j = omega arith in
-    let behind : drop (j - i) (drop i gs) ≡ drop j gs = drop-drop (j - i) i gs ∙ ap (λ n. drop n gs) there in
-    rw behind (by_range (clusters (slice_range gs i j)) first last f l (λ xs is end. by_order (clusters gs) o (λ falls chain.
+    let beyond : drop (j - i) (drop i gs) ≡ drop j gs = drop-drop (j - i) i gs ∙ ap (λ n. drop n gs) there in
+    rw beyond (by_range (clusters (slice_range gs i j)) first last f l (λ xs is end. by_order (clusters gs) o (λ falls chain.
     let whole = subst (IsChain (Stands falls)) ((cut_at gs i j le).whole ∙ ap (λ ns. clusters (take i gs) ++ (ns ++ clusters (drop j gs))) is) chain in
     let rest = last_back (Stands falls) first xs (clusters (drop j gs)) (chain_right (Stands falls) (clusters (take i gs)) ((first ∷ xs) ++ clusters (drop j gs)) whole) in
     ordered_from falls (last ∷ clusters (drop j gs)) (subst (λ (n : ℕ). IsChain (Stands falls) (n ∷ clusters (drop j gs))) (sym end) rest))))
@@ -97,7 +97,7 @@ order_beside range first ns f o = by_first range first f (λ xs is. by_order (ns
 pub renamed_beside : (range : List ℕ) (first low : ℕ) (gs hs : List hb_glyph_info_t) → first_of range ≡ Some first → low ≡ least_number range → IsOrdered (clusters gs ++ range) → hs ≡ renamed first low gs → hs ≡ glyphs_merged range gs
 renamed_beside range first low gs hs f is o e = e ∙ ap (λ n. renamed first n gs) is ∙ merged_front range first gs f o
 
--- and those behind it
+-- and those after it
 merged_back : (range : List ℕ) (first last : ℕ) (gs : List hb_glyph_info_t) → first_of range ≡ Some first → last_of range ≡ Some last → IsOrdered (range ++ clusters gs) → renamed last (least_number range) gs ≡ glyphs_merged range gs
 merged_back range first last gs f l o = by_range range first last f l (λ xs is end. by_order (range ++ clusters gs) o (λ falls chain.
     let whole = subst (λ (ns : List ℕ). IsChain (Stands falls) (ns ++ clusters gs)) is chain in
@@ -111,7 +111,7 @@ by_first_and_last : {P : Type 0} (range : List ℕ) (last : ℕ) → last_of ran
 by_first_and_last [] last l k = cc
 by_first_and_last (x ∷ xs) last l k = k x refl
 
--- the cluster that ends a range, before those behind it
+-- the cluster that ends a range, before those after it
 pub order_after : (range : List ℕ) (last : ℕ) (ns : List ℕ) → last_of range ≡ Some last → IsOrdered (range ++ ns) → IsOrdered (last ∷ ns)
 order_after range last ns l o = by_first_and_last range last l (λ first f. by_range range first last f l (λ xs is end. by_order (range ++ ns) o (λ falls chain.
     let whole = subst (λ (ms : List ℕ). IsChain (Stands falls) (ms ++ ns)) is chain in
@@ -128,7 +128,7 @@ pub joined_parts : (gs : List hb_glyph_info_t) (i j low first last : ℕ) (front
     → front ++ (range ++ back) ≡ glyphs_merged (stretch i j (clusters gs)) gs
 joined_parts gs i j low first last front range back le o f l is fe re be =
     let there : i + (j - i) ≡ j = omega arith in
-    let behind : drop (j - i) (drop i gs) ≡ drop j gs = drop-drop (j - i) i gs ∙ ap (λ n. drop n gs) there in
+    let beyond : drop (j - i) (drop i gs) ≡ drop j gs = drop-drop (j - i) i gs ∙ ap (λ n. drop n gs) there in
     let cut = (cut_at gs i j le).whole in
     let ns = clusters (slice_range gs i j) in
     let near : IsOrdered (clusters (take i gs) ++ ns) = by_order (clusters gs) o (λ falls chain. ordered_from falls (clusters (take i gs) ++ ns) (chain_left (Stands falls) (clusters (take i gs) ++ ns) (clusters (drop j gs)) (subst (IsChain (Stands falls)) (cut ∙ sym (append_assoc (clusters (take i gs)) ns (clusters (drop j gs)))) chain))) in
@@ -136,7 +136,7 @@ joined_parts gs i j low first last front range back le o f l is fe re be =
     merged_parts gs i j front range back
     (fe ∙ ap (λ n. renamed first n (take i gs)) is ∙ merged_front ns first (take i gs) f near)
     (re ∙ ap (λ n. map (in_cluster n) (slice_range gs i j)) is)
-    (be ∙ ap (λ n. renamed last n (drop (j - i) (drop i gs))) is ∙ ap (renamed last (least_number ns)) behind ∙ merged_back ns first last (drop j gs) f l far ∙ ap (glyphs_merged ns) (sym behind))
+    (be ∙ ap (λ n. renamed last n (drop (j - i) (drop i gs))) is ∙ ap (renamed last (least_number ns)) beyond ∙ merged_back ns first last (drop j gs) f l far ∙ ap (glyphs_merged ns) (sym beyond))
 
 pub none_merged : (i j : ℕ) (gs : List hb_glyph_info_t) → i ≡ j → gs ≡ glyphs_merged (stretch i j (clusters gs)) gs
 none_merged i j gs e = let none : j - i ≡ 0 = omega arith in rw none (sym (nothing_merged gs))

@@ -40,18 +40,18 @@ copies_have (suc given) n lt = has_here n (replicate given n)
 has_copied : (given gone n : ℕ) (ns : List ℕ) → 0 < given → (Has (take gone ns) n → first_of ns ≡ Some n) → Has ns n → Has (copies given (first_of ns) ++ drop gone ns) n
 has_copied given gone n ns lt alike h = elim (has_at n gone ns h) [
   | inl there ↦ has_left n (copies given (first_of ns)) (drop gone ns) (let P : Option ℕ → Type 0 = λ o. Has (copies given o) n in subst P (sym (alike there)) (copies_have given n lt))
-  | inr behind ↦ has_right n (copies given (first_of ns)) (drop gone ns) behind
+  | inr beyond ↦ has_right n (copies given (first_of ns)) (drop gone ns) beyond
 ]
 
 replaced_has_at : (at gone given n : ℕ) (ns rest : List ℕ) → drop at ns ≡ rest → 0 < given → (Has (take gone rest) n → first_of rest ≡ Some n) → Has ns n
     → Has (take at ns ++ copies given (or (first_of rest) (last_of (take at ns))) ++ drop gone rest) n
 replaced_has_at at gone given n ns [] e lt alike h = elim (has_at n at ns h) [
   | inl front ↦ has_left n (take at ns ++ copies given (last_of (take at ns))) (drop gone []) (has_left n (take at ns) (copies given (last_of (take at ns))) front)
-  | inr behind ↦ let none = rw e at behind in cc
+  | inr beyond ↦ let none = rw e at beyond in cc
 ]
 replaced_has_at at gone given n ns (m ∷ rest) e lt alike h = rw append_assoc (elim (has_at n at ns h) [
   | inl front ↦ has_left n (take at ns) (replicate given m ++ drop gone (m ∷ rest)) front
-  | inr behind ↦ has_right n (take at ns) (replicate given m ++ drop gone (m ∷ rest)) (has_copied given gone n (m ∷ rest) lt alike (rw e at behind))
+  | inr beyond ↦ has_right n (take at ns) (replicate given m ++ drop gone (m ∷ rest)) (has_copied given gone n (m ∷ rest) lt alike (rw e at beyond))
 ])
 
 -- items that are all of one part make room for others of it: its number stays
@@ -89,7 +89,7 @@ replace_has falls at taken given k ns lt o l =
 doubled_has : (at n : ℕ) (ns : List ℕ) → Has ns n → Has (take at ns ++ copies 2 (first_of (drop at ns)) ++ drop (at + 1) ns) n
 doubled_has at n ns h = rw (append_assoc, ← drop-drop 1 at ns) (elim (has_at n at ns h) [
   | inl front ↦ has_left n (take at ns) (copies 2 (first_of (drop at ns)) ++ drop 1 (drop at ns)) front
-  | inr behind ↦ has_right n (take at ns) (copies 2 (first_of (drop at ns)) ++ drop 1 (drop at ns)) (has_copied 2 1 n (drop at ns) (omega arith) (one_alike n (drop at ns)) behind)
+  | inr beyond ↦ has_right n (take at ns) (copies 2 (first_of (drop at ns)) ++ drop 1 (drop at ns)) (has_copied 2 1 n (drop at ns) (omega arith) (one_alike n (drop at ns)) beyond)
 ])
   where
     one_alike : (m : ℕ) (ms : List ℕ) → Has (take 1 ms) m → first_of ms ≡ Some m
@@ -168,7 +168,7 @@ deleted_has at k ns [] e l some =
     let same : before_deletion at ns ≡ ns = rw e refl in
     subst P (sym same) (elim (has_at k at ns l.among) [
       | inl front ↦ has_left k (take at ns) (drop (at + 1) ns) front
-      | inr behind ↦ let none = rw e at behind in cc
+      | inr beyond ↦ let none = rw e at beyond in cc
     ])
 deleted_has at k ns (n ∷ rest) e l some =
     let left = left_at at n ns rest e in
@@ -178,7 +178,7 @@ deleted_has at k ns (n ∷ rest) e l some =
     λ p h same. subst (λ (ms : List ℕ). Has ms k) (sym after) (subst (Has (map left.f others)) same (map_has left.f p others h)) in
     elim (has_at k at ns l.among) [
       | inl front ↦ kept k (has_left k (take at ns) (drop (at + 1) ns) front) (left.least k l)
-      | inr behind ↦ elim (has_cases n k rest (rw e at behind)) [
+      | inr beyond ↦ elim (has_cases n k rest (rw e at beyond)) [
         | inl here ↦ elim left.beside [
           | inl none ↦ absurd (some (after ∙ ap (map left.f) none))
           | inr beside ↦ kept beside.0 beside.1 (beside.2 ∙ ap left.f here ∙ left.least k l)

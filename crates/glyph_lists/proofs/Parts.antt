@@ -42,8 +42,8 @@ pub marked_parts : (bits low : ℕ) (xs range : List hb_glyph_info_t) (i j : ℕ
     → put_mid i (j - i) xs range ≡ glyphs_marked bits i j xs
 marked_parts bits low xs range i j le is e =
     let there : i + (j - i) ≡ j = omega arith in
-    let behind : drop (j - i) (drop i xs) ≡ drop j xs = drop-drop (j - i) i xs ∙ ap (λ n. drop n xs) there in
-    rw (e, is, stretch_is xs i j, behind) (sym (append_assoc (take i xs) (map (marked_outside bits (least_number (clusters (slice_range xs i j)))) (slice_range xs i j)) (drop j xs)))
+    let beyond : drop (j - i) (drop i xs) ≡ drop j xs = drop-drop (j - i) i xs ∙ ap (λ n. drop n xs) there in
+    rw (e, is, stretch_is xs i j, beyond) (sym (append_assoc (take i xs) (map (marked_outside bits (least_number (clusters (slice_range xs i j)))) (slice_range xs i j)) (drop j xs)))
 
 pub told_apart : (xs : List hb_glyph_info_t) (i j : ℕ) → list_any (λ n. not (n == least_number (clusters (slice_range xs i j)))) (clusters (slice_range xs i j)) ≡ tells_apart (stretch i j (clusters xs))
 told_apart xs i j = rw (stretch_is xs i j) refl
@@ -51,5 +51,5 @@ told_apart xs i j = rw (stretch_is xs i j) refl
 pub flagged_parts : (bits : ℕ) (xs range : List hb_glyph_info_t) (i j : ℕ) → i ≤ j → range ≡ map (flagged bits) (slice_range xs i j) → put_mid i (j - i) xs range ≡ glyphs_flagged bits i j xs
 flagged_parts bits xs range i j le e =
     let there : i + (j - i) ≡ j = omega arith in
-    let behind : drop (j - i) (drop i xs) ≡ drop j xs = drop-drop (j - i) i xs ∙ ap (λ n. drop n xs) there in
-    rw (e, behind) (sym (append_assoc (take i xs) (map (flagged bits) (slice_range xs i j)) (drop j xs)))
+    let beyond : drop (j - i) (drop i xs) ≡ drop j xs = drop-drop (j - i) i xs ∙ ap (λ n. drop n xs) there in
+    rw (e, beyond) (sym (append_assoc (take i xs) (map (flagged bits) (slice_range xs i j)) (drop j xs)))

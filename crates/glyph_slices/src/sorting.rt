@@ -49,7 +49,7 @@ pub fn sort<F: Fn(&hb_glyph_info_t) -> u32>(
 }
 
 /// What a sort did to clusters.
-#[derive(Clone, Copy, PartialEq, Eq)]
+#[derive(Clone, Copy)]
 pub struct Sorted {
     /// Whether a merge marked a glyph.
     pub marked: bool,

@@ -26,7 +26,7 @@ use Rattle.layout_links.proofs.Kept.{same_length, followed_advances, finished_ad
 
 -- ---- sums in a list
 
--- the pen behind glyphs
+-- the pen after glyphs
 abbrev pens : Pen → List Position → Pen
 pens p ps = fold pen_after p ps
 
@@ -75,10 +75,10 @@ parent_summed i ps = ap (λ (n : ℕ). linked n i (position_at i (summed ps)).at
 -- ---- modulo 2^32
 
 fold_pen : (v : Position → ℤ) (o : Pen → ℤ) → ((p : Pen) (r : Position) → o (pen_after p r) ≡ plus (o p) (v r)) → (p : Pen) (rs : List Position) → int_wrap w32 (o (pens p rs)) ≡ int_wrap w32 (o p +ℤ total v rs)
-fold_pen v o step p [] = ap (int_wrap w32) (none_behind (o p))
+fold_pen v o step p [] = ap (int_wrap w32) (none_added (o p))
   where
-    none_behind : (a : ℤ) → a ≡ a +ℤ pos 0
-    none_behind a = grind (arith, ints)
+    none_added : (a : ℤ) → a ≡ a +ℤ pos 0
+    none_added a = grind (arith, ints)
 fold_pen v o step p (r ∷ rs) =
     fold_pen v o step (pen_after p r) rs ∙ ap (λ (n : ℤ). int_wrap w32 (n +ℤ total v rs)) (step p r) ∙ int_wrap-add_left w32 (o p +ℤ v r) (total v rs) ∙ ap (int_wrap w32) (in_three (o p) (v r) (total v rs))
   where
@@ -194,15 +194,15 @@ offset_seen i j ps li lj = ap (λ (p : Position). offset_by (position_at j (summ
 pen_here : (i : ℕ) (ps : List Position) → i < length ps → pen_of (position_at i (summed ps)) ≡ sum_to (i + 1) ps
 pen_here i ps lt = summed_pen pen_down i ps lt
 
-behind_seen : (forward : Bool) (i j : ℕ) (ps : List Position) → j < i → i < length ps → after_parent forward i j (summed ps) ≡ with_pen (sum_to (i + 1) ps) (mark_drawn forward i j ps)
-behind_seen true i j ps lt li =
+later_seen : (forward : Bool) (i j : ℕ) (ps : List Position) → j < i → i < length ps → after_parent forward i j (summed ps) ≡ with_pen (sum_to (i + 1) ps) (mark_drawn forward i j ps)
+later_seen true i j ps lt li =
     let lj : j < length ps = omega (arith, lt, li) in
     let p = offset_by (position_at j ps) (position_at i ps) in
     ap (λ (r : Position). back_by (pen_way (pen_before j (summed ps)) (pen_before i (summed ps))) r) (offset_seen i j ps li lj)
     ∙ ap (λ (q : Pen). back_by (pen_way q (pen_before i (summed ps))) (with_pen (sum_to (i + 1) ps) p)) (before_here j ps lj)
     ∙ ap (λ (q : Pen). back_by (pen_way (sum_to j ps) q) (with_pen (sum_to (i + 1) ps) p)) (before_here i ps li)
     ∙ ap (with_pen (sum_to (i + 1) ps)) (back_by_way i j ps p (omega (arith, lt)) (twice ((position_at i ps).x_offset +ℤ (position_at j ps).x_offset)) (twice ((position_at i ps).y_offset +ℤ (position_at j ps).y_offset)))
-behind_seen false i j ps lt li =
+later_seen false i j ps lt li =
     let lj : j < length ps = omega (arith, lt, li) in
     let p = offset_by (position_at j ps) (position_at i ps) in
     ap (λ (r : Position). on_by (pen_way (pen_of (position_at j (summed ps))) (pen_of (position_at i (summed ps)))) r) (offset_seen i j ps li lj)
@@ -210,14 +210,14 @@ behind_seen false i j ps lt li =
     ∙ ap (λ (q : Pen). on_by (pen_way (sum_to (j + 1) ps) q) (with_pen (sum_to (i + 1) ps) p)) (pen_here i ps li)
     ∙ ap (with_pen (sum_to (i + 1) ps)) (on_by_way (i + 1) (j + 1) ps p (omega (arith, lt)) (twice ((position_at i ps).x_offset +ℤ (position_at j ps).x_offset)) (twice ((position_at i ps).y_offset +ℤ (position_at j ps).y_offset)))
 
--- a mark that hangs on a glyph behind it
+-- a mark that hangs on a glyph after it
 before_parent : (forward : Bool) (i j : ℕ) (ps : List Position) → i ≤ j → mark_drawn forward i j ps ≡ offset_by (position_at j ps) (position_at i ps)
 before_parent true i j ps le = ap (λ rs. fold back_over (offset_by (position_at j ps) (position_at i ps)) rs) (nothing_between j i ps le)
 before_parent false i j ps le = ap (λ rs. fold on_over (offset_by (position_at j ps) (position_at i ps)) rs) (nothing_between (j + 1) (i + 1) ps (omega (arith, le)))
 
 mark_seen : (forward : Bool) (i j : ℕ) (ps : List Position) → i < length ps → j < length ps → mark_by_sums forward i j (summed ps) ≡ with_pen (sum_to (i + 1) ps) (mark_drawn forward i j ps)
 mark_seen forward i j ps li lj = elim (ltb_tells j i) [
-  | inl is ↦ ap (λ (b : Bool). if b then after_parent forward i j (summed ps) else offset_by (position_at j (summed ps)) (position_at i (summed ps))) is.0 ∙ behind_seen forward i j ps is.1 li
+  | inl is ↦ ap (λ (b : Bool). if b then after_parent forward i j (summed ps) else offset_by (position_at j (summed ps)) (position_at i (summed ps))) is.0 ∙ later_seen forward i j ps is.1 li
   | inr other ↦ ap (λ (b : Bool). if b then after_parent forward i j (summed ps) else offset_by (position_at j (summed ps)) (position_at i (summed ps))) other.0 ∙ offset_seen i j ps li lj ∙ ap (with_pen (sum_to (i + 1) ps)) (sym (before_parent forward i j ps other.1))
 ]
   where

@@ -84,10 +84,10 @@ fold_back v o step p (r ∷ rs) =
 
 -- the pen went on over glyphs
 pub fold_on : (v o : Position → ℤ) → ((p r : Position) → o (on_over p r) ≡ plus (o p) (v r)) → (p : Position) (rs : List Position) → int_wrap w32 (o (fold on_over p rs)) ≡ int_wrap w32 (o p +ℤ total v rs)
-fold_on v o step p [] = ap (int_wrap w32) (none_behind (o p))
+fold_on v o step p [] = ap (int_wrap w32) (none_added (o p))
   where
-    none_behind : (a : ℤ) → a ≡ a +ℤ pos 0
-    none_behind a = grind (arith, ints)
+    none_added : (a : ℤ) → a ≡ a +ℤ pos 0
+    none_added a = grind (arith, ints)
 fold_on v o step p (r ∷ rs) =
     fold_on v o step (on_over p r) rs ∙ ap (λ (n : ℤ). int_wrap w32 (n +ℤ total v rs)) (step p r)
     ∙ int_wrap-add_same w32 (int_wrap w32 (o p +ℤ v r)) (o p +ℤ v r) (total v rs) (twice (o p +ℤ v r)) ∙ ap (int_wrap w32) (sym (in_three (o p) (v r) (total v rs)))

@@ -239,7 +239,7 @@ fn follow(positions: &mut [GlyphPosition], start: usize, direction: Direction)
 {
     let walk = go_along(positions, start);
     let mut last = walk.last;
-    for _behind in 0..walk.depth {
+    for _step in 0..walk.depth {
         last = go_back(positions, last, direction);
     }
 }

@@ -6,6 +6,7 @@ pub mod category;
 pub mod indic_feature;
 pub mod joining_types;
 pub mod khmer_feature;
+pub mod laws;
 mod names;
 pub mod ot_category_t;
 pub mod ot_position_t;

@@ -7,7 +7,7 @@ use Rattle.glyph_lists.specs.Items.{item_of}
 use Rattle.script_joining.specs.Types.{JoiningType}
 use Rattle.script_joining.specs.Forms.{letter_form}
 use Rattle.script_joining.specs.Joining.{is_letter, form_after}
-use Rattle.script_joining.specs.Glyphs.{glyph_formed, glyphs_copied, glyphs_formed, nearest_behind, nearest_or, type_kept}
+use Rattle.script_joining.specs.Glyphs.{glyph_formed, glyphs_copied, glyphs_formed, nearest_past, nearest_or, type_kept}
 
 -- ---- the nearest letter
 
@@ -44,9 +44,9 @@ all_copied i before hs xs le p =
 
 formed_suc : (before after : JoiningType) (i : ℕ) (ys : List hb_glyph_info_t) (d : hb_glyph_info_t) (form : ℕ) → i < length ys
     → form ≡ letter_form before (type_kept (get_or ys i d)) (nearest_or after (map type_kept (drop (suc i) ys)))
-    → take (suc i) (set ys i (glyph_formed form (get_or ys i d))) ++ glyphs_formed (nearest_behind before (type_kept (get_or ys i d))) after (drop (suc i) (set ys i (glyph_formed form (get_or ys i d)))) ≡ take i ys ++ glyphs_formed before after (drop i ys)
+    → take (suc i) (set ys i (glyph_formed form (get_or ys i d))) ++ glyphs_formed (nearest_past before (type_kept (get_or ys i d))) after (drop (suc i) (set ys i (glyph_formed form (get_or ys i d)))) ≡ take i ys ++ glyphs_formed before after (drop i ys)
 formed_suc before after i [] d form lt e = absurd (omega arith)
-formed_suc before after zero (y ∷ ys) d form lt e = ap (λ n. glyph_formed n y ∷ glyphs_formed (nearest_behind before (type_kept y)) after ys) e
+formed_suc before after zero (y ∷ ys) d form lt e = ap (λ n. glyph_formed n y ∷ glyphs_formed (nearest_past before (type_kept y)) after ys) e
 formed_suc before after (suc i) (y ∷ ys) d form lt e = ap (λ zs. y ∷ zs) (formed_suc before after i ys d form (omega arith) e)
 
 -- glyphs of which the first so many have their forms
@@ -59,7 +59,7 @@ none_formed before after hs = record { glyphs = refl; count = refl }
 
 pub next_formed : (start before after : JoiningType) (i : ℕ) (hs xs : List hb_glyph_info_t) (d : hb_glyph_info_t) (form : ℕ) → i < length xs
     → form ≡ letter_form before (type_kept (get_or xs i d)) (nearest_or after (map type_kept (drop (i + 1) xs)))
-    → AreFormed start after i before hs xs → AreFormed start after (i + 1) (nearest_behind before (type_kept (get_or xs i d))) hs (set xs i (glyph_formed form (get_or xs i d)))
+    → AreFormed start after i before hs xs → AreFormed start after (i + 1) (nearest_past before (type_kept (get_or xs i d))) hs (set xs i (glyph_formed form (get_or xs i d)))
 next_formed start before after i hs xs d form lt e p =
     let f : form ≡ letter_form before (type_kept (get_or xs i d)) (nearest_or after (map type_kept (drop (suc i) xs))) = e ∙ ap (λ n. letter_form before (type_kept (get_or xs i d)) (nearest_or after (map type_kept (drop n xs)))) (add-one i) in
     record { glyphs = rw add-one (formed_suc before after i xs d form lt f) ∙ p.glyphs; count = length-set xs i (glyph_formed form (get_or xs i d)) ∙ p.count }

@@ -16,7 +16,7 @@ use Rattle.unicode_tables.specs.Tables.{Tables}
 use Rattle.script_constants.specs.declared.joining_types.hb_arabic_joining_type_t.TheVariants.{U, L, R, D, GroupAlaph, GroupDalathRish, T, X}
 use Rattle.script_joining.specs.Types.{JoiningType, type_of_item}
 use Rattle.script_joining.specs.Forms.{letter_form}
-use Rattle.script_joining.specs.Joining.{form_after, forms, forms_copied, is_letter, joined, joined_items, mask_of, nearest, nearest_behind, neighbour_events, settled_forms, types_of_characters, types_of_items, with_form, with_forms}
+use Rattle.script_joining.specs.Joining.{form_after, forms, forms_copied, is_letter, joined, joined_items, mask_of, nearest, nearest_past, neighbour_events, settled_forms, types_of_characters, types_of_items, with_form, with_forms}
 use Rattle.script_joining.specs.Flagged.{type_of_typed}
 use Rattle.script_joining.specs.Glyphs.{AreFlagless, glyph_joined, glyphs_copied, glyphs_formed, glyphs_settled, item_typed, nearest_or, number_of, type_kept, type_numbered}
 use Rattle.stage_rules.specs.Lemmas.Masks.{mask_above}
@@ -39,14 +39,14 @@ kept_types t (x ∷ xs) = rw (kept_type (type_of_item t x), kept_types t xs) ref
 
 -- ---- forms
 
--- the nearest letter of two texts, one behind the other
+-- the nearest letter of two texts, one after the other
 nearest_both : (ts us : List JoiningType) → nearest (ts ++ us) ≡ nearest_or (nearest us) ts
 nearest_both [] us = refl
 nearest_both (t ∷ ts) us =
     elim (is_letter t) as (λ b. unwrap_or (if b then Some t else find is_letter (ts ++ us)) U ≡ unwrap_or (if b then Some t else find is_letter ts) (nearest us))
     [ true ↦ refl | false ↦ nearest_both ts us ]
 
-nearest_front : (t : JoiningType) (ts : List JoiningType) → nearest (t ∷ ts) ≡ nearest_behind (nearest ts) t
+nearest_front : (t : JoiningType) (ts : List JoiningType) → nearest (t ∷ ts) ≡ nearest_past (nearest ts) t
 nearest_front t ts = elim (is_letter t) as (λ b. unwrap_or (if b then Some t else find is_letter ts) U ≡ (if b then t else nearest ts)) [ true ↦ refl | false ↦ refl ]
 
 -- items with given forms
@@ -68,7 +68,7 @@ formed_items before after (g ∷ gs) =
     let b = type_kept g in
     let rest = ap (λ t. strip (glyphs_formed t (nearest after) gs)) (sym (nearest_front b before)) ∙ formed_items (b ∷ before) after gs in
     let here = ap (λ t. letter_form (nearest before) b t) (ap (nearest_or (nearest after)) (seen_types gs) ∙ sym (nearest_both (map type_of_typed (strip gs)) after)) in
-    ap (λ n. item_formed (item_of g) n ∷ strip (glyphs_formed (nearest_behind (nearest before) b) (nearest after) gs)) here
+    ap (λ n. item_formed (item_of g) n ∷ strip (glyphs_formed (nearest_past (nearest before) b) (nearest after) gs)) here
     ∙ ap (λ xs. item_formed (item_of g) (letter_form (nearest before) b (nearest (map type_of_typed (strip gs) ++ after))) ∷ xs) rest
 
 -- ---- forms that are copied
@@ -173,7 +173,7 @@ items_joined t mongolian masks pre post gs xs e =
 
 formed_origins : (before after : JoiningType) (gs : List hb_glyph_info_t) → origins (glyphs_formed before after gs) ≡ origins gs
 formed_origins before after [] = refl
-formed_origins before after (g ∷ gs) = ap (λ os. origin_of g ∷ os) (formed_origins (nearest_behind before (type_kept g)) after gs)
+formed_origins before after (g ∷ gs) = ap (λ os. origin_of g ∷ os) (formed_origins (nearest_past before (type_kept g)) after gs)
 
 copied_origins : (before : Option ℕ) (gs : List hb_glyph_info_t) → origins (glyphs_copied before gs) ≡ origins gs
 copied_origins before [] = refl

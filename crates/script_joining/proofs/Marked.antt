@@ -16,8 +16,8 @@ use Rattle.stage_rules.specs.Stages.{Happens}
 use Rattle.stage_rules.specs.Lemmas.Happened.{both_happen, call_happens, nothing_happens}
 use Rattle.script_joining.specs.declared.flags.Letter.{Letter}
 use Rattle.script_joining.specs.Types.{JoiningType}
-use Rattle.script_joining.specs.Joining.{event_at, is_letter, letter_after, nearest_behind, neighbour_events}
-use Rattle.script_joining.specs.Flagged.{IsBehind, type_of_typed}
+use Rattle.script_joining.specs.Joining.{event_at, is_letter, letter_after, nearest_past, neighbour_events}
+use Rattle.script_joining.specs.Flagged.{IsEarlier, type_of_typed}
 use Rattle.script_joining.specs.Glyphs.{type_kept}
 
 -- ---- one call
@@ -73,11 +73,11 @@ kept_at (g ∷ gs) (suc at) d lt = kept_at gs at d (omega arith)
 pub record AreFlagged (from : Sides) (start : JoiningType) (at : ℕ) (before : JoiningType) (last : Option Letter) (s : Sides) : Type 0 where
   pub events : List Event
   pub happened : Happens events from s
-  pub behind : IsBehind last at
+  pub earlier : IsEarlier last at
   pub rest : events ++ neighbour_events before last at (drop at (map type_of_typed (items_of from))) ≡ neighbour_events start None 0 (map type_of_typed (items_of from))
 
 pub none_flagged : (s : Sides) (start : JoiningType) → IsReady s → AreFlagged s start 0 start None s
-none_flagged s start ready = record { events = []; happened = nothing_happens s ready; behind = record {}; rest = refl }
+none_flagged s start ready = record { events = []; happened = nothing_happens s ready; earlier = record {}; rest = refl }
 
 same_items : (a b : Sides) → view_of b ≡ view_of a → items_of b ≡ items_of a
 same_items a b e = ap (λ (v : View). v.items) e
@@ -88,7 +88,7 @@ same_count from s start at before last f = sym (length-map (all_glyphs s) item_o
 some_same : {X : Type 0} (a b : X) → Some a ≡ Some b → b ≡ a
 some_same a b e = cc
 
-still_after : (last : Option Letter) (at : ℕ) → IsBehind last at → IsBehind last (at + 1)
+still_after : (last : Option Letter) (at : ℕ) → IsEarlier last at → IsEarlier last (at + 1)
 still_after None at b = b
 still_after (Some p) at b = omega (arith, b)
 
@@ -97,21 +97,21 @@ there_suc [] i x e = cc
 there_suc (y ∷ xs) zero x e = ap (λ z. z ∷ xs) (sym (some_same y x (sym e)))
 there_suc (y ∷ xs) (suc i) x e = there_suc xs i x e
 
-after_next : (before : JoiningType) (last : Option Letter) (t : JoiningType) (at : ℕ) → IsBehind last at → IsBehind (letter_after before last t at) (at + 1)
-after_next before last t at b = elim (is_letter t) as (λ c. IsBehind (if c then Some (record { at = at; joining = t; before = before }) else last) (at + 1)) [ true ↦ omega arith | false ↦ still_after last at b ]
+after_next : (before : JoiningType) (last : Option Letter) (t : JoiningType) (at : ℕ) → IsEarlier last at → IsEarlier (letter_after before last t at) (at + 1)
+after_next before last t at b = elim (is_letter t) as (λ c. IsEarlier (if c then Some (record { at = at; joining = t; before = before }) else last) (at + 1)) [ true ↦ omega arith | false ↦ still_after last at b ]
 
 pub next_flagged : (from s t : Sides) (start : JoiningType) (at : ℕ) (before : JoiningType) (last : Option Letter) (joining : JoiningType) → Some joining ≡ slice_get (map type_of_typed (items_of s)) at
-    → Happens (event_at last joining at) s t → AreFlagged from start at before last s → AreFlagged from start (at + 1) (nearest_behind before joining) (letter_after before last joining at) t
+    → Happens (event_at last joining at) s t → AreFlagged from start at before last s → AreFlagged from start (at + 1) (nearest_past before joining) (letter_after before last joining at) t
 next_flagged from s t start at before last joining e h f =
     let es = event_at last joining at in
-    let more : ℕ → List Event = λ k. neighbour_events (nearest_behind before joining) (letter_after before last joining at) (at + 1) (drop k (map type_of_typed (items_of from))) in
+    let more : ℕ → List Event = λ k. neighbour_events (nearest_past before joining) (letter_after before last joining at) (at + 1) (drop k (map type_of_typed (items_of from))) in
     let types : List JoiningType = map type_of_typed (items_of from) in
     let there = e ∙ ap (λ xs. slice_get (map type_of_typed xs) at) (same_items from s f.happened.view) in
     let cut : es ++ more (suc at) ≡ neighbour_events before last at (drop at types) = sym (ap (neighbour_events before last at) (there_suc types at joining there)) in
     record {
       events = f.events ++ es;
       happened = both_happen f.events es from s t f.happened h;
-      behind = after_next before last joining at f.behind;
+      earlier = after_next before last joining at f.earlier;
       rest =
           append_assoc f.events es (more (at + 1))
           ∙ ap (λ k. f.events ++ (es ++ more k)) (add-one at)

@@ -10,6 +10,6 @@ abbrev pub type_of_typed : Item → JoiningType
 type_of_typed x = type_numbered x.auxiliary
 
 -- a letter stands before an index, if there is one
-abbrev pub IsBehind : Option Letter → ℕ → Type 0
-IsBehind None at = Unit {0}
-IsBehind (Some p) at = p.at < at
+abbrev pub IsEarlier : Option Letter → ℕ → Type 0
+IsEarlier None at = Unit {0}
+IsEarlier (Some p) at = p.at < at

@@ -7,7 +7,7 @@ use Rattle.glyph_lists.specs.declared.info.hb_glyph_info_t.{hb_glyph_info_t}
 use Rattle.glyph_lists.specs.Items.{Item, item_of}
 use Rattle.script_joining.specs.Types.{JoiningType, type_of_item}
 use Rattle.script_joining.specs.Forms.{letter_form}
-pub use Rattle.script_joining.specs.Joining.{mask_of, nearest_behind}
+pub use Rattle.script_joining.specs.Joining.{mask_of, nearest_past}
 use Rattle.script_joining.specs.Joining.{is_letter, form_after}
 
 -- the number of a type
@@ -42,7 +42,7 @@ glyph_formed form g = record g { auxiliary = form }
 abbrev pub glyphs_formed : JoiningType → JoiningType → List hb_glyph_info_t → List hb_glyph_info_t
 glyphs_formed before after [] = []
 glyphs_formed before after (g ∷ gs) =
-    glyph_formed (letter_form before (type_kept g) (nearest_or after (map type_kept gs))) g ∷ glyphs_formed (nearest_behind before (type_kept g)) after gs
+    glyph_formed (letter_form before (type_kept g) (nearest_or after (map type_kept gs))) g ∷ glyphs_formed (nearest_past before (type_kept g)) after gs
 
 -- Mongolian selectors with the forms before them
 abbrev pub glyphs_copied : Option ℕ → List hb_glyph_info_t → List hb_glyph_info_t

@@ -45,8 +45,8 @@ abbrev pub event_at : Option Letter → JoiningType → ℕ → List Event
 event_at last t at = if is_letter t then event_after last t at else []
 
 -- the type of the nearest letter, once one more character was passed
-abbrev pub nearest_behind : JoiningType → JoiningType → JoiningType
-nearest_behind before t = if is_letter t then t else before
+abbrev pub nearest_past : JoiningType → JoiningType → JoiningType
+nearest_past before t = if is_letter t then t else before
 
 -- the last letter of the text, once one more character was passed
 abbrev pub letter_after : JoiningType → Option Letter → JoiningType → ℕ → Option Letter
@@ -55,7 +55,7 @@ letter_after before last t at = if is_letter t then Some (record { at = at; join
 -- each two neighbours among the letters of a text, from an index on: after a letter of a type, and after one of the text, if there is one
 abbrev pub neighbour_events : JoiningType → Option Letter → ℕ → List JoiningType → List Event
 neighbour_events before last at [] = []
-neighbour_events before last at (t ∷ ts) = event_at last t at ++ neighbour_events (nearest_behind before t) (letter_after before last t at) (at + 1) ts
+neighbour_events before last at (t ∷ ts) = event_at last t at ++ neighbour_events (nearest_past before t) (letter_after before last t at) (at + 1) ts
 
 -- the Mongolian selectors U+180B to U+180D and U+180F
 abbrev pub is_mongolian_selector : Item → Bool

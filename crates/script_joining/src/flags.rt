@@ -3,13 +3,13 @@ ghost use Rattle.std.specs.Prelude.{◌≡◌, ◌<◌, ◌+◌, ◌^◌, ◌==�
 ghost use Rattle.glyph_buffer.specs.Sides.{all_glyphs, items_of};
 ghost use Rattle.stage_rules.specs.Ready.{IsReady};
 ghost use Rattle.script_constants.specs.declared.joining_types.hb_arabic_joining_type_t.TheVariants.{U};
-ghost use Rattle.script_joining.specs.Flagged.{IsBehind, type_of_typed};
+ghost use Rattle.script_joining.specs.Flagged.{IsEarlier, type_of_typed};
 ghost use Rattle.script_joining.specs.Forms.{letter_form};
 ghost use Rattle.script_joining.specs.Joining.{event_at, letter_after, neighbour_events, neighbours_event};
 ghost use Rattle.stage_rules.specs.Stages.{Happens};
 
 use crate::forms::letter_form;
-use crate::types::{is_letter, nearest_behind, type_kept};
+use crate::types::{is_letter, nearest_past, type_kept};
 use glyph_buffer::buffer::hb_buffer_t;
 use script_constants::hb_arabic_joining_type_t;
 
@@ -35,7 +35,7 @@ pub(crate) fn flag_neighbours(start: hb_arabic_joining_type_t, buffer: &mut hb_b
         let joining = type_at(buffer, at);
         flag_after(last, joining, at, buffer);
         last = letter_after(before, last, joining, at);
-        before = nearest_behind(before, joining);
+        before = nearest_past(before, joining);
     }
 }
 
@@ -76,7 +76,7 @@ fn flag_after(
     buffer: &mut hb_buffer_t,
 )
     requires ready { IsReady buffer.old }
-    requires behind { IsBehind last at }
+    requires earlier { IsEarlier last at }
     requires within { at < length (all_glyphs buffer.old) }
     requires small { at + 1 < 2 ^ 64 }
     ensures { Happens (event_at last joining at) buffer.old buffer.new }
@@ -97,7 +97,7 @@ fn flag_between(
     buffer: &mut hb_buffer_t,
 )
     requires ready { IsReady buffer.old }
-    requires behind { letter.at < at }
+    requires earlier { letter.at < at }
     requires within { at < length (all_glyphs buffer.old) }
     requires small { at + 1 < 2 ^ 64 }
     ensures { Happens (neighbours_event letter joining at ∷ []) buffer.old buffer.new }

@@ -7,7 +7,7 @@ ghost use Rattle.script_joining.specs.Forms.{letter_form};
 ghost use Rattle.script_joining.specs.Joining.{form_after, is_letter, is_mongolian_selector};
 
 use crate::forms::letter_form;
-use crate::types::{is_letter, nearest_behind, type_kept};
+use crate::types::{is_letter, nearest_past, type_kept};
 use glyph_lists::info::{hb_glyph_info_t, hb_mask_t};
 use script_constants::hb_arabic_joining_type_t;
 
@@ -41,7 +41,7 @@ fn form_letters(
         let letter = type_kept(&glyphs[at]);
         let form = form_before(before, letter, after, &glyphs[at + 1..]);
         glyphs[at].auxiliary = form;
-        before = nearest_behind(before, letter);
+        before = nearest_past(before, letter);
     }
 }
 

@@ -3,7 +3,7 @@ ghost use Rattle.std.specs.Prelude.{◌≡◌, find};
 ghost use Rattle.std.specs.Option.{option_map};
 ghost use Rattle.glyph_lists.specs.Items.{item_of};
 ghost use Rattle.script_joining.specs.Glyphs.{item_typed, number_of, type_kept, type_numbered};
-ghost use Rattle.script_joining.specs.Joining.{is_letter, nearest, nearest_behind, types_of_characters};
+ghost use Rattle.script_joining.specs.Joining.{is_letter, nearest, nearest_past, types_of_characters};
 ghost use Rattle.script_joining.specs.Types.{joining_type, listed_type, type_of_category, type_of_character, type_of_item};
 ghost use Rattle.glyph_lists.specs.Origins.{origin_of};
 
@@ -125,11 +125,11 @@ pub(crate) fn is_letter(joining: hb_arabic_joining_type_t) -> bool
 }
 
 /// The type of the nearest letter, once one more character was passed.
-pub(crate) fn nearest_behind(
+pub(crate) fn nearest_past(
     before: hb_arabic_joining_type_t,
     joining: hb_arabic_joining_type_t,
 ) -> hb_arabic_joining_type_t
-    ensures { result ≡ nearest_behind before joining }
+    ensures { result ≡ nearest_past before joining }
 {
     if is_letter(joining) { joining } else { before }
 }

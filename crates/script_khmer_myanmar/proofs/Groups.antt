@@ -4,14 +4,14 @@ use Rattle.std.specs.Prelude.{not}
 use Rattle.std.specs.List.{flat_map}
 use Rattle.std.proofs.lemmas.Grind.{reverse_onto}
 use Rattle.std.proofs.lemmas.List.{append-nil, map-append}
-use Rattle.glyph_slices.specs.Groups.{joined_behind}
+use Rattle.glyph_slices.specs.Groups.{joined_after}
 use Rattle.glyph_slices.specs.Lemmas.GroupsTurned.{groups_cut}
 use Rattle.std.proofs.lemmas.List.Concat.{flat_map-append}
 use Rattle.glyph_slices.specs.Turning.{groups, groups_turned, in_front}
 use Rattle.glyph_slices.specs.Lemmas.Picked.{AreAt}
 use Rattle.script_khmer_myanmar.specs.Turned.{leading_turned}
 
--- what stands behind the first of a group begins none
+-- what stands after the first of a group begins none
 abbrev NoneBegins : {X : Type 0} → (X → Bool) → List X → Type 0
 NoneBegins begins [] = Unit {0}
 NoneBegins begins (x ∷ xs) = (begins x ≡ false) × NoneBegins begins xs
@@ -27,7 +27,7 @@ one_group begins x (y ∷ ys) h = ap (in_front (follows_on begins) x) (one_group
 group_first : {X : Type 0} (begins : X → Bool) (x : X) (xs : List X) (y : X) (ys : List X) → NoneBegins begins xs → begins y ≡ true
     → groups (follows_on begins) ((x ∷ xs) ++ (y ∷ ys)) ≡ (x ∷ xs) ∷ groups (follows_on begins) (y ∷ ys)
 group_first begins x [] y ys h e =
-    let j = joined_behind (follows_on begins) y ys in
+    let j = joined_after (follows_on begins) y ys in
     let cut : groups (follows_on begins) (y ∷ ys) ≡ (y ∷ take j ys) ∷ groups (follows_on begins) (drop j ys) = groups_cut (follows_on begins) y ys in
     ap (in_front (follows_on begins) x) cut ∙ ap (λ b. if not b then (x ∷ y ∷ take j ys) ∷ groups (follows_on begins) (drop j ys) else (x ∷ []) ∷ (y ∷ take j ys) ∷ groups (follows_on begins) (drop j ys)) e
     ∙ ap (λ gs. (x ∷ []) ∷ gs) (sym cut)

@@ -86,7 +86,7 @@ single forms m k i c x front zs post at some other first later =
         ∙ ap (λ ys. then_rule (record { items = all_moved 0 rest ys; events = move_events 0 rest }) (khmer_walk m k (i + 1 + length zs) c)) (append_assoc front (x ∷ []) (formed ++ post))
         ∙ ap (λ j. then_rule (record { items = all_moved 0 rest (front ++ (x ∷ (formed ++ post))); events = move_events 0 rest }) (khmer_walk m k j c)) last
 
--- a form, behind which the walk meets once more what stands before it, and leaves that
+-- a form, after which the walk meets once more what stands before it, and leaves that
 form_step : (m : KhmerMasks) (n i c : ℕ) (x y t : Item) (fs rest : List Item) → i ≡ length (fs ++ t ∷ []) → IsPlain t → is_coeng c x ≡ true → (y.category == category.OT_Ra) ≡ true
     → khmer_walk m (suc (suc n)) i c ((fs ++ t ∷ []) ++ (x ∷ y ∷ rest))
     ≡ then_rule (record { items = (masked m.pref x ∷ masked m.pref y ∷ (fs ++ t ∷ [])) ++ map (masked m.cfar) rest; events = Move InList 0 (order_of_move i 2) ∷ [] }) (khmer_walk m n (i + 2) 2)
@@ -189,8 +189,8 @@ form_then m k i c x y t fs zs post at plain coeng pair does =
 abbrev EndsPlain : List Item → Type 0
 EndsPlain front = (fs : List Item) × (t : Item) × (front ≡ fs ++ t ∷ []) × IsPlain t
 
--- behind a form all has the features of what stands there
-record IsBehind (m : KhmerMasks) (c : ℕ) (front zs post : List Item) : Type 0 where
+-- after a form all has the features of what stands there
+record IsAfterForm (m : KhmerMasks) (c : ℕ) (front zs post : List Item) : Type 0 where
   count : c ≡ 2
   items : map (masked m.cfar) zs ≡ zs
   rest : map (masked m.cfar) post ≡ post
@@ -198,7 +198,7 @@ record IsBehind (m : KhmerMasks) (c : ℕ) (front zs post : List Item) : Type 0 
 
 abbrev Again : Bool → KhmerMasks → ℕ → List Item → List Item → List Item → Type 0
 Again false m c front zs post = Unit {0}
-Again true m c front zs post = IsBehind m c front zs post
+Again true m c front zs post = IsAfterForm m c front zs post
 
 again_moved : (forms : Bool) (m : KhmerMasks) (c : ℕ) (x : Item) (front zs post : List Item) → Again forms m c front (x ∷ zs) post → Again forms m c (x ∷ front) zs post
 again_moved false m c x front zs post a = tt
@@ -216,8 +216,8 @@ again_stayed true m c x front zs post other stays a =
     no_coeng true f = cc
     no_coeng false f = refl
 
-form_after : (m : KhmerMasks) (k i c : ℕ) (x y : Item) (front zs post : List Item) → i ≡ length front → together true x y ≡ true → IsBehind m c front (x ∷ y ∷ zs) post
-    → ((turned : List Item) → i + 2 ≡ length turned → IsBehind m 2 turned zs post → Does true m k (i + 2) 2 turned zs post) → Does true m k i c front (x ∷ y ∷ zs) post
+form_after : (m : KhmerMasks) (k i c : ℕ) (x y : Item) (front zs post : List Item) → i ≡ length front → together true x y ≡ true → IsAfterForm m c front (x ∷ y ∷ zs) post
+    → ((turned : List Item) → i + 2 ≡ length turned → IsAfterForm m 2 turned zs post → Does true m k (i + 2) 2 turned zs post) → Does true m k i c front (x ∷ y ∷ zs) post
 form_after m k i c x y front zs post at pair a later =
     let far = masked m.cfar in
     let end = a.ends in
@@ -257,8 +257,8 @@ run_walked false few m (x ∷ y ∷ zs) k i c front post at some counts run agai
     (λ f. run_walked false few m (y ∷ zs) k (i + 1) c (front ++ x ∷ []) post (omega (arith, at, long)) (omega arith) counts run.1 tt)
 run_walked true few m (x ∷ y ∷ zs) k i c front post at some counts run again =
     by_pair (together true x y) refl
-    (λ turned size behind. run_walked true few m zs k (i + 2) 2 turned post size (omega arith) (ap (λ n. nat_le n 2) (sym again.count) ∙ counts) run.1.1 behind)
-    (λ turned size behind. run_walked true few m (y ∷ zs) k (i + 1) c turned post size (omega arith) counts run.1 behind)
+    (λ turned size formed. run_walked true few m zs k (i + 2) 2 turned post size (omega arith) (ap (λ n. nat_le n 2) (sym again.count) ∙ counts) run.1.1 formed)
+    (λ turned size formed. run_walked true few m (y ∷ zs) k (i + 1) c turned post size (omega arith) counts run.1 formed)
   where
     formed_if : Bool → List Item
     formed_if d = if d then masked m.pref x ∷ masked m.pref y ∷ forms_masked (together true) (masked m.pref) zs else x ∷ forms_masked (together true) (masked m.pref) (y ∷ zs)
@@ -271,8 +271,8 @@ run_walked true few m (x ∷ y ∷ zs) k i c front post at some counts run again
     tested d = then_rule (record { items = all_moved 0 (moves_if d) (front ++ (formed_if d ++ post)); events = move_events 0 (moves_if d) }) (khmer_walk m k (i + length (x ∷ y ∷ zs)) c)
 
     by_pair : (d : Bool) → together true x y ≡ d
-        → ((turned : List Item) → i + 2 ≡ length turned → IsBehind m 2 turned zs post → Does true m k (i + 2) 2 turned zs post)
-        → ((turned : List Item) → i + 1 ≡ length turned → IsBehind m c turned (y ∷ zs) post → Does true m k (i + 1) c turned (y ∷ zs) post)
+        → ((turned : List Item) → i + 2 ≡ length turned → IsAfterForm m 2 turned zs post → Does true m k (i + 2) 2 turned zs post)
+        → ((turned : List Item) → i + 1 ≡ length turned → IsAfterForm m c turned (y ∷ zs) post → Does true m k (i + 1) c turned (y ∷ zs) post)
         → Does true m k i c front (x ∷ y ∷ zs) post
     by_pair true e two one = form_after m k i c x y front zs post at e again two
     by_pair false e two one =

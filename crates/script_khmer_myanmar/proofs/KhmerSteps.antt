@@ -42,7 +42,7 @@ got_next front x y rest i e =
     let long = length-append front (x ∷ []) in
     ap (λ ys. slice_get ys (i + 1)) (sym (append_assoc front (x ∷ []) (y ∷ rest))) ∙ got_after (front ++ x ∷ []) y rest (i + 1) (omega (arith, long, e))
 
--- elements behind a front come before it
+-- elements after a front come before it
 pub front_turned : (i n : ℕ) (front ms rest : List Item) → i ≡ length front → n ≡ length ms → within 0 (i + n) (first_to_back i) (front ++ (ms ++ rest)) ≡ record { items = (ms ++ front) ++ rest; events = Move InList 0 (order_of_move i n) ∷ [] }
 front_turned i n front ms rest a b =
     let both = front ++ ms in

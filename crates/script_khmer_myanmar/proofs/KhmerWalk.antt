@@ -9,7 +9,7 @@ use Rattle.glyph_buffer.specs.Sides.{Sides, all_glyphs, items_of}
 use Rattle.stage_rules.specs.Ready.{IsReady}
 use Rattle.script_constants.specs.declared.ot_category_t.TheConstants as category
 use Rattle.stage_rules.specs.SyllableBuffers.{IsRewritten}
-use Rattle.stage_rules.specs.Lemmas.Fronted.{behind_length}
+use Rattle.stage_rules.specs.Lemmas.Fronted.{gathered_after_length}
 use Rattle.stage_rules.specs.Lemmas.Rewritings.{rewritten_next, rewritten_same, counted}
 use Rattle.stage_rules.specs.Rewriting.{Rewritten, kept, then_rule, within}
 use Rattle.stage_rules.specs.Parts.{fronts_moved, masked, masked_all}
@@ -89,7 +89,7 @@ vowels_walked_at m start end place count to a b some le last fits run f =
     let count_is : end - start - place ≡ length zs + (end - start - to) = omega (arith, long, le, last) in
     let walk = vowels_walked m count (end - start - to) place to front zs post at (omega (arith, long, le)) some (subst (IsRun false (nat_le count 2)) part run) in
     by_rule m start end place count to count rule a b ordered fits
-    (within_size (fronts_moved (together false) is_vowel place) 0 to xs (λ ys. behind_length (together false) is_vowel place ys) (omega arith) (omega (arith, size, last)))
+    (within_size (fronts_moved (together false) is_vowel place) 0 to xs (λ ys. gathered_after_length (together false) is_vowel place ys) (omega arith) (omega (arith, size, last)))
     (ap (λ n. khmer_walk m n place count xs) count_is ∙ ap (khmer_walk m (length zs + (end - start - to)) place count) (sym whole) ∙ walk ∙ ap (λ ys. then_rule (rule ys) (khmer_walk m (end - start - to) to count)) whole)
     (rewritten_part (fronts_moved (together false) is_vowel place) start end 0 to start (start + to) a b (omega arith) refl (omega arith) last there f)
 
@@ -112,7 +112,7 @@ forms_size : (m : KhmerMasks) (place to : ℕ) (xs : List Item) → place + 2 �
 forms_size m place to xs le fits =
     let second = both_masked m place to xs le fits in
     let ys = (then_rule (within (place + 2) (length xs) (masked_all m.cfar) xs) (within place to (λ zs. kept (forms_masked (together true) (masked m.pref) zs)))).items in
-    within_size (fronts_moved (together true) is_vowel place) 0 to ys (λ zs. behind_length (together true) is_vowel place zs) (omega arith) (omega (arith, second, fits)) ∙ second
+    within_size (fronts_moved (together true) is_vowel place) 0 to ys (λ zs. gathered_after_length (together true) is_vowel place zs) (omega arith) (omega (arith, second, fits)) ∙ second
 
 pub forms_do : (m : KhmerMasks) (start end place to : ℕ) (a b c d : Sides) → place + 2 ≤ to → start + to ≤ end → end ≤ length (all_glyphs a)
     → IsRewritten (masked_all m.cfar (slice_range (items_of a) (start + (place + 2)) end)) (start + (place + 2)) end a b
@@ -238,7 +238,7 @@ run_told forms few start end place n gs a lt fits same e short =
     subst (IsRun forms few) shape (subst (λ k. IsRun forms few (take k part)) (sym is) (run_is forms few part))
 
 pub reordered_does : (m : KhmerMasks) (start end : ℕ) (a b c : Sides) → start < end → end ≤ length (all_glyphs a)
-    → IsRewritten (masked_all m.behind (slice_range (items_of a) (start + 1) end)) (start + 1) end a b
+    → IsRewritten (masked_all m.post_base (slice_range (items_of a) (start + 1) end)) (start + 1) end a b
     → IsRewritten (khmer_walk m (end - start - 1) 1 0 (slice_range (items_of b) start end)) start end b c
     → IsRewritten (khmer_reordered m (slice_range (items_of a) start end)) start end a c
 reordered_does m start end a b c lt fits f g =
@@ -247,6 +247,6 @@ reordered_does m start end a b c lt fits f g =
     let inside : end ≤ length (items_of a) = omega (arith, counted a, fits) in
     let size : length xs ≡ end - start = range_size start end (items_of a) le inside in
     let some : 0 < length xs = omega (arith, size, lt) in
-    let first = rewritten_part (masked_all m.behind) start end 1 (length xs) (start + 1) end a b refl (omega (arith, size, le)) (omega (arith, some)) (omega (arith, size, le)) inside f in
+    let first = rewritten_part (masked_all m.post_base) start end 1 (length xs) (start + 1) end a b refl (omega (arith, size, le)) (omega (arith, some)) (omega (arith, size, le)) inside f in
     let P : ℕ → Type 0 = λ n. IsRewritten (khmer_walk m (n - 1) 1 0 (slice_range (items_of b) start end)) start end b c in
-    rewritten_next (within 1 (length xs) (masked_all m.behind) xs) (khmer_walk m (length xs - 1) 1 0) start end a b c le inside (after_size m xs some ∙ size) first (subst P (sym size) g)
+    rewritten_next (within 1 (length xs) (masked_all m.post_base) xs) (khmer_walk m (length xs - 1) 1 0) start end a b c le inside (after_size m xs some ∙ size) first (subst P (sym size) g)

@@ -7,7 +7,7 @@ use Rattle.std.specs.List.{list_any, position_or_len}
 use Rattle.std.proofs.lemmas.List.{length-append, length-map, length-replicate, drop_all, drop_more, take_all, append-nil, take-append-drop, length-take-le, drop-map}
 use Rattle.glyph_lists.specs.declared.info.hb_glyph_info_t.{hb_glyph_info_t}
 use Rattle.script_constants.specs.declared.ot_position_t.TheConstants as position
-use Rattle.script_khmer_myanmar.specs.Myanmar.{base_of, from_base, is_base, place_behind, place_of, places_after}
+use Rattle.script_khmer_myanmar.specs.Myanmar.{base_of, from_base, is_base, place_after, place_of, places_after}
 use Rattle.script_khmer_myanmar.specs.Turned.{glyph_at, glyphs_at}
 use Rattle.script_khmer_myanmar.specs.Lemmas.Sizes.{after_size}
 
@@ -50,7 +50,7 @@ glyphs_at_both [] qs (g ∷ gs) hs e = absurd (omega (arith, e))
 glyphs_at_both (p ∷ ps) qs [] hs e = absurd (omega (arith, e))
 glyphs_at_both (p ∷ ps) qs (g ∷ gs) hs e = ap (λ ks. glyph_at p g ∷ ks) (glyphs_at_both ps qs gs hs (omega (arith, e)))
 
--- ---- the walk behind the base
+-- ---- the walk after the base
 
 -- glyphs before an index are at their places, and those of the others follow from where the walk is
 pub record ArePlaced (i now before : ℕ) (old done : List hb_glyph_info_t) : Type 0 where
@@ -75,7 +75,7 @@ past_set (y ∷ ys) (suc i) x = past_set ys i x
 -- one glyph more
 pub placing_next : (i now before : ℕ) (old done : List hb_glyph_info_t) (d h : hb_glyph_info_t) → i < length done → length done ≡ length old → ArePlaced i now before old done
     → h ≡ glyph_at (place_of now before (get_or done i d).category) (get_or done i d)
-    → ArePlaced (i + 1) (place_behind now (get_or done i d).category) (place_of now before (get_or done i d).category) old (set done i h)
+    → ArePlaced (i + 1) (place_after now (get_or done i d).category) (place_of now before (get_or done i d).category) old (set done i h)
 placing_next i now before old done d h lt len u is =
     let g = get_or done i d in
     let ps = places_after position.POS_AFTER_MAIN position.POS_BASE_C (kinds old) in
@@ -86,9 +86,9 @@ placing_next i now before old done d h lt len u is =
     let first : g ≡ get_or old i d = cc in
     let later : drop (i + 1) done ≡ drop (i + 1) old = cc in
     let p = place_of now before g.category in
-    let rest : p ∷ places_after (place_behind now g.category) p (kinds (drop (i + 1) old)) ≡ drop i ps =
+    let rest : p ∷ places_after (place_after now g.category) p (kinds (drop (i + 1) old)) ≡ drop i ps =
     sym (ap (λ ks. places_after now before (kinds ks)) (there ∙ ap (λ k. k ∷ drop (i + 1) old) (sym first))) ∙ u.rest in
-    let cut = first_of ps (places_after (place_behind now g.category) p (kinds (drop (i + 1) old))) i p rest in
+    let cut = first_of ps (places_after (place_after now g.category) p (kinds (drop (i + 1) old))) i p rest in
     let next : suc i ≡ i + 1 = omega arith in
     record {
       glyphs = place_step ps old done i p d h lt len u.glyphs cut.0 is;
@@ -157,11 +157,11 @@ pub all_one : (p i : ℕ) (old done : List hb_glyph_info_t) → length old ≤ i
 all_one p i old done le e = e ∙ all_at (replicate (length old) p) old i le (length-replicate (length old) p)
 
 pub placing_by : (i now before b n : ℕ) (old done : List hb_glyph_info_t) (d h : hb_glyph_info_t) → i < length done → length done ≡ length old → ArePlaced i now before old done
-    → b ≡ place_of now before (get_or done i d).category → n ≡ place_behind now (get_or done i d).category → h ≡ glyph_at b (get_or done i d) → ArePlaced (i + 1) n b old (set done i h)
+    → b ≡ place_of now before (get_or done i d).category → n ≡ place_after now (get_or done i d).category → h ≡ glyph_at b (get_or done i d) → ArePlaced (i + 1) n b old (set done i h)
 placing_by i now before b n old done d h lt len u place behind is =
     let g = get_or done i d in
     let P : ℕ → Type 0 = λ m. ArePlaced (i + 1) m b old (set done i h) in
-    let Q : ℕ → Type 0 = λ m. ArePlaced (i + 1) (place_behind now g.category) m old (set done i h) in
+    let Q : ℕ → Type 0 = λ m. ArePlaced (i + 1) (place_after now g.category) m old (set done i h) in
     subst P (sym behind) (subst Q (sym place) (placing_next i now before old done d h lt len u (is ∙ ap (λ m. glyph_at m g) place)))
 
 -- a front got one place, and then the rest its places

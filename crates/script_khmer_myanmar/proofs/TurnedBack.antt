@@ -14,7 +14,7 @@ abbrev NoneBegins : {X : Type 0} → (X → Bool) → List X → Type 0
 NoneBegins begins [] = Unit {0}
 NoneBegins begins (x ∷ xs) = (begins x ≡ false) × NoneBegins begins xs
 
--- what begins no group stays behind that in front
+-- what begins no group stays after that in front
 none_begin : {X : Type 0} (begins : X → Bool) (zs group done : List X) → NoneBegins begins zs → leading_turned begins zs group done ≡ (group ++ zs) ++ done
 none_begin begins [] group done h = ap (λ ys. ys ++ done) (sym (append-nil group))
 none_begin begins (z ∷ zs) group done h =

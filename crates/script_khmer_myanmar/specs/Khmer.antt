@@ -71,7 +71,7 @@ khmer_walk m (suc n) place count xs = then_rule (khmer_at m place count xs).rewr
 
 -- all after the first item get the features of such, and indices from the second on are walked
 abbrev pub khmer_reordered : KhmerMasks → List Item → Rewritten
-khmer_reordered m xs = then_rule (within 1 (length xs) (masked_all m.behind) xs) (khmer_walk m (length xs - 1) 1 0)
+khmer_reordered m xs = then_rule (within 1 (length xs) (masked_all m.post_base) xs) (khmer_walk m (length xs - 1) 1 0)
 
 -- the kind in a syllable's byte tells whether it is reordered
 abbrev pub khmer_first : KhmerMasks → List Item → Option Item → Rewritten

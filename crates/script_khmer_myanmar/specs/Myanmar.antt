@@ -44,12 +44,12 @@ abbrev pub stays_apart : ℕ → Bool
 stays_apart c = c == category.OT_MR || c == category.OT_VPre || c == category.OT_VS
 
 -- the place that the others have come to after an item: an A in what stands below leaves it where it is
-abbrev pub place_behind : ℕ → ℕ → ℕ
-place_behind now c = if stays_apart c then now else if now == position.POS_BELOW_C && c == category.OT_A then now else place_there now c
+abbrev pub place_after : ℕ → ℕ → ℕ
+place_after now c = if stays_apart c then now else if now == position.POS_BELOW_C && c == category.OT_A then now else place_there now c
 
 abbrev pub places_after : ℕ → ℕ → List ℕ → List ℕ
 places_after now before [] = []
-places_after now before (c ∷ cs) = place_of now before c ∷ places_after (place_behind now c) (place_of now before c) cs
+places_after now before (c ∷ cs) = place_of now before c ∷ places_after (place_after now c) (place_of now before c) cs
 
 -- how many items are a kinzi, which a syllable may begin with
 abbrev pub kinzi : List ℕ → ℕ

@@ -27,7 +27,7 @@ pub struct KhmerMasks {
     /// Of a coeng and its Ra.
     pub pref: hb_mask_t,
     /// Of all after the first glyph: blwf, abvf and pstf together.
-    pub behind: hb_mask_t,
+    pub post_base: hb_mask_t,
     /// Of what stands after a coeng form.
     pub cfar: hb_mask_t,
 }
@@ -86,7 +86,7 @@ fn reorder_syllable(masks: &KhmerMasks, buffer: &mut hb_buffer_t, start: usize, 
     ensures { IsRewritten (khmer_reordered masks.now (slice_range (items_of buffer.old) start end)) start end buffer.old
         buffer.new }
 {
-    add_mask(buffer, start + 1, end, masks.behind);
+    add_mask(buffer, start + 1, end, masks.post_base);
     reorder_from_second(masks, buffer, start, end);
 }
 

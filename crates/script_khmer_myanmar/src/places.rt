@@ -2,7 +2,7 @@
 ghost use Rattle.std.specs.Prelude.{◌≡◌, ◌≤◌, length, map, replicate};
 ghost use Rattle.glyph_lists.specs.declared.info.hb_glyph_info_t.{hb_glyph_info_t as Glyph};
 ghost use Rattle.script_constants.specs.declared.ot_position_t.TheConstants as position;
-ghost use Rattle.script_khmer_myanmar.specs.Myanmar.{base_of, based, from_base, is_base, kinzi, myanmar_places, place_behind, place_below, place_of, place_there, places_after, stays_apart};
+ghost use Rattle.script_khmer_myanmar.specs.Myanmar.{base_of, based, from_base, is_base, kinzi, myanmar_places, place_after, place_below, place_of, place_there, places_after, stays_apart};
 ghost use Rattle.script_khmer_myanmar.specs.Turned.{glyph_at, glyphs_at};
 
 use glyph_lists::info::hb_glyph_info_t;
@@ -40,7 +40,7 @@ fn place_from_base(glyphs: &mut [hb_glyph_info_t])
         return;
     }
     place_all(&mut glyphs[..1], POS_BASE_C);
-    place_behind(&mut glyphs[1..]);
+    place_rest(&mut glyphs[1..]);
 }
 
 #[tactic(auto, using(crate::proofs::Placing::all_one))]
@@ -53,7 +53,7 @@ fn place_all(glyphs: &mut [hb_glyph_info_t], place: Position)
 }
 
 #[tactic(auto, using(crate::proofs::Placing::placing_begun, crate::proofs::Placing::placing_done))]
-fn place_behind(glyphs: &mut [hb_glyph_info_t])
+fn place_rest(glyphs: &mut [hb_glyph_info_t])
     ensures { glyphs.new ≡ glyphs_at (places_after position.POS_AFTER_MAIN position.POS_BASE_C
         (map (λ g. g.category) glyphs.old)) glyphs.old }
 {
@@ -89,7 +89,7 @@ fn place_of(now: Position, before: Position, category: Category) -> Position
 
 /// The place that the others have come to after a glyph.
 fn place_after(now: Position, category: Category) -> Position
-    ensures { result ≡ place_behind now category }
+    ensures { result ≡ place_after now category }
 {
     if matches!(category, OT_MR | OT_VPre | OT_VS) {
         return now;

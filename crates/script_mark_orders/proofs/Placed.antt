@@ -21,7 +21,7 @@ use Rattle.script_hebrew_thai.specs.Hebrew as hebrew
 use Rattle.script_mark_orders.specs.Orders.{arabic_order, hebrew_order, leading_first, led_by, swapped_at}
 use Rattle.script_mark_orders.specs.Lemmas.Counts.{leads_within, leading_length, three_within}
 
--- ---- behind a front
+-- ---- after a front
 
 take_past : {X : Type 0} (front ys : List X) (n : ℕ) → take (length front + n) (front ++ ys) ≡ front ++ take n ys
 take_past [] ys n = let same : 0 + n ≡ n = omega arith in ap (λ m. take m ys) same

@@ -22,12 +22,12 @@ abbrev pub leading_first : ℕ → ℕ → List Item → Arranged
 leading_first class new run = led_by new (count_below class run) (count_leading class run) run
 
 -- an arrangement of what stands after so many
-abbrev pub behind : ℕ → (List Item → Arranged) → List Item → Arranged
-behind n order run = record { items = take n run ++ (order (drop n run)).items; events = map (shifted n) (order (drop n run)).events }
+abbrev pub rest_arranged : ℕ → (List Item → Arranged) → List Item → Arranged
+rest_arranged n order run = record { items = take n run ++ (order (drop n run)).items; events = map (shifted n) (order (drop n run)).events }
 
 -- the class 220 of marks below comes first, and takes the class of CCC22; then 230 of those above, with the class of CCC26
 abbrev pub arabic_order : List Item → Arranged
-arabic_order run = and_arranged (leading_first 220 25 run) (behind (count_leading 220 run) (leading_first 230 26))
+arabic_order run = and_arranged (leading_first 220 25 run) (rest_arranged (count_leading 220 run) (leading_first 230 26))
 
 -- ---- Hebrew
 

@@ -13,7 +13,7 @@ use Rattle.glyph_buffer.specs.Readings.{Follows, Reading, View, as_it_is, with_e
 use Rattle.glyph_buffer.specs.Sides.{Sides, all_glyphs, items_of, run_of, view_of}
 use Rattle.stage_rules.specs.Ready.{IsDone, IsReady}
 use Rattle.script_pauses.specs.declared.runs.Before.TheVariants.{Tiles, Word}
-use Rattle.script_pauses.specs.Runs.{next_before, run_here, runs, tile_run, word_behind}
+use Rattle.script_pauses.specs.Runs.{next_before, run_here, runs, tile_run, word_after}
 use Rattle.script_pauses.specs.Tiles.{is_tile}
 use Rattle.tile_places.specs.declared.tile.Tile.{Tile}
 use Rattle.script_pauses.specs.Laying.{is_in_range, tiles}
@@ -31,7 +31,7 @@ no_runs font w [] ps e long = refl
 no_runs font w (x ∷ xs) [] e long = absurd (omega (arith, long))
 no_runs font w (x ∷ xs) (p ∷ ps) e long =
     let n = or_parts (is_tile x) (list_any is_tile xs) e in
-    let v = word_behind (Word w) x p in
+    let v = word_after (Word w) x p in
     let b : next_before font (Word w) (x ∷ xs) p ≡ Word v = ap (λ t. if t then Tiles (run_here font (Word w) (x ∷ xs)) else Word v) n.0 in
     ap (λ q. tile_run q ∷ runs font q xs ps) b ∙ ap (λ rs. None ∷ rs) (no_runs font v xs ps n.1 (omega (arith, long)))
 

@@ -9,7 +9,7 @@ use Rattle.script_pauses.specs.declared.runs.Run.{Run}
 use Rattle.script_pauses.specs.declared.runs.Before.{Before}
 use Rattle.script_pauses.specs.declared.runs.Before.TheVariants.{Word, Tiles}
 use Rattle.script_pauses.specs.Tiles.{is_tile}
-use Rattle.script_pauses.specs.Runs.{next_before, run_here, runs, tile_run, word_before, word_behind}
+use Rattle.script_pauses.specs.Runs.{next_before, run_here, runs, tile_run, word_before, word_after}
 
 runs_next : (font : FaceParts) (before : Before) (i : ℕ) (gs : List hb_glyph_info_t) (ps : List Position) (d : Position) → i < length gs → length ps ≡ length gs
     → runs font before (strip (drop i gs)) (drop i ps) ≡ tile_run (next_before font before (strip (drop i gs)) (get_or ps i d)) ∷ runs font (next_before font before (strip (drop i gs)) (get_or ps i d)) (strip (drop (suc i) gs)) (drop (suc i) ps)
@@ -39,17 +39,17 @@ one_run font gs ps i before next rs d lt e r is near =
       near = subst (λ m. IsNear m (word_before next)) (sym far) near;
     }
 
-abbrev behind_if : FaceParts → Before → Item → List Item → Position → Bool → Before
-behind_if font before x xs p t = if t then Tiles (run_here font before (x ∷ xs)) else Word (word_behind before x p)
+abbrev after_if : FaceParts → Before → Item → List Item → Position → Bool → Before
+after_if font before x xs p t = if t then Tiles (run_here font before (x ∷ xs)) else Word (word_after before x p)
 
 -- behind what is no tile stands a word
-pub behind_is : (font : FaceParts) (before next : Before) (gs : List hb_glyph_info_t) (d : hb_glyph_info_t) (p : Position) (w v : ℤ) → 0 < length gs → is_tile (item_of (get_or gs 0 d)) ≡ false → w ≡ word_behind before (item_of (get_or gs 0 d)) p → v ≡ w → next ≡ Word v
+pub after_is : (font : FaceParts) (before next : Before) (gs : List hb_glyph_info_t) (d : hb_glyph_info_t) (p : Position) (w v : ℤ) → 0 < length gs → is_tile (item_of (get_or gs 0 d)) ≡ false → w ≡ word_after before (item_of (get_or gs 0 d)) p → v ≡ w → next ≡ Word v
     → next ≡ next_before font before (strip gs) p
-behind_is font before next [] d p w v lt e f same g = absurd (omega (arith, lt))
-behind_is font before next (h ∷ hs) d p w v lt e f same g = g ∙ ap Word (same ∙ f) ∙ sym (ap (behind_if font before (item_of h) (strip hs) p) e)
+after_is font before next [] d p w v lt e f same g = absurd (omega (arith, lt))
+after_is font before next (h ∷ hs) d p w v lt e f same g = g ∙ ap Word (same ∙ f) ∙ sym (ap (after_if font before (item_of h) (strip hs) p) e)
 
-pub behind_near : (b : ℕ) (next : Before) (w v : ℤ) → v ≡ w → next ≡ Word v → IsNear b w → IsNear b (word_before next)
-behind_near b next w v same g h = let e : next ≡ Word w = g ∙ ap Word same in subst (λ n. IsNear b (word_before n)) (sym e) h
+pub after_near : (b : ℕ) (next : Before) (w v : ℤ) → v ≡ w → next ≡ Word v → IsNear b w → IsNear b (word_before next)
+after_near b next w v same g h = let e : next ≡ Word w = g ∙ ap Word same in subst (λ n. IsNear b (word_before n)) (sym e) h
 
 -- the glyphs from one on, as a slice to the end
 pub from_there : (font : FaceParts) (gs : List hb_glyph_info_t) (i : ℕ) (before next : Before) (p : Position) → next ≡ next_before font before (strip (take (length gs - i) (drop i gs))) p → next ≡ next_before font before (strip (drop i gs)) p

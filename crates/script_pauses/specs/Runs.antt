@@ -14,8 +14,8 @@ abbrev pub width : FaceParts → Item → ℕ
 width font x = if nat_le x.number 65535 then width_of x.number font else 0
 
 -- a run before its tiles are measured, after a word of a width
-abbrev pub run_behind : ℤ → Run
-run_behind word = record { word = word; fixed = 0; repeating = 0; tiles = 0 }
+abbrev pub run_begun : ℤ → Run
+run_begun word = record { word = word; fixed = 0; repeating = 0; tiles = 0 }
 
 -- a tile more: its width in the font
 abbrev pub with_tile : FaceParts → Run → Item → Run
@@ -36,17 +36,17 @@ word_before (Word w) = w
 word_before (Tiles r) = pos 0
 
 -- a glyph makes the word longer by its advance; what is of no word ends it
-abbrev pub word_behind : Before → Item → Position → ℤ
-word_behind before x p = if is_of_word x then word_before before +ℤ p.x_advance else pos 0
+abbrev pub word_after : Before → Item → Position → ℤ
+word_after before x p = if is_of_word x then word_before before +ℤ p.x_advance else pos 0
 
 abbrev pub run_here : FaceParts → Before → List Item → Run
-run_here font (Word w) xs = with_tiles font (run_behind w) xs
+run_here font (Word w) xs = with_tiles font (run_begun w) xs
 run_here font (Tiles r) xs = r
 
 -- what stands after the first of some glyphs, by what stands before it
 abbrev pub next_before : FaceParts → Before → List Item → Position → Before
 next_before font before [] p = before
-next_before font before (x ∷ xs) p = if is_tile x then Tiles (run_here font before (x ∷ xs)) else Word (word_behind before x p)
+next_before font before (x ∷ xs) p = if is_tile x then Tiles (run_here font before (x ∷ xs)) else Word (word_after before x p)
 
 abbrev pub tile_run : Before → Option Run
 tile_run (Word w) = None

@@ -9,7 +9,7 @@ use Rattle.glyph_lists.specs.Parts.{first_of}
 use Rattle.glyph_buffer.specs.Readings.{Read, View}
 use Rattle.script_pauses.specs.declared.runs.Before.TheVariants.{Word}
 use Rattle.script_pauses.specs.Copies.{copies}
-use Rattle.script_pauses.specs.Runs.{run_behind, runs, with_tiles}
+use Rattle.script_pauses.specs.Runs.{run_begun, runs, with_tiles}
 use Rattle.script_pauses.specs.Tiles.{is_tile}
 use Rattle.tile_places.specs.declared.tile.Tile.{Tile}
 use Rattle.script_pauses.specs.Laying.{tiles}
@@ -30,9 +30,9 @@ pub record Reaches (word width : ℤ) (copies : ℕ) : Type 0 where
 abbrev pub TilesReach : Type 0
 TilesReach = (font : FaceParts) (word : ℤ) (x : Item) (xs rest : List Item) (ps : List Position)
     → list_all is_tile (x ∷ xs) ≡ true → begins_otherwise rest ≡ true → length ps ≡ length ((x ∷ xs) ++ rest)
-    → 0 < copies (with_tiles font (run_behind word) (x ∷ xs))
+    → 0 < copies (with_tiles font (run_begun word) (x ∷ xs))
     → Reaches word (neg_ℤ (begin (tiles font ((x ∷ xs) ++ rest) (runs font (Word word) ((x ∷ xs) ++ rest) ps))))
-    (copies (with_tiles font (run_behind word) (x ∷ xs)) * (with_tiles font (run_behind word) (x ∷ xs)).tiles)
+    (copies (with_tiles font (run_begun word) (x ∷ xs)) * (with_tiles font (run_begun word) (x ∷ xs)).tiles)
 
 -- and there its offset puts it, modulo 2^32
 abbrev pub LeftmostIsThere : Type 0

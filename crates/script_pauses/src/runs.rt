@@ -2,7 +2,7 @@
 ghost use Rattle.std.specs.Prelude.{ℕ, ◌≡◌, ◌≤◌, ◌<◌, ◌+◌, ◌+ℤ◌, ◌^◌, pos, length, IfOk};
 ghost use Rattle.glyph_text.specs.Pen.{IsNear};
 ghost use Rattle.glyph_lists.specs.Items.{item_of, strip};
-ghost use Rattle.script_pauses.specs.Runs.{next_before, run_behind, run_here, runs, tile_run, width, with_tile, with_tiles, word_before, word_behind};
+ghost use Rattle.script_pauses.specs.Runs.{next_before, run_begun, run_here, runs, tile_run, width, with_tile, with_tiles, word_before, word_after};
 
 use crate::words::{is_fixed, is_of_word, is_tile};
 use font_face::Face;
@@ -81,10 +81,10 @@ fn next_before(
     if is_tile(&glyph) {
         return Before::Tiles(run_here(face, before, glyphs));
     }
-    behind_word(word_behind(before, &glyph, position))
+    after_word(word_after(before, &glyph, position))
 }
 
-fn behind_word(word: i128) -> Before
+fn after_word(word: i128) -> Before
     ensures { result ≡ Before.Word word }
 {
     Before::Word(word)
@@ -99,9 +99,9 @@ fn run_here(face: &Face, before: Before, glyphs: &[hb_glyph_info_t]) -> Run
     }
 }
 
-fn word_behind(before: Before, glyph: &hb_glyph_info_t, position: GlyphPosition) -> i128
+fn word_after(before: Before, glyph: &hb_glyph_info_t, position: GlyphPosition) -> i128
     requires near { IsNear (2 ^ 96) (word_before before) }
-    ensures value { result ≡ word_behind before (item_of glyph.now) position }
+    ensures value { result ≡ word_after before (item_of glyph.now) position }
     ensures near { (bound : ℕ) → IsNear bound (word_before before) → IsNear (bound + 2 ^ 31) result }
 {
     if !is_of_word(glyph) {
@@ -131,7 +131,7 @@ fn word_before(before: Before) -> i128
 /// The run of the tiles in front, after a word of a width. It takes the time of these tiles.
 #[tactic(auto, using(crate::proofs::Measured::none_measured, crate::proofs::Measured::one_measured, crate::proofs::Measured::others_stay, crate::proofs::Measured::all_measured))]
 pub fn run_of(face: &Face, word: i128, glyphs: &[hb_glyph_info_t]) -> Run
-    ensures { result ≡ with_tiles face.now (run_behind word) (strip glyphs.now) }
+    ensures { result ≡ with_tiles face.now (run_begun word) (strip glyphs.now) }
 {
     let mut run = Run {
         word,

@@ -9,8 +9,7 @@ mod joining;
 mod marks;
 #[cfg(test)]
 mod numbers;
-#[cfg(test)]
-mod spans;
+pub mod spans;
 #[cfg(test)]
 mod syllables;
 #[cfg(test)]

@@ -13,8 +13,8 @@ use Rattle.glyph_lists.specs.Events.{Event, Move}
 use Rattle.glyph_buffer.specs.Sides.{Sides, all_glyphs, items_of}
 use Rattle.stage_rules.specs.Ready.{IsReady}
 use Rattle.stage_rules.specs.Moves.{FrontMove, all_moved, move_events, moved, order_of_move, reach}
-use Rattle.stage_rules.specs.Fronts.{front_moves, gathered_behind}
-use Rattle.stage_rules.specs.Lemmas.Fronted.{behind_length, moved_one, moves_alone, moves_grow, reach_fits}
+use Rattle.stage_rules.specs.Fronts.{front_moves, gathered_after}
+use Rattle.stage_rules.specs.Lemmas.Fronted.{gathered_after_length, moved_one, moves_alone, moves_grow, reach_fits}
 use Rattle.stage_rules.specs.Lemmas.Nested.{reach_grows}
 use Rattle.stage_rules.specs.Rewriting.{Rewritten, kept, shifted, then_rule, within}
 use Rattle.glyph_buffer.specs.Sides.{origins_by, view_of}
@@ -48,10 +48,10 @@ got_at pre front x rest i e = ap (slice_get (pre ++ (front ++ x ∷ rest))) e �
 
 -- what happens at an index where no halant stands
 abbrev step_if : Bool → ℕ → ℕ → List Item → Step
-step_if t i b xs = if t then record { rewritten = within b (i + 1) (first_to_back (i - b)) xs; behind = b } else record { rewritten = kept xs; behind = b }
+step_if t i b xs = if t then record { rewritten = within b (i + 1) (first_to_back (i - b)) xs; after_halant = b } else record { rewritten = kept xs; after_halant = b }
 
 at_index : (i b : ℕ) (xs : List Item) (x : Item) → slice_get xs i ≡ Some x → is_halant x ≡ false → left_at i b xs ≡ step_if (is_left x && nat_lt b i) i b xs
-at_index i b xs x e h = rw e (ap (λ t. if t then record { rewritten = kept xs; behind = i + 1 } else step_if (is_left x && nat_lt b i) i b xs) h)
+at_index i b xs x e h = rw e (ap (λ t. if t then record { rewritten = kept xs; after_halant = i + 1 } else step_if (is_left x && nat_lt b i) i b xs) h)
 
 -- a move is that of a part of a list
 move_within : (b n : ℕ) (xs : List Item) → b + (n + 1) ≤ length xs → within b (b + n + 1) (first_to_back (b + n - b)) xs ≡ record { items = moved b n 1 xs; events = Move InList b (order_of_move n 1) ∷ [] }
@@ -88,7 +88,7 @@ walk_stretch (x ∷ zs) m b i pre front post at here h =
     let split = moves_alone is_left n x zs in
     let size : b + (n + 1) ≤ length xs = omega (arith, at, length-append pre (front ++ (x ∷ (zs ++ post))), length-append front (x ∷ (zs ++ post))) in
     ap (λ k. left_walk k i b xs) more
-    ∙ ap (λ (s : Step). then_rule s.rewritten (left_walk (length zs + m) (i + 1) s.behind)) (step ∙ ap (λ t. step_if (is_left x && t) i b xs) test)
+    ∙ ap (λ (s : Step). then_rule s.rewritten (left_walk (length zs + m) (i + 1) s.after_halant)) (step ∙ ap (λ t. step_if (is_left x && t) i b xs) test)
     ∙ by_test (is_left x && nat_lt 0 n) size (walk_stretch zs m b (i + 1) pre (x ∷ front) post at (omega (arith, here)) h.1) (walk_stretch zs m b (i + 1) pre (front ++ x ∷ []) post at (omega (arith, here, length-append front (x ∷ []))) h.1)
     ∙ ap (λ (ns : List FrontMove). then_rule (record { items = all_moved b ns xs; events = move_events b ns }) (left_walk m (i + suc (length zs)) b)) (sym split)
   where
@@ -98,7 +98,7 @@ walk_stretch (x ∷ zs) m b i pre front post at here h =
     by_test : (t : Bool) → b + (length front + 1) ≤ length (pre ++ (front ++ (x ∷ (zs ++ post))))
         → left_walk (length zs + m) (i + 1) b (pre ++ ((x ∷ front) ++ (zs ++ post))) ≡ rest_of (suc (length front)) (pre ++ ((x ∷ front) ++ (zs ++ post)))
         → left_walk (length zs + m) (i + 1) b (pre ++ ((front ++ x ∷ []) ++ (zs ++ post))) ≡ rest_of (length (front ++ x ∷ [])) (pre ++ ((front ++ x ∷ []) ++ (zs ++ post)))
-        → then_rule (step_if t i b (pre ++ (front ++ (x ∷ (zs ++ post))))).rewritten (left_walk (length zs + m) (i + 1) (step_if t i b (pre ++ (front ++ (x ∷ (zs ++ post))))).behind)
+        → then_rule (step_if t i b (pre ++ (front ++ (x ∷ (zs ++ post))))).rewritten (left_walk (length zs + m) (i + 1) (step_if t i b (pre ++ (front ++ (x ∷ (zs ++ post))))).after_halant)
         ≡ then_rule (record {
           items = all_moved b (if t then record { passed = length front; taken = 1 } ∷ front_moves together is_left (length front + 1) zs else front_moves together is_left (length front + 1) zs) (pre ++ (front ++ (x ∷ (zs ++ post))));
           events = move_events b (if t then record { passed = length front; taken = 1 } ∷ front_moves together is_left (length front + 1) zs else front_moves together is_left (length front + 1) zs);
@@ -170,11 +170,11 @@ part_is : (i to : ℕ) (xs : List Item) → i ≤ to → to ≤ length xs → wi
 part_is i to xs le fits =
     let ms = front_moves together is_left 0 (slice_range xs i to) in
     let none : i + 0 ≡ i = omega arith in
-    ap (λ es. record { items = take i xs ++ gathered_behind together is_left 0 (slice_range xs i to) ++ drop to xs; events = es }) (shift_moves i 0 ms ∙ ap (λ k. move_events k ms) none)
+    ap (λ es. record { items = take i xs ++ gathered_after together is_left 0 (slice_range xs i to) ++ drop to xs; events = es }) (shift_moves i 0 ms ∙ ap (λ k. move_events k ms) none)
     ∙ ap (λ ys. record { items = ys; events = move_events i ms }) (part_moves together is_left i to 0 xs (omega (arith, le)) fits)
 
 part_size : (i to : ℕ) (xs : List Item) → i ≤ to → to ≤ length xs → length (stretch_done i to xs).items ≡ length xs
-part_size i to xs le fits = ap (λ (r : Rewritten). length r.items) (sym (part_is i to xs le fits)) ∙ within_size (fronts_moved together is_left 0) i to xs (λ ys. behind_length together is_left 0 ys) le fits
+part_size i to xs le fits = ap (λ (r : Rewritten). length r.items) (sym (part_is i to xs le fits)) ∙ within_size (fronts_moved together is_left 0) i to xs (λ ys. gathered_after_length together is_left 0 ys) le fits
 
 walk_is : (n i count : ℕ) (xs : List Item) → i + count ≤ n → length xs ≡ n → NoHalants (take count (drop i xs)) → left_walk (n - i) i i xs ≡ then_rule (stretch_done i (i + count) xs) (left_walk (n - (i + count)) (i + count) i)
 walk_is n i count xs le size none =
@@ -266,9 +266,9 @@ halant_walked start end i count a b s lt =
     let part = part_size i to xs (omega arith) (omega (arith, size, le)) ∙ size in
     let ys = slice_range (items_of b) start end in
     let now : ys ≡ (stretch_done i to xs).items = rewritten_slice (stretch_done i to xs) start end a b (omega (arith, le)) there part (stretch_part start end i count a b s) in
-    let laid : ys ≡ take i xs ++ gathered_behind together is_left 0 (slice_range xs i to) ++ drop to xs = now ∙ sym (part_moves together is_left i to 0 xs (omega arith) (omega (arith, size, le))) in
-    let long = behind_length together is_left 0 (slice_range xs i to) ∙ range_size i to xs (omega arith) (omega (arith, size, le)) in
-    let rest : drop to ys ≡ drop to xs = ap (drop to) laid ∙ (middle i to xs (gathered_behind together is_left 0 (slice_range xs i to)) (omega arith) (omega (arith, size, le)) long).1 in
+    let laid : ys ≡ take i xs ++ gathered_after together is_left 0 (slice_range xs i to) ++ drop to xs = now ∙ sym (part_moves together is_left i to 0 xs (omega arith) (omega (arith, size, le))) in
+    let long = gathered_after_length together is_left 0 (slice_range xs i to) ∙ range_size i to xs (omega arith) (omega (arith, size, le)) in
+    let rest : drop to ys ≡ drop to xs = ap (drop to) laid ∙ (middle i to xs (gathered_after together is_left 0 (slice_range xs i to)) (omega arith) (omega (arith, size, le)) long).1 in
     let at : slice_get ys to ≡ Some found.0 =
     sym (got_from ys to) ∙ ap (λ zs. slice_get zs 0) (rest ∙ sym (drop-drop count i xs) ∙ ap (λ n. drop n (drop i xs)) (sym is)) ∙ found.1 in
     record {
@@ -276,14 +276,14 @@ halant_walked start end i count a b s lt =
       size = stretch_count start end i count a b s;
       does = λ new f.
           let left : end - start - to ≡ suc (end - start - (to + 1)) = omega (arith, lt) in
-          let halts : left_at to i ys ≡ record { rewritten = kept ys; behind = to + 1 } = met_halant to i ys found.0 at found.2 in
+          let halts : left_at to i ys ≡ record { rewritten = kept ys; after_halant = to + 1 } = met_halant to i ys found.0 at found.2 in
           let walk : left_walk (end - start - to) to i ys ≡ left_walk (end - start - (to + 1)) (to + 1) (to + 1) ys =
-          ap (λ n. left_walk n to i ys) left ∙ ap (λ (st : Step). then_rule st.rewritten (left_walk (end - start - (to + 1)) (to + 1) st.behind)) halts in
+          ap (λ n. left_walk n to i ys) left ∙ ap (λ (st : Step). then_rule st.rewritten (left_walk (end - start - (to + 1)) (to + 1) st.after_halant)) halts in
           stretch_does start end i count a b new s (subst (λ q. IsRewritten q start end b new) (sym walk) f);
     }
   where
-    met_halant : (n b : ℕ) (zs : List Item) (x : Item) → slice_get zs n ≡ Some x → is_halant x ≡ true → left_at n b zs ≡ record { rewritten = kept zs; behind = n + 1 }
-    met_halant n b zs x e h = rw e (ap (λ t. if t then record { rewritten = kept zs; behind = n + 1 } else step_if (is_left x && nat_lt b n) n b zs) h)
+    met_halant : (n b : ℕ) (zs : List Item) (x : Item) → slice_get zs n ≡ Some x → is_halant x ≡ true → left_at n b zs ≡ record { rewritten = kept zs; after_halant = n + 1 }
+    met_halant n b zs x e h = rw e (ap (λ t. if t then record { rewritten = kept zs; after_halant = n + 1 } else step_if (is_left x && nat_lt b n) n b zs) h)
 
 -- ---- one stretch after another
 

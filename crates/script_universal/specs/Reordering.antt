@@ -56,26 +56,26 @@ reph_moved xs = if begins_with_reph xs then within 0 (reph_end xs) (first_to_bac
 -- what is left of a syllable after an index, and the index after the last halant before it
 pub record Step : Type 0 where
   pub rewritten : Rewritten
-  pub behind : ℕ
+  pub after_halant : ℕ
 
 -- an item goes after the last halant, merged with those that it passes
 abbrev pub left_met : ℕ → ℕ → List Item → Item → Step
-left_met i behind xs x =
-    if is_halant x then record { rewritten = kept xs; behind = i + 1 }
-    else if is_left x && nat_lt behind i then record { rewritten = within behind (i + 1) (first_to_back (i - behind)) xs; behind = behind }
-    else record { rewritten = kept xs; behind = behind }
+left_met i after_halant xs x =
+    if is_halant x then record { rewritten = kept xs; after_halant = i + 1 }
+    else if is_left x && nat_lt after_halant i then record { rewritten = within after_halant (i + 1) (first_to_back (i - after_halant)) xs; after_halant = after_halant }
+    else record { rewritten = kept xs; after_halant = after_halant }
 
 abbrev pub left_there : ℕ → ℕ → List Item → Option Item → Step
-left_there i behind xs None = record { rewritten = kept xs; behind = behind }
-left_there i behind xs (Some x) = left_met i behind xs x
+left_there i after_halant xs None = record { rewritten = kept xs; after_halant = after_halant }
+left_there i after_halant xs (Some x) = left_met i after_halant xs x
 
 abbrev pub left_at : ℕ → ℕ → List Item → Step
-left_at i behind xs = left_there i behind xs (slice_get xs i)
+left_at i after_halant xs = left_there i after_halant xs (slice_get xs i)
 
 -- so many indices one after another, while items move
 abbrev pub left_walk : ℕ → ℕ → ℕ → List Item → Rewritten
-left_walk zero i behind xs = kept xs
-left_walk (suc n) i behind xs = then_rule (left_at i behind xs).rewritten (left_walk n (i + 1) (left_at i behind xs).behind)
+left_walk zero i after_halant xs = kept xs
+left_walk (suc n) i after_halant xs = then_rule (left_at i after_halant xs).rewritten (left_walk n (i + 1) (left_at i after_halant xs).after_halant)
 
 abbrev pub universal_reordered : List Item → Rewritten
 universal_reordered xs = then_rule (reph_moved xs) (left_walk (length xs) 0 0)

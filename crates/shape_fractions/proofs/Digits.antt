@@ -1,4 +1,4 @@
--- Numbers before a place and behind it.
+-- Numbers before a place and after it.
 use Rattle.std.proofs.Common.{ℕ, ◌≡◌, ◌≤◌, ◌<◌, ◌+◌, ◌-◌, Bool, true, false, if◌then◌else◌, List, [], ◌∷◌, ◌++◌, length, reverse, take, drop, get_or, arith, refl, sym, ap, ◌∙◌}
 use Rattle.std.proofs.lemmas.List.{drop_all, drop_more, length-map, reverse-append}
 use Rattle.glyph_lists.specs.declared.info.hb_glyph_info_t.{hb_glyph_info_t}
@@ -68,17 +68,17 @@ back_stops gs at start d le lt is b =
 
 -- ---- walking to the end
 
-pub record Ahead (gs : List hb_glyph_info_t) (at end : ℕ) : Type 0 where
+pub record After (gs : List hb_glyph_info_t) (at end : ℕ) : Type 0 where
   pub count : digits_after at (strip gs) ≡ (end - (at + 1)) + digits (drop end (strip gs))
   pub from : at + 1 ≤ end
   pub within : end ≤ length gs
 
-pub ahead_begins : (gs : List hb_glyph_info_t) (at : ℕ) → at < length gs → Ahead gs at (at + 1)
-ahead_begins gs at lt = record { count = omega arith; from = omega arith; within = omega (arith, lt) }
+pub after_begins : (gs : List hb_glyph_info_t) (at : ℕ) → at < length gs → After gs at (at + 1)
+after_begins gs at lt = record { count = omega arith; from = omega arith; within = omega (arith, lt) }
 
-pub ahead_goes_on : (gs : List hb_glyph_info_t) (at end : ℕ) (d : hb_glyph_info_t) → end < length gs → is_decimal_number (item_of (get_or gs end d)) ≡ true
-    → Ahead gs at end → Ahead gs at (end + 1)
-ahead_goes_on gs at end d lt is a =
+pub after_goes_on : (gs : List hb_glyph_info_t) (at end : ℕ) (d : hb_glyph_info_t) → end < length gs → is_decimal_number (item_of (get_or gs end d)) ≡ true
+    → After gs at end → After gs at (end + 1)
+after_goes_on gs at end d lt is a =
     let one : digits (drop end (strip gs)) ≡ digits (drop (end + 1) (strip gs)) + 1 =
     ap digits (drop_more (strip gs) end (item_of d) (within gs end lt) ∙ ap (λ x. x ∷ drop (end + 1) (strip gs)) (seen_at item_of gs end d))
     ∙ one_more (digits (drop (end + 1) (strip gs))) (is_decimal_number (item_of (get_or gs end d))) is in
@@ -86,16 +86,16 @@ ahead_goes_on gs at end d lt is a =
     let start = a.from in
     record { count = omega (arith, before, one, start); from = omega (arith, start); within = omega (arith, lt) }
 
-pub ahead_is_all : (gs : List hb_glyph_info_t) (at end : ℕ) → length gs ≤ end → Ahead gs at end → end - (at + 1) ≡ digits_after at (strip gs)
-ahead_is_all gs at end le a =
+pub after_is_all : (gs : List hb_glyph_info_t) (at end : ℕ) → length gs ≤ end → After gs at end → end - (at + 1) ≡ digits_after at (strip gs)
+after_is_all gs at end le a =
     let same = length-map gs item_of in
     let none : digits (drop end (strip gs)) ≡ 0 = ap digits (drop_all end (strip gs) (omega (arith, le, same))) in
     let before = a.count in
     omega (arith, before, none)
 
-pub ahead_stops : (gs : List hb_glyph_info_t) (at end : ℕ) (d : hb_glyph_info_t) → end < length gs → is_decimal_number (item_of (get_or gs end d)) ≡ false
-    → Ahead gs at end → end - (at + 1) ≡ digits_after at (strip gs)
-ahead_stops gs at end d lt is a =
+pub after_stops : (gs : List hb_glyph_info_t) (at end : ℕ) (d : hb_glyph_info_t) → end < length gs → is_decimal_number (item_of (get_or gs end d)) ≡ false
+    → After gs at end → end - (at + 1) ≡ digits_after at (strip gs)
+after_stops gs at end d lt is a =
     let none : digits (drop end (strip gs)) ≡ 0 =
     ap digits (drop_more (strip gs) end (item_of d) (within gs end lt) ∙ ap (λ x. x ∷ drop (end + 1) (strip gs)) (seen_at item_of gs end d))
     ∙ no_more (digits (drop (end + 1) (strip gs))) (is_decimal_number (item_of (get_or gs end d))) is in

@@ -94,19 +94,19 @@ between_cases : (b : Bool) (r q w : Read) → b ≡ false → w ≡ q → (if b 
 between_cases true r q w e f = cc e
 between_cases false r q w e f = sym f
 
-alone_followed : (m : FractionMasks) (at before behind : ℕ) (s new : Sides) → (before == 0 || behind == 0) ≡ true → Happens (Concat at (at + 1) ∷ []) s new
-    → IsFollowed (always (around_slash m at before behind)) s new
-alone_followed m at before behind s new e h =
-    happens_followed (Concat at (at + 1) ∷ []) s new (always (around_slash m at before behind)) h
-    (ap (λ (r : Read). Ok r) (around_cases (before == 0 || behind == 0) _ _ (with_events (Concat at (at + 1) ∷ []) (view_of s)) e refl))
+alone_followed : (m : FractionMasks) (at before after : ℕ) (s new : Sides) → (before == 0 || after == 0) ≡ true → Happens (Concat at (at + 1) ∷ []) s new
+    → IsFollowed (always (around_slash m at before after)) s new
+alone_followed m at before after s new e h =
+    happens_followed (Concat at (at + 1) ∷ []) s new (always (around_slash m at before after)) h
+    (ap (λ (r : Read). Ok r) (around_cases (before == 0 || after == 0) _ _ (with_events (Concat at (at + 1) ∷ []) (view_of s)) e refl))
 
-between_followed : (m : FractionMasks) (at before behind : ℕ) (s mid new : Sides) → (before == 0 || behind == 0) ≡ false → Happens (Break (at - before) (at + 1 + behind) ∷ []) s mid
-    → Becomes (fraction_items mid.direction m (at - before) at (at + 1 + behind) (items_of mid)) mid.positions mid new → IsFollowed (always (around_slash m at before behind)) s new
-between_followed m at before behind s mid new e h b =
-    let es = Break (at - before) (at + 1 + behind) ∷ [] in
-    let F : View → View = λ v. record v { items = fraction_items v.direction m (at - before) at (at + 1 + behind) v.items } in
-    happened_followed es (F (view_of s)) (always (around_slash m at before behind)) s new (b.view ∙ ap F h.view) (b.origins ∙ h.origins) (b.settings ∙ h.settings) b.ready
-    (ap (λ (r : Read). Ok r) (between_cases (before == 0 || behind == 0) _ _ (with_events es (F (view_of s))) e refl))
+between_followed : (m : FractionMasks) (at before after : ℕ) (s mid new : Sides) → (before == 0 || after == 0) ≡ false → Happens (Break (at - before) (at + 1 + after) ∷ []) s mid
+    → Becomes (fraction_items mid.direction m (at - before) at (at + 1 + after) (items_of mid)) mid.positions mid new → IsFollowed (always (around_slash m at before after)) s new
+between_followed m at before after s mid new e h b =
+    let es = Break (at - before) (at + 1 + after) ∷ [] in
+    let F : View → View = λ v. record v { items = fraction_items v.direction m (at - before) at (at + 1 + after) v.items } in
+    happened_followed es (F (view_of s)) (always (around_slash m at before after)) s new (b.view ∙ ap F h.view) (b.origins ∙ h.origins) (b.settings ∙ h.settings) b.ready
+    (ap (λ (r : Read). Ok r) (between_cases (before == 0 || after == 0) _ _ (with_events es (F (view_of s))) e refl))
 
 pub slash_alone : (m : FractionMasks) (start at end : ℕ) (s new : Sides) → (at - start == 0 || end - (at + 1) == 0) ≡ true → Happens (Concat at (at + 1) ∷ []) s new
     → IsFollowed (always (around_slash m at (at - start) (end - (at + 1)))) s new
@@ -135,12 +135,12 @@ slash_there gs at d lt =
 read_alike : (f g : View → Read) (s new : Sides) → f (view_of s) ≡ g (view_of s) → IsFollowed (always f) s new → IsFollowed (always g) s new
 read_alike f g s new e h = record { follows = h.follows ∙ ap (λ r. run_after r (run_of s)) e; settings = h.settings; ready = h.ready }
 
-pub place_of_slash : (m : FractionMasks) (at before behind : ℕ) (d : hb_glyph_info_t) (s new : Sides) → at < length (all_glyphs s) → is_slash (item_of (get_or (all_glyphs s) at d)) ≡ true
-    → before ≡ digits_before at (items_of s) → behind ≡ digits_after at (items_of s) → IsFollowed (always (around_slash m at before behind)) s new → IsFollowed (always (at_place m at)) s new
-place_of_slash m at before behind d s new lt e b a f =
+pub place_of_slash : (m : FractionMasks) (at before after : ℕ) (d : hb_glyph_info_t) (s new : Sides) → at < length (all_glyphs s) → is_slash (item_of (get_or (all_glyphs s) at d)) ≡ true
+    → before ≡ digits_before at (items_of s) → after ≡ digits_after at (items_of s) → IsFollowed (always (around_slash m at before after)) s new → IsFollowed (always (at_place m at)) s new
+place_of_slash m at before after d s new lt e b a f =
     let there = slash_there (all_glyphs s) at d lt ∙ e in
-    read_alike (around_slash m at before behind) (at_place m at) s new
-    (ap (λ n. around_slash m at n behind (view_of s)) b ∙ ap (λ n. around_slash m at (digits_before at (items_of s)) n (view_of s)) a
+    read_alike (around_slash m at before after) (at_place m at) s new
+    (ap (λ n. around_slash m at n after (view_of s)) b ∙ ap (λ n. around_slash m at (digits_before at (items_of s)) n (view_of s)) a
     ∙ sym (around_cases (is_slash_at at (items_of s)) _ _ _ there refl)) f
 
 pub place_of_none : (m : FractionMasks) (at : ℕ) (d : hb_glyph_info_t) (s : Sides) → at < length (all_glyphs s) → is_slash (item_of (get_or (all_glyphs s) at d)) ≡ false

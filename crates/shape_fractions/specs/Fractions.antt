@@ -50,9 +50,9 @@ fraction_items d m start at end xs =
 
 -- a slash with so many numbers before and after it is a fraction, in which a break is unsafe; without a number on one side it may become one by text put there
 abbrev pub around_slash : FractionMasks → ℕ → ℕ → ℕ → View → Read
-around_slash m at before behind v =
-    if before == 0 || behind == 0 then with_events (Concat at (at + 1) ∷ []) v
-    else with_events (Break (at - before) (at + 1 + behind) ∷ []) (record v { items = fraction_items v.direction m (at - before) at (at + 1 + behind) v.items })
+around_slash m at before after v =
+    if before == 0 || after == 0 then with_events (Concat at (at + 1) ∷ []) v
+    else with_events (Break (at - before) (at + 1 + after) ∷ []) (record v { items = fraction_items v.direction m (at - before) at (at + 1 + after) v.items })
 
 abbrev pub at_place : FractionMasks → ℕ → View → Read
 at_place m at v = if is_slash_at at v.items then around_slash m at (digits_before at v.items) (digits_after at v.items) v else with_events [] v

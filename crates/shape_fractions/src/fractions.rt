@@ -102,7 +102,7 @@ fn numbers_start(glyphs: &[hb_glyph_info_t], at: usize) -> usize
     start
 }
 
-#[tactic(auto, using(crate::proofs::Digits::ahead_begins, crate::proofs::Digits::ahead_goes_on, crate::proofs::Digits::ahead_is_all, crate::proofs::Digits::ahead_stops))]
+#[tactic(auto, using(crate::proofs::Digits::after_begins, crate::proofs::Digits::after_goes_on, crate::proofs::Digits::after_is_all, crate::proofs::Digits::after_stops))]
 /// Where the numbers after a place end.
 fn numbers_end(glyphs: &[hb_glyph_info_t], at: usize) -> usize
     requires { at < length glyphs.now }

@@ -9,5 +9,5 @@ pub(crate) const FEATURES: [Ask; 3] = [
     added!(b"tjmo", F_NONE),
 ];
 
-/// Behind what the user asked.
+/// After what the user asked.
 pub(crate) const OVERRIDES: [Ask; 1] = [off!(b"calt")];

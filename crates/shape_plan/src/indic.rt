@@ -42,7 +42,7 @@ pub(crate) const FEATURES: [Ask; 33] = [
     on!(b"haln", JOINERS_IN_SYLLABLE),
 ];
 
-/// Behind what the user asked.
+/// After what the user asked.
 pub(crate) const OVERRIDES: [Ask; 2] = [
     off!(b"liga"),
     Ask::Pause(Some(hb_script_pause_t::ClearSyllables)),

@@ -23,5 +23,5 @@ pub(crate) const FEATURES: [Ask; 14] = [
     on!(b"psts", F_MANUAL_JOINERS),
 ];
 
-/// Behind what the user asked.
+/// After what the user asked.
 pub(crate) const OVERRIDES: [Ask; 2] = [on!(b"clig", F_NONE), off!(b"liga")];

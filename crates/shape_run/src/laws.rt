@@ -1,4 +1,8 @@
+ghost use Rattle.std.specs.Prelude.{◌≡◌, ◌≢◌, MatchBool};
 ghost use Rattle.shape_run.specs.Laws.{AnswersAreOne, EmptyTextGivesEmptyLine};
+
+use json_values::fault::JsonFault;
+use run_options::fault::RunFault;
 
 /// The empty text gives the empty line, in every font.
 #[tactic(auto, using(crate::proofs::Empty::empty_text_gives_empty_line))]
@@ -11,3 +15,15 @@ pub fn empty_text_gives_empty_line()
 pub fn answers_are_one()
     ensures { AnswersAreOne }
 {}
+
+pub fn json_faults_are_equal(left: JsonFault, right: JsonFault) -> bool
+    ensures { MatchBool result (left ≡ right) (left ≢ right) }
+{
+    left == right
+}
+
+pub fn run_faults_are_equal(left: RunFault, right: RunFault) -> bool
+    ensures { MatchBool result (left ≡ right) (left ≢ right) }
+{
+    left == right
+}

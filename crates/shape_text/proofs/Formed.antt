@@ -10,7 +10,7 @@ use Rattle.glyph_lists.specs.Items.{Item, item_of, strip}
 use Rattle.glyph_lists.specs.Events.{Event}
 use Rattle.glyph_buffer.specs.Readings.{View, always}
 use Rattle.glyph_buffer.specs.Graphemes.{continues}
-use Rattle.glyph_slices.specs.Groups.{group_length, joined_behind}
+use Rattle.glyph_slices.specs.Groups.{group_length, joined_after}
 use Rattle.glyph_slices.specs.Lemmas.Stretches.{lengths_cut}
 use Rattle.glyph_slices.specs.Runs as Runs
 use Rattle.glyph_buffer.specs.Sides.{Settings, Sides, all_glyphs, items_of, told_of, view_of}
@@ -23,7 +23,7 @@ use Rattle.shape_text.specs.Clusters.{grapheme_event, grapheme_events, grapheme_
 one_more : (n : ℕ) → suc n ≡ 1 + n
 one_more n = omega arith
 
-joined_front : (x : Item) (gs : List hb_glyph_info_t) → joined_behind (λ a b. continues b) x (strip gs) ≡ prefix_len Runs.continues gs
+joined_front : (x : Item) (gs : List hb_glyph_info_t) → joined_after (λ a b. continues b) x (strip gs) ≡ prefix_len Runs.continues gs
 joined_front x [] = refl
 joined_front x (g ∷ gs) = ap (λ n. if Runs.continues g then n else 0) (ap suc (joined_front (item_of g) gs) ∙ one_more (prefix_len Runs.continues gs))
 

@@ -5,7 +5,7 @@ ghost use Rattle.std.specs.Bool.{Decides};
 ghost use Rattle.shaping_text.specs.declared.direction.Direction.TheVariants.{Invalid};
 ghost use Rattle.shaping_text.specs.Language.{language_text};
 
-use feature_text::feature::Feature;
+use feature_text::feature::{Feature, InvalidFeature};
 use glyph_lists::cause::ShapeCause;
 use glyph_lists::flags::{GlyphPropsFlags, SerializeFlags, UnicodeProps};
 use glyph_lists::info::hb_glyph_info_t;
@@ -13,9 +13,9 @@ use glyph_lists::level::BufferClusterLevel;
 use glyph_lists::names::{GlyphId, hb_glyph_extents_t};
 use glyph_lists::position::GlyphPosition;
 use shaping_text::constants::BufferFlags;
-use shaping_text::direction::Direction;
-use shaping_text::language::Language;
-use shaping_text::script::Script;
+use shaping_text::direction::{Direction, InvalidDirection};
+use shaping_text::language::{Language, LanguageFault};
+use shaping_text::script::{InvalidScript, Script};
 use shaping_text::tag::Tag;
 use unicode_rows::fault::TablesFault;
 use unicode_tables::hangul::{
@@ -121,6 +121,30 @@ pub fn table_faults_are_equal(left: TablesFault, right: TablesFault) -> bool
 }
 
 pub fn law_faults_are_equal(left: LawFault, right: LawFault) -> bool
+    ensures { MatchBool result (left ≡ right) (left ≢ right) }
+{
+    left == right
+}
+
+pub fn direction_faults_are_equal(left: InvalidDirection, right: InvalidDirection) -> bool
+    ensures { MatchBool result (left ≡ right) (left ≢ right) }
+{
+    left == right
+}
+
+pub fn script_faults_are_equal(left: InvalidScript, right: InvalidScript) -> bool
+    ensures { MatchBool result (left ≡ right) (left ≢ right) }
+{
+    left == right
+}
+
+pub fn feature_faults_are_equal(left: InvalidFeature, right: InvalidFeature) -> bool
+    ensures { MatchBool result (left ≡ right) (left ≢ right) }
+{
+    left == right
+}
+
+pub fn language_faults_are_equal(left: LanguageFault, right: LanguageFault) -> bool
     ensures { MatchBool result (left ≡ right) (left ≢ right) }
 {
     left == right

@@ -32,9 +32,9 @@ apart_in_range pair from middle to xs d lt last fits e =
     subst (λ ys. IsApart pair (slice_range xs from middle) ys) behind (subst (λ ys. IsApart pair ys (drop (suc j) zs)) front cut)
 
 -- cut behind a pair
-pub apart_behind : {X : Type 0} (pair : X → X → Bool) (from middle to : ℕ) (xs : List X) (d : X) → StandApart pair → from < middle → middle + 1 < to → to ≤ length xs
+pub apart_after : {X : Type 0} (pair : X → X → Bool) (from middle to : ℕ) (xs : List X) (d : X) → StandApart pair → from < middle → middle + 1 < to → to ≤ length xs
     → (t : Bool) → t ≡ pair (get_or xs (middle - 1) d) (get_or xs middle d) → t ≡ true → IsApart pair (slice_range xs from (middle + 1)) (slice_range xs (middle + 1) to)
-apart_behind pair from middle to xs d apart lt last fits t is f =
+apart_after pair from middle to xs d apart lt last fits t is f =
     let e : pair (get_or xs (middle - 1) d) (get_or xs middle d) ≡ true = sym is ∙ f in
     let same : middle + 1 - 1 ≡ middle = omega arith in
     apart_in_range pair from (middle + 1) to xs d (omega (arith, lt)) last fits

@@ -19,9 +19,9 @@ stayed pair one (x ∷ y ∷ zs) = if pair x y then stayed pair one zs else if o
 abbrev pub gathered : {X : Type 0} → (X → X → Bool) → (X → Bool) → List X → List X
 gathered pair one xs = fronts pair one xs ++ stayed pair one xs
 
--- some elements that stand in front already, and behind them those of which others come to the front
-abbrev pub gathered_behind : {X : Type 0} → (X → X → Bool) → (X → Bool) → ℕ → List X → List X
-gathered_behind pair one n xs = fronts pair one (drop n xs) ++ (take n xs ++ stayed pair one (drop n xs))
+-- some elements that stand in front already, and after them those of which others come to the front
+abbrev pub gathered_after : {X : Type 0} → (X → X → Bool) → (X → Bool) → ℕ → List X → List X
+gathered_after pair one n xs = fronts pair one (drop n xs) ++ (take n xs ++ stayed pair one (drop n xs))
 
 -- their moves, where so many elements stand before the list; the first of all need not move
 abbrev pub front_moves : {X : Type 0} → (X → X → Bool) → (X → Bool) → ℕ → List X → List FrontMove

@@ -13,7 +13,7 @@ abbrev pub are_one_cluster : List hb_glyph_info_t → Bool
 are_one_cluster [] = true
 are_one_cluster (g ∷ gs) = list_all (λ h. h.cluster == g.cluster) gs
 
--- from an index on, n elements come to stand behind the k that followed them
+-- from an index on, n elements come to stand after the k that followed them
 abbrev pub moved : {X : Type 0} → ℕ → ℕ → ℕ → List X → List X
 moved start n k xs = take start xs ++ (take k (drop (start + n) xs) ++ take n (drop start xs)) ++ drop (start + (n + k)) xs
 

@@ -6,7 +6,7 @@ use Rattle.glyph_lists.specs.Items.{Item, without_flags}
 use Rattle.glyph_lists.specs.Levels.{InList}
 use Rattle.glyph_lists.specs.Events.{Move}
 use Rattle.stage_rules.specs.Moves.{move_events, order_of_move}
-use Rattle.stage_rules.specs.Fronts.{front_moves, gathered_behind}
+use Rattle.stage_rules.specs.Fronts.{front_moves, gathered_after}
 use Rattle.stage_rules.specs.Rewriting.{Rewritten, kept}
 
 -- an item with the features of a mask, which has no glyph flag
@@ -20,10 +20,10 @@ glyph_masked bits g = record g { mask = bit_or g.mask (without_flags bits) }
 abbrev pub masked_all : ℕ → List Item → Rewritten
 masked_all bits xs = kept (map (masked bits) xs)
 
--- the first n items come to stand behind the others, and all merge
+-- the first n items come to stand after the others, and all merge
 abbrev pub first_to_back : ℕ → List Item → Rewritten
 first_to_back n xs = record { items = drop n xs ++ take n xs; events = Move InList 0 (order_of_move n (length xs - n)) ∷ [] }
 
--- behind the first n items others come to the front, one after another, each merged with all that it passes
+-- after the first n items others come to the front, one after another, each merged with all that it passes
 abbrev pub fronts_moved : (Item → Item → Bool) → (Item → Bool) → ℕ → List Item → Rewritten
-fronts_moved pair one n xs = record { items = gathered_behind pair one n xs; events = move_events 0 (front_moves pair one n (drop n xs)) }
+fronts_moved pair one n xs = record { items = gathered_after pair one n xs; events = move_events 0 (front_moves pair one n (drop n xs)) }

@@ -39,11 +39,11 @@ within from to rule xs = record {
   events = map (shifted from) (rule (slice_range xs from to)).events;
 }
 
--- what is left of two lists that stand one behind the other, the first rewritten first
+-- what is left of two lists that stand one after the other, the first rewritten first
 abbrev pub beside : Rewritten → Rewritten → Rewritten
 beside r s = record { items = r.items ++ s.items; events = r.events ++ map (shifted (length r.items)) s.events }
 
--- each of some lists, one behind the other, rewritten by itself
+-- each of some lists, one after the other, rewritten by itself
 abbrev pub each_rewritten : (List Item → Rewritten) → List (List Item) → Rewritten
 each_rewritten rule [] = kept []
 each_rewritten rule (xs ∷ xss) = beside (rule xs) (each_rewritten rule xss)

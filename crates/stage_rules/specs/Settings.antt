@@ -8,7 +8,7 @@ use Rattle.glyph_buffer.specs.Sides.{Sides, Settings, settings_of}
 -- no cluster level, and no request for flags of glyphs
 pub record TextSettings : Type 0 where
   pub script : Option Script
-  -- the characters in front of the text and behind it, nearest first
+  -- the characters before the text and after it, nearest first
   pub pre_context : List ℕ
   pub post_context : List ℕ
   -- the glyphs that stand for what is not to be seen, and for a selector that the font does not know

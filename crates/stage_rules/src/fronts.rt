@@ -1,7 +1,7 @@
 //! Glyphs that come to the front of a stretch, each in front of those that came before.
 ghost use Rattle.std.specs.Prelude.{◌≡◌, ◌≤◌, ◌<◌, ◌+◌, ◌-◌, ◌++◌, Bool, drop, length, slice_range, take};
 ghost use Rattle.glyph_lists.specs.Items.{Item, item_of};
-ghost use Rattle.stage_rules.specs.Fronts.{StandApart, fronts, gathered, gathered_behind, one_seen, pair_seen};
+ghost use Rattle.stage_rules.specs.Fronts.{StandApart, fronts, gathered, gathered_after, one_seen, pair_seen};
 ghost use Rattle.stage_rules.specs.Lemmas.Fronted.{IsApart};
 
 use crate::moves::rotate;
@@ -24,7 +24,7 @@ pub trait FrontRule {
     ghost apart: { (rule : Self) → StandApart (pairs rule) };
 }
 
-/// Of the glyphs from `from` up to before `to` those that come to the front stand there, the last of them first, and behind
+/// Of the glyphs from `from` up to before `to` those that come to the front stand there, the last of them first, and after
 /// them the others as they stood; tells how many came. It takes no memory, and n glyphs take the time of n log n.
 pub fn gather<R: FrontRule>(
     rule: &R,
@@ -53,9 +53,9 @@ pub fn gather<R: FrontRule>(
     left + right
 }
 
-/// The glyphs from `start` up to before `begin` stand in front already, and of those behind them up to before `end` some come
+/// The glyphs from `start` up to before `begin` stand in front already, and of those after them up to before `end` some come
 /// before them, the last first. It takes no memory.
-pub fn gather_behind<R: FrontRule>(
+pub fn gather_after<R: FrontRule>(
     rule: &R,
     glyphs: &mut [hb_glyph_info_t],
     start: usize,
@@ -66,7 +66,7 @@ pub fn gather_behind<R: FrontRule>(
     requires ordered { begin ≤ end }
     requires within { end ≤ length glyphs.old }
     ensures { glyphs.new ≡ take start glyphs.old
-        ++ gathered_behind (pair_seen (R.pairs rule.now)) (one_seen (R.ones rule.now)) (begin - start)
+        ++ gathered_after (pair_seen (R.pairs rule.now)) (one_seen (R.ones rule.now)) (begin - start)
         (slice_range glyphs.old start end)
         ++ drop end glyphs.old }
 {
@@ -88,7 +88,7 @@ fn count_short<R: FrontRule>(rule: &R, glyphs: &[hb_glyph_info_t], from: usize, 
     0
 }
 
-/// Where the first half of two or more glyphs ends: behind a pair, where one stands on both sides.
+/// Where the first half of two or more glyphs ends: after a pair, where one stands on both sides.
 fn end_of_half<R: FrontRule>(rule: &R, glyphs: &[hb_glyph_info_t], from: usize, to: usize) -> usize
     requires two { from + 2 ≤ to }
     requires within { to ≤ length glyphs.now }

@@ -14,7 +14,7 @@ use buffer_lists::order::KnownOrder;
 use glyph_buffer::buffer::hb_buffer_t;
 use glyph_lists::info::hb_glyph_info_t;
 
-/// The glyphs from `start` up to before `end` merge, and those before `middle` come to stand behind the others. It takes no
+/// The glyphs from `start` up to before `end` merge, and those before `middle` come to stand after the others. It takes no
 /// memory.
 pub fn move_back(buffer: &mut hb_buffer_t, start: usize, middle: usize, end: usize)
     requires ready { IsReady buffer.old }
@@ -62,7 +62,7 @@ fn are_of(cluster: u32, glyphs: &[hb_glyph_info_t]) -> bool
     glyphs.iter().all(|glyph| glyph.cluster == cluster)
 }
 
-/// The glyphs from `start` up to before `middle` come to stand behind those up to before `end`.
+/// The glyphs from `start` up to before `middle` come to stand after those up to before `end`.
 pub(crate) fn rotate(glyphs: &mut [hb_glyph_info_t], start: usize, middle: usize, end: usize)
     requires begins { start ≤ middle }
     requires ordered { middle ≤ end }

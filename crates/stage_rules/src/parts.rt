@@ -9,7 +9,7 @@ use crate::moves::move_back;
 use glyph_buffer::buffer::hb_buffer_t;
 use glyph_lists::info::{DEFINED, hb_glyph_info_t, hb_mask_t};
 
-/// The first `count` glyphs from `start` up to before `end` come to stand behind the others, and all of them merge. It
+/// The first `count` glyphs from `start` up to before `end` come to stand after the others, and all of them merge. It
 /// takes no memory.
 pub fn first_to_back(buffer: &mut hb_buffer_t, start: usize, end: usize, count: usize)
     requires ready { IsReady buffer.old }

@@ -7,11 +7,11 @@ ghost use Rattle.stage_rules.specs.Fronts.{front_moves};
 ghost use Rattle.stage_rules.specs.SyllableBuffers.{IsRewritten};
 ghost use Rattle.stage_rules.specs.Parts.{fronts_moved};
 
-use crate::fronts::{FrontRule, gather_behind};
+use crate::fronts::{FrontRule, gather_after};
 use crate::moves::order_kept;
 use glyph_buffer::buffer::hb_buffer_t;
 
-/// The first `walked` glyphs from `start` up to before `end` stand in front. Of those behind them some come before them one
+/// The first `walked` glyphs from `start` up to before `end` stand in front. Of those after them some come before them one
 /// after another, and merge with what they pass; `merged` glyphs are those up to the last of these, and at least one. It takes
 /// no memory, and n glyphs take the time of n log n.
 pub fn move_fronts<R: FrontRule>(
@@ -34,6 +34,6 @@ pub fn move_fronts<R: FrontRule>(
 {
     buffer.merge_clusters(start, start + merged);
     let known = order_kept(buffer, start, start + merged);
-    gather_behind(rule, buffer.info_slice_mut(), start, start + walked, end);
+    gather_after(rule, buffer.info_slice_mut(), start, start + walked, end);
     buffer.keep_order(known);
 }

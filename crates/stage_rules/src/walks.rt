@@ -91,7 +91,7 @@ pub fn merge_behind(start: usize, end: usize, buffer: &mut hb_buffer_t)
     buffer.merge_out_clusters(start, end);
 }
 
-/// The glyphs of the output from `start` up to before `end` merge, and those before `middle` come to stand behind the
+/// The glyphs of the output from `start` up to before `end` merge, and those before `middle` come to stand after the
 /// others. It takes no memory.
 pub fn move_behind(start: usize, middle: usize, end: usize, buffer: &mut hb_buffer_t)
     requires open { buffer.old.is_open ≡ true }

@@ -9,7 +9,7 @@ use glyph_slices::deletion::delete_within;
 use glyph_slices::flags::{AskedFlags, propagate_flags};
 use glyph_slices::groups::{group_end, next_cluster, next_grapheme, next_syllable};
 use glyph_slices::reversal::reverse_groups;
-use glyph_slices::sorting::{Sorted, sort};
+use glyph_slices::sorting::sort;
 use std::alloc::{AllocError, Global};
 
 /// In the row stand the level, where the range that is sorted ends, whether the clusters stand in order, whether a glyph is
@@ -21,13 +21,10 @@ pub fn sorts(alloc: Global, row: &str, tell: bool) -> Result<bool, AllocError> {
     if glyphs.len() < end || seen != is_so(row, 2) {
         return Ok(false);
     }
-    let wanted = Sorted {
-        marked: is_so(row, 3),
-        in_order: is_so(row, 4),
-    };
+    let (marked, in_order) = (is_so(row, 3), is_so(row, 4));
     let key = |info: &hb_glyph_info_t| info.glyph_id;
     let sorted = sort(alloc, &mut glyphs, level_of(row), tell && seen, 0, end, key)?;
-    Ok(are(&glyphs, part(row, 6)) && sorted == wanted)
+    Ok(are(&glyphs, part(row, 6)) && sorted.marked == marked && sorted.in_order == in_order)
 }
 
 /// In the row stand the level, whether neighbours of one number, or of one cluster, are a group, whether groups are merged,

@@ -45,18 +45,18 @@ drop_front : (xs ys : List ℕ) → drop (length xs) (xs ++ ys) ≡ ys
 drop_front [] ys = refl
 drop_front (x ∷ xs) ys = drop_front xs ys
 
-behind_front : (front : List ℕ) (n : ℕ) (back : List ℕ) → drop (length front + 1) (front ++ n ∷ back) ≡ back
-behind_front front n back = sym (drop-drop 1 (length front) (front ++ n ∷ back)) ∙ ap (drop 1) (drop_front front (n ∷ back))
+beyond_front : (front : List ℕ) (n : ℕ) (back : List ℕ) → drop (length front + 1) (front ++ n ∷ back) ≡ back
+beyond_front front n back = sym (drop-drop 1 (length front) (front ++ n ∷ back)) ∙ ap (drop 1) (drop_front front (n ∷ back))
 
 rest_of : (front : List ℕ) (n : ℕ) (back : List ℕ) → without (length front) (front ++ n ∷ back) ≡ front ++ back
-rest_of front n back = rw (take_front front (n ∷ back), behind_front front n back) refl
+rest_of front n back = rw (take_front front (n ∷ back), beyond_front front n back) refl
 
 left_is : (front : List ℕ) (n : ℕ) (back : List ℕ) → before_deletion (length front) (front ++ n ∷ back) ≡ united_if_last (last_of front) (first_of back) n (front ++ n ∷ back)
 left_is front n back =
     let ns = front ++ n ∷ back in
     ap (λ ms. united_without (last_of ms) (first_of (drop (length front) ns)) (first_of (drop (length front + 1) ns)) ns) (take_front front (n ∷ back))
     ∙ ap (λ ms. united_without (last_of front) (first_of ms) (first_of (drop (length front + 1) ns)) ns) (drop_front front (n ∷ back))
-    ∙ ap (λ ms. united_without (last_of front) (Some n) (first_of ms) ns) (behind_front front n back)
+    ∙ ap (λ ms. united_without (last_of front) (Some n) (first_of ms) ns) (beyond_front front n back)
 
 -- numbers p, and no other
 all_same : (p : ℕ) (ns : List ℕ) → ((k : ℕ) → Has ns k → k ≡ p) → list_all (λ k. k == p) ns ≡ true
@@ -197,13 +197,13 @@ end_brings p n k (m ∷ ms) h = by_test (list_all (λ j. j == p) (m ∷ ms)) (en
 rest_brings : (front : List ℕ) (n : ℕ) (back : List ℕ) → BringsNone (front ++ n ∷ back) (front ++ back)
 rest_brings front n back k h = elim (has_either k front back h) [
   | inl there ↦ has_left k front (n ∷ back) there
-  | inr behind ↦ has_right k front (n ∷ back) (has_more n k back behind)
+  | inr beyond ↦ has_right k front (n ∷ back) (has_more n k back beyond)
 ]
 
 alone_brings : (level : BufferClusterLevel) (before : Option ℕ) (front : List ℕ) (n : ℕ) (back : List ℕ) → BringsNone (front ++ n ∷ back) (deleted_alone level before front n back)
 alone_brings level None front n back k h = elim (has_either k front (drop 1 (merged_at level 0 2 (n ∷ back))) h) [
   | inl there ↦ has_left k front (n ∷ back) there
-  | inr behind ↦ has_right k front (n ∷ back) (merged_at_brings level 0 2 (n ∷ back) k (has_drop k 1 (merged_at level 0 2 (n ∷ back)) behind))
+  | inr beyond ↦ has_right k front (n ∷ back) (merged_at_brings level 0 2 (n ∷ back) k (has_drop k 1 (merged_at level 0 2 (n ∷ back)) beyond))
 ]
 alone_brings level (Some p) front n back k h = by_test (nat_lt n p) h
   where
@@ -214,7 +214,7 @@ alone_brings level (Some p) front n back k h = by_test (nat_lt n p) h
         | inl e ↦ subst (Has (front ++ n ∷ back)) e (has_right n front (n ∷ back) (has_here n back))
         | inr old ↦ has_left k front (n ∷ back) old
       ]
-      | inr behind ↦ has_right k front (n ∷ back) (has_more n k back behind)
+      | inr beyond ↦ has_right k front (n ∷ back) (has_more n k back beyond)
     ]
 
 -- a deletion brings no number

@@ -108,7 +108,7 @@ picked_brings all (i ∷ order) (m ∷ ns) n h = elim (has_cases (unwrap_or (sli
 arranged_brings : (from : ℕ) (order ns : List ℕ) → BringsNone ns (arranged from order ns)
 arranged_brings from order ns n h = elim (has_either n (take from ns) (picked (take (length order) (drop from ns)) order (drop from ns)) h) [
   | inl there ↦ has_take n from ns there
-  | inr behind ↦ elim (picked_brings (take (length order) (drop from ns)) order (drop from ns) n behind) [
+  | inr beyond ↦ elim (picked_brings (take (length order) (drop from ns)) order (drop from ns) n beyond) [
     | inl range ↦ has_drop n from ns (has_take n (length order) (drop from ns) range)
     | inr rest ↦ has_drop n from ns rest
   ]

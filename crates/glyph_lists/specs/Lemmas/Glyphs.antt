@@ -74,8 +74,8 @@ clusters_merged range (g ∷ gs) = rw (cluster_in_cluster (merged range g.cluste
 pub cut_out : {X : Type 0} (from to : ℕ) (xs : List X) → from ≤ to → take from xs ++ slice_range xs from to ++ drop to xs ≡ xs
 cut_out from to xs le =
     let there : from + (to - from) ≡ to = omega arith in
-    let behind : drop (to - from) (drop from xs) ≡ drop to xs = drop-drop (to - from) from xs ∙ ap (λ n. drop n xs) there in
-    append_assoc (take from xs) (slice_range xs from to) (drop to xs) ∙ ap (λ ys. take from xs ++ (slice_range xs from to ++ ys)) (sym behind) ∙ ap (λ ys. take from xs ++ ys) (take-append-drop (to - from) (drop from xs)) ∙ take-append-drop from xs
+    let beyond : drop (to - from) (drop from xs) ≡ drop to xs = drop-drop (to - from) from xs ∙ ap (λ n. drop n xs) there in
+    append_assoc (take from xs) (slice_range xs from to) (drop to xs) ∙ ap (λ ys. take from xs ++ (slice_range xs from to ++ ys)) (sym beyond) ∙ ap (λ ys. take from xs ++ ys) (take-append-drop (to - from) (drop from xs)) ∙ take-append-drop from xs
 
 pub item_marked : (bits low : ℕ) (g : hb_glyph_info_t) → bits < 8 → item_of (marked_outside bits low g) ≡ item_of g
 item_marked bits low g lt =

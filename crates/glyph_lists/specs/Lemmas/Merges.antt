@@ -149,7 +149,7 @@ joined_at falls x n front xs back o h false e =
         | inl before ↦ inl (chain_across (Stands falls) n x front (x ∷ xs) near before (has_here x xs), not_among (x ∷ xs) n x e (has_here x xs))
         | inr among ↦ let none : true ≡ false = sym among ∙ e in cc
       ]
-      | inr behind ↦ inr (chain_across (Stands falls) last n (front ++ (x ∷ xs)) back o (has_right last front (x ∷ xs) (has_last_from x xs)) behind, not_among (x ∷ xs) n last e (has_last_from x xs))
+      | inr beyond ↦ inr (chain_across (Stands falls) last n (front ++ (x ∷ xs)) back o (has_right last front (x ∷ xs) (has_last_from x xs)) beyond, not_among (x ∷ xs) n last e (has_last_from x xs))
     ]))
 
 pub merge_is_join : MergeIsJoin
@@ -161,8 +161,8 @@ merge_is_join falls front (x ∷ xs) back o =
 cut_out : (from to : ℕ) (ns : List ℕ) → from ≤ to → take from ns ++ stretch from to ns ++ drop to ns ≡ ns
 cut_out from to ns le =
     let there : from + (to - from) ≡ to = omega arith in
-    let behind : drop (to - from) (drop from ns) ≡ drop to ns = drop-drop (to - from) from ns ∙ ap (λ n. drop n ns) there in
-    append_assoc (take from ns) (stretch from to ns) (drop to ns) ∙ ap (λ ms. take from ns ++ (stretch from to ns ++ ms)) (sym behind) ∙ ap (λ ms. take from ns ++ ms) (take-append-drop (to - from) (drop from ns)) ∙ take-append-drop from ns
+    let beyond : drop (to - from) (drop from ns) ≡ drop to ns = drop-drop (to - from) from ns ∙ ap (λ n. drop n ns) there in
+    append_assoc (take from ns) (stretch from to ns) (drop to ns) ∙ ap (λ ms. take from ns ++ (stretch from to ns ++ ms)) (sym beyond) ∙ ap (λ ms. take from ns ++ ms) (take-append-drop (to - from) (drop from ns)) ∙ take-append-drop from ns
 
 merge_joins_order : (falls : Bool) (from to : ℕ) (ns : List ℕ) → from ≤ to → IsInOrder falls ns → merged_numbers (stretch from to ns) ns ≡ after_part_event ns (JoinParts from to)
 merge_joins_order falls from to ns le o =

@@ -8,7 +8,7 @@ use Rattle.std.proofs.Math.Seq.{take-append_seam, drop-append_seam}
 use Rattle.glyph_lists.specs.declared.info.hb_glyph_info_t.{hb_glyph_info_t as Glyph}
 use Rattle.glyph_lists.specs.declared.level.BufferClusterLevel.{BufferClusterLevel}
 use Rattle.glyph_lists.specs.Items.{Position}
-use Rattle.glyph_slices.specs.Groups.{joined_behind, group_length}
+use Rattle.glyph_slices.specs.Groups.{joined_after, group_length}
 use Rattle.glyph_slices.specs.Turning.{in_front, groups, groups_turned, all_turned, turning_of}
 use Rattle.glyph_slices.specs.Laws.{cut_into, GroupsAreAll, TurnsGroups}
 
@@ -17,7 +17,7 @@ pub groups_cut : {X : Type 0} (p : X → X → Bool) (x : X) (xs : List X) → g
 groups_cut p x [] = refl
 groups_cut p x (y ∷ ys) =
     let rest = groups_cut p y ys in
-    let j = joined_behind p y ys in
+    let j = joined_after p y ys in
     ap (in_front p x) rest
     ∙ elim (p x y) as (λ t. (if t then (x ∷ y ∷ take j ys) ∷ groups p (drop j ys) else (x ∷ []) ∷ (y ∷ take j ys) ∷ groups p (drop j ys)) ≡ take (suc (if t then suc j else 0)) (x ∷ y ∷ ys) ∷ groups p (drop (suc (if t then suc j else 0)) (x ∷ y ∷ ys)))
     [ true ↦ refl | false ↦ ap (λ gss. (x ∷ []) ∷ gss) (sym rest) ]

@@ -7,7 +7,7 @@ use Rattle.glyph_lists.specs.declared.level.BufferClusterLevel.TheVariants.{Mono
 use Rattle.glyph_lists.specs.Items.{Item, Position, item_of, strip, clusters}
 use Rattle.glyph_lists.specs.Parts.{stretch}
 use Rattle.glyph_lists.specs.Lemmas.Glyphs.{strip_merged, strip_merged_at}
-use Rattle.glyph_slices.specs.Groups.{joined_behind, group_length}
+use Rattle.glyph_slices.specs.Groups.{joined_after, group_length}
 use Rattle.glyph_slices.specs.Turning.{groups_turned, merged_if, beside_if, all_turned, turning_of}
 use Rattle.glyph_slices.specs.Facts.{group_lengths, stretches_turned, positions_turned}
 use Rattle.glyph_slices.specs.Lemmas.GroupsTurned.{turned_onto}
@@ -18,7 +18,7 @@ use Rattle.glyph_slices.specs.Lemmas.Turned.{all_idle}
 abbrev pub of_items : (Item → Item → Bool) → Glyph → Glyph → Bool
 of_items q g h = q (item_of g) (item_of h)
 
-joined_items : (q : Item → Item → Bool) (g : Glyph) (gs : List Glyph) → joined_behind (of_items q) g gs ≡ joined_behind q (item_of g) (strip gs)
+joined_items : (q : Item → Item → Bool) (g : Glyph) (gs : List Glyph) → joined_after (of_items q) g gs ≡ joined_after q (item_of g) (strip gs)
 joined_items q g [] = refl
 joined_items q g (h ∷ hs) = ap (λ n. if q (item_of g) (item_of h) then suc n else 0) (joined_items q h hs)
 
@@ -60,7 +60,7 @@ items_many (suc n) merge level q gs ps pa m (x ∷ xs) le =
     let range = stretch 0 k (clusters (x ∷ xs)) in
     let back = drop k (merged_if merge level 0 k (x ∷ xs)) in
     let same : k ≡ i = length_items q x xs in
-    items_many n merge level q (take k (merged_if merge level 0 k (x ∷ xs)) ++ beside_if merge level range gs) (take k pa ++ ps) (drop k pa) _ back (few_ahead merge level (joined_behind (of_items q) x xs) n x xs le)
+    items_many n merge level q (take k (merged_if merge level 0 k (x ∷ xs)) ++ beside_if merge level range gs) (take k pa ++ ps) (drop k pa) _ back (few_ahead merge level (joined_after (of_items q) x xs) n x xs le)
     ∙ ap (λ ys. groups_turned q (strip back) ++ ys) (first_items merge level k range (x ∷ xs) gs)
     ∙ ap (λ ys. groups_turned q ys ++ (take k (strip (x ∷ xs)) ++ strip gs)) (ahead_items merge level k (x ∷ xs))
     ∙ sym (append_assoc (groups_turned q (drop k (strip (x ∷ xs)))) (take k (strip (x ∷ xs))) (strip gs))
@@ -85,7 +85,7 @@ places_many (suc n) merge level q gs ps pa m (x ∷ xs) le =
     let k = group_length (of_items q) (x ∷ xs) in
     let range = stretch 0 k (clusters (x ∷ xs)) in
     let back = drop k (merged_if merge level 0 k (x ∷ xs)) in
-    places_many n merge level q (take k (merged_if merge level 0 k (x ∷ xs)) ++ beside_if merge level range gs) (take k pa ++ ps) (drop k pa) _ back (few_ahead merge level (joined_behind (of_items q) x xs) n x xs le)
+    places_many n merge level q (take k (merged_if merge level 0 k (x ∷ xs)) ++ beside_if merge level range gs) (take k pa ++ ps) (drop k pa) _ back (few_ahead merge level (joined_after (of_items q) x xs) n x xs le)
     ∙ sym (append_assoc (positions_turned q (strip back) (drop k pa)) (take k pa) ps)
     ∙ ap (λ lens. stretches_turned lens pa ++ ps) (sym (lengths_ahead merge level q x xs))
 

@@ -1,7 +1,7 @@
 -- How long groups are.
 use Rattle.std.proofs.Common.{suc, ◌≡◌, ◌≤◌, Bool, true, false, if◌then◌else◌, List, [], ◌∷◌, length, map, drop, arith, refl, ap, ◌∙◌}
 use Rattle.std.proofs.lemmas.List.{length-take-le}
-use Rattle.glyph_slices.specs.Groups.{joined_behind, group_length}
+use Rattle.glyph_slices.specs.Groups.{joined_after, group_length}
 use Rattle.glyph_slices.specs.Facts.{group_lengths}
 use Rattle.glyph_slices.specs.Lemmas.GroupsTurned.{groups_cut}
 
@@ -9,9 +9,9 @@ pub map_twice : {X Y Z : Type 0} (g : Y → Z) (f : X → Y) (xs : List X) → m
 map_twice g f [] = refl
 map_twice g f (x ∷ xs) = ap (λ ys. g (f x) ∷ ys) (map_twice g f xs)
 
-pub joined_within : {X : Type 0} (p : X → X → Bool) (x : X) (xs : List X) → joined_behind p x xs ≤ length xs
+pub joined_within : {X : Type 0} (p : X → X → Bool) (x : X) (xs : List X) → joined_after p x xs ≤ length xs
 joined_within p x [] = omega arith
-joined_within p x (y ∷ ys) = let rest = joined_within p y ys in elim (p x y) as (λ t. (if t then suc (joined_behind p y ys) else 0) ≤ suc (length ys)) [ true ↦ omega (arith, rest) | false ↦ omega arith ]
+joined_within p x (y ∷ ys) = let rest = joined_within p y ys in elim (p x y) as (λ t. (if t then suc (joined_after p y ys) else 0) ≤ suc (length ys)) [ true ↦ omega (arith, rest) | false ↦ omega arith ]
 
 -- the length of the first group, and those of the groups after it
 pub lengths_cut : {X : Type 0} (p : X → X → Bool) (x : X) (xs : List X) → group_lengths p (x ∷ xs) ≡ group_length p (x ∷ xs) ∷ group_lengths p (drop (group_length p (x ∷ xs)) (x ∷ xs))

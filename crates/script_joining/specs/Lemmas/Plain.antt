@@ -8,7 +8,7 @@ use Rattle.stage_rules.specs.Moves.{with_move}
 use Rattle.script_joining.specs.declared.flags.Letter.{Letter}
 use Rattle.script_joining.specs.Types.{JoiningType}
 use Rattle.script_joining.specs.Forms.{letter_form}
-use Rattle.script_joining.specs.Joining.{event_at, event_after, is_letter, letter_after, nearest, nearest_behind, neighbour_events, neighbours_event, types_of_characters, types_of_items}
+use Rattle.script_joining.specs.Joining.{event_at, event_after, is_letter, letter_after, nearest, nearest_past, neighbour_events, neighbours_event, types_of_characters, types_of_items}
 use Rattle.script_joining.specs.Marks.{count_below, count_leading, led, reclassed, run_of_items, with_leading}
 use Rattle.script_joining.specs.Laws.{JoiningIsPlain, MarksArePlain}
 
@@ -26,7 +26,7 @@ at_plain last t at es h = elim (is_letter t) as (λ b. IsPlain ((if b then event
 all_plain : (before : JoiningType) (last : Option Letter) (at : ℕ) (ts : List JoiningType) → IsPlain (neighbour_events before last at ts)
 all_plain before last at [] = tt
 all_plain before last at (t ∷ ts) =
-    at_plain last t at (neighbour_events (nearest_behind before t) (letter_after before last t at) (at + 1) ts) (all_plain (nearest_behind before t) (letter_after before last t at) (at + 1) ts)
+    at_plain last t at (neighbour_events (nearest_past before t) (letter_after before last t at) (at + 1) ts) (all_plain (nearest_past before t) (letter_after before last t at) (at + 1) ts)
 
 pub joining_is_plain : JoiningIsPlain
 joining_is_plain t mongolian masks pre post v level = all_plain (nearest (types_of_characters t pre)) None 0 (types_of_items t v.items)

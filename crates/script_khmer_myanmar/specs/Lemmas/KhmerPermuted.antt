@@ -57,8 +57,8 @@ syllable_permutes m xs = by_first (slice_get xs 0) refl
   where
     by_kind : 0 < length xs → (t : Bool) → IsPermuted xs (if t then khmer_reordered m xs else kept xs)
     by_kind lt true =
-        let first = within 1 (length xs) (masked_all m.behind) xs in
-        then_permutes xs first (khmer_walk m (length xs - 1) 1 0) (within_permutes (masked_all m.behind) 1 (length xs) xs (masked_permutes m.behind) (omega (arith, lt))) (walk_permutes m (length xs - 1) 1 0 first.items)
+        let first = within 1 (length xs) (masked_all m.post_base) xs in
+        then_permutes xs first (khmer_walk m (length xs - 1) 1 0) (within_permutes (masked_all m.post_base) 1 (length xs) xs (masked_permutes m.post_base) (omega (arith, lt))) (walk_permutes m (length xs - 1) 1 0 first.items)
     by_kind lt false = IsPermutation-refl (numbers_of xs)
 
     by_first : (a : Option Item) → slice_get xs 0 ≡ a → IsPermuted xs (khmer_first m xs a)

@@ -63,14 +63,14 @@ pub walk_size : (m : KhmerMasks) (n place count : ℕ) (xs : List Item) → leng
 walk_size m zero place count xs = refl
 walk_size m (suc n) place count xs = let s = khmer_at m place count xs in walk_size m n (place + 1) s.count s.rewritten.items ∙ at_size m place count xs
 
-pub after_size : (m : KhmerMasks) (xs : List Item) → 0 < length xs → length (within 1 (length xs) (masked_all m.behind) xs).items ≡ length xs
-after_size m xs lt = within_size (masked_all m.behind) 1 (length xs) xs (masked_size m.behind) (omega (arith, lt)) (omega arith)
+pub after_size : (m : KhmerMasks) (xs : List Item) → 0 < length xs → length (within 1 (length xs) (masked_all m.post_base) xs).items ≡ length xs
+after_size m xs lt = within_size (masked_all m.post_base) 1 (length xs) xs (masked_size m.post_base) (omega (arith, lt)) (omega arith)
 
 pub khmer_keeps : (m : KhmerMasks) (xs : List Item) → length (khmer_syllable m xs).items ≡ length xs
 khmer_keeps m xs = by_first (slice_get xs 0) refl
   where
     by_kind : 0 < length xs → (t : Bool) → count_of (if t then khmer_reordered m xs else kept xs) ≡ length xs
-    by_kind lt true = walk_size m (length xs - 1) 1 0 (within 1 (length xs) (masked_all m.behind) xs).items ∙ after_size m xs lt
+    by_kind lt true = walk_size m (length xs - 1) 1 0 (within 1 (length xs) (masked_all m.post_base) xs).items ∙ after_size m xs lt
     by_kind lt false = refl
 
     by_first : (a : Option Item) → slice_get xs 0 ≡ a → length (khmer_first m xs a).items ≡ length xs

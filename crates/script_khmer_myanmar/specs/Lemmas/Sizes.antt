@@ -6,22 +6,22 @@ use Rattle.std.proofs.lemmas.List.{length-append, length-drop, length-replicate,
 use Rattle.std.proofs.lemmas.List.Sums.{prefix_len-le-length}
 use Rattle.std.proofs.lemmas.List.Sorted.{length_permutation}
 use Rattle.stable_order.specs.Keys.{key_bound, key_order}
-use Rattle.glyph_slices.specs.Groups.{group_length, joined_behind}
+use Rattle.glyph_slices.specs.Groups.{group_length, joined_after}
 use Rattle.glyph_slices.specs.Turning.{groups_turned}
 use Rattle.glyph_slices.specs.Lemmas.GroupsTurned.{turned_onto}
 use Rattle.glyph_slices.specs.Lemmas.KeyOrder.{all_below, by_key_moves}
 use Rattle.script_constants.specs.declared.ot_category_t.TheConstants as category
 use Rattle.script_constants.specs.declared.ot_position_t.TheConstants as position
-use Rattle.script_khmer_myanmar.specs.Myanmar.{base_of, based, from_base, is_base, kinzi, myanmar_places, place_behind, place_of, places_after}
+use Rattle.script_khmer_myanmar.specs.Myanmar.{base_of, based, from_base, is_base, kinzi, myanmar_places, place_after, place_of, places_after}
 
 pub key_order_size : {X : Type 0} (key : X → ℕ) (xs : List X) → length (key_order key xs) ≡ length xs
 key_order_size key xs = (length_permutation xs (key_order key xs) (by_key_moves key (key_bound key xs) xs (all_below key (key_bound key xs) xs (omega arith))))
 
-joined_within : {X : Type 0} (p : X → X → Bool) (x : X) (xs : List X) → joined_behind p x xs ≤ length xs
+joined_within : {X : Type 0} (p : X → X → Bool) (x : X) (xs : List X) → joined_after p x xs ≤ length xs
 joined_within p x [] = omega arith
 joined_within p x (y ∷ ys) = by_test (p x y) (joined_within p y ys)
   where
-    by_test : (t : Bool) → joined_behind p y ys ≤ length ys → (if t then suc (joined_behind p y ys) else 0) ≤ length (y ∷ ys)
+    by_test : (t : Bool) → joined_after p y ys ≤ length ys → (if t then suc (joined_after p y ys) else 0) ≤ length (y ∷ ys)
     by_test true le = omega (arith, le)
     by_test false le = omega arith
 
@@ -43,7 +43,7 @@ groups_turned_size p xs = turned_within p (length xs) xs (omega arith)
 
 pub after_size : (now before : ℕ) (cs : List ℕ) → length (places_after now before cs) ≡ length cs
 after_size now before [] = refl
-after_size now before (c ∷ cs) = ap suc (after_size (place_behind now c) (place_of now before c) cs)
+after_size now before (c ∷ cs) = ap suc (after_size (place_after now c) (place_of now before c) cs)
 
 from_base_size : (cs : List ℕ) → length (from_base cs) ≡ length cs
 from_base_size [] = refl

@@ -13,7 +13,7 @@ use Rattle.stage_rules.specs.Moves.{moved, order_of_move}
 use Rattle.stage_rules.specs.Lemmas.Moved.{moved_length}
 use Rattle.script_joining.specs.Marks.{classed, count_below, count_leading, is_modifier_of}
 use Rattle.script_hebrew_thai.specs.Hebrew.{begins_with_three, first_three}
-use Rattle.script_mark_orders.specs.Orders.{arabic_order, behind, hebrew_order, leading_first, led_by, swapped_at, OrdersArePlain, OrdersKeepCount}
+use Rattle.script_mark_orders.specs.Orders.{arabic_order, rest_arranged, hebrew_order, leading_first, led_by, swapped_at, OrdersArePlain, OrdersKeepCount}
 
 -- ---- Arabic
 
@@ -48,8 +48,8 @@ led_length class below leading run le = by_test (leading == 0)
 pub leading_length : (class new : ℕ) (run : List Item) → length (leading_first class new run).items ≡ length run
 leading_length class new run = led_length new (count_below class run) (count_leading class run) run (leads_within class run)
 
-behind_length : (n : ℕ) (order : List Item → Arranged) (run : List Item) → ((xs : List Item) → length (order xs).items ≡ length xs) → n ≤ length run → length (behind n order run).items ≡ length run
-behind_length n order run h le =
+rest_length : (n : ℕ) (order : List Item → Arranged) (run : List Item) → ((xs : List Item) → length (order xs).items ≡ length xs) → n ≤ length run → length (rest_arranged n order run).items ≡ length run
+rest_length n order run h le =
     let a = length-append (take n run) (order (drop n run)).items in
     let b = h (drop n run) in
     let c = length-take-le n run le in
@@ -60,7 +60,7 @@ arabic_length run =
     let first = leading_first 220 25 run in
     let a = leading_length 220 25 run in
     let b = leads_within 220 run in
-    behind_length (count_leading 220 run) (leading_first 230 26) first.items (leading_length 230 26) (omega (arith, a, b)) ∙ a
+    rest_length (count_leading 220 run) (leading_first 230 26) first.items (leading_length 230 26) (omega (arith, a, b)) ∙ a
 
 led_plain : (class below leading : ℕ) (run : List Item) (es : List Event) → IsPlain es → IsPlain ((led_by class below leading run).events ++ es)
 led_plain class below leading run es h = by_test (leading == 0)

@@ -24,35 +24,35 @@ reph_permutes xs = by_test (begins_with_reph xs)
     by_test true = within_permutes (first_to_back 1) 0 (reph_end xs) xs (moved_permutes 1) (omega arith)
     by_test false = IsPermutation-refl (numbers_of xs)
 
-left_permutes : (i behind : ℕ) (xs : List Item) → StepPermutes xs (left_at i behind xs)
-left_permutes i behind xs = by_item (slice_get xs i)
+left_permutes : (i after_halant : ℕ) (xs : List Item) → StepPermutes xs (left_at i after_halant xs)
+left_permutes i after_halant xs = by_item (slice_get xs i)
   where
     second : (a b : Bool) → (a && b) ≡ true → b ≡ true
     second true b h = h
     second false b h = cc
 
-    moves : (x : Item) (t : Bool) → (is_left x && nat_lt behind i) ≡ t
-        → StepPermutes xs (if t then record { rewritten = within behind (i + 1) (first_to_back (i - behind)) xs; behind = behind } else record { rewritten = kept xs; behind = behind })
+    moves : (x : Item) (t : Bool) → (is_left x && nat_lt after_halant i) ≡ t
+        → StepPermutes xs (if t then record { rewritten = within after_halant (i + 1) (first_to_back (i - after_halant)) xs; after_halant = after_halant } else record { rewritten = kept xs; after_halant = after_halant })
     moves x true e =
-        let less : nat_lt behind i ≡ true = second (is_left x) (nat_lt behind i) e in
-        let before : behind < i = grind (arith, nat_tests, common_steps, less) in
-        within_permutes (first_to_back (i - behind)) behind (i + 1) xs (moved_permutes (i - behind)) (omega (arith, before))
+        let less : nat_lt after_halant i ≡ true = second (is_left x) (nat_lt after_halant i) e in
+        let before : after_halant < i = grind (arith, nat_tests, common_steps, less) in
+        within_permutes (first_to_back (i - after_halant)) after_halant (i + 1) xs (moved_permutes (i - after_halant)) (omega (arith, before))
     moves x false e = IsPermutation-refl (numbers_of xs)
 
     met : (x : Item) (t : Bool)
-        → StepPermutes xs (if t then record { rewritten = kept xs; behind = i + 1 } else if is_left x && nat_lt behind i then record { rewritten = within behind (i + 1) (first_to_back (i - behind)) xs; behind = behind } else record { rewritten = kept xs; behind = behind })
+        → StepPermutes xs (if t then record { rewritten = kept xs; after_halant = i + 1 } else if is_left x && nat_lt after_halant i then record { rewritten = within after_halant (i + 1) (first_to_back (i - after_halant)) xs; after_halant = after_halant } else record { rewritten = kept xs; after_halant = after_halant })
     met x true = IsPermutation-refl (numbers_of xs)
-    met x false = moves x (is_left x && nat_lt behind i) refl
+    met x false = moves x (is_left x && nat_lt after_halant i) refl
 
-    by_item : (a : Option Item) → StepPermutes xs (left_there i behind xs a)
+    by_item : (a : Option Item) → StepPermutes xs (left_there i after_halant xs a)
     by_item None = IsPermutation-refl (numbers_of xs)
     by_item (Some x) = met x (is_halant x)
 
-walk_permutes : (n i behind : ℕ) (xs : List Item) → IsPermuted xs (left_walk n i behind xs)
-walk_permutes zero i behind xs = IsPermutation-refl (numbers_of xs)
-walk_permutes (suc n) i behind xs =
-    let s = left_at i behind xs in
-    then_permutes xs s.rewritten (left_walk n (i + 1) s.behind) (left_permutes i behind xs) (walk_permutes n (i + 1) s.behind s.rewritten.items)
+walk_permutes : (n i after_halant : ℕ) (xs : List Item) → IsPermuted xs (left_walk n i after_halant xs)
+walk_permutes zero i after_halant xs = IsPermutation-refl (numbers_of xs)
+walk_permutes (suc n) i after_halant xs =
+    let s = left_at i after_halant xs in
+    then_permutes xs s.rewritten (left_walk n (i + 1) s.after_halant) (left_permutes i after_halant xs) (walk_permutes n (i + 1) s.after_halant s.rewritten.items)
 
 pub syllable_permutes : (xs : List Item) → IsPermuted xs (universal_syllable xs)
 syllable_permutes xs = by_first (slice_get xs 0)

@@ -30,33 +30,33 @@ reph_size xs = by_test (begins_with_reph xs) refl
     by_test true e = within_size (first_to_back 1) 0 (reph_end xs) xs (moved_size 1) (omega arith) (reph_within xs e)
     by_test false e = refl
 
-left_move_size : (i behind : ℕ) (xs : List Item) (x : Item) → i < length xs → (t : Bool) → (is_left x && nat_lt behind i) ≡ t
-    → size_of (if t then record { rewritten = within behind (i + 1) (first_to_back (i - behind)) xs; behind = behind } else record { rewritten = kept xs; behind = behind }) ≡ length xs
-left_move_size i behind xs x lt true e =
-    let less : nat_lt behind i ≡ true = second (is_left x) (nat_lt behind i) e in
-    let before : behind < i = grind (arith, nat_tests, common_steps, less) in
-    within_size (first_to_back (i - behind)) behind (i + 1) xs (moved_size (i - behind)) (omega (arith, before)) (omega (arith, lt))
+left_move_size : (i after_halant : ℕ) (xs : List Item) (x : Item) → i < length xs → (t : Bool) → (is_left x && nat_lt after_halant i) ≡ t
+    → size_of (if t then record { rewritten = within after_halant (i + 1) (first_to_back (i - after_halant)) xs; after_halant = after_halant } else record { rewritten = kept xs; after_halant = after_halant }) ≡ length xs
+left_move_size i after_halant xs x lt true e =
+    let less : nat_lt after_halant i ≡ true = second (is_left x) (nat_lt after_halant i) e in
+    let before : after_halant < i = grind (arith, nat_tests, common_steps, less) in
+    within_size (first_to_back (i - after_halant)) after_halant (i + 1) xs (moved_size (i - after_halant)) (omega (arith, before)) (omega (arith, lt))
   where
     second : (a b : Bool) → (a && b) ≡ true → b ≡ true
     second true b h = h
     second false b h = cc
-left_move_size i behind xs x lt false e = refl
+left_move_size i after_halant xs x lt false e = refl
 
-left_met_size : (i behind : ℕ) (xs : List Item) (x : Item) → i < length xs → (t : Bool)
-    → size_of (if t then record { rewritten = kept xs; behind = i + 1 } else if is_left x && nat_lt behind i then record { rewritten = within behind (i + 1) (first_to_back (i - behind)) xs; behind = behind } else record { rewritten = kept xs; behind = behind }) ≡ length xs
-left_met_size i behind xs x lt true = refl
-left_met_size i behind xs x lt false = left_move_size i behind xs x lt (is_left x && nat_lt behind i) refl
+left_met_size : (i after_halant : ℕ) (xs : List Item) (x : Item) → i < length xs → (t : Bool)
+    → size_of (if t then record { rewritten = kept xs; after_halant = i + 1 } else if is_left x && nat_lt after_halant i then record { rewritten = within after_halant (i + 1) (first_to_back (i - after_halant)) xs; after_halant = after_halant } else record { rewritten = kept xs; after_halant = after_halant }) ≡ length xs
+left_met_size i after_halant xs x lt true = refl
+left_met_size i after_halant xs x lt false = left_move_size i after_halant xs x lt (is_left x && nat_lt after_halant i) refl
 
-pub left_size : (i behind : ℕ) (xs : List Item) → length (left_at i behind xs).rewritten.items ≡ length xs
-left_size i behind xs = by_item (slice_get xs i) refl
+pub left_size : (i after_halant : ℕ) (xs : List Item) → length (left_at i after_halant xs).rewritten.items ≡ length xs
+left_size i after_halant xs = by_item (slice_get xs i) refl
   where
-    by_item : (a : Option Item) → slice_get xs i ≡ a → length (left_there i behind xs a).rewritten.items ≡ length xs
+    by_item : (a : Option Item) → slice_get xs i ≡ a → length (left_there i after_halant xs a).rewritten.items ≡ length xs
     by_item None e = refl
-    by_item (Some x) e = left_met_size i behind xs x (slice_get_within xs i x e) (is_halant x)
+    by_item (Some x) e = left_met_size i after_halant xs x (slice_get_within xs i x e) (is_halant x)
 
-pub walk_size : (n i behind : ℕ) (xs : List Item) → length (left_walk n i behind xs).items ≡ length xs
-walk_size zero i behind xs = refl
-walk_size (suc n) i behind xs = walk_size n (i + 1) (left_at i behind xs).behind (left_at i behind xs).rewritten.items ∙ left_size i behind xs
+pub walk_size : (n i after_halant : ℕ) (xs : List Item) → length (left_walk n i after_halant xs).items ≡ length xs
+walk_size zero i after_halant xs = refl
+walk_size (suc n) i after_halant xs = walk_size n (i + 1) (left_at i after_halant xs).after_halant (left_at i after_halant xs).rewritten.items ∙ left_size i after_halant xs
 
 pub universal_keeps : (xs : List Item) → length (universal_syllable xs).items ≡ length xs
 universal_keeps xs = by_first (slice_get xs 0)

@@ -5,7 +5,7 @@ use Rattle.std.proofs.Math.Seq.{take-append_seam, drop-append_seam}
 use Rattle.std.proofs.lemmas.Bool.Decides.{nat_tests}
 use Rattle.std.proofs.lemmas.List.{append-nil, map-append, length-append, length-drop, length-take-le, drop-drop, drop-map, take-append-drop, take-map}
 use Rattle.stage_rules.specs.Moves.{IsGrowing, all_moved, moved, reach}
-use Rattle.stage_rules.specs.Fronts.{fronts, front_moves, gathered, gathered_behind, stayed}
+use Rattle.stage_rules.specs.Fronts.{fronts, front_moves, gathered, gathered_after, stayed}
 use Rattle.stage_rules.specs.Lemmas.Moved.{take_both}
 use Rattle.stage_rules.specs.Lemmas.Nested.{moved_middle}
 
@@ -167,10 +167,10 @@ halves_gathered {X = X} pair one from middle to k old first second new le last f
 
 -- ---- behind others
 
-pub behind_gathered : {X : Type 0} (pair : X → X → Bool) (one : X → Bool) (start begin end k m : ℕ) (old first new : List X) → start ≤ begin → begin ≤ end → end ≤ length old
+pub after_gathered : {X : Type 0} (pair : X → X → Bool) (one : X → Bool) (start begin end k m : ℕ) (old first new : List X) → start ≤ begin → begin ≤ end → end ≤ length old
     → first ≡ take begin old ++ gathered pair one (slice_range old begin end) ++ drop end old → k ≡ length (fronts pair one (slice_range old begin end)) → m ≡ k
-    → new ≡ moved start (begin - start) m first → new ≡ take start old ++ gathered_behind pair one (begin - start) (slice_range old start end) ++ drop end old
-behind_gathered {X = X} pair one start begin end k m old first new le last fits e count same is =
+    → new ≡ moved start (begin - start) m first → new ≡ take start old ++ gathered_after pair one (begin - start) (slice_range old start end) ++ drop end old
+after_gathered {X = X} pair one start begin end k m old first new le last fits e count same is =
     let n = begin - start in
     let pre = take start old in
     let ms = slice_range old start begin in
@@ -194,14 +194,14 @@ behind_gathered {X = X} pair one start begin end k m old first new le last fits 
     ∙ moved_middle pre ms fs ss post in
     let front_is : take n xs ≡ ms = ap (take n) parts ∙ ap (λ i. take i (ms ++ zs)) (sym size_m) ∙ take-append_seam ms zs in
     let back_is : drop n xs ≡ zs = ap (drop n) parts ∙ ap (λ i. drop i (ms ++ zs)) (sym size_m) ∙ drop-append_seam ms zs in
-    let whole : gathered_behind pair one n xs ≡ fs ++ (ms ++ ss) = ap (λ ys. fronts pair one ys ++ (take n xs ++ stayed pair one ys)) back_is ∙ ap (λ ys. fs ++ (ys ++ ss)) front_is in
+    let whole : gathered_after pair one n xs ≡ fs ++ (ms ++ ss) = ap (λ ys. fronts pair one ys ++ (take n xs ++ stayed pair one ys)) back_is ∙ ap (λ ys. fs ++ (ys ++ ss)) front_is in
     is ∙ turned ∙ sym (append_assoc pre (fs ++ (ms ++ ss)) post) ∙ ap (λ ys. pre ++ ys ++ post) (sym whole)
   where
     regrouped : (ws bs cs ds : List X) → (ws ++ bs) ++ cs ++ ds ≡ ws ++ ((bs ++ cs) ++ ds)
     regrouped ws bs cs ds = simp append_assoc
 
-pub behind_length : {X : Type 0} (pair : X → X → Bool) (one : X → Bool) (n : ℕ) (xs : List X) → length (gathered_behind pair one n xs) ≡ length xs
-behind_length pair one n xs =
+pub gathered_after_length : {X : Type 0} (pair : X → X → Bool) (one : X → Bool) (n : ℕ) (xs : List X) → length (gathered_after pair one n xs) ≡ length xs
+gathered_after_length pair one n xs =
     let ys = drop n xs in
     let whole = ap length (take-append-drop n xs) in
     omega (arith, gathered_size pair one ys, whole, length-append (take n xs) ys, length-append (fronts pair one ys) (take n xs ++ stayed pair one ys), length-append (take n xs) (stayed pair one ys))
@@ -345,8 +345,8 @@ gathered_seen f pair one xs =
     map-append f (fronts (λ a b. pair (f a) (f b)) (λ a. one (f a)) xs) (stayed (λ a b. pair (f a) (f b)) (λ a. one (f a)) xs)
     ∙ ap (λ ys. ys ++ map f (stayed (λ a b. pair (f a) (f b)) (λ a. one (f a)) xs)) (fronts_seen f pair one xs) ∙ ap (λ ys. fronts pair one (map f xs) ++ ys) (stayed_seen f pair one xs)
 
-pub behind_seen : {X Y : Type 0} (f : X → Y) (pair : Y → Y → Bool) (one : Y → Bool) (n : ℕ) (xs : List X) → map f (gathered_behind (λ a b. pair (f a) (f b)) (λ a. one (f a)) n xs) ≡ gathered_behind pair one n (map f xs)
-behind_seen {X = X} f pair one n xs =
+pub gathered_after_seen : {X Y : Type 0} (f : X → Y) (pair : Y → Y → Bool) (one : Y → Bool) (n : ℕ) (xs : List X) → map f (gathered_after (λ a b. pair (f a) (f b)) (λ a. one (f a)) n xs) ≡ gathered_after pair one n (map f xs)
+gathered_after_seen {X = X} f pair one n xs =
     let p : X → X → Bool = λ a b. pair (f a) (f b) in
     let o : X → Bool = λ a. one (f a) in
     let ys = drop n xs in

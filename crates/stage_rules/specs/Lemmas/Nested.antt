@@ -167,8 +167,8 @@ stretch_middle fs ms es =
     ∙ ap (λ i. stretch (length (numbers fs)) (length (numbers fs) + i) (numbers fs ++ (numbers ms ++ numbers es))) (sym (length-map ms n))
     ∙ slice_middle (numbers fs) (numbers ms) (numbers es)
 
-behind_middle : {X : Type 0} (fs ms es : List X) → drop (max (length fs) (length fs + length ms)) (fs ++ (ms ++ es)) ≡ es
-behind_middle fs ms es =
+after_middle : {X : Type 0} (fs ms es : List X) → drop (max (length fs) (length fs + length ms)) (fs ++ (ms ++ es)) ≡ es
+after_middle fs ms es =
     let last : max (length fs) (length fs + length ms) ≡ length fs + length ms = grind (arith, nat_tests, common_steps) in
     ap (λ n. drop n (fs ++ (ms ++ es))) last ∙ drop-append-add fs (ms ++ es) (length ms) ∙ drop-append_seam ms es
 
@@ -184,7 +184,7 @@ middle_is Marks fs ms es =
     ap (λ ns. take i os ++ map (added_outside 3 (least_number ns)) (slice_range os i j) ++ drop (max i j) os) (stretch_middle fs ms es)
     ∙ ap (λ xs. xs ++ map f (slice_range os i j) ++ drop (max i j) os) (take-append_seam fs (ms ++ es))
     ∙ ap (λ xs. fs ++ map f xs ++ drop (max i j) os) (slice_middle fs ms es)
-    ∙ ap (λ xs. fs ++ map f ms ++ xs) (behind_middle fs ms es)
+    ∙ ap (λ xs. fs ++ map f ms ++ xs) (after_middle fs ms es)
     ∙ append_assoc fs (map f ms) es
     ∙ ap (λ xs. xs ++ (map f ms ++ es)) (sym (map-id fs)) ∙ ap (λ xs. map (outer Marks ms) fs ++ (map f ms ++ xs)) (sym (map-id es))
 middle_is Keeps fs ms es =

@@ -18,19 +18,19 @@ use Rattle.stage_rules.specs.Lemmas.Moved.{moved_seen, take_both}
 use Rattle.stage_rules.specs.Lemmas.Nested.{all_moved_seen, reach_grows}
 
 -- such a number behind so many of it
-one_behind : (c : ℕ) (ns : List ℕ) → list_all (λ n. n == c) ns ≡ true → ns ++ c ∷ [] ≡ c ∷ ns
-one_behind c [] e = refl
-one_behind c (n ∷ ns) e =
+one_after : (c : ℕ) (ns : List ℕ) → list_all (λ n. n == c) ns ≡ true → ns ++ c ∷ [] ≡ c ∷ ns
+one_after c [] e = refl
+one_after c (n ∷ ns) e =
     let first : n ≡ c = grind (arith, common_steps, e) in
     let rest : list_all (λ m. m == c) ns ≡ true = grind (arith, common_steps, e) in
-    ap (λ ms. n ∷ ms) (one_behind c ns rest) ∙ ap (λ m. m ∷ c ∷ ns) first ∙ ap (λ m. c ∷ m ∷ ns) (sym first)
+    ap (λ ms. n ∷ ms) (one_after c ns rest) ∙ ap (λ m. m ∷ c ∷ ns) first ∙ ap (λ m. c ∷ m ∷ ns) (sym first)
 
 both_ways : (c : ℕ) (ms ns : List ℕ) → list_all (λ n. n == c) ms ≡ true → list_all (λ n. n == c) ns ≡ true → ns ++ ms ≡ ms ++ ns
 both_ways c ms [] a b = sym (append-nil ms)
 both_ways c ms (n ∷ ns) a b =
     let first : n ≡ c = grind (arith, common_steps, b) in
     let rest : list_all (λ m. m == c) ns ≡ true = grind (arith, common_steps, b) in
-    ap (λ ks. n ∷ ks) (both_ways c ms ns a rest) ∙ ap (λ m. m ∷ (ms ++ ns)) first ∙ ap (λ ks. ks ++ ns) (sym (one_behind c ms a)) ∙ append_assoc ms (c ∷ []) ns ∙ ap (λ m. ms ++ m ∷ ns) (sym first)
+    ap (λ ks. n ∷ ks) (both_ways c ms ns a rest) ∙ ap (λ m. m ∷ (ms ++ ns)) first ∙ ap (λ ks. ks ++ ns) (sym (one_after c ms a)) ∙ append_assoc ms (c ∷ []) ns ∙ ap (λ m. ms ++ m ∷ ns) (sym first)
 
 both_all : (p : ℕ → Bool) (ms ns : List ℕ) → list_all p (ms ++ ns) ≡ true → (list_all p ms ≡ true) × (list_all p ns ≡ true)
 both_all p ms ns e =

@@ -90,8 +90,8 @@ khmer_plainly m xs = by_first (slice_get xs 0)
   where
     by_kind : (t : Bool) → IsPlainly (if t then khmer.khmer_reordered m xs else kept xs)
     by_kind true =
-        let first = within 1 (length xs) (masked_all m.behind) xs in
-        then_plainly first (khmer.khmer_walk m (length xs - 1) 1 0) (mask_plainly m.behind 1 (length xs) xs) (khmer_walk_plainly m (length xs - 1) 1 0 first.items)
+        let first = within 1 (length xs) (masked_all m.post_base) xs in
+        then_plainly first (khmer.khmer_walk m (length xs - 1) 1 0) (mask_plainly m.post_base 1 (length xs) xs) (khmer_walk_plainly m (length xs - 1) 1 0 first.items)
     by_kind false = tt
 
     by_first : (a : Option Item) → IsPlainly (khmer.khmer_first m xs a)
@@ -136,27 +136,27 @@ reph_plainly xs = by_test (universal.begins_with_reph xs)
     by_test true = front_plainly 1 0 (universal.reph_end xs) xs
     by_test false = tt
 
-left_plainly : (i behind : ℕ) (xs : List Item) → LeftStep (universal.left_at i behind xs)
-left_plainly i behind xs = by_item (slice_get xs i)
+left_plainly : (i after_halant : ℕ) (xs : List Item) → LeftStep (universal.left_at i after_halant xs)
+left_plainly i after_halant xs = by_item (slice_get xs i)
   where
-    moves : (t : Bool) → LeftStep (if t then record { rewritten = within behind (i + 1) (first_to_back (i - behind)) xs; behind = behind } else record { rewritten = kept xs; behind = behind })
-    moves true = front_plainly (i - behind) behind (i + 1) xs
+    moves : (t : Bool) → LeftStep (if t then record { rewritten = within after_halant (i + 1) (first_to_back (i - after_halant)) xs; after_halant = after_halant } else record { rewritten = kept xs; after_halant = after_halant })
+    moves true = front_plainly (i - after_halant) after_halant (i + 1) xs
     moves false = tt
 
     met : (x : Item) (t : Bool)
-        → LeftStep (if t then record { rewritten = kept xs; behind = i + 1 } else if universal.is_left x && nat_lt behind i then record { rewritten = within behind (i + 1) (first_to_back (i - behind)) xs; behind = behind } else record { rewritten = kept xs; behind = behind })
+        → LeftStep (if t then record { rewritten = kept xs; after_halant = i + 1 } else if universal.is_left x && nat_lt after_halant i then record { rewritten = within after_halant (i + 1) (first_to_back (i - after_halant)) xs; after_halant = after_halant } else record { rewritten = kept xs; after_halant = after_halant })
     met x true = tt
-    met x false = moves (universal.is_left x && nat_lt behind i)
+    met x false = moves (universal.is_left x && nat_lt after_halant i)
 
-    by_item : (a : Option Item) → LeftStep (universal.left_there i behind xs a)
+    by_item : (a : Option Item) → LeftStep (universal.left_there i after_halant xs a)
     by_item None = tt
     by_item (Some x) = met x (universal.is_halant x)
 
-left_walk_plainly : (n i behind : ℕ) (xs : List Item) → IsPlainly (universal.left_walk n i behind xs)
-left_walk_plainly zero i behind xs = tt
-left_walk_plainly (suc n) i behind xs =
-    let s = universal.left_at i behind xs in
-    then_plainly s.rewritten (universal.left_walk n (i + 1) s.behind) (left_plainly i behind xs) (left_walk_plainly n (i + 1) s.behind s.rewritten.items)
+left_walk_plainly : (n i after_halant : ℕ) (xs : List Item) → IsPlainly (universal.left_walk n i after_halant xs)
+left_walk_plainly zero i after_halant xs = tt
+left_walk_plainly (suc n) i after_halant xs =
+    let s = universal.left_at i after_halant xs in
+    then_plainly s.rewritten (universal.left_walk n (i + 1) s.after_halant) (left_plainly i after_halant xs) (left_walk_plainly n (i + 1) s.after_halant s.rewritten.items)
 
 universal_plainly : (xs : List Item) → IsPlainly (universal.universal_syllable xs)
 universal_plainly xs = by_first (slice_get xs 0)

@@ -5,5 +5,5 @@ use Rattle.layout_links.specs.Walks.{IsComing}
 use Rattle.layout_links.proofs.links.follow.Given as goal
 
 -- what is left of the way back leads to what it is to lead to
-abbrev pub invariant-loop-behind : goal.invariant-loop-behind
-invariant-loop-behind l = IsComing l.direction (followed (drawn_by_sums l.direction) (length l.fn.positions) l.start l.fn.positions) (length l.fn.positions) l.last.at l.last.by (l._behind-end - l._behind) l.positions
+abbrev pub invariant-loop-step : goal.invariant-loop-step
+invariant-loop-step l = IsComing l.direction (followed (drawn_by_sums l.direction) (length l.fn.positions) l.start l.fn.positions) (length l.fn.positions) l.last.at l.last.by (l._step-end - l._step) l.positions

@@ -1,7 +1,7 @@
 use Rattle.std.proofs.Common.{◌+◌, ◌-◌, ◌/◌, arith}
 use Rattle.glyph_lists.specs.Items.{item_of}
 use Rattle.stage_rules.specs.Fronts.{one_seen, pair_seen}
-use Rattle.stage_rules.proofs.Halves.{apart_behind, cut_between, pair_gathered}
+use Rattle.stage_rules.proofs.Halves.{apart_after, cut_between, pair_gathered}
 use Rattle.stage_rules.proofs.fronts.end_of_half.Goals as goal
 
 pub returns-then-comes_with-clause-apart : goal.returns-then-comes_with-clause-apart
@@ -9,7 +9,7 @@ returns-then-comes_with-clause-apart g c = λ lt.
     let r = c.requires in
     let a = r.two in
     let middle = c.args.from + (c.args.to - c.args.from) / 2 in
-    apart_behind (pair_seen (g.R.FrontRule.pairs c.args.rule.now)) c.args.from middle c.args.to c.args.glyphs.now _ (λ x y z e. g.met.R.FrontRule.apart c.args.rule.now (item_of x) (item_of y) (item_of z) e) (omega (arith, a)) lt r.within c.comes_with.result c.comes_with.ensures c.if-comes_with.true
+    apart_after (pair_seen (g.R.FrontRule.pairs c.args.rule.now)) c.args.from middle c.args.to c.args.glyphs.now _ (λ x y z e. g.met.R.FrontRule.apart c.args.rule.now (item_of x) (item_of y) (item_of z) e) (omega (arith, a)) lt r.within c.comes_with.result c.comes_with.ensures c.if-comes_with.true
 
 pub returns-then-comes_with-clause-whole : goal.returns-then-comes_with-clause-whole
 returns-then-comes_with-clause-whole g c = λ e.

@@ -1,6 +1,6 @@
 use Rattle.std.proofs.Common.{arith}
 use Rattle.script_khmer_myanmar.proofs.Placing.{placing_by}
-use Rattle.script_khmer_myanmar.proofs.places.place_behind.Goals as goal
+use Rattle.script_khmer_myanmar.proofs.places.place_rest.Goals as goal
 
 pub loop-glyph-preserved : goal.loop-glyph-preserved
 loop-glyph-preserved c =
