@@ -47,7 +47,7 @@ pub struct hb_glyph_info_t {
 impl hb_glyph_info_t {
     /// Whether a break in front of it may change how the text around it is shaped.
     pub fn unsafe_to_break(&self) -> bool
-        ensures { IsTrue result ↔ (bit_and self.now.mask 1 ≢ 0) }
+        ensures { IsTrue result ↔ (bit_and self.now.mask UNSAFE_TO_BREAK ≢ 0) }
     {
         self.mask & UNSAFE_TO_BREAK != 0
     }

@@ -1,5 +1,6 @@
 ghost use Rattle.std.specs.Prelude.{◌≡◌, ◌<◌, length, map};
 ghost use Rattle.std.specs.Int.RustNames.{bit_and};
+ghost use Rattle.glyph_lists.specs.declared.info.TheConstants.{DEFINED};
 ghost use Rattle.glyph_lists.specs.Items.{glyph_masked, item_masked, strip};
 ghost use Rattle.glyph_lists.specs.Origins.{concat_settled, origins, origins_spread, settled, tatweel_settled};
 ghost use Rattle.glyph_slices.specs.Flags.{asks_of, cluster_flags};
@@ -85,7 +86,7 @@ fn concat_settled(flags: hb_mask_t, asked: bool) -> hb_mask_t
 
 /// The glyph with a mask of glyph flags alone.
 fn with_flags(glyph: hb_glyph_info_t, flags: hb_mask_t) -> hb_glyph_info_t
-    ensures { result ≡ glyph_masked (bit_and flags 7) glyph }
+    ensures { result ≡ glyph_masked (bit_and flags DEFINED) glyph }
 {
     hb_glyph_info_t {
         mask: flags & DEFINED,

@@ -19,6 +19,7 @@ use Rattle.map_builder.specs.declared.stages.StageMap.{StageMap}
 use Rattle.map_builder.specs.Chosen.{ChosenTable, chosen_substitution, chosen_positioning, is_script_found, script_tag}
 use Rattle.map_builder.specs.Features.{wanted_requests, kept_features, global_mask, required_in}
 use Rattle.map_builder.specs.Lookups.{Stage, stage_lookups, stages_from, stage_ends}
+use Rattle.glyph_lists.specs.declared.info.TheConstants.{DEFINED}
 
 -- ---- the builder
 
@@ -99,7 +100,7 @@ compiled b = map_with b.tables b.pauses (merged_requests b.requests)
 
 -- a feature's bits hold no glyph flag, and the lowest of them is one of a mask's
 abbrev pub IsApart : feature_map_t → Type 0
-IsApart f = (bit_and f.mask 7 ≡ 0) × (bit_and f.one_mask 7 ≡ 0) × (f.shift < 32)
+IsApart f = (bit_and f.mask DEFINED ≡ 0) × (bit_and f.one_mask DEFINED ≡ 0) × (f.shift < 32)
 
 -- ---- queries
 

@@ -116,7 +116,7 @@ impl<'a> hb_ot_map_builder_t<'a> {
         flags: hb_ot_map_feature_flags_t,
         value: u32,
     ) -> Result<(), AllocError>
-        ensures ok { OnOk result (self.new ≡ with_request tag (bit_or flags 1) value self.old) }
+        ensures ok { OnOk result (self.new ≡ with_request tag (bit_or flags F_GLOBAL) value self.old) }
         ensures err { OnErr result (self.new ≡ self.old) }
     {
         self.add_feature(tag, flags | F_GLOBAL, value)

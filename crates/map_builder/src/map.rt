@@ -5,6 +5,7 @@ ghost use Rattle.sorted_rows.specs.Keys.{is_rising};
 ghost use Rattle.std.specs.Option.{option_and_then, option_copied, option_map, option_map_or};
 ghost use Rattle.map_features.specs.Tables.{for_table};
 ghost use Rattle.map_builder.specs.Compiled.{IsApart, feature_at, lookups_of_stage, stage_end, stage_start};
+ghost use Rattle.glyph_lists.specs.declared.info.TheConstants.{DEFINED};
 
 use crate::features::feature_map_t;
 use crate::stages::StageMap;
@@ -76,6 +77,7 @@ impl Model for hb_ot_map_t {
     ghost use Rattle.std.specs.Ordering.{nat_cmp};
     ghost use Rattle.sorted_rows.specs.Keys.{is_rising};
     ghost use Rattle.std.specs.List.{All};
+    ghost use Rattle.glyph_lists.specs.declared.info.TheConstants.{DEFINED};
     ghost use Rattle.map_builder.specs.Compiled.{IsApart, OtMapValue};
 
     ghost Value = { OtMapValue };
@@ -87,7 +89,7 @@ impl Model for hb_ot_map_t {
     } };
 
     ghost invariant = { λ m. (is_rising nat_cmp (λ f. f.tag.0) None m.features.items ≡ true)
-        × (bit_and m.global_mask 7 ≡ 0) × All IsApart m.features.items };
+        × (bit_and m.global_mask DEFINED ≡ 0) × All IsApart m.features.items };
 }
 
 impl hb_ot_map_t {
@@ -117,7 +119,7 @@ impl hb_ot_map_t {
     /// The mask that every glyph starts with; it has no glyph flag.
     pub fn get_global_mask(&self) -> u32
         ensures value { result ≡ self.now.global_mask }
-        ensures flagless { bit_and result 7 ≡ 0 }
+        ensures flagless { bit_and result DEFINED ≡ 0 }
     {
         self.global_mask
     }
@@ -141,7 +143,7 @@ impl hb_ot_map_t {
     /// The mask of a feature, which has no glyph flag, and its lowest bit; 0 and 0 where the map lacks it.
     pub fn get_mask(&self, tag: Tag) -> (u32, u32)
         ensures value { result ≡ option_map_or (λ f. (f.mask, f.shift)) (feature_at tag self.now) (0, 0) }
-        ensures flagless { bit_and result.0 7 ≡ 0 }
+        ensures flagless { bit_and result.0 DEFINED ≡ 0 }
         ensures shift { result.1 < 32 }
     {
         match self.feature(tag) {
@@ -153,7 +155,7 @@ impl hb_ot_map_t {
     /// The mask of a glyph that has a feature with value 1, without a glyph flag; 0 where the map lacks it.
     pub fn get_1_mask(&self, tag: Tag) -> u32
         ensures value { result ≡ option_map_or (λ f. f.one_mask) (feature_at tag self.now) 0 }
-        ensures flagless { bit_and result 7 ≡ 0 }
+        ensures flagless { bit_and result DEFINED ≡ 0 }
     {
         match self.feature(tag) {
             Some(feature) => feature.one_mask,

@@ -1,6 +1,7 @@
 -- The masks of the features that letters of Hangul ask for by their places in a syllable.
 use Rattle.std.specs.Prelude.{ℕ, ◌≡◌, ◌==◌, if◌then◌else◌}
 use Rattle.std.specs.Int.RustNames.{bit_and, bit_or}
+use Rattle.glyph_lists.specs.declared.info.TheConstants.{DEFINED}
 use Rattle.glyph_lists.specs.Items.{Item, without_flags}
 use Rattle.script_hangul.specs.declared.masks.JamoMasks.{JamoMasks}
 
@@ -14,6 +15,6 @@ with_place_mask masks x = record x { mask = without_flags (bit_or x.mask (mask_o
 
 -- no mask has a glyph flag
 pub record AreFlagless (masks : JamoMasks) : Type 0 where
-  pub ljmo : bit_and masks.ljmo 7 ≡ 0
-  pub vjmo : bit_and masks.vjmo 7 ≡ 0
-  pub tjmo : bit_and masks.tjmo 7 ≡ 0
+  pub ljmo : bit_and masks.ljmo DEFINED ≡ 0
+  pub vjmo : bit_and masks.vjmo DEFINED ≡ 0
+  pub tjmo : bit_and masks.tjmo DEFINED ≡ 0

@@ -3,6 +3,7 @@ use Rattle.std.specs.Prelude.{ℕ, ◌≡◌, bit_and, Bool, true, false, List, 
 use Rattle.script_constants.specs.declared.joining_types.hb_arabic_joining_type_t.TheVariants.{U, L, R, D, GroupAlaph, GroupDalathRish, T, X}
 use Rattle.script_constants.specs.Joining.{joining_types}
 use Rattle.unicode_tables.specs.Tables.{Tables}
+use Rattle.glyph_lists.specs.declared.info.TheConstants.{DEFINED}
 use Rattle.glyph_lists.specs.declared.info.hb_glyph_info_t.{hb_glyph_info_t}
 use Rattle.glyph_lists.specs.Items.{Item, item_of}
 use Rattle.script_joining.specs.Types.{JoiningType, type_of_item}
@@ -60,4 +61,4 @@ glyph_joined masks g = record g { mask = bit_or g.mask (mask_of masks g.auxiliar
 -- none of some masks has a glyph flag
 abbrev pub AreFlagless : List ℕ → Type 0
 AreFlagless [] = Unit {0}
-AreFlagless (m ∷ ms) = (bit_and m 7 ≡ 0) × AreFlagless ms
+AreFlagless (m ∷ ms) = (bit_and m DEFINED ≡ 0) × AreFlagless ms

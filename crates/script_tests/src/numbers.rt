@@ -2,6 +2,7 @@
 ghost use Rattle.std.specs.Prelude.{◌≡◌, false, IfOk, OnOk};
 ghost use Rattle.std.specs.Int.RustNames.{bit_and};
 ghost use Rattle.stage_rules.specs.Ready.{IsReady};
+ghost use Rattle.glyph_lists.specs.declared.info.TheConstants.{DEFINED};
 
 use glyph_buffer::buffer::hb_buffer_t;
 use glyph_lists::flags::{GlyphPropsFlags, UnicodeProps};
@@ -74,7 +75,7 @@ impl Numbers {
 
     /// A mask without glyph flags.
     pub fn mask(&mut self) -> u32
-        ensures { bit_and result 7 ≡ 0 }
+        ensures { bit_and result DEFINED ≡ 0 }
     {
         self.next() & !7
     }

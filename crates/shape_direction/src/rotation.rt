@@ -1,6 +1,7 @@
 //! Characters that stand mirrored, or upright, in the line that they are to run in.
 ghost use Rattle.std.specs.Prelude.{◌≡◌, ◌&&◌, not};
 ghost use Rattle.std.specs.Int.RustNames.{bit_and};
+ghost use Rattle.glyph_lists.specs.declared.info.TheConstants.{DEFINED};
 ghost use Rattle.glyph_lists.specs.Items.{item_of};
 ghost use Rattle.glyph_lists.specs.Origins.{origin_of};
 ghost use Rattle.glyph_buffer.specs.Readings.{always};
@@ -37,7 +38,7 @@ pub fn rotate_chars(
     buffer: &mut hb_buffer_t,
 )
     requires ready { IsReady buffer.old }
-    requires flagless { bit_and rotation.rtlm_mask 7 ≡ 0 }
+    requires flagless { bit_and rotation.rtlm_mask DEFINED ≡ 0 }
     ensures { IsFollowed
         (always (rotated tables.now face.now rotation.target_direction rotation.rtlm_mask rotation.has_vert))
         buffer.old buffer.new }
@@ -49,7 +50,7 @@ pub fn rotate_chars(
 #[tactic(auto, using(crate::proofs::Rotated::where_none))]
 fn mirror_chars(rotation: Rotation, face: &Face, tables: &UnicodeTables, buffer: &mut hb_buffer_t)
     requires ready { IsReady buffer.old }
-    requires flagless { bit_and rotation.rtlm_mask 7 ≡ 0 }
+    requires flagless { bit_and rotation.rtlm_mask DEFINED ≡ 0 }
     ensures { IsFollowed
         (always (mapped_where (is_backward rotation.target_direction)
         (mirrored tables.now face.now rotation.rtlm_mask)))
@@ -88,7 +89,7 @@ fn mirrored(
     glyph: &hb_glyph_info_t,
 ) -> hb_glyph_info_t
     ensures item { item_of result ≡ mirrored tables.now face.now mask (item_of glyph.now) }
-    ensures origin { bit_and mask 7 ≡ 0 → origin_of result ≡ origin_of glyph.now }
+    ensures origin { bit_and mask DEFINED ≡ 0 → origin_of result ≡ origin_of glyph.now }
 {
     match mirror_image(tables, face, glyph.glyph_id) {
         Some(image) => hb_glyph_info_t {

@@ -1,6 +1,7 @@
 //! Numbers around a fraction slash.
 ghost use Rattle.std.specs.Prelude.{◌≡◌, ◌<◌, ◌≤◌, ◌+◌, ◌-◌, ◌==◌, ◌||◌, length};
 ghost use Rattle.std.specs.Int.RustNames.{bit_and};
+ghost use Rattle.glyph_lists.specs.declared.info.TheConstants.{DEFINED};
 ghost use Rattle.glyph_lists.specs.Items.{item_of, strip};
 ghost use Rattle.glyph_buffer.specs.Readings.{always};
 ghost use Rattle.glyph_buffer.specs.Sides.{all_glyphs, items_of};
@@ -54,9 +55,9 @@ impl FractionMasks {
 #[tactic(auto, using(crate::proofs::Slashes::none_done, crate::proofs::Slashes::next_done, crate::proofs::Slashes::all_done))]
 pub fn setup_masks_fraction(masks: FractionMasks, buffer: &mut hb_buffer_t)
     requires ready { IsReady buffer.old }
-    requires frac { bit_and masks.frac 7 ≡ 0 }
-    requires numr { bit_and masks.numr 7 ≡ 0 }
-    requires dnom { bit_and masks.dnom 7 ≡ 0 }
+    requires frac { bit_and masks.frac DEFINED ≡ 0 }
+    requires numr { bit_and masks.numr DEFINED ≡ 0 }
+    requires dnom { bit_and masks.dnom DEFINED ≡ 0 }
     ensures { IsFollowed (always (with_fractions masks)) buffer.old buffer.new }
 {
     let count = buffer.info_slice().len();
@@ -68,9 +69,9 @@ pub fn setup_masks_fraction(masks: FractionMasks, buffer: &mut hb_buffer_t)
 #[tactic(auto, using(crate::proofs::Slashes::place_of_slash, crate::proofs::Slashes::place_of_none))]
 fn mark_place(masks: FractionMasks, at: usize, buffer: &mut hb_buffer_t)
     requires ready { IsReady buffer.old }
-    requires frac { bit_and masks.frac 7 ≡ 0 }
-    requires numr { bit_and masks.numr 7 ≡ 0 }
-    requires dnom { bit_and masks.dnom 7 ≡ 0 }
+    requires frac { bit_and masks.frac DEFINED ≡ 0 }
+    requires numr { bit_and masks.numr DEFINED ≡ 0 }
+    requires dnom { bit_and masks.dnom DEFINED ≡ 0 }
     requires within { at < length (all_glyphs buffer.old) }
     ensures followed { IsFollowed (always (at_place masks at)) buffer.old buffer.new }
     ensures as_many { length (all_glyphs buffer.new) ≡ length (all_glyphs buffer.old) }
@@ -129,9 +130,9 @@ fn is_alone(start: usize, at: usize, end: usize) -> bool
 #[tactic(auto, using(crate::proofs::Slashes::concat_happens, crate::proofs::Slashes::slash_alone, crate::proofs::Slashes::slash_between, crate::proofs::Slashes::happens_as_many, crate::proofs::Stretches::as_many_now, stage_rules::specs::Lemmas::Happened::break_happens, stage_rules::specs::Lemmas::Happened::end_of_input))]
 fn mark_slash(masks: FractionMasks, start: usize, at: usize, end: usize, buffer: &mut hb_buffer_t)
     requires ready { IsReady buffer.old }
-    requires frac { bit_and masks.frac 7 ≡ 0 }
-    requires numr { bit_and masks.numr 7 ≡ 0 }
-    requires dnom { bit_and masks.dnom 7 ≡ 0 }
+    requires frac { bit_and masks.frac DEFINED ≡ 0 }
+    requires numr { bit_and masks.numr DEFINED ≡ 0 }
+    requires dnom { bit_and masks.dnom DEFINED ≡ 0 }
     requires start { start ≤ at }
     requires slash { at < end }
     requires end { end ≤ length (all_glyphs buffer.old) }
@@ -155,9 +156,9 @@ fn mask_fraction(
     buffer: &mut hb_buffer_t,
 )
     requires ready { IsReady buffer.old }
-    requires frac { bit_and masks.frac 7 ≡ 0 }
-    requires numr { bit_and masks.numr 7 ≡ 0 }
-    requires dnom { bit_and masks.dnom 7 ≡ 0 }
+    requires frac { bit_and masks.frac DEFINED ≡ 0 }
+    requires numr { bit_and masks.numr DEFINED ≡ 0 }
+    requires dnom { bit_and masks.dnom DEFINED ≡ 0 }
     requires start { start ≤ at }
     requires slash { at < end }
     requires end { end ≤ length (all_glyphs buffer.old) }
@@ -174,7 +175,7 @@ fn mask_fraction(
 #[tactic(auto, using(crate::proofs::Stretches::stretch_becomes))]
 fn mask_stretch(mask: hb_mask_t, start: usize, end: usize, buffer: &mut hb_buffer_t)
     requires ready { IsReady buffer.old }
-    requires flagless { bit_and mask 7 ≡ 0 }
+    requires flagless { bit_and mask DEFINED ≡ 0 }
     requires ordered { start ≤ end }
     requires within { end ≤ length (all_glyphs buffer.old) }
     ensures { Becomes (with_features_within mask start end (items_of buffer.old)) buffer.old.positions buffer.old

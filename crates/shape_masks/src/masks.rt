@@ -4,6 +4,7 @@ ghost use Rattle.std.specs.Int.RustNames.{bit_and};
 ghost use Rattle.glyph_buffer.specs.Readings.{always};
 ghost use Rattle.stage_rules.specs.Ready.{IsDone, IsReady};
 ghost use Rattle.shape_masks.specs.Masks.{with_one_mask};
+ghost use Rattle.glyph_lists.specs.declared.info.TheConstants.{DEFINED};
 
 use glyph_buffer::buffer::hb_buffer_t;
 use glyph_lists::info::hb_mask_t;
@@ -12,7 +13,7 @@ use glyph_lists::info::hb_mask_t;
 #[tactic(auto, using(crate::proofs::Begun::reset_done))]
 pub fn initialize_masks(global_mask: hb_mask_t, buffer: &mut hb_buffer_t)
     requires ready { IsReady buffer.old }
-    requires flagless { bit_and global_mask 7 ≡ 0 }
+    requires flagless { bit_and global_mask DEFINED ≡ 0 }
     ensures { IsDone (always (with_one_mask global_mask)) buffer.old buffer.new }
 {
     buffer.reset_masks(global_mask);

@@ -2,6 +2,7 @@
 ghost use Rattle.std.specs.Prelude.{◌≡◌, codes};
 ghost use Rattle.std.specs.Int.RustNames.{bit_and};
 ghost use Rattle.shape_plan.specs.Plans.{mask_at_one};
+ghost use Rattle.glyph_lists.specs.declared.info.TheConstants.{DEFINED};
 
 use crate::planned::PlannedShaper;
 use feature_text::feature::Feature;
@@ -57,7 +58,7 @@ impl<D> hb_script_plan_t<D> {
     /// The mask of glyphs in a fraction, without a glyph flag.
     pub fn frac_mask(&self) -> u32
         ensures value { result ≡ mask_at_one (codes "frac") self.now.map }
-        ensures flagless { bit_and result 7 ≡ 0 }
+        ensures flagless { bit_and result DEFINED ≡ 0 }
     {
         self.map.get_1_mask(Tag::from_bytes(b"frac"))
     }
@@ -65,7 +66,7 @@ impl<D> hb_script_plan_t<D> {
     /// The mask of glyphs in a numerator, without a glyph flag.
     pub fn numr_mask(&self) -> u32
         ensures value { result ≡ mask_at_one (codes "numr") self.now.map }
-        ensures flagless { bit_and result 7 ≡ 0 }
+        ensures flagless { bit_and result DEFINED ≡ 0 }
     {
         self.map.get_1_mask(Tag::from_bytes(b"numr"))
     }
@@ -73,7 +74,7 @@ impl<D> hb_script_plan_t<D> {
     /// The mask of glyphs in a denominator, without a glyph flag.
     pub fn dnom_mask(&self) -> u32
         ensures value { result ≡ mask_at_one (codes "dnom") self.now.map }
-        ensures flagless { bit_and result 7 ≡ 0 }
+        ensures flagless { bit_and result DEFINED ≡ 0 }
     {
         self.map.get_1_mask(Tag::from_bytes(b"dnom"))
     }
@@ -81,7 +82,7 @@ impl<D> hb_script_plan_t<D> {
     /// The mask of characters that a backward line mirrors by a feature, without a glyph flag.
     pub fn rtlm_mask(&self) -> u32
         ensures value { result ≡ mask_at_one (codes "rtlm") self.now.map }
-        ensures flagless { bit_and result 7 ≡ 0 }
+        ensures flagless { bit_and result DEFINED ≡ 0 }
     {
         self.map.get_1_mask(Tag::from_bytes(b"rtlm"))
     }

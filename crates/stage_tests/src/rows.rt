@@ -1,6 +1,7 @@
 //! Rows of tests: fields apart by semicolons, lists by spaces, and numbers by commas.
 ghost use Rattle.std.specs.Prelude.{◌≡◌};
 ghost use Rattle.std.specs.Int.RustNames.{bit_and};
+ghost use Rattle.glyph_lists.specs.declared.info.TheConstants.{DEFINED};
 
 use glyph_lists::flags::{GlyphPropsFlags, UnicodeProps};
 use glyph_lists::info::hb_glyph_info_t;
@@ -41,7 +42,7 @@ pub fn distance(list: &str, at: usize) -> i32 {
 /// A mask without flags of glyphs.
 #[tactic(auto, using(crate::proofs::Masks::eightfold))]
 pub fn mask(list: &str, at: usize) -> u32
-    ensures { bit_and result 7 ≡ 0 }
+    ensures { bit_and result DEFINED ≡ 0 }
 {
     let bits = natural(list, at);
     bits / 8 * 8

@@ -1,4 +1,5 @@
 ghost use Rattle.std.specs.Prelude.{◌≡◌, map, bit_and, ◌∷◌, []};
+ghost use Rattle.glyph_lists.specs.declared.info.TheConstants.{DEFINED};
 ghost use Rattle.glyph_lists.specs.Items.{clusters};
 ghost use Rattle.glyph_buffer.specs.Sides.{all_glyphs, items_of, origins_of, origins_by};
 ghost use Rattle.buffer_lists.specs.Masks.{item_masked, items_set};
@@ -15,7 +16,7 @@ impl hb_buffer_t {
         ensures masked { self.new ≡ with_masks mask self.old }
         ensures items { items_of self.new ≡ map (item_masked mask) (items_of self.old) }
         ensures origins { origins_of self.new ≡ map (origin_masked mask) (origins_of self.old) }
-        ensures event { bit_and mask 7 ≡ 0 → origins_of self.new ≡ origins_by (Reset ∷ []) self.old }
+        ensures event { bit_and mask DEFINED ≡ 0 → origins_of self.new ≡ origins_by (Reset ∷ []) self.old }
     {
         reset_masks(&mut self.info, mask);
         reset_masks(&mut self.out_info, mask);
@@ -35,7 +36,7 @@ impl hb_buffer_t {
             ≡ items_set value mask cluster_start cluster_end (clusters (all_glyphs self.old)) (items_of self.old) }
         ensures origins { origins_of self.new
             ≡ map (origin_set value mask cluster_start cluster_end) (origins_of self.old) }
-        ensures above { bit_and mask 7 ≡ 0 → origins_of self.new ≡ origins_of self.old }
+        ensures above { bit_and mask DEFINED ≡ 0 → origins_of self.new ≡ origins_of self.old }
     {
         set_masks(&mut self.info, value, mask, cluster_start, cluster_end);
         set_masks(&mut self.out_info, value, mask, cluster_start, cluster_end);
