@@ -8,11 +8,22 @@ ghost use Rattle.shaping_text.specs.Language.{language_text};
 use feature_text::feature::{Feature, InvalidFeature};
 use glyph_lists::cause::ShapeCause;
 use glyph_lists::flags::{GlyphPropsFlags, SerializeFlags, UnicodeProps};
-use glyph_lists::info::hb_glyph_info_t;
-use glyph_lists::level::BufferClusterLevel;
+use glyph_lists::info::{
+    DEFINED, SAFE_TO_INSERT_TATWEEL, UNSAFE_TO_BREAK, UNSAFE_TO_CONCAT, hb_glyph_info_t, hb_mask_t,
+};
+use glyph_lists::level::{
+    BufferClusterLevel, HB_BUFFER_CLUSTER_LEVEL_CHARACTERS, HB_BUFFER_CLUSTER_LEVEL_DEFAULT,
+    HB_BUFFER_CLUSTER_LEVEL_MONOTONE_CHARACTERS, HB_BUFFER_CLUSTER_LEVEL_MONOTONE_GRAPHEMES,
+    hb_buffer_cluster_level_t,
+};
 use glyph_lists::names::{GlyphId, hb_glyph_extents_t};
 use glyph_lists::position::GlyphPosition;
-use shaping_text::constants::BufferFlags;
+use shaping_text::constants::{
+    BufferFlags, HB_BUFFER_SCRATCH_FLAG_HAS_BROKEN_SYLLABLE, HB_BUFFER_SCRATCH_FLAG_HAS_CGJ,
+    HB_BUFFER_SCRATCH_FLAG_HAS_DEFAULT_IGNORABLES, HB_BUFFER_SCRATCH_FLAG_HAS_GLYPH_FLAGS,
+    HB_BUFFER_SCRATCH_FLAG_HAS_GPOS_ATTACHMENT, HB_BUFFER_SCRATCH_FLAG_HAS_NON_ASCII,
+    HB_BUFFER_SCRATCH_FLAG_HAS_SPACE_FALLBACK, hb_buffer_scratch_flags_t,
+};
 use shaping_text::direction::{Direction, InvalidDirection};
 use shaping_text::language::{Language, LanguageFault};
 use shaping_text::script::{InvalidScript, Script};
@@ -163,5 +174,45 @@ pub fn hangul_numbers() -> [u32; 9]
 {
     [
         S_BASE, L_BASE, V_BASE, T_BASE, L_COUNT, V_COUNT, T_COUNT, N_COUNT, S_COUNT,
+    ]
+}
+
+/// The levels of clusters: monotone graphemes, monotone characters, characters, and the default.
+pub fn cluster_level_numbers() -> [hb_buffer_cluster_level_t; 4]
+    ensures { result ≡ 0 ∷ 1 ∷ 2 ∷ 0 ∷ [] }
+{
+    [
+        HB_BUFFER_CLUSTER_LEVEL_MONOTONE_GRAPHEMES,
+        HB_BUFFER_CLUSTER_LEVEL_MONOTONE_CHARACTERS,
+        HB_BUFFER_CLUSTER_LEVEL_CHARACTERS,
+        HB_BUFFER_CLUSTER_LEVEL_DEFAULT,
+    ]
+}
+
+/// The three glyph flags, and all of them.
+pub fn glyph_flag_numbers() -> [hb_mask_t; 4]
+    ensures { result ≡ 1 ∷ 2 ∷ 4 ∷ 7 ∷ [] }
+{
+    [
+        UNSAFE_TO_BREAK,
+        UNSAFE_TO_CONCAT,
+        SAFE_TO_INSERT_TATWEEL,
+        DEFINED,
+    ]
+}
+
+/// What a buffer keeps of its text: characters outside ASCII, ignorables, spaces without a glyph, attached glyphs, a
+/// combining grapheme joiner, glyph flags, broken syllables.
+pub fn scratch_flag_numbers() -> [hb_buffer_scratch_flags_t; 7]
+    ensures { result ≡ 1 ∷ 2 ∷ 4 ∷ 8 ∷ 16 ∷ 32 ∷ 64 ∷ [] }
+{
+    [
+        HB_BUFFER_SCRATCH_FLAG_HAS_NON_ASCII,
+        HB_BUFFER_SCRATCH_FLAG_HAS_DEFAULT_IGNORABLES,
+        HB_BUFFER_SCRATCH_FLAG_HAS_SPACE_FALLBACK,
+        HB_BUFFER_SCRATCH_FLAG_HAS_GPOS_ATTACHMENT,
+        HB_BUFFER_SCRATCH_FLAG_HAS_CGJ,
+        HB_BUFFER_SCRATCH_FLAG_HAS_GLYPH_FLAGS,
+        HB_BUFFER_SCRATCH_FLAG_HAS_BROKEN_SYLLABLE,
     ]
 }

@@ -1,6 +1,9 @@
 //! Laws of the tables and of the definitions over them.
+ghost use Rattle.std.specs.Prelude.{◌≡◌};
 ghost use Rattle.unicode_tables.specs.ClassOrder.{OrderIsByClasses};
 ghost use Rattle.unicode_tables.specs.Laws.{SplitsKeepExpansion, StepsKeepOrder, EquivalentsHaveOneOrder, PairsKeepOrder};
+
+use crate::depth::MAX_SPLITS;
 
 /// Two lists have one class order exactly where, for each class, their starters and their
 /// elements of that class are the same.
@@ -32,3 +35,10 @@ pub fn equivalents_have_one_order()
 pub fn pairs_keep_order()
     ensures { PairsKeepOrder }
 {}
+
+/// The most splits of a chain of first parts.
+pub fn most_splits_of_a_chain() -> u32
+    ensures { result ≡ 8 }
+{
+    MAX_SPLITS
+}
