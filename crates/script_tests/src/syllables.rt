@@ -70,7 +70,7 @@ fn order_khmer(given: &Given, buffer: &mut hb_buffer_t) -> Result<(), ShapeCause
 {
     let masks = KhmerMasks {
         pref: given[0],
-        behind: given[1],
+        post_base: given[1],
         cfar: given[2],
     };
     reorder_khmer(&masks, buffer)?;
