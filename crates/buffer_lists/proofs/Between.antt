@@ -1,10 +1,10 @@
 -- What is known of the order of parts, and of a number between them.
 use Rattle.std.proofs.Common.{ℕ, ◌≤◌, Bool, true, false, List, [], ◌∷◌, ◌++◌}
-use Rattle.glyph_lists.specs.Order.{AllFrom, IsChain, IsInOrder}
+use Rattle.buffer_glyphs.specs.Order.{AllFrom, IsChain, IsInOrder}
 use Rattle.buffer_lists.specs.declared.order.KnownOrder.{KnownOrder}
 use Rattle.buffer_lists.specs.declared.order.KnownOrder.TheVariants.{Unknown, Rising, Falling}
 use Rattle.buffer_lists.specs.Known.{HasOrder}
-use Rattle.glyph_lists.specs.Lemmas.Merges.{chain_left, chain_right}
+use Rattle.buffer_glyphs.specs.Lemmas.Merges.{chain_left, chain_right}
 
 -- what keeps rising clusters rising, and falling ones falling
 pub order_if_kept : (o : KnownOrder) (old new : List ℕ) → ((falls : Bool) → IsInOrder falls old → IsInOrder falls new) → HasOrder o old → HasOrder o new

@@ -1,10 +1,10 @@
 -- Clusters that are seen to fall, one after another.
 use Rattle.std.proofs.Common.{ℕ, suc, ◌≡◌, ◌≤◌, ◌<◌, ◌+◌, ◌-◌, List, [], ◌∷◌, ◌++◌, length, take, get_or, arith, ap, subst, ◌∙◌}
 use Rattle.std.proofs.lemmas.List.{take_more, map-append}
-use Rattle.glyph_lists.specs.declared.info.hb_glyph_info_t.{hb_glyph_info_t}
-use Rattle.glyph_lists.specs.Items.{clusters}
-use Rattle.glyph_lists.specs.Parts.{last_from}
-use Rattle.glyph_lists.specs.Order.{AllFrom, IsFalling}
+use Rattle.buffer_glyphs.specs.declared.info.hb_glyph_info_t.{hb_glyph_info_t}
+use Rattle.buffer_glyphs.specs.Items.{clusters}
+use Rattle.buffer_glyphs.specs.Parts.{last_from}
+use Rattle.buffer_glyphs.specs.Order.{AllFrom, IsFalling}
 use Rattle.buffer_lists.specs.Known.{IsFallingTo}
 use Rattle.buffer_lists.proofs.Known.{last_got, last_append}
 

@@ -1,11 +1,11 @@
 -- What is known of the order of clusters, and stays known.
 use Rattle.std.proofs.Common.{ℕ, suc, ◌≡◌, ◌≤◌, ◌<◌, ◌+◌, ◌-◌, true, false, List, [], ◌∷◌, ◌++◌, length, take, reverse, get_or, set, arith, refl, ap, sym, subst, ◌∙◌}
 use Rattle.std.proofs.lemmas.List.{set-get_or, get_or-map, take_more, map-append}
-use Rattle.glyph_lists.specs.declared.info.hb_glyph_info_t.{hb_glyph_info_t}
-use Rattle.glyph_lists.specs.Items.{clusters}
-use Rattle.glyph_lists.specs.Parts.{ReverseParts, last_from}
-use Rattle.glyph_lists.specs.Order.{AllFrom, IsInOrder, IsRising}
-use Rattle.glyph_lists.specs.Lemmas.Parts.{event_keeps_order}
+use Rattle.buffer_glyphs.specs.declared.info.hb_glyph_info_t.{hb_glyph_info_t}
+use Rattle.buffer_glyphs.specs.Items.{clusters}
+use Rattle.buffer_glyphs.specs.Parts.{ReverseParts, last_from}
+use Rattle.buffer_glyphs.specs.Order.{AllFrom, IsInOrder, IsRising}
+use Rattle.buffer_glyphs.specs.Lemmas.Parts.{event_keeps_order}
 use Rattle.buffer_lists.specs.declared.order.KnownOrder.{KnownOrder}
 use Rattle.buffer_lists.specs.declared.order.KnownOrder.TheVariants.{Unknown, Rising, Falling}
 use Rattle.buffer_lists.specs.Known.{HasOrder, IsRisingTo}

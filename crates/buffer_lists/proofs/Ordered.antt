@@ -3,23 +3,23 @@ use Rattle.std.proofs.Common.{ℕ, ◌≡◌, ◌≤◌, ◌<◌, ◌+◌, inl, 
 use Rattle.std.proofs.lemmas.List.{map-append, take-append-le, drop-append-le, length-drop}
 use Rattle.std.specs.Prelude.{◌-◌, slice_range}
 use Rattle.std.proofs.Math.Seq.{take-append_seam, drop-append_seam, drop-append-add}
-use Rattle.glyph_lists.specs.declared.info.hb_glyph_info_t.{hb_glyph_info_t}
-use Rattle.glyph_lists.specs.declared.level.BufferClusterLevel.{BufferClusterLevel}
-use Rattle.glyph_lists.specs.declared.level.BufferClusterLevel.TheVariants.{MonotoneGraphemes, MonotoneCharacters, Characters}
-use Rattle.glyph_lists.specs.Items.{clusters}
-use Rattle.glyph_lists.specs.Parts.{JoinParts, replaced, stretch}
-use Rattle.glyph_lists.specs.Merges.{merged, merged_at}
-use Rattle.glyph_lists.specs.Order.{IsInOrder, IsOrdered}
-use Rattle.glyph_lists.specs.Glyphs.{beside_merged, glyphs_merged, glyphs_merged_at, in_cluster}
-use Rattle.glyph_lists.specs.Replacements.{glyphs_replaced}
-use Rattle.glyph_lists.specs.Deletions.{deleted}
-use Rattle.glyph_lists.specs.Deleting.{Deletes}
-use Rattle.glyph_lists.specs.OneDeleted.{left_clusters, order_deleted}
-use Rattle.glyph_lists.specs.Lemmas.Drawn.{IsDrawn, drawn_replaced}
-use Rattle.glyph_lists.specs.Lemmas.Parts.{event_keeps_order, order_drawn}
-use Rattle.glyph_lists.specs.Lemmas.Glyphs.{merged_at_beyond, clusters_merged, clusters_merged_at, stretch_is}
-use Rattle.glyph_lists.specs.Lemmas.Merges.{merge_joins}
-use Rattle.glyph_lists.specs.Lemmas.Replacements.{clusters_replaced}
+use Rattle.buffer_glyphs.specs.declared.info.hb_glyph_info_t.{hb_glyph_info_t}
+use Rattle.buffer_glyphs.specs.declared.level.BufferClusterLevel.{BufferClusterLevel}
+use Rattle.buffer_glyphs.specs.declared.level.BufferClusterLevel.TheVariants.{MonotoneGraphemes, MonotoneCharacters, Characters}
+use Rattle.buffer_glyphs.specs.Items.{clusters}
+use Rattle.buffer_glyphs.specs.Parts.{JoinParts, replaced, stretch}
+use Rattle.buffer_glyphs.specs.Merges.{merged, merged_at}
+use Rattle.buffer_glyphs.specs.Order.{IsInOrder, IsOrdered}
+use Rattle.buffer_glyphs.specs.Glyphs.{beside_merged, glyphs_merged, glyphs_merged_at, in_cluster}
+use Rattle.buffer_glyphs.specs.Replacements.{glyphs_replaced}
+use Rattle.buffer_glyphs.specs.Deletions.{deleted}
+use Rattle.buffer_glyphs.specs.Deleting.{Deletes}
+use Rattle.buffer_glyphs.proofs.OneDeleted.{left_clusters, order_deleted}
+use Rattle.buffer_glyphs.specs.Lemmas.Drawn.{IsDrawn, drawn_replaced}
+use Rattle.buffer_glyphs.specs.Lemmas.Parts.{event_keeps_order, order_drawn}
+use Rattle.buffer_glyphs.specs.Lemmas.Glyphs.{merged_at_beyond, clusters_merged, clusters_merged_at, stretch_is}
+use Rattle.buffer_glyphs.specs.Lemmas.Merges.{merge_joins}
+use Rattle.buffer_glyphs.specs.Lemmas.Replacements.{clusters_replaced}
 use Rattle.buffer_lists.specs.declared.order.KnownOrder.{KnownOrder}
 use Rattle.buffer_lists.specs.declared.order.KnownOrder.TheVariants.{Unknown, Rising, Falling}
 use Rattle.buffer_lists.specs.Known.{HasOrder, is_known}

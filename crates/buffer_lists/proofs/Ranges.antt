@@ -2,13 +2,13 @@
 use Rattle.std.specs.Prelude.{slice_range}
 use Rattle.std.proofs.Common.{ℕ, ◌≡◌, ◌≤◌, ◌-◌, true, false, inl, inr, List, ◌++◌, length, take, drop, refl, ap, sym, subst, append_assoc, ◌∙◌}
 use Rattle.std.proofs.lemmas.List.{drop_at, map-append}
-use Rattle.glyph_lists.specs.declared.info.hb_glyph_info_t.{hb_glyph_info_t}
-use Rattle.glyph_lists.specs.Items.{clusters}
-use Rattle.glyph_lists.specs.Order.{IsOrdered}
-use Rattle.glyph_lists.specs.Lemmas.Drawn.{IsDrawn, drawn_second, drawn_drop, drawn_take}
-use Rattle.glyph_lists.specs.Lemmas.Parts.{order_drawn}
-use Rattle.glyph_lists.specs.Lemmas.Glyphs.{cut_out, stretch_is}
-use Rattle.glyph_lists.specs.Lemmas.Merges.{chain_left, chain_right}
+use Rattle.buffer_glyphs.specs.declared.info.hb_glyph_info_t.{hb_glyph_info_t}
+use Rattle.buffer_glyphs.specs.Items.{clusters}
+use Rattle.buffer_glyphs.specs.Order.{IsOrdered}
+use Rattle.buffer_glyphs.specs.Lemmas.Drawn.{IsDrawn, drawn_second, drawn_drop, drawn_take}
+use Rattle.buffer_glyphs.specs.Lemmas.Parts.{order_drawn}
+use Rattle.buffer_glyphs.specs.Lemmas.Glyphs.{cut_out, stretch_is}
+use Rattle.buffer_glyphs.specs.Lemmas.Merges.{chain_left, chain_right}
 
 -- what is drawn from a list in order is in order
 stays_so : {xs ys : List ℕ} → IsDrawn xs ys → IsOrdered xs → IsOrdered ys

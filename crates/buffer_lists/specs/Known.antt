@@ -1,7 +1,7 @@
 -- What is known of the order of clusters.
 use Rattle.std.specs.Prelude.{ℕ, ◌≡◌, ◌∷◌, Bool, true, false, if◌then◌else◌, List, Option, Some, None, slice_set}
-use Rattle.glyph_lists.specs.Parts.{last_from}
-use Rattle.glyph_lists.specs.Order.{IsInOrder, IsFalling, IsRising}
+use Rattle.buffer_glyphs.specs.Parts.{last_from}
+use Rattle.buffer_glyphs.specs.Order.{IsInOrder, IsFalling, IsRising}
 use Rattle.buffer_lists.specs.declared.order.KnownOrder.{KnownOrder}
 use Rattle.buffer_lists.specs.declared.order.KnownOrder.TheVariants.{Unknown, Rising, Falling}
 use Rattle.buffer_lists.specs.declared.order.Lent.{Lent}

@@ -1,9 +1,9 @@
 -- Masks of glyphs.
 use Rattle.std.specs.Prelude.{ℕ, ◌-◌, ◌==◌, ◌&&◌, ◌||◌, Bool, nat_le, nat_lt, if◌then◌else◌, List, [], ◌∷◌, bit_and}
 use Rattle.std.specs.Int.RustNames.{bit_or}
-use Rattle.glyph_lists.specs.declared.info.hb_glyph_info_t.{hb_glyph_info_t}
-use Rattle.glyph_lists.specs.Items.{Item, without_flags}
-pub use Rattle.glyph_lists.specs.Items.{glyph_masked, item_masked}
+use Rattle.buffer_glyphs.specs.declared.info.hb_glyph_info_t.{hb_glyph_info_t}
+use Rattle.buffer_glyphs.specs.Items.{Item, without_flags}
+pub use Rattle.buffer_glyphs.specs.Items.{glyph_masked, item_masked}
 
 -- the bits of a mask under another become those of a value; the other bits stay
 abbrev pub bits_set : ℕ → ℕ → ℕ → ℕ

@@ -1,14 +1,14 @@
 ghost use Rattle.std.specs.Prelude.{◌<◌, ◌++◌, false, length, drop};
-ghost use Rattle.glyph_lists.specs.declared.level.BufferClusterLevel.{BufferClusterLevel as Level};
-ghost use Rattle.glyph_lists.specs.Items.{clusters};
-ghost use Rattle.glyph_lists.specs.Deleting.{Deletes};
+ghost use Rattle.buffer_glyphs.specs.declared.level.BufferClusterLevel.{BufferClusterLevel as Level};
+ghost use Rattle.buffer_glyphs.specs.Items.{clusters};
+ghost use Rattle.buffer_glyphs.specs.Deleting.{Deletes};
 ghost use Rattle.buffer_lists.specs.Known.{HasOrder};
 
 use crate::order::KnownOrder;
-use glyph_lists::deletion::{delete_at_front, next_has, recast_end};
-use glyph_lists::info::hb_glyph_info_t;
-use glyph_lists::level::BufferClusterLevel;
-use glyph_lists::runs::last_cluster;
+use buffer_glyphs::deletion::{delete_at_front, next_has, recast_end};
+use buffer_glyphs::info::hb_glyph_info_t;
+use buffer_glyphs::level::BufferClusterLevel;
+use buffer_glyphs::runs::last_cluster;
 
 /// The first glyph of the input goes, from behind the output; answers whether another was marked. What stands in its place
 /// has no meaning. What is known of the order stays known.

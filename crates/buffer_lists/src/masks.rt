@@ -1,11 +1,11 @@
 ghost use Rattle.std.specs.Prelude.{◌≡◌, map};
 ghost use Rattle.buffer_lists.specs.Masks.{glyph_masked, glyph_set, is_within};
 
-use glyph_lists::info::{hb_glyph_info_t, hb_mask_t};
+use buffer_glyphs::info::{hb_glyph_info_t, hb_mask_t};
 
 /// Of each glyph whose cluster is from `start` up to before `end`, or of each where these are 0 and `u32::MAX`, the bits under
 /// `mask` become those of the value.
-#[tactic(auto, using(glyph_lists::specs::Lists::map_step))]
+#[tactic(auto, using(buffer_glyphs::specs::Lists::map_step))]
 pub fn set_masks(
     glyphs: &mut [hb_glyph_info_t],
     value: hb_mask_t,
@@ -47,7 +47,7 @@ fn is_within(cluster: u32, start: u32, end: u32) -> bool
 }
 
 /// Gives each glyph the mask.
-#[tactic(auto, using(glyph_lists::specs::Lists::map_step))]
+#[tactic(auto, using(buffer_glyphs::specs::Lists::map_step))]
 pub fn reset_masks(glyphs: &mut [hb_glyph_info_t], mask: hb_mask_t)
     ensures { glyphs.new ≡ map (glyph_masked mask) glyphs.old }
 {

@@ -1,20 +1,20 @@
 ghost use Rattle.std.specs.Prelude.{◌≡◌, ◌≤◌, ◌++◌, true, length};
-ghost use Rattle.glyph_lists.specs.Items.{clusters};
-ghost use Rattle.glyph_lists.specs.Levels.{InOutput, manner};
-ghost use Rattle.glyph_lists.specs.Parts.{stretch};
-ghost use Rattle.glyph_lists.specs.Order.{IsOrdered};
-ghost use Rattle.glyph_lists.specs.Glyphs.{beside_merged, beside_merged_as, glyphs_merged, glyphs_merged_as, glyphs_merged_at, is_marked_at};
+ghost use Rattle.buffer_glyphs.specs.Items.{clusters};
+ghost use Rattle.buffer_glyphs.specs.Levels.{InOutput, manner};
+ghost use Rattle.buffer_glyphs.specs.Parts.{stretch};
+ghost use Rattle.buffer_glyphs.specs.Order.{IsOrdered};
+ghost use Rattle.buffer_glyphs.specs.Glyphs.{beside_merged, beside_merged_as, glyphs_merged, glyphs_merged_as, glyphs_merged_at, is_marked_at};
 ghost use Rattle.buffer_lists.specs.Known.{HasOrder};
 
 use crate::order::KnownOrder;
-use glyph_lists::info::hb_glyph_info_t;
-use glyph_lists::level::BufferClusterLevel;
-use glyph_lists::ranges::merge_range;
-use glyph_lists::runs::{merge_after, merge_beside, merge_within};
+use buffer_glyphs::info::hb_glyph_info_t;
+use buffer_glyphs::level::BufferClusterLevel;
+use buffer_glyphs::ranges::merge_range;
+use buffer_glyphs::runs::{merge_after, merge_beside, merge_within};
 
 /// Merges a range of the input on both lists; answers whether a glyph was marked, and what is known of the order after it.
 /// Where clusters are in no order each glyph is compared with the range.
-#[tactic(auto, using(glyph_lists::specs::Lemmas::Glyphs::stretch_is, crate::proofs::Ranges::range_known, crate::proofs::Ranges::ahead_known, crate::proofs::Ordered::known_ordered, crate::proofs::Ordered::order_merged))]
+#[tactic(auto, using(buffer_glyphs::specs::Lemmas::Glyphs::stretch_is, crate::proofs::Ranges::range_known, crate::proofs::Ranges::ahead_known, crate::proofs::Ordered::known_ordered, crate::proofs::Ordered::order_merged))]
 pub fn merge_input(
     output: &mut [hb_glyph_info_t],
     input: &mut [hb_glyph_info_t],
@@ -84,7 +84,7 @@ pub fn merge_output(
 }
 
 /// The clusters of a range of the output become the least of them on both lists.
-#[tactic(auto, using(glyph_lists::specs::Lemmas::Glyphs::stretch_is, crate::proofs::Ranges::range_ordered, crate::proofs::Ranges::front_ordered))]
+#[tactic(auto, using(buffer_glyphs::specs::Lemmas::Glyphs::stretch_is, crate::proofs::Ranges::range_ordered, crate::proofs::Ranges::front_ordered))]
 fn unite_output(
     output: &mut [hb_glyph_info_t],
     input: &mut [hb_glyph_info_t],

@@ -1,6 +1,6 @@
 ghost use Rattle.std.specs.Prelude.{◌≡◌, ◌≤◌, ◌+◌, ◌-◌, ◌++◌, length, drop, OnErr, IfOk, vec_len, vec_capacity};
 
-use glyph_lists::info::hb_glyph_info_t;
+use buffer_glyphs::info::hb_glyph_info_t;
 use std::alloc::AllocError;
 
 /// Puts glyphs in front of those from a place on, in the room of what stood before them, and more where that is too little;

@@ -1,16 +1,16 @@
 ghost use Rattle.std.specs.Prelude.{◌≡◌, ◌+◌, ◌≤◌, ◌++◌, ℕ, length, map, drop, vec_len, vec_capacity};
-ghost use Rattle.glyph_lists.specs.Items.{clusters};
-ghost use Rattle.glyph_lists.specs.Parts.{first_of, last_of, or, stretch};
-ghost use Rattle.glyph_lists.specs.Glyphs.{beside_merged, glyphs_merged_at, is_marked_at};
-ghost use Rattle.glyph_lists.specs.Replacements.{glyph_numbered};
+ghost use Rattle.buffer_glyphs.specs.Items.{clusters};
+ghost use Rattle.buffer_glyphs.specs.Parts.{first_of, last_of, or, stretch};
+ghost use Rattle.buffer_glyphs.specs.Glyphs.{beside_merged, glyphs_merged_at, is_marked_at};
+ghost use Rattle.buffer_glyphs.specs.Replacements.{glyph_numbered};
 ghost use Rattle.buffer_lists.specs.declared.order.KnownOrder.{KnownOrder as Order};
 ghost use Rattle.buffer_lists.specs.Copies.{with_copies};
 ghost use Rattle.buffer_lists.specs.Known.{HasOrder};
 
 use crate::merges::merge_input;
 use crate::order::KnownOrder;
-use glyph_lists::info::hb_glyph_info_t;
-use glyph_lists::level::BufferClusterLevel;
+use buffer_glyphs::info::hb_glyph_info_t;
+use buffer_glyphs::level::BufferClusterLevel;
 
 /// Merges the first `count` glyphs of the input on both lists, and puts a copy of the input's first behind the output for each
 /// of the numbers; answers whether a glyph was marked, and what is known of the order once the `count` glyphs are gone.

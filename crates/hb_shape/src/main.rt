@@ -1,8 +1,8 @@
 // hb_shape [options] TABLES FONT TEXT: shapes a text in a font, and prints its glyphs with their positions.
 #![tactic(auto)]
 
-use shape_run::files::SystemFiles;
-use shape_run::program::shape;
+use shell_run::files::SystemFiles;
+use shell_run::program::shape;
 use std::process::ExitCode;
 use std::{env, io};
 

@@ -1,0 +1,2 @@
+pub mod CoverageOrder
+pub mod CoverageSearch

@@ -1,6 +1,6 @@
 -- Rows of a glyph and what a table says of it.
 use Rattle.std.specs.Prelude.{ℕ, List, Option, option_map}
-use Rattle.sorted_rows.specs.Keys.{row_of}
+use Rattle.buffer_rows.specs.Keys.{row_of}
 use Rattle.layout_common.specs.declared.glyph_row.GlyphRow.{GlyphRow}
 
 -- what the row of a glyph says

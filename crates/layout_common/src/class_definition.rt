@@ -3,7 +3,7 @@ ghost use Rattle.std.specs.Prelude.{◌≡◌};
 ghost use Rattle.layout_common.specs.Classes.{class_of};
 
 use crate::glyph_row::{GlyphRow, find_value};
-use sorted_rows::SortedRows;
+use buffer_rows::SortedRows;
 
 /// A class for each glyph (OpenType, chapter 2, class definition table).
 #[derive(Debug, Drop)]

@@ -2,7 +2,7 @@
 ghost use Rattle.std.specs.Prelude.{◌≡◌};
 ghost use Rattle.layout_common.specs.Rows.{value_of};
 
-use sorted_rows::{Keyed, SortedRows};
+use buffer_rows::{Keyed, SortedRows};
 
 /// A glyph, and what a table says of it.
 #[derive(Clone, Copy, Debug, Drop)]
@@ -22,7 +22,7 @@ impl<V> Keyed for GlyphRow<V> {
 }
 
 /// What a table says of a glyph, none where it has no row of the glyph, in logarithmic time.
-#[tactic(auto, using(sorted_rows::specs::Searched::row_of_number))]
+#[tactic(auto, using(buffer_rows::proofs::Searched::row_of_number))]
 pub fn find_value<V: Copy>(rows: &SortedRows<GlyphRow<V>>, glyph: u16) -> Option<V>
     ensures { result ≡ value_of glyph rows.now }
 {

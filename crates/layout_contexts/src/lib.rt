@@ -1,4 +1,15 @@
-// Contextual and chained contextual subtables (OpenType, chapter 2, sequence context tables), of both layout tables.
+//! Contexts and chained contexts: a rule that matches applies other lookups at the places of its match.
 #![tactic(auto)]
 
-pub mod context;
+pub mod chain;
+pub mod counts;
+pub mod marks;
+pub mod places;
+pub mod records;
+pub mod rules;
+
+pub use chain::{ChainRule, match_chain};
+pub use counts::glyph_count;
+pub use places::settle_places;
+pub use records::{MAX_NESTING_LEVEL, begin_record, go_behind, settle_match};
+pub use rules::{class_rule, coverage_rule, glyph_rule, is_tried_at, rule_at, rule_count};

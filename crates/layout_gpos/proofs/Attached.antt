@@ -1,29 +1,29 @@
 -- Marks attached at the cursor.
 use Rattle.std.proofs.Common.{ℕ, ◌≡◌, ◌<◌, ◌≤◌, ◌+◌, ◌-◌, ◌⊎◌, inl, inr, Bool, true, false, if◌then◌else◌, List, [], ◌∷◌, Option, Some, None, Result, Ok, length, reverse, arith, refl, sym, ap, subst, ◌∙◌, slice_get}
-use Rattle.glyph_lists.specs.declared.info.hb_glyph_info_t.{hb_glyph_info_t}
-use Rattle.glyph_lists.specs.Items.{Position, item_of}
-use Rattle.glyph_lists.specs.Events.{Break}
-use Rattle.glyph_buffer.specs.Sides.{Sides, moved_on, told_of}
-use Rattle.sorted_rows.specs.Keys.{row_of}
-use Rattle.layout_positions.specs.Marks.{base_anchor}
-use Rattle.layout_positions.specs.declared.value.Anchor.{Anchor}
-use Rattle.layout_positions.specs.declared.mark.BaseRow.{BaseRow}
+use Rattle.buffer_glyphs.specs.declared.info.hb_glyph_info_t.{hb_glyph_info_t}
+use Rattle.buffer_glyphs.specs.Items.{Position, item_of}
+use Rattle.buffer_glyphs.specs.Events.{Break}
+use Rattle.buffer_core.specs.Sides.{Sides, moved_on, told_of}
+use Rattle.buffer_rows.specs.Keys.{row_of}
+use Rattle.layout_subtables.specs.Marks.{base_anchor}
+use Rattle.layout_subtables.specs.declared.value.Anchor.{Anchor}
+use Rattle.layout_subtables.specs.declared.mark.BaseRow.{BaseRow}
 use Rattle.layout_common.specs.Rows.{value_of}
 use Rattle.layout_match.specs.Applied.{Applied}
-use Rattle.layout_positions.specs.declared.mark.MarkBasePos.{MarkBasePos}
-use Rattle.layout_positions.specs.declared.mark.MarkRecord.{MarkRecord}
-use Rattle.stage_rules.specs.Actions.{Cut, Outcome, Passes, at_first, attempt_around}
-use Rattle.stage_rules.specs.Buffers.{IsPassed, cut_of}
-use Rattle.stage_rules.specs.Performing.{Performed, cut_with}
-use Rattle.stage_rules.specs.Lemmas.Frames.{same_lengths}
-use Rattle.stage_rules.specs.Lemmas.Performed.{passes_nothing}
+use Rattle.layout_subtables.specs.declared.mark.MarkBasePos.{MarkBasePos}
+use Rattle.layout_subtables.specs.declared.mark.MarkRecord.{MarkRecord}
+use Rattle.buffer_stages.specs.Actions.{Cut, Outcome, Passes, at_first, attempt_around}
+use Rattle.buffer_stages.specs.Buffers.{IsPassed, cut_of}
+use Rattle.buffer_stages.specs.Performing.{Performed, cut_with}
+use Rattle.buffer_stages.proofs.Lemmas.Frames.{same_lengths}
+use Rattle.buffer_stages.proofs.Lemmas.Performed.{passes_nothing}
 use Rattle.layout_gpos.specs.Anchors.{mark_hung, told_if}
-use Rattle.position_chains.specs.Links.{is_near}
+use Rattle.layout_offsets.specs.Links.{is_near}
 use Rattle.layout_gpos.specs.Moving.{break_around}
 use Rattle.layout_gpos.specs.Marks.{attach, attach_if, base_before, is_there, mark_on_base, mark_to_base, on_base, with_found}
-use Rattle.layout_gpos.specs.Lemmas.Placed.{break_passed, front_count}
-use Rattle.stage_rules.specs.Lemmas.Glyphs.{first_item}
-use Rattle.layout_gpos.specs.Lemmas.Performed.{found_is, marked_told, told_same}
+use Rattle.layout_gpos.proofs.Lemmas.Placed.{break_passed, front_count}
+use Rattle.buffer_stages.proofs.Lemmas.Glyphs.{first_item}
+use Rattle.layout_gpos.proofs.Lemmas.Performed.{found_is, marked_told, told_same}
 
 pub attach_acted : (r back at parent : ℕ) (base mark : Anchor) (near : Bool) (s mid new : Sides) → IsPassed (Break (length s.behind - (back + 1)) (length s.behind + 1) ∷ []) s mid → at ≡ length s.behind → 0 < length s.ahead
     → parent ≡ at - (back + 1) → near ≡ is_near at parent → new ≡ moved_on 1 (record mid { positions = mark_hung at parent base mark mid.positions; scratch_flags = told_if near mid.scratch_flags })

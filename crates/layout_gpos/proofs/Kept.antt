@@ -3,22 +3,22 @@ use Rattle.std.proofs.Common.{ℕ, ◌≡◌, ◌≤◌, ◌<◌, ◌+◌, ◌-�
 use Rattle.std.specs.Prelude.{Result, IfOk, IfErr}
 use Rattle.std.proofs.Math.Seq.{drop-append_seam, take-append_seam}
 use Rattle.std.proofs.lemmas.List.{take-append-drop, take-append-le, reverse-append, length-reverse, length-drop, length-map, length-append, map-append}
-use Rattle.glyph_lists.specs.Items.{Item, item_of, strip}
-use Rattle.glyph_buffer.specs.Sides.{Sides, items_of}
+use Rattle.buffer_glyphs.specs.Items.{Item, item_of, strip}
+use Rattle.buffer_core.specs.Sides.{Sides, items_of}
 use Rattle.layout_match.specs.declared.search.match_t.{match_t}
 use Rattle.layout_match.specs.declared.search.match_t.TheVariants.{MATCH, SKIP, NOT_MATCH}
 use Rattle.layout_match.specs.Applied.{Applied, own_search}
 use Rattle.layout_match.specs.Matches.{by_answer, nearest, nearest_from}
 use Rattle.layout_match.specs.Searches.{Search}
-use Rattle.stage_rules.specs.Actions.{Action}
-use Rattle.stage_rules.specs.Buffers.{cut_of}
-use Rattle.stage_rules.specs.Performing.{Performed, cut_with}
+use Rattle.buffer_stages.specs.Actions.{Action}
+use Rattle.buffer_stages.specs.Buffers.{cut_of}
+use Rattle.buffer_stages.specs.Performing.{Performed, cut_with}
 use Rattle.layout_gpos.specs.declared.bases.LastSearch.{LastSearch}
 use Rattle.layout_gpos.specs.declared.bases.Sought.{Sought}
 use Rattle.layout_gpos.specs.Bases.{IsKept, any_sought, asked, farther}
 use Rattle.layout_gpos.specs.Marks.{nearest_before, without_marks}
 use Rattle.layout_gpos.specs.Moving.{KeepsItems}
-use Rattle.layout_gpos.specs.Lemmas.Left.{performed_left}
+use Rattle.layout_gpos.proofs.Lemmas.Left.{performed_left}
 
 pub kept_first : (ask : Item → match_t) (xs : List Item) → IsKept ask xs (record { before = 0; found = Err 0 })
 kept_first ask xs = record { within = omega arith; inside = tt; read = omega arith; is = refl }

@@ -1,3 +1,4 @@
+pub mod Lemmas
 pub mod Paired
 pub mod Attached
 pub mod MarkMark

@@ -1,21 +1,21 @@
 -- Marks attached to ligatures at the cursor.
 use Rattle.std.proofs.Common.{ℕ, ◌≡◌, ◌+◌, Bool, false, List, Option, Some, None, Result, Ok, reverse, sym, ap, subst, ◌∙◌, slice_get}
-use Rattle.glyph_lists.specs.declared.info.hb_glyph_info_t.{hb_glyph_info_t}
-use Rattle.glyph_lists.specs.Items.{Item, item_of}
-use Rattle.glyph_buffer.specs.Sides.{Sides}
+use Rattle.buffer_glyphs.specs.declared.info.hb_glyph_info_t.{hb_glyph_info_t}
+use Rattle.buffer_glyphs.specs.Items.{Item, item_of}
+use Rattle.buffer_core.specs.Sides.{Sides}
 use Rattle.layout_common.specs.Rows.{value_of}
 use Rattle.layout_match.specs.Applied.{Applied}
-use Rattle.layout_positions.specs.Marks.{component_anchor, component_count}
-use Rattle.layout_positions.specs.declared.mark.LigatureRow.{LigatureRow}
-use Rattle.layout_positions.specs.declared.mark.MarkLigPos.{MarkLigPos}
-use Rattle.layout_positions.specs.declared.mark.MarkRecord.{MarkRecord}
-use Rattle.stage_rules.specs.Actions.{Outcome, at_first, attempt_around}
-use Rattle.stage_rules.specs.Buffers.{cut_of}
-use Rattle.stage_rules.specs.Performing.{Performed, cut_with}
-use Rattle.stage_rules.specs.Lemmas.Glyphs.{first_item}
-use Rattle.stage_rules.specs.Lemmas.Performed.{passes_nothing}
+use Rattle.layout_subtables.specs.Marks.{component_anchor, component_count}
+use Rattle.layout_subtables.specs.declared.mark.LigatureRow.{LigatureRow}
+use Rattle.layout_subtables.specs.declared.mark.MarkLigPos.{MarkLigPos}
+use Rattle.layout_subtables.specs.declared.mark.MarkRecord.{MarkRecord}
+use Rattle.buffer_stages.specs.Actions.{Outcome, at_first, attempt_around}
+use Rattle.buffer_stages.specs.Buffers.{cut_of}
+use Rattle.buffer_stages.specs.Performing.{Performed, cut_with}
+use Rattle.buffer_stages.proofs.Lemmas.Glyphs.{first_item}
+use Rattle.buffer_stages.proofs.Lemmas.Performed.{passes_nothing}
 use Rattle.layout_gpos.specs.Marks.{attach_if, component_in, item_before, mark_on_ligature, mark_to_ligature, on_component, on_ligature, with_found, without_marks}
-use Rattle.layout_gpos.specs.Lemmas.Performed.{found_is}
+use Rattle.layout_gpos.proofs.Lemmas.Performed.{found_is}
 
 -- the component that a call found
 on_ligature_is : (r n back : ℕ) (ligatures : List LigatureRow) (m : MarkRecord) (x : Item) (k : Option ℕ) (s : Sides) (g : hb_glyph_info_t) → slice_get (reverse s.behind) back ≡ Some g → n ≡ g.glyph_id → component_in (component_count n ligatures) (item_of g) x ≡ k

@@ -1,21 +1,21 @@
 -- Marks attached to marks at the cursor.
 use Rattle.std.proofs.Common.{ℕ, ◌≡◌, ◌+◌, ◌&&◌, Bool, true, false, if◌then◌else◌, List, Some, None, Result, Ok, reverse, sym, ap, subst, ◌∙◌, slice_get}
-use Rattle.glyph_lists.specs.declared.info.hb_glyph_info_t.{hb_glyph_info_t}
-use Rattle.glyph_lists.specs.Items.{Item, item_of}
-use Rattle.glyph_buffer.specs.Sides.{Sides}
+use Rattle.buffer_glyphs.specs.declared.info.hb_glyph_info_t.{hb_glyph_info_t}
+use Rattle.buffer_glyphs.specs.Items.{Item, item_of}
+use Rattle.buffer_core.specs.Sides.{Sides}
 use Rattle.layout_common.specs.Rows.{value_of}
 use Rattle.layout_match.specs.Applied.{Applied}
-use Rattle.glyph_lists.specs.LigatureWords.{is_mark}
-use Rattle.layout_positions.specs.declared.mark.BaseRow.{BaseRow}
-use Rattle.layout_positions.specs.declared.mark.MarkBasePos.{MarkBasePos}
-use Rattle.layout_positions.specs.declared.mark.MarkRecord.{MarkRecord}
-use Rattle.stage_rules.specs.Actions.{Cut, Outcome, at_first, attempt_around}
-use Rattle.stage_rules.specs.Buffers.{cut_of}
-use Rattle.stage_rules.specs.Performing.{Performed, cut_with}
-use Rattle.stage_rules.specs.Lemmas.Glyphs.{first_item}
-use Rattle.stage_rules.specs.Lemmas.Performed.{passes_nothing}
+use Rattle.buffer_glyphs.specs.LigatureWords.{is_mark}
+use Rattle.layout_subtables.specs.declared.mark.BaseRow.{BaseRow}
+use Rattle.layout_subtables.specs.declared.mark.MarkBasePos.{MarkBasePos}
+use Rattle.layout_subtables.specs.declared.mark.MarkRecord.{MarkRecord}
+use Rattle.buffer_stages.specs.Actions.{Cut, Outcome, at_first, attempt_around}
+use Rattle.buffer_stages.specs.Buffers.{cut_of}
+use Rattle.buffer_stages.specs.Performing.{Performed, cut_with}
+use Rattle.buffer_stages.proofs.Lemmas.Glyphs.{first_item}
+use Rattle.buffer_stages.proofs.Lemmas.Performed.{passes_nothing}
 use Rattle.layout_gpos.specs.Marks.{among_marks, belong_together, item_before, mark_on_mark, mark_to_mark, on_base, on_mark, with_found}
-use Rattle.layout_gpos.specs.Lemmas.Performed.{found_is}
+use Rattle.layout_gpos.proofs.Lemmas.Performed.{found_is}
 
 abbrev by_mark : ℕ → List BaseRow → MarkRecord → Item → Cut → Bool → Outcome
 by_mark back bases m b c good = if good then on_base bases m back (Some b) c else attempt_around (back + 1) 1 c

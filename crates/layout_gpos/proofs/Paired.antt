@@ -1,27 +1,27 @@
 -- Pairs adjusted at the cursor.
 use Rattle.std.proofs.Common.{ℕ, ◌≡◌, ◌<◌, ◌≤◌, ◌+◌, ◌-◌, ◌&&◌, Bool, true, false, if◌then◌else◌, List, [], ◌∷◌, Option, Some, None, Result, Ok, Err, length, arith, refl, sym, ap, subst, ◌∙◌, slice_get}
 use Rattle.std.specs.Prelude.{option_and_then}
-use Rattle.shaping_text.specs.declared.direction.Direction.{Direction}
-use Rattle.glyph_lists.specs.declared.info.hb_glyph_info_t.{hb_glyph_info_t}
-use Rattle.glyph_lists.specs.Items.{Item, Position, item_of, strip}
-use Rattle.glyph_lists.specs.Events.{Break}
-use Rattle.glyph_buffer.specs.Sides.{Sides, moved_on}
+use Rattle.buffer_common.specs.declared.direction.Direction.{Direction}
+use Rattle.buffer_glyphs.specs.declared.info.hb_glyph_info_t.{hb_glyph_info_t}
+use Rattle.buffer_glyphs.specs.Items.{Item, Position, item_of, strip}
+use Rattle.buffer_glyphs.specs.Events.{Break}
+use Rattle.buffer_core.specs.Sides.{Sides, moved_on}
 use Rattle.layout_match.specs.Applied.{Applied}
-use Rattle.layout_positions.specs.declared.value.ValueRecord.{ValueRecord}
-use Rattle.layout_positions.specs.declared.pair.PairValues.{PairValues}
-use Rattle.layout_positions.specs.declared.pair.PairPos.{PairPos}
-use Rattle.stage_rules.specs.Actions.{Cut, Outcome, Passes, at_first, attempt_around}
-use Rattle.stage_rules.specs.Buffers.{IsPassed, cut_of, Frame}
-use Rattle.stage_rules.specs.Performing.{Performed, cut_with}
-use Rattle.stage_rules.specs.Lemmas.Glyphs.{first_item}
-use Rattle.stage_rules.specs.Lemmas.Performed.{passes_nothing}
-use Rattle.stage_rules.specs.Lemmas.Does.{passed_same}
+use Rattle.layout_subtables.specs.declared.value.ValueRecord.{ValueRecord}
+use Rattle.layout_subtables.specs.declared.pair.PairValues.{PairValues}
+use Rattle.layout_subtables.specs.declared.pair.PairPos.{PairPos}
+use Rattle.buffer_stages.specs.Actions.{Cut, Outcome, Passes, at_first, attempt_around}
+use Rattle.buffer_stages.specs.Buffers.{IsPassed, cut_of, Frame}
+use Rattle.buffer_stages.specs.Performing.{Performed, cut_with}
+use Rattle.buffer_stages.proofs.Lemmas.Glyphs.{first_item}
+use Rattle.buffer_stages.proofs.Lemmas.Performed.{passes_nothing}
+use Rattle.buffer_stages.proofs.Lemmas.Does.{passed_same}
 use Rattle.layout_gpos.specs.Moving.{break_around}
 use Rattle.layout_gpos.specs.Values.{is_zero}
 use Rattle.layout_gpos.specs.Pairs.{begins_pair, has_no_effect, next_item, pair_adjusted, pair_events, pair_from, pair_length, pair_of, pair_second, pair_subtable, pair_values}
-use Rattle.layout_gpos.specs.Lemmas.Placed.{break_passed, front_count}
-use Rattle.layout_gpos.specs.Lemmas.Read.{item_at}
-use Rattle.layout_gpos.specs.Lemmas.Performed.{marked_made}
+use Rattle.layout_gpos.proofs.Lemmas.Placed.{break_passed, front_count}
+use Rattle.layout_gpos.proofs.Lemmas.Read.{item_at}
+use Rattle.layout_gpos.proofs.Lemmas.Performed.{marked_made}
 
 -- ---- a pair
 

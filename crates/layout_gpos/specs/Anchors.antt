@@ -1,9 +1,9 @@
 -- Glyphs that hang on others by anchors, on a list of positions.
 use Rattle.std.specs.Prelude.{ℕ, ℤ, ◌-ℤ◌, if◌then◌else◌, List, Bool, set}
 use Rattle.std.specs.Int.RustNames.{bit_or}
-use Rattle.glyph_lists.specs.Items.{Position}
-use Rattle.layout_positions.specs.declared.value.Anchor.{Anchor}
-use Rattle.position_chains.specs.Links.{position_at, is_near, link_to}
+use Rattle.buffer_glyphs.specs.Items.{Position}
+use Rattle.layout_subtables.specs.declared.value.Anchor.{Anchor}
+use Rattle.layout_offsets.specs.Links.{position_at, is_near, link_to}
 
 -- a mark whose anchor lies on that of its base, both seen from where their glyphs are drawn
 abbrev pub anchored : Anchor → Anchor → ℤ → Position → Position

@@ -1,6 +1,6 @@
 -- What is kept of a search for a base or a ligature, for the next one of the same lookup.
 use Rattle.std.specs.Prelude.{ℕ, ◌≡◌, ◌≤◌, ◌<◌, ◌+◌, List, [], length, reverse, take, Result, Ok, Err, IfOk, IfErr}
-use Rattle.glyph_lists.specs.Items.{Item}
+use Rattle.buffer_glyphs.specs.Items.{Item}
 use Rattle.layout_match.specs.declared.search.match_t.{match_t}
 use Rattle.layout_match.specs.Applied.{Applied, own_search}
 use Rattle.layout_match.specs.Matches.{nearest_from}

@@ -4,5 +4,4 @@ pub mod Singles
 pub mod Pairs
 pub mod Anchors
 pub mod Marks
-pub mod Lemmas
 pub mod Bases

@@ -1,25 +1,25 @@
 -- Attachment of marks (OpenType, GPOS lookup types 4, 5 and 6).
 use Rattle.std.specs.Prelude.{ℕ, ◌+◌, ◌-◌, ◌==◌, ◌&&◌, ◌||◌, Bool, true, false, not, nat_lt, min, if◌then◌else◌, List, [], length, reverse, Option, Some, None, Result, Ok, Err, slice_get, bit_and}
-use Rattle.glyph_lists.specs.Items.{Item}
-use Rattle.glyph_lists.specs.Parts.{first_of}
+use Rattle.buffer_glyphs.specs.Items.{Item}
+use Rattle.buffer_glyphs.specs.Parts.{first_of}
 use Rattle.layout_common.specs.Rows.{value_of}
-use Rattle.sorted_rows.specs.Keys.{row_of}
-use Rattle.layout_positions.specs.Marks.{base_anchor, component_anchor, component_count}
-use Rattle.layout_positions.specs.declared.value.Anchor.{Anchor}
-use Rattle.layout_positions.specs.declared.mark.BaseRow.{BaseRow}
-use Rattle.layout_positions.specs.declared.mark.LigatureRow.{LigatureRow}
-use Rattle.layout_positions.specs.declared.mark.MarkBasePos.{MarkBasePos}
-use Rattle.layout_positions.specs.declared.mark.MarkLigPos.{MarkLigPos}
-use Rattle.layout_positions.specs.declared.mark.MarkRecord.{MarkRecord}
+use Rattle.buffer_rows.specs.Keys.{row_of}
+use Rattle.layout_subtables.specs.Marks.{base_anchor, component_anchor, component_count}
+use Rattle.layout_subtables.specs.declared.value.Anchor.{Anchor}
+use Rattle.layout_subtables.specs.declared.mark.BaseRow.{BaseRow}
+use Rattle.layout_subtables.specs.declared.mark.LigatureRow.{LigatureRow}
+use Rattle.layout_subtables.specs.declared.mark.MarkBasePos.{MarkBasePos}
+use Rattle.layout_subtables.specs.declared.mark.MarkLigPos.{MarkLigPos}
+use Rattle.layout_subtables.specs.declared.mark.MarkRecord.{MarkRecord}
 use Rattle.layout_match.specs.Applied.{Applied, own_search}
-use Rattle.glyph_lists.specs.LigatureWords.{is_mark, is_multiplied, lig_comp, lig_id}
+use Rattle.buffer_glyphs.specs.LigatureWords.{is_mark, is_multiplied, lig_comp, lig_id}
 use Rattle.layout_match.specs.Matches.{nearest_from}
 use Rattle.layout_match.specs.Searches.{Search, answer, is_skippable}
 use Rattle.layout_match.specs.declared.search.match_t.{match_t}
 use Rattle.layout_match.specs.declared.search.match_t.TheVariants.{MATCH, SKIP, NOT_MATCH}
-use Rattle.stage_rules.specs.Actions.{Cut, Action, Passes, Acts, at_first, attempt_around}
+use Rattle.buffer_stages.specs.Actions.{Cut, Action, Passes, Acts, at_first, attempt_around}
 use Rattle.layout_gpos.specs.Anchors.{mark_hung, told_if}
-use Rattle.position_chains.specs.Links.{is_near}
+use Rattle.layout_offsets.specs.Links.{is_near}
 use Rattle.layout_gpos.specs.Moving.{break_around, placed_past}
 
 -- ---- the item that a mark hangs on; the first before the cut has the index 0

@@ -1,8 +1,8 @@
 -- What rules of positioning do to a cut, beside the positions that they change.
 use Rattle.std.specs.Prelude.{ℕ, ◌≡◌, ◌+◌, ◌-◌, List, [], ◌∷◌, ◌++◌, length, take, drop}
-use Rattle.glyph_lists.specs.Items.{Position}
-use Rattle.glyph_lists.specs.Events.{Event, Break}
-use Rattle.stage_rules.specs.Actions.{Cut, Outcome, Passes, Acts, Refuses, Action, whole}
+use Rattle.buffer_glyphs.specs.Items.{Position}
+use Rattle.buffer_glyphs.specs.Events.{Event, Break}
+use Rattle.buffer_stages.specs.Actions.{Cut, Outcome, Passes, Acts, Refuses, Action, whole}
 
 -- so many items more are done, and the positions are these
 abbrev pub placed_past : ℕ → List Position → Cut → Cut

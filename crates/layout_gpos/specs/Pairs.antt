@@ -1,20 +1,20 @@
 -- Pair adjustment (OpenType, GPOS lookup type 2).
 use Rattle.std.specs.Prelude.{ℕ, ◌+◌, ◌==◌, ◌&&◌, Bool, true, not, if◌then◌else◌, List, [], length, Option, Some, None, Result, Ok, Err, slice_get, option_and_then}
 use Rattle.std.specs.List.{list_any}
-use Rattle.shaping_text.specs.declared.direction.Direction.{Direction}
-use Rattle.glyph_lists.specs.Items.{Item, Position}
-use Rattle.glyph_lists.specs.Events.{Event}
-use Rattle.glyph_lists.specs.Parts.{first_of}
+use Rattle.buffer_common.specs.declared.direction.Direction.{Direction}
+use Rattle.buffer_glyphs.specs.Items.{Item, Position}
+use Rattle.buffer_glyphs.specs.Events.{Event}
+use Rattle.buffer_glyphs.specs.Parts.{first_of}
 use Rattle.layout_common.specs.Coverage.{is_covered}
-use Rattle.layout_positions.specs.Pairs.{glyph_pair_values, class_pair_values}
-use Rattle.layout_positions.specs.declared.value.ValueRecord.{ValueRecord}
-use Rattle.layout_positions.specs.declared.pair.PairValues.{PairValues}
-use Rattle.layout_positions.specs.declared.pair.PairPos.{PairPos}
-use Rattle.layout_positions.specs.declared.pair.PairPos.TheVariants.{Glyphs, Classes}
+use Rattle.layout_subtables.specs.Pairs.{glyph_pair_values, class_pair_values}
+use Rattle.layout_subtables.specs.declared.value.ValueRecord.{ValueRecord}
+use Rattle.layout_subtables.specs.declared.pair.PairValues.{PairValues}
+use Rattle.layout_subtables.specs.declared.pair.PairPos.{PairPos}
+use Rattle.layout_subtables.specs.declared.pair.PairPos.TheVariants.{Glyphs, Classes}
 use Rattle.layout_match.specs.Applied.{Applied, own_search}
 use Rattle.layout_match.specs.Searches.{answer, is_skippable}
 use Rattle.layout_match.specs.Matches.{nearest_from}
-use Rattle.stage_rules.specs.Actions.{Cut, Action, Passes, Acts, at_first, attempt_around}
+use Rattle.buffer_stages.specs.Actions.{Cut, Action, Passes, Acts, at_first, attempt_around}
 use Rattle.layout_gpos.specs.Values.{adjusted_at, is_zero}
 use Rattle.layout_gpos.specs.Moving.{placed_past, break_around}
 

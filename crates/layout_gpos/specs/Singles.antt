@@ -1,11 +1,11 @@
 -- Single adjustment (OpenType, GPOS lookup type 1).
 use Rattle.std.specs.Prelude.{List, [], length, Option, Some, None}
-use Rattle.shaping_text.specs.declared.direction.Direction.{Direction}
-use Rattle.glyph_lists.specs.Parts.{first_of}
+use Rattle.buffer_common.specs.declared.direction.Direction.{Direction}
+use Rattle.buffer_glyphs.specs.Parts.{first_of}
 use Rattle.layout_common.specs.Rows.{value_of}
 use Rattle.layout_common.specs.declared.glyph_row.GlyphRow.{GlyphRow}
-use Rattle.layout_positions.specs.declared.value.ValueRecord.{ValueRecord}
-use Rattle.stage_rules.specs.Actions.{Action, Passes, Acts, at_first}
+use Rattle.layout_subtables.specs.declared.value.ValueRecord.{ValueRecord}
+use Rattle.buffer_stages.specs.Actions.{Action, Passes, Acts, at_first}
 use Rattle.layout_gpos.specs.Values.{adjusted_at}
 use Rattle.layout_gpos.specs.Moving.{placed_past}
 

@@ -1,11 +1,11 @@
 -- Value records (OpenType, GPOS): how a position is adjusted.
 use Rattle.std.specs.Prelude.{ℕ, ℤ, ◌==◌, ◌&&◌, nat_abs, Bool, true, false, List, set}
-use Rattle.glyph_lists.specs.Items.{Position}
-use Rattle.shaping_text.specs.declared.direction.Direction.{Direction}
-use Rattle.shaping_text.specs.Direction.{is_horizontal}
-use Rattle.layout_positions.specs.declared.value.ValueRecord.{ValueRecord}
-use Rattle.position_sums.specs.Sums.{plus, minus}
-use Rattle.position_chains.specs.Links.{position_at}
+use Rattle.buffer_glyphs.specs.Items.{Position}
+use Rattle.buffer_common.specs.declared.direction.Direction.{Direction}
+use Rattle.buffer_common.specs.Direction.{is_horizontal}
+use Rattle.layout_subtables.specs.declared.value.ValueRecord.{ValueRecord}
+use Rattle.layout_offsets.specs.Sums.{plus, minus}
+use Rattle.layout_offsets.specs.Links.{position_at}
 
 -- an advance along the line grows; downward it grows by what is taken from it
 abbrev pub advanced : Bool → ValueRecord → Position → Position

@@ -1,11 +1,11 @@
 //! Marks that hang on other glyphs, on a list of positions.
 ghost use Rattle.std.specs.Prelude.{◌≡◌, ◌<◌, ◌-ℤ◌, length};
 ghost use Rattle.layout_gpos.specs.Anchors.{anchored, mark_hung};
-ghost use Rattle.position_chains.specs.Links.{is_near, link_to};
+ghost use Rattle.layout_offsets.specs.Links.{is_near, link_to};
 
-use glyph_lists::position::GlyphPosition;
-use layout_positions::value::Anchor;
-use position_chains::links::{is_near, link_to};
+use buffer_glyphs::position::GlyphPosition;
+use layout_offsets::links::{is_near, link_to};
+use layout_subtables::value::Anchor;
 
 fn difference(a: i16, b: i16) -> i32
     ensures { result ≡ a -ℤ b }

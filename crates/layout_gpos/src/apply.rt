@@ -1,13 +1,13 @@
 //! What all subtables of positioning do.
 ghost use Rattle.std.specs.Prelude.{ℕ, ◌≡◌, ◌<◌, Ok, true, false, [], length};
-ghost use Rattle.glyph_buffer.specs.Sides.{all_glyphs, items_of};
+ghost use Rattle.buffer_core.specs.Sides.{all_glyphs, items_of};
 ghost use Rattle.layout_match.specs.Applied.{Applied, applied_of};
-ghost use Rattle.stage_rules.specs.Actions.{Action};
-ghost use Rattle.stage_rules.specs.Buffers.{are_glyphs};
-ghost use Rattle.stage_rules.specs.Performing.{Performed, cut_with};
-ghost use Rattle.shaping_text.specs.declared.direction.Direction.{Direction};
+ghost use Rattle.buffer_stages.specs.Actions.{Action};
+ghost use Rattle.buffer_stages.specs.Buffers.{are_glyphs};
+ghost use Rattle.buffer_stages.specs.Performing.{Performed, cut_with};
+ghost use Rattle.buffer_common.specs.declared.direction.Direction.{Direction};
 
-use glyph_buffer::buffer::hb_buffer_t;
+use buffer_core::buffer::hb_buffer_t;
 use layout_match::hb_ot_apply_context_t;
 
 /// A subtable of a positioning lookup, applied at the cursor of a buffer without an output.

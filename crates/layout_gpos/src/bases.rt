@@ -1,17 +1,17 @@
 //! The search for a base or a ligature, which remembers the last one.
 ghost use Rattle.std.specs.Prelude.{ℕ, ◌≡◌, ◌<◌, ◌≤◌, ◌+◌, ◌^◌, IfErr, IfOk, length, List};
-ghost use Rattle.glyph_buffer.specs.Sides.{items_of};
-ghost use Rattle.glyph_lists.specs.Items.{Item, item_of, strip};
+ghost use Rattle.buffer_core.specs.Sides.{items_of};
+ghost use Rattle.buffer_glyphs.specs.Items.{Item, item_of, strip};
 ghost use Rattle.layout_match.specs.Applied.{Applied, applied_of, own_search};
 ghost use Rattle.layout_match.specs.Searches.{search_of};
 ghost use Rattle.layout_match.specs.declared.search.match_t.{match_t};
-ghost use Rattle.stage_rules.specs.Buffers.{cut_of};
+ghost use Rattle.buffer_stages.specs.Buffers.{cut_of};
 ghost use Rattle.layout_gpos.specs.Bases.{AreKept, IsKept, any_sought, asked, farther};
 ghost use Rattle.layout_gpos.specs.Marks.{nearest_before, without_marks};
 
 use crate::search::{base_answer, glyph_before, is_later_component, without_marks};
-use glyph_buffer::buffer::hb_buffer_t;
-use glyph_lists::info::hb_glyph_info_t;
+use buffer_core::buffer::hb_buffer_t;
+use buffer_glyphs::info::hb_glyph_info_t;
 use layout_match::search::GlyphSearch;
 use layout_match::{hb_ot_apply_context_t, match_t};
 
@@ -94,7 +94,7 @@ fn farther(found: Result<usize, usize>, by: usize) -> Result<usize, usize>
 
 /// What is sought before the cursor: the glyphs behind the last search are looked at, and what that one found is not sought
 /// again.
-#[tactic(auto, using(layout_match::specs::Lemmas::Nearest::taken_before, layout_match::specs::Lemmas::Nearest::refused_before, layout_match::specs::Lemmas::Nearest::passed_before, crate::proofs::Kept::went_on))]
+#[tactic(auto, using(layout_match::proofs::Lemmas::Nearest::taken_before, layout_match::proofs::Lemmas::Nearest::refused_before, layout_match::proofs::Lemmas::Nearest::passed_before, crate::proofs::Kept::went_on))]
 fn found_since(
     sought: Sought,
     ctx: &hb_ot_apply_context_t,

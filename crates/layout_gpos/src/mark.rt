@@ -1,12 +1,12 @@
 //! Attachment of marks.
 ghost use Rattle.std.specs.Prelude.{ℕ, ◌≡◌, ◌<◌, ◌≤◌, IfErr, IfOk, false, true, Ok, length};
-ghost use Rattle.glyph_buffer.specs.Sides.{all_glyphs, items_of};
-ghost use Rattle.sorted_rows.specs.Keys.{row_of};
+ghost use Rattle.buffer_core.specs.Sides.{all_glyphs, items_of};
+ghost use Rattle.buffer_rows.specs.Keys.{row_of};
 ghost use Rattle.layout_match.specs.Applied.{applied_of};
-ghost use Rattle.stage_rules.specs.Buffers.{are_glyphs};
-ghost use Rattle.stage_rules.specs.Performing.{Performed, cut_with};
+ghost use Rattle.buffer_stages.specs.Buffers.{are_glyphs};
+ghost use Rattle.buffer_stages.specs.Performing.{Performed, cut_with};
 ghost use Rattle.layout_gpos.specs.Anchors.{mark_hung, told_if};
-ghost use Rattle.position_chains.specs.Links.{is_near};
+ghost use Rattle.layout_offsets.specs.Links.{is_near};
 ghost use Rattle.layout_gpos.specs.Bases.{IsKept, any_sought};
 ghost use Rattle.layout_gpos.specs.declared.bases.Sought.TheVariants.{Base};
 ghost use Rattle.layout_gpos.specs.Marks.{attach, attach_if, is_there, mark_to_base, on_base, with_found};
@@ -17,14 +17,14 @@ use crate::bases::{LastSearch, Sought, found_before};
 use crate::marking::{mark_attempt, mark_match};
 use crate::placing::pass;
 use crate::search::glyph_before;
-use glyph_buffer::buffer::hb_buffer_t;
+use buffer_common::constants::HB_BUFFER_SCRATCH_FLAG_HAS_GPOS_ATTACHMENT;
+use buffer_core::buffer::hb_buffer_t;
 use layout_match::hb_ot_apply_context_t;
-use layout_positions::mark::{MarkBasePos, MarkRecord};
-use layout_positions::value::Anchor;
-use position_chains::links::is_near;
-use shaping_text::constants::HB_BUFFER_SCRATCH_FLAG_HAS_GPOS_ATTACHMENT;
+use layout_offsets::links::is_near;
+use layout_subtables::mark::{MarkBasePos, MarkRecord};
+use layout_subtables::value::Anchor;
 
-#[tactic(auto, using(crate::specs::Lemmas::Placed::hung_back))]
+#[tactic(auto, using(crate::proofs::Lemmas::Placed::hung_back))]
 fn hang_at(
     buffer: &mut hb_buffer_t,
     at: usize,
@@ -95,7 +95,7 @@ pub fn attach_if(
     true
 }
 
-#[tactic(auto, using(sorted_rows::specs::Searched::row_of_number))]
+#[tactic(auto, using(buffer_rows::proofs::Searched::row_of_number))]
 fn is_base(subtable: &MarkBasePos, glyph: u16) -> bool
     ensures { result ≡ is_there (row_of (λ r. r.glyph) glyph subtable.now.bases) }
 {
@@ -106,7 +106,7 @@ fn is_base(subtable: &MarkBasePos, glyph: u16) -> bool
 }
 
 /// Hangs the mark at the cursor on a base before it.
-#[tactic(auto, using(crate::specs::Lemmas::Nearest::number_back, crate::proofs::Attached::on_a_base, crate::proofs::Attached::on_no_base, crate::specs::Lemmas::Performed::attempt_performed))]
+#[tactic(auto, using(crate::proofs::Lemmas::Nearest::number_back, crate::proofs::Attached::on_a_base, crate::proofs::Attached::on_no_base, crate::proofs::Lemmas::Performed::attempt_performed))]
 pub fn attach_to_base(
     subtable: &MarkBasePos,
     mark: MarkRecord,
@@ -139,7 +139,7 @@ pub fn attach_to_base(
 /// nearest glyph before it that is neither a mark nor a later component of a multiple substitution, anchor on anchor. It
 /// tells whether it acted; where it didn't, it changed glyph flags alone. The search for the base goes on from the last one
 /// of the same lookup on these glyphs.
-#[tactic(auto, using(stage_rules::specs::Lemmas::Glyphs::number_ahead, crate::proofs::Attached::no_base_mark, crate::proofs::Attached::base_mark))]
+#[tactic(auto, using(buffer_stages::proofs::Lemmas::Glyphs::number_ahead, crate::proofs::Attached::no_base_mark, crate::proofs::Attached::base_mark))]
 pub fn apply_mark_base_pos(
     subtable: &MarkBasePos,
     ctx: &hb_ot_apply_context_t,
@@ -163,7 +163,7 @@ pub fn apply_mark_base_pos(
 }
 
 /// The same with what was found before the cursor.
-#[tactic(auto, using(crate::specs::Lemmas::Performed::attempt_performed))]
+#[tactic(auto, using(crate::proofs::Lemmas::Performed::attempt_performed))]
 fn attach_found(
     subtable: &MarkBasePos,
     mark: MarkRecord,

@@ -1,11 +1,11 @@
 //! Attachment of marks to ligatures.
 ghost use Rattle.std.specs.Prelude.{ℕ, ◌≡◌, ◌<◌, ◌≤◌, IfErr, IfOk, Ok, false, true, length};
-ghost use Rattle.glyph_buffer.specs.Sides.{all_glyphs, items_of};
-ghost use Rattle.glyph_lists.specs.Items.{item_of};
-ghost use Rattle.layout_positions.specs.Marks.{component_count};
+ghost use Rattle.buffer_core.specs.Sides.{all_glyphs, items_of};
+ghost use Rattle.buffer_glyphs.specs.Items.{item_of};
+ghost use Rattle.layout_subtables.specs.Marks.{component_count};
 ghost use Rattle.layout_match.specs.Applied.{applied_of};
-ghost use Rattle.stage_rules.specs.Buffers.{are_glyphs};
-ghost use Rattle.stage_rules.specs.Performing.{Performed, cut_with};
+ghost use Rattle.buffer_stages.specs.Buffers.{are_glyphs};
+ghost use Rattle.buffer_stages.specs.Performing.{Performed, cut_with};
 ghost use Rattle.layout_gpos.specs.Bases.{IsKept, any_sought};
 ghost use Rattle.layout_gpos.specs.declared.bases.Sought.TheVariants.{Ligature};
 ghost use Rattle.layout_gpos.specs.Marks.{component_in, component_of, mark_to_ligature, on_ligature, with_found};
@@ -15,11 +15,11 @@ use crate::bases::{LastSearch, Sought, found_before};
 use crate::mark::attach_if;
 use crate::marking::mark_attempt;
 use crate::search::glyph_before;
-use glyph_buffer::buffer::hb_buffer_t;
-use glyph_lists::info::hb_glyph_info_t;
-use glyph_lists::ligature_words::{_hb_glyph_info_get_lig_comp, _hb_glyph_info_get_lig_id};
+use buffer_core::buffer::hb_buffer_t;
+use buffer_glyphs::info::hb_glyph_info_t;
+use buffer_glyphs::ligature_words::{_hb_glyph_info_get_lig_comp, _hb_glyph_info_get_lig_id};
 use layout_match::hb_ot_apply_context_t;
-use layout_positions::mark::{MarkLigPos, MarkRecord};
+use layout_subtables::mark::{MarkLigPos, MarkRecord};
 
 /// Of so many components of a ligature, the first being 0, the mark's own where it belongs to the ligature; else the last.
 fn component_of(count: usize, ligature: &hb_glyph_info_t, mark: &hb_glyph_info_t) -> usize
@@ -51,7 +51,7 @@ fn component_in(
 }
 
 /// Hangs the mark at the cursor on a ligature before it.
-#[tactic(auto, using(crate::specs::Lemmas::Nearest::number_back, crate::proofs::MarkLig::on_its_component, crate::proofs::MarkLig::on_no_component, crate::specs::Lemmas::Performed::attempt_performed))]
+#[tactic(auto, using(crate::proofs::Lemmas::Nearest::number_back, crate::proofs::MarkLig::on_its_component, crate::proofs::MarkLig::on_no_component, crate::proofs::Lemmas::Performed::attempt_performed))]
 fn attach_to_ligature(
     subtable: &MarkLigPos,
     mark: MarkRecord,
@@ -79,7 +79,7 @@ fn attach_to_ligature(
 }
 
 /// The same with what was found before the cursor.
-#[tactic(auto, using(crate::specs::Lemmas::Performed::attempt_performed))]
+#[tactic(auto, using(crate::proofs::Lemmas::Performed::attempt_performed))]
 fn attach_ligature_found(
     subtable: &MarkLigPos,
     mark: MarkRecord,
@@ -109,7 +109,7 @@ fn attach_ligature_found(
 /// the nearest glyph before it that is no mark: on the component of that ligature that it belongs to, or on the last, anchor
 /// on anchor. It tells whether it acted; where it didn't, it changed glyph flags alone. The search for the ligature goes on
 /// from the last one of the same lookup on these glyphs.
-#[tactic(auto, using(stage_rules::specs::Lemmas::Glyphs::number_ahead, crate::proofs::MarkLig::no_ligature_mark))]
+#[tactic(auto, using(buffer_stages::proofs::Lemmas::Glyphs::number_ahead, crate::proofs::MarkLig::no_ligature_mark))]
 pub fn apply_mark_lig_pos(
     subtable: &MarkLigPos,
     ctx: &hb_ot_apply_context_t,

@@ -1,28 +1,28 @@
 //! Attachment of marks to marks.
 ghost use Rattle.std.specs.Prelude.{ℕ, ◌≡◌, ◌<◌, ◌≤◌, ◌&&◌, IfErr, IfOk, false, true, length};
-ghost use Rattle.glyph_buffer.specs.Sides.{all_glyphs, items_of};
-ghost use Rattle.glyph_lists.specs.Items.{item_of};
+ghost use Rattle.buffer_core.specs.Sides.{all_glyphs, items_of};
+ghost use Rattle.buffer_glyphs.specs.Items.{item_of};
 ghost use Rattle.layout_match.specs.Applied.{applied_of};
-ghost use Rattle.glyph_lists.specs.LigatureWords.{is_mark};
-ghost use Rattle.stage_rules.specs.Buffers.{are_glyphs};
-ghost use Rattle.stage_rules.specs.Performing.{Performed, cut_with};
+ghost use Rattle.buffer_glyphs.specs.LigatureWords.{is_mark};
+ghost use Rattle.buffer_stages.specs.Buffers.{are_glyphs};
+ghost use Rattle.buffer_stages.specs.Performing.{Performed, cut_with};
 ghost use Rattle.layout_gpos.specs.Marks.{belong_together, is_own_ligature, mark_to_mark, on_mark, with_found};
 
 use crate::mark::attach_to_base;
 use crate::marking::mark_attempt;
 use crate::search::{among_marks, glyph_before, item_before};
-use glyph_buffer::buffer::hb_buffer_t;
-use glyph_lists::info::hb_glyph_info_t;
-use glyph_lists::ligature_words::{
+use buffer_core::buffer::hb_buffer_t;
+use buffer_glyphs::info::hb_glyph_info_t;
+use buffer_glyphs::ligature_words::{
     _hb_glyph_info_get_lig_comp, _hb_glyph_info_get_lig_id, _hb_glyph_info_is_mark,
 };
 use layout_match::hb_ot_apply_context_t;
-use layout_positions::mark::{MarkBasePos, MarkRecord};
+use layout_subtables::mark::{MarkBasePos, MarkRecord};
 
 /// Mark to mark attachment (OpenType, GPOS lookup type 6): where the subtable covers the mark at the cursor, it hangs on the
 /// mark before it, no class being passed over, where both belong to one base or to one component of a ligature, or one is
 /// itself a ligature. It tells whether it acted; where it didn't, it changed glyph flags alone.
-#[tactic(auto, using(stage_rules::specs::Lemmas::Glyphs::number_ahead, crate::proofs::MarkMark::no_mark_mark, crate::proofs::MarkMark::mark_mark))]
+#[tactic(auto, using(buffer_stages::proofs::Lemmas::Glyphs::number_ahead, crate::proofs::MarkMark::no_mark_mark, crate::proofs::MarkMark::mark_mark))]
 pub fn apply_mark_mark_pos(
     subtable: &MarkBasePos,
     ctx: &hb_ot_apply_context_t,
@@ -44,7 +44,7 @@ pub fn apply_mark_mark_pos(
 }
 
 /// The same with what was found before the cursor.
-#[tactic(auto, using(crate::specs::Lemmas::Performed::attempt_performed, crate::proofs::MarkMark::on_a_mark, crate::proofs::MarkMark::on_no_mark))]
+#[tactic(auto, using(crate::proofs::Lemmas::Performed::attempt_performed, crate::proofs::MarkMark::on_a_mark, crate::proofs::MarkMark::on_no_mark))]
 fn attach_mark_found(
     subtable: &MarkBasePos,
     mark: MarkRecord,

@@ -1,9 +1,9 @@
 //! Stretches that a rule marks around the cursor.
 ghost use Rattle.std.specs.Prelude.{◌≡◌, ◌≤◌, ◌+◌, ◌-◌, ◌∷◌, [], length};
-ghost use Rattle.glyph_lists.specs.Events.{Break, Concat};
-ghost use Rattle.stage_rules.specs.Buffers.{IsPassed};
+ghost use Rattle.buffer_glyphs.specs.Events.{Break, Concat};
+ghost use Rattle.buffer_stages.specs.Buffers.{IsPassed};
 
-use glyph_buffer::buffer::hb_buffer_t;
+use buffer_core::buffer::hb_buffer_t;
 
 /// Marks so many glyphs before the cursor, and so many from there on, as unsafe to concat, where that is asked for.
 pub fn mark_attempt(back: usize, ahead: usize, buffer: &mut hb_buffer_t)

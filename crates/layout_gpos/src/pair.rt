@@ -1,11 +1,11 @@
 //! Pair adjustment.
 ghost use Rattle.std.specs.Prelude.{ℕ, ◌≡◌, ◌<◌, ◌≤◌, ◌+◌, ◌==◌, ◌&&◌, IfErr, IfOk, false, true, length, option_and_then, slice_get};
 ghost use Rattle.std.specs.List.{list_any};
-ghost use Rattle.glyph_buffer.specs.Sides.{all_glyphs, items_of};
-ghost use Rattle.glyph_lists.specs.Items.{strip};
+ghost use Rattle.buffer_core.specs.Sides.{all_glyphs, items_of};
+ghost use Rattle.buffer_glyphs.specs.Items.{strip};
 ghost use Rattle.layout_match.specs.Applied.{applied_of};
-ghost use Rattle.stage_rules.specs.Buffers.{IsPassed, are_glyphs, cut_of};
-ghost use Rattle.stage_rules.specs.Performing.{Performed, cut_with};
+ghost use Rattle.buffer_stages.specs.Buffers.{IsPassed, are_glyphs, cut_of};
+ghost use Rattle.buffer_stages.specs.Performing.{Performed, cut_with};
 ghost use Rattle.layout_gpos.specs.Values.{is_zero};
 ghost use Rattle.layout_gpos.specs.Pairs.{begins_pair, has_no_effect, next_item, pair_adjusted, pair_events, pair_length, pair_of, pair_second, pair_subtable, pair_values};
 
@@ -13,11 +13,11 @@ use crate::apply::Apply;
 use crate::marking::{mark_attempt, mark_match};
 use crate::placing::{adjust_glyph, pass};
 use crate::value::is_zero;
-use glyph_buffer::buffer::hb_buffer_t;
+use buffer_core::buffer::hb_buffer_t;
+use buffer_rows::SortedRows;
 use layout_match::{hb_ot_apply_context_t, skipping_iterator_t};
-use layout_positions::pair::{PairPos, PairRow, PairValues};
-use layout_positions::value::ValueRecord;
-use sorted_rows::SortedRows;
+use layout_subtables::pair::{PairPos, PairRow, PairValues};
+use layout_subtables::value::ValueRecord;
 
 /// Whether there are pairs with a first glyph, in logarithmic time: the first row from which on no first glyph is below it.
 fn has_first(pairs: &SortedRows<PairRow>, first: u16) -> bool
@@ -48,7 +48,7 @@ fn pair_values(subtable: &PairPos, first: u16, second: u16) -> Option<PairValues
 
 /// The nearest glyph behind the one at the cursor that the lookup doesn't pass over, from the cursor on; else how far the
 /// search read.
-#[tactic(auto, using(crate::specs::Lemmas::Read::read_inside, crate::specs::Lemmas::Read::found_ahead))]
+#[tactic(auto, using(crate::proofs::Lemmas::Read::read_inside, crate::proofs::Lemmas::Read::found_ahead))]
 pub fn next_glyph(ctx: &hb_ot_apply_context_t, buffer: &hb_buffer_t) -> Result<usize, usize>
     requires { 0 < length buffer.now.ahead }
     ensures found { result ≡ next_item (applied_of ctx.now) (strip buffer.now.ahead) }
@@ -114,7 +114,7 @@ fn adjust_pair(buffer: &mut hb_buffer_t, first: usize, apart: usize, values: Pai
 }
 
 /// Does to two glyphs what a pair's values say, where they are a pair.
-#[tactic(auto, using(crate::specs::Lemmas::Performed::attempt_performed, crate::proofs::Paired::pair_acted))]
+#[tactic(auto, using(crate::proofs::Lemmas::Performed::attempt_performed, crate::proofs::Paired::pair_acted))]
 fn apply_values(values: Option<PairValues>, apart: usize, buffer: &mut hb_buffer_t) -> bool
     requires closed { buffer.old.is_open ≡ false }
     requires some { 0 < apart }
@@ -138,7 +138,7 @@ fn apply_values(values: Option<PairValues>, apart: usize, buffer: &mut hb_buffer
 impl Apply for PairPos {
     ghost action = { λ s d a. pair_subtable d a s };
 
-    #[tactic(auto, using(stage_rules::specs::Lemmas::Glyphs::number_ahead, crate::proofs::Paired::pair_begun, crate::proofs::Paired::pair_not_begun))]
+    #[tactic(auto, using(buffer_stages::proofs::Lemmas::Glyphs::number_ahead, crate::proofs::Paired::pair_begun, crate::proofs::Paired::pair_not_begun))]
     fn apply(&self, ctx: &hb_ot_apply_context_t, buffer: &mut hb_buffer_t) -> bool {
         let first = buffer.cur(0).as_glyph().0;
         begins_pair(self, first) && apply_from(self, first, ctx, buffer)
@@ -146,7 +146,7 @@ impl Apply for PairPos {
 }
 
 /// Pair adjustment (OpenType, GPOS lookup type 2) of the glyph at the cursor, which begins pairs, and the nearest behind it.
-#[tactic(auto, using(crate::specs::Lemmas::Read::number_beyond, crate::specs::Lemmas::Read::found_ahead, crate::specs::Lemmas::Performed::attempt_performed, crate::proofs::Paired::second_found, crate::proofs::Paired::second_failed))]
+#[tactic(auto, using(crate::proofs::Lemmas::Read::number_beyond, crate::proofs::Lemmas::Read::found_ahead, crate::proofs::Lemmas::Performed::attempt_performed, crate::proofs::Paired::second_found, crate::proofs::Paired::second_failed))]
 fn apply_from(
     subtable: &PairPos,
     first: u16,

@@ -1,14 +1,14 @@
 //! Positions written at the cursor, and the cursor moved on.
 ghost use Rattle.std.specs.Prelude.{ℕ, ◌≡◌, ◌<◌, ◌≤◌, false, true, [], length};
-ghost use Rattle.glyph_buffer.specs.Sides.{moved_on};
+ghost use Rattle.buffer_core.specs.Sides.{moved_on};
 ghost use Rattle.layout_gpos.specs.Values.{adjusted_at};
 
 use crate::value::adjust;
-use glyph_buffer::buffer::hb_buffer_t;
-use layout_positions::value::ValueRecord;
+use buffer_core::buffer::hb_buffer_t;
+use layout_subtables::value::ValueRecord;
 
 /// Adjusts the position of a glyph, by its index.
-#[tactic(auto, using(crate::specs::Lemmas::Placed::adjusted_back))]
+#[tactic(auto, using(crate::proofs::Lemmas::Placed::adjusted_back))]
 pub fn adjust_glyph(buffer: &mut hb_buffer_t, at: usize, value: ValueRecord)
     requires closed { buffer.old.is_open ≡ false }
     requires here { at < length buffer.old.positions }

@@ -1,13 +1,13 @@
 //! The glyphs before the cursor that marks may hang on.
 ghost use Rattle.std.specs.Prelude.{◌≡◌, ◌<◌, ◌≤◌, ◌+◌, IfErr, IfOk, Some, length, reverse, slice_get};
-ghost use Rattle.glyph_lists.specs.Items.{item_of};
+ghost use Rattle.buffer_glyphs.specs.Items.{item_of};
 ghost use Rattle.layout_match.specs.Applied.{applied_of};
-ghost use Rattle.stage_rules.specs.Buffers.{cut_of};
+ghost use Rattle.buffer_stages.specs.Buffers.{cut_of};
 ghost use Rattle.layout_gpos.specs.Marks.{among_marks, base_answer, is_later_component, item_before, without_marks};
 
-use glyph_buffer::buffer::hb_buffer_t;
-use glyph_lists::info::hb_glyph_info_t;
-use glyph_lists::ligature_words::{
+use buffer_core::buffer::hb_buffer_t;
+use buffer_glyphs::info::hb_glyph_info_t;
+use buffer_glyphs::ligature_words::{
     _hb_glyph_info_get_lig_comp, _hb_glyph_info_get_lig_id, _hb_glyph_info_multiplied,
 };
 use layout_common::flags::{IGNORE_FLAGS, IGNORE_MARKS};
@@ -41,7 +41,7 @@ pub fn glyph_before(buffer: &hb_buffer_t, back: usize) -> &hb_glyph_info_t
 }
 
 /// The nearest glyph before the cursor that the lookup doesn't pass over; else how far the search read.
-#[tactic(auto, using(crate::specs::Lemmas::Read::read_back))]
+#[tactic(auto, using(crate::proofs::Lemmas::Read::read_back))]
 pub fn item_before(ctx: &hb_ot_apply_context_t, buffer: &hb_buffer_t) -> Result<usize, usize>
     requires { 0 < length buffer.now.ahead }
     ensures found { result ≡ item_before (applied_of ctx.now) (cut_of buffer.now) }

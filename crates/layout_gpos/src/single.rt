@@ -1,20 +1,20 @@
 //! Single adjustment.
 ghost use Rattle.std.specs.Prelude.{ℕ, ◌≡◌, ◌<◌, false, length};
-ghost use Rattle.glyph_buffer.specs.Sides.{all_glyphs};
+ghost use Rattle.buffer_core.specs.Sides.{all_glyphs};
 ghost use Rattle.layout_gpos.specs.Singles.{single_subtable};
 
 use crate::apply::Apply;
 use crate::placing::{adjust_glyph, pass};
-use glyph_buffer::buffer::hb_buffer_t;
+use buffer_core::buffer::hb_buffer_t;
 use layout_match::hb_ot_apply_context_t;
-use layout_positions::single::SinglePos;
+use layout_subtables::single_pos::SinglePos;
 
 /// Single adjustment (OpenType, GPOS lookup type 1): where the subtable covers the glyph at the cursor, its position is
 /// adjusted.
 impl Apply for SinglePos {
     ghost action = { λ s d a. single_subtable d s.rows };
 
-    #[tactic(auto, using(stage_rules::specs::Lemmas::Glyphs::number_ahead, crate::specs::Lemmas::Placed::single_acted, crate::specs::Lemmas::Placed::single_passed))]
+    #[tactic(auto, using(buffer_stages::proofs::Lemmas::Glyphs::number_ahead, crate::proofs::Lemmas::Placed::single_acted, crate::proofs::Lemmas::Placed::single_passed))]
     fn apply(&self, _ctx: &hb_ot_apply_context_t, buffer: &mut hb_buffer_t) -> bool {
         let Some(value) = self.value(buffer.cur(0).as_glyph().0) else {
             return false;

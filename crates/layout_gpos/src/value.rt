@@ -2,10 +2,10 @@
 ghost use Rattle.std.specs.Prelude.{◌≡◌, ◌<◌, length};
 ghost use Rattle.layout_gpos.specs.Values.{adjusted, adjusted_at, advanced, is_zero, moved};
 
-use glyph_lists::position::GlyphPosition;
-use layout_positions::value::ValueRecord;
-use position_sums::sums::{minus, plus};
-use shaping_text::direction::Direction;
+use buffer_common::direction::Direction;
+use buffer_glyphs::position::GlyphPosition;
+use layout_offsets::sums::{minus, plus};
+use layout_subtables::value::ValueRecord;
 
 fn moved(value: ValueRecord, position: GlyphPosition) -> GlyphPosition
     ensures { result ≡ moved value position }

@@ -2,23 +2,23 @@
 use Rattle.std.proofs.Common.{ℕ, ◌≡◌, ◌≤◌, ◌+◌, ◌-◌, nat_le, true, false, Bool, List, [], ◌∷◌, ◌++◌, length, map, take, drop, Some, Ok, refl, sym, ap, subst, ◌∙◌, slice_get}
 use Rattle.std.specs.Prelude.{slice_set, Option, Result}
 use Rattle.std.proofs.lemmas.List.{length-map, map-append}
-use Rattle.glyph_lists.specs.declared.flags.GlyphPropsFlags.{GlyphPropsFlags}
-use Rattle.glyph_lists.specs.declared.info.hb_glyph_info_t.{hb_glyph_info_t}
-use Rattle.glyph_lists.specs.Items.{Item, item_of, strip}
-use Rattle.glyph_lists.specs.Origins.{origins, origin_of}
-use Rattle.glyph_lists.specs.Events.{Event, Break, Concat}
-use Rattle.glyph_buffer.specs.Sides.{Sides}
-use Rattle.glyph_buffer.specs.Lending.{with_glyph_ahead}
-use Rattle.font_face.specs.declared.parts.GlyphDefinition.{GlyphDefinition}
+use Rattle.buffer_glyphs.specs.declared.flags.GlyphPropsFlags.{GlyphPropsFlags}
+use Rattle.buffer_glyphs.specs.declared.info.hb_glyph_info_t.{hb_glyph_info_t}
+use Rattle.buffer_glyphs.specs.Items.{Item, item_of, strip}
+use Rattle.buffer_glyphs.specs.Origins.{origins, origin_of}
+use Rattle.buffer_glyphs.specs.Events.{Event, Break, Concat}
+use Rattle.buffer_core.specs.Sides.{Sides}
+use Rattle.buffer_core.specs.Lending.{with_glyph_ahead}
+use Rattle.layout_face.specs.declared.parts.GlyphDefinition.{GlyphDefinition}
 use Rattle.layout_common.specs.Rows.{value_of}
-use Rattle.layout_substitutions.specs.declared.reverse.ReverseChainSubst.{ReverseChainSubst}
+use Rattle.layout_subtables.specs.declared.reverse.ReverseChainSubst.{ReverseChainSubst}
 use Rattle.layout_match.specs.Applied.{Applied}
 use Rattle.layout_match.specs.Sequences.{is_covered_by}
-use Rattle.stage_rules.specs.Actions.{Cut, Outcome, Acts, Action, at_first, attempt_around}
-use Rattle.stage_rules.specs.Buffers.{cut_of, are_glyphs, IsPassed}
-use Rattle.stage_rules.specs.Performing.{IsPutInPlace, PerformsInPlace}
-use Rattle.stage_rules.specs.Lemmas.Frames.{then_happened, still_settings, same_numbers}
-use Rattle.stage_rules.specs.Lemmas.Glyphs.{all_of_both, all_of_front, all_of_back, all_dropped, first_item}
+use Rattle.buffer_stages.specs.Actions.{Cut, Outcome, Acts, Action, at_first, attempt_around}
+use Rattle.buffer_stages.specs.Buffers.{cut_of, are_glyphs, IsPassed}
+use Rattle.buffer_stages.specs.Performing.{IsPutInPlace, PerformsInPlace}
+use Rattle.buffer_stages.proofs.Lemmas.Frames.{then_happened, still_settings, same_numbers}
+use Rattle.buffer_stages.proofs.Lemmas.Glyphs.{all_of_both, all_of_front, all_of_back, all_dropped, first_item}
 use Rattle.layout_gsub.specs.Replacements.{substituted_item, substituted_props}
 use Rattle.layout_gsub.specs.Reverses.{put_after, put_around, put_before, put_in_place, reverse_subtable}
 use Rattle.layout_gsub.proofs.Replaced.{substituted_numbers}

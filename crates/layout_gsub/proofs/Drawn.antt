@@ -3,21 +3,21 @@ use Rattle.std.proofs.Common.{ℕ, ◌≡◌, ◌<◌, ◌%◌, Bool, true, fals
 use Rattle.std.proofs.lemmas.List.{length-map, length-append}
 use Rattle.std.proofs.lemmas.Option.{slice_get-get_or}
 use Rattle.std.specs.Prelude.{◌+◌, nat_le, if◌then◌else◌, Option, Result, Ok, Err}
-use Rattle.glyph_lists.specs.declared.cause.ShapeCause.{ShapeCause}
-use Rattle.glyph_lists.specs.declared.cause.ShapeCause.TheVariants.{TooLong}
-use Rattle.glyph_lists.specs.Items.{item_of, strip, clusters}
-use Rattle.glyph_lists.specs.Parts.{stretch}
-use Rattle.glyph_lists.specs.Glyphs.{glyphs_marked, tells_apart}
-use Rattle.glyph_lists.specs.Lemmas.Glyphs.{strip_marked}
-use Rattle.glyph_lists.specs.Events.{Event, Break}
-use Rattle.glyph_buffer.specs.Sides.{Sides, all_glyphs, origins_of, origins_by}
-use Rattle.glyph_buffer.specs.Marking.{marked_across, end_in_all, with_marked}
-use Rattle.font_face.specs.declared.parts.GlyphDefinition.{GlyphDefinition}
-use Rattle.stage_rules.specs.Actions.{Cut, Acts, Refuses, later, whole}
-use Rattle.stage_rules.specs.Buffers.{cut_of, frame_of, IsPassed}
-use Rattle.stage_rules.specs.Performing.{cut_with, Performs}
-use Rattle.stage_rules.specs.Lemmas.Performed.{performs_later, same_with}
-use Rattle.stage_rules.specs.Lemmas.Attempts.{cut_with_glyphs}
+use Rattle.buffer_glyphs.specs.declared.cause.ShapeCause.{ShapeCause}
+use Rattle.buffer_glyphs.specs.declared.cause.ShapeCause.TheVariants.{TooLong}
+use Rattle.buffer_glyphs.specs.Items.{item_of, strip, clusters}
+use Rattle.buffer_glyphs.specs.Parts.{stretch}
+use Rattle.buffer_glyphs.specs.Glyphs.{glyphs_marked, tells_apart}
+use Rattle.buffer_glyphs.specs.Lemmas.Glyphs.{strip_marked}
+use Rattle.buffer_glyphs.specs.Events.{Event, Break}
+use Rattle.buffer_core.specs.Sides.{Sides, all_glyphs, origins_of, origins_by}
+use Rattle.buffer_core.specs.Marking.{marked_across, end_in_all, with_marked}
+use Rattle.layout_face.specs.declared.parts.GlyphDefinition.{GlyphDefinition}
+use Rattle.buffer_stages.specs.Actions.{Cut, Acts, Refuses, later, whole}
+use Rattle.buffer_stages.specs.Buffers.{cut_of, frame_of, IsPassed}
+use Rattle.buffer_stages.specs.Performing.{cut_with, Performs}
+use Rattle.buffer_stages.proofs.Lemmas.Performed.{performs_later, same_with}
+use Rattle.buffer_stages.proofs.Lemmas.Attempts.{cut_with_glyphs}
 use Rattle.layout_match.specs.Applied.{next_random}
 use Rattle.layout_gsub.specs.Replacements.{substituted_cut, substituted}
 use Rattle.layout_gsub.specs.Alternates.{alternate_of, alternate_of_value, drawn_alternate, is_drawn}

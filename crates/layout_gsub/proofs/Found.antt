@@ -2,17 +2,17 @@
 use Rattle.std.proofs.Common.{ℕ, ◌≡◌, ◌≤◌, ◌+◌, ◌-◌, List, [], ◌∷◌, length, take, drop, refl, sym, ap, subst, ◌∙◌, arith, Ok, Err, Some, slice_get}
 use Rattle.std.specs.Prelude.{Result, Bool, Option}
 use Rattle.std.proofs.lemmas.List.{take_all}
-use Rattle.glyph_lists.specs.declared.cause.ShapeCause.{ShapeCause}
-use Rattle.glyph_lists.specs.declared.info.hb_glyph_info_t.{hb_glyph_info_t}
-use Rattle.glyph_buffer.specs.Sides.{Sides}
-use Rattle.layout_font.specs.Layout.{LigatureSetTable, ligature_set_of}
+use Rattle.buffer_glyphs.specs.declared.cause.ShapeCause.{ShapeCause}
+use Rattle.buffer_glyphs.specs.declared.info.hb_glyph_info_t.{hb_glyph_info_t}
+use Rattle.buffer_core.specs.Sides.{Sides}
+use Rattle.layout_tables.specs.Layout.{LigatureSetTable, ligature_set_of}
 use Rattle.layout_match.specs.Applied.{Applied}
 use Rattle.layout_match.specs.Searches.{Search}
-use Rattle.stage_rules.specs.Actions.{Outcome}
-use Rattle.stage_rules.specs.Performing.{cut_with, Performs}
+use Rattle.buffer_stages.specs.Actions.{Outcome}
+use Rattle.buffer_stages.specs.Performing.{cut_with, Performs}
 use Rattle.layout_gsub.specs.Ligating.{ligature_subst, ligatures_over}
 use Rattle.layout_gsub.proofs.Tested.{first_tried}
-use Rattle.glyph_lists.specs.Items.{Item}
+use Rattle.buffer_glyphs.specs.Items.{Item}
 use Rattle.layout_match.specs.declared.search.match_t.{match_t}
 use Rattle.layout_match.specs.declared.search.match_t.TheVariants.{MATCH, SKIP, NOT_MATCH}
 use Rattle.layout_match.specs.Matches.{asks_of, by_answer, indices, input_end, input_indices, nearest, nearest_from, reached, then_reached, with_index}

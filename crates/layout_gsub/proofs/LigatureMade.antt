@@ -3,25 +3,25 @@ use Rattle.std.proofs.Common.{ℕ, zero, suc, ◌≡◌, ◌≤◌, ◌<◌, ◌
 use Rattle.std.specs.Prelude.{slice_range}
 use Rattle.std.proofs.lemmas.List.{map-append, length-append, length-map, drop-map, take-append-drop}
 use Rattle.std.proofs.lemmas.Bool.Decides.{nat_tests}
-use Rattle.glyph_lists.specs.declared.cause.ShapeCause.{ShapeCause}
-use Rattle.glyph_lists.specs.declared.cause.ShapeCause.TheVariants.{TooLong}
-use Rattle.glyph_lists.specs.declared.info.hb_glyph_info_t.{hb_glyph_info_t}
-use Rattle.glyph_lists.specs.Items.{Item, item_of, strip, clusters}
-use Rattle.glyph_lists.specs.Levels.{InList}
-use Rattle.glyph_lists.specs.Origins.{origin_of, origins}
-use Rattle.glyph_lists.specs.Glyphs.{glyphs_merged_at, is_marked_at}
-use Rattle.glyph_lists.specs.Events.{Event, Merge}
-use Rattle.glyph_buffer.specs.Sides.{Sides, all_glyphs, items_of, origins_of, origins_by}
-use Rattle.glyph_buffer.specs.Merging.{index_in_all, with_merged}
-use Rattle.glyph_buffer.specs.Settings.{next_lig_id, with_lig_id}
-use Rattle.font_face.specs.declared.parts.GlyphDefinition.{GlyphDefinition}
-use Rattle.glyph_lists.specs.LigatureWords.{lig_comp, lig_id, lig_num_comps, ligature_word}
-use Rattle.stage_rules.specs.Actions.{Cut, Acts, Refuses}
-use Rattle.stage_rules.specs.Buffers.{cut_of, are_glyphs, frame_of, Happened}
-use Rattle.stage_rules.specs.Performing.{cut_with, Performed}
-use Rattle.stage_rules.specs.Lemmas.Attempts.{cut_with_glyphs}
-use Rattle.stage_rules.specs.Lemmas.Frames.{then_happened, still_settings, still_limit}
-use Rattle.stage_rules.specs.Lemmas.Glyphs.{and_both, all_of_both, all_of_front, all_of_back, all_taken, all_dropped}
+use Rattle.buffer_glyphs.specs.declared.cause.ShapeCause.{ShapeCause}
+use Rattle.buffer_glyphs.specs.declared.cause.ShapeCause.TheVariants.{TooLong}
+use Rattle.buffer_glyphs.specs.declared.info.hb_glyph_info_t.{hb_glyph_info_t}
+use Rattle.buffer_glyphs.specs.Items.{Item, item_of, strip, clusters}
+use Rattle.buffer_glyphs.specs.Levels.{InList}
+use Rattle.buffer_glyphs.specs.Origins.{origin_of, origins}
+use Rattle.buffer_glyphs.specs.Glyphs.{glyphs_merged_at, is_marked_at}
+use Rattle.buffer_glyphs.specs.Events.{Event, Merge}
+use Rattle.buffer_core.specs.Sides.{Sides, all_glyphs, items_of, origins_of, origins_by}
+use Rattle.buffer_core.specs.Merging.{index_in_all, with_merged}
+use Rattle.buffer_core.specs.Settings.{next_lig_id, with_lig_id}
+use Rattle.layout_face.specs.declared.parts.GlyphDefinition.{GlyphDefinition}
+use Rattle.buffer_glyphs.specs.LigatureWords.{lig_comp, lig_id, lig_num_comps, ligature_word}
+use Rattle.buffer_stages.specs.Actions.{Cut, Acts, Refuses}
+use Rattle.buffer_stages.specs.Buffers.{cut_of, are_glyphs, frame_of, Happened}
+use Rattle.buffer_stages.specs.Performing.{cut_with, Performed}
+use Rattle.buffer_stages.proofs.Lemmas.Attempts.{cut_with_glyphs}
+use Rattle.buffer_stages.proofs.Lemmas.Frames.{then_happened, still_settings, still_limit}
+use Rattle.buffer_stages.proofs.Lemmas.Glyphs.{and_both, all_of_both, all_of_front, all_of_back, all_taken, all_dropped}
 use Rattle.layout_gsub.specs.Ligating.{after_parts, are_marks, component_count, following_items, items_at, last_given, last_place, ligated_over, ligature_category, ligature_item, ligature_props, own_number, parts_gone, passed_item, passed_items, has_own_number, components_at, with_component}
 use Rattle.layout_gsub.specs.Uniting.{AreUnited, IsMerged, IsRenumbered, end_of}
 use Rattle.layout_gsub.proofs.Replaced.{acts_within, refuses_past}

@@ -4,10 +4,10 @@ use Rattle.std.specs.Prelude.{◌==◌, ◌||◌, max, if◌then◌else◌, slic
 use Rattle.std.proofs.lemmas.Bool.Decides.{nat_tests}
 use Rattle.std.proofs.lemmas.List.{take-map, drop-map, take-append-drop}
 use Rattle.std.proofs.lemmas.List.Folds.{drop_split}
-use Rattle.glyph_lists.specs.Parts.{stretch}
-use Rattle.glyph_lists.specs.Merges.{least_number, merged}
-use Rattle.glyph_lists.specs.Levels.{Manner, Unites, Marks, Keeps}
-use Rattle.glyph_lists.specs.Origins.{Origin, numbers, cast, origins_merged, added_outside, origins_marked, merged_as}
+use Rattle.buffer_glyphs.specs.Parts.{stretch}
+use Rattle.buffer_glyphs.specs.Merges.{least_number, merged}
+use Rattle.buffer_glyphs.specs.Levels.{Manner, Unites, Marks, Keeps}
+use Rattle.buffer_glyphs.specs.Origins.{Origin, numbers, cast, origins_merged, added_outside, origins_marked, merged_as}
 
 same_is : (n : ℕ) → (n == n) ≡ true
 same_is n = grind (arith, nat_tests)

@@ -4,22 +4,22 @@ use Rattle.std.proofs.lemmas.List.{map-append, length-append, length-map, replic
 use Rattle.std.proofs.Math.Seq.{take-append_seam, drop-append_seam, drop-append-add}
 use Rattle.std.proofs.lemmas.Bool.Decides.{nat_tests}
 use Rattle.std.specs.List.{list_all}
-use Rattle.glyph_lists.specs.declared.cause.ShapeCause.TheVariants.{TooLong}
-use Rattle.glyph_lists.specs.declared.info.hb_glyph_info_t.{hb_glyph_info_t}
-use Rattle.glyph_lists.specs.Items.{Item, item_of, strip, clusters}
-use Rattle.glyph_lists.specs.Parts.{first_of, replaced_among}
-use Rattle.glyph_lists.specs.Origins.{Origin, origin_of, origins, merged_as, manner, InList}
-use Rattle.glyph_lists.specs.Events.{Replace, Delete}
-use Rattle.glyph_buffer.specs.Sides.{Sides, items_of, origins_of, origins_by, has_output_room}
-use Rattle.glyph_buffer.specs.Merging.{with_put, with_skipped}
-use Rattle.glyph_buffer.specs.Told.{told_telling}
-use Rattle.glyph_buffer.specs.Grouping.{with_deleted}
-use Rattle.glyph_lists.specs.Deleting.{deletion_marks}
-use Rattle.font_face.specs.declared.parts.GlyphDefinition.{GlyphDefinition}
-use Rattle.stage_rules.specs.Actions.{Acts, Refuses}
-use Rattle.stage_rules.specs.Buffers.{are_glyphs, frame_of, IsStill}
-use Rattle.stage_rules.specs.Performing.{cut_with, Performed}
-use Rattle.stage_rules.specs.Lemmas.Glyphs.{and_both, all_of_both, all_of_front, all_of_back, all_dropped, first_item}
+use Rattle.buffer_glyphs.specs.declared.cause.ShapeCause.TheVariants.{TooLong}
+use Rattle.buffer_glyphs.specs.declared.info.hb_glyph_info_t.{hb_glyph_info_t}
+use Rattle.buffer_glyphs.specs.Items.{Item, item_of, strip, clusters}
+use Rattle.buffer_glyphs.specs.Parts.{first_of, replaced_among}
+use Rattle.buffer_glyphs.specs.Origins.{Origin, origin_of, origins, merged_as, manner, InList}
+use Rattle.buffer_glyphs.specs.Events.{Replace, Delete}
+use Rattle.buffer_core.specs.Sides.{Sides, items_of, origins_of, origins_by, has_output_room}
+use Rattle.buffer_core.specs.Merging.{with_put, with_skipped}
+use Rattle.buffer_core.proofs.Told.{told_telling}
+use Rattle.buffer_core.specs.Grouping.{with_deleted}
+use Rattle.buffer_glyphs.specs.Deleting.{deletion_marks}
+use Rattle.layout_face.specs.declared.parts.GlyphDefinition.{GlyphDefinition}
+use Rattle.buffer_stages.specs.Actions.{Acts, Refuses}
+use Rattle.buffer_stages.specs.Buffers.{are_glyphs, frame_of, IsStill}
+use Rattle.buffer_stages.specs.Performing.{cut_with, Performed}
+use Rattle.buffer_stages.proofs.Lemmas.Glyphs.{and_both, all_of_both, all_of_front, all_of_back, all_dropped, first_item}
 use Rattle.layout_gsub.specs.Putting.{IsPut}
 use Rattle.layout_gsub.specs.Multiples.{component_item, component_items, multiplied_item, multiplied, multiplied_cut, deleted}
 use Rattle.layout_gsub.proofs.Replaced.{acts_within, refuses_past}

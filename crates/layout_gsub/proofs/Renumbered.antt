@@ -2,12 +2,12 @@
 use Rattle.std.proofs.Common.{ℕ, zero, suc, ◌≡◌, ◌≤◌, ◌<◌, ◌+◌, ◌==◌, ◌&&◌, not, true, false, List, [], ◌∷◌, ◌++◌, length, take, drop, set, refl, sym, ap, ◌∙◌, arith, append_assoc, Some, slice_get}
 use Rattle.std.proofs.lemmas.List.{take_more_set, drop-set-lt, map-set, drop_more, drop_all, append-nil, take_all, length-map, length-set, take-append-drop}
 use Rattle.std.proofs.lemmas.Option.{get_or_from_slice_get, slice_get_within}
-use Rattle.glyph_lists.specs.declared.info.hb_glyph_info_t.{hb_glyph_info_t}
-use Rattle.glyph_lists.specs.Items.{Item, item_of, strip}
-use Rattle.glyph_lists.specs.Origins.{origin_of, origins}
-use Rattle.glyph_buffer.specs.Sides.{Sides}
-use Rattle.glyph_buffer.specs.Lending.{with_glyph_ahead}
-use Rattle.glyph_lists.specs.LigatureWords.{lig_comp, lig_id}
+use Rattle.buffer_glyphs.specs.declared.info.hb_glyph_info_t.{hb_glyph_info_t}
+use Rattle.buffer_glyphs.specs.Items.{Item, item_of, strip}
+use Rattle.buffer_glyphs.specs.Origins.{origin_of, origins}
+use Rattle.buffer_core.specs.Sides.{Sides}
+use Rattle.buffer_core.specs.Lending.{with_glyph_ahead}
+use Rattle.buffer_glyphs.specs.LigatureWords.{lig_comp, lig_id}
 use Rattle.layout_gsub.specs.Ligating.{following_items, with_component}
 use Rattle.layout_gsub.specs.Uniting.{IsRenumbered}
 

@@ -3,21 +3,21 @@ use Rattle.std.proofs.Common.{ℕ, ◌≡◌, ◌≤◌, ◌<◌, ◌+◌, true,
 use Rattle.std.specs.Prelude.{slice_set}
 use Rattle.std.proofs.lemmas.List.{map-append, length-append, length-map}
 use Rattle.std.proofs.lemmas.Bool.Decides.{nat_tests}
-use Rattle.glyph_lists.specs.declared.flags.GlyphPropsFlags.{GlyphPropsFlags}
-use Rattle.glyph_lists.specs.declared.info.hb_glyph_info_t.{hb_glyph_info_t}
-use Rattle.glyph_lists.specs.Items.{Item, item_of, strip}
-use Rattle.glyph_lists.specs.Origins.{origins, origin_of}
-use Rattle.glyph_lists.specs.Replacements.{glyph_numbered}
-use Rattle.glyph_lists.specs.declared.cause.ShapeCause.TheVariants.{TooLong}
-use Rattle.glyph_buffer.specs.Sides.{Sides, items_of, origins_of, has_output_room}
-use Rattle.glyph_buffer.specs.Lending.{with_glyph_ahead}
-use Rattle.glyph_buffer.specs.Merging.{with_renumbered}
-use Rattle.font_face.specs.declared.parts.GlyphDefinition.{GlyphDefinition}
-use Rattle.stage_rules.specs.Actions.{whole, Outcome, Acts, Refuses, within_limit}
-use Rattle.stage_rules.specs.Buffers.{cut_of, are_glyphs, frame_of, IsRead, IsActed}
-use Rattle.stage_rules.specs.Lemmas.Glyphs.{and_both, all_of_both, all_of_front, all_of_back, all_dropped}
-use Rattle.stage_rules.specs.Performing.{cut_with, Performed}
-use Rattle.stage_rules.specs.Lemmas.Performed.{made_of_acted}
+use Rattle.buffer_glyphs.specs.declared.flags.GlyphPropsFlags.{GlyphPropsFlags}
+use Rattle.buffer_glyphs.specs.declared.info.hb_glyph_info_t.{hb_glyph_info_t}
+use Rattle.buffer_glyphs.specs.Items.{Item, item_of, strip}
+use Rattle.buffer_glyphs.specs.Origins.{origins, origin_of}
+use Rattle.buffer_glyphs.specs.Replacements.{glyph_numbered}
+use Rattle.buffer_glyphs.specs.declared.cause.ShapeCause.TheVariants.{TooLong}
+use Rattle.buffer_core.specs.Sides.{Sides, items_of, origins_of, has_output_room}
+use Rattle.buffer_core.specs.Lending.{with_glyph_ahead}
+use Rattle.buffer_core.specs.Merging.{with_renumbered}
+use Rattle.layout_face.specs.declared.parts.GlyphDefinition.{GlyphDefinition}
+use Rattle.buffer_stages.specs.Actions.{whole, Outcome, Acts, Refuses, within_limit}
+use Rattle.buffer_stages.specs.Buffers.{cut_of, are_glyphs, frame_of, IsRead, IsActed}
+use Rattle.buffer_stages.proofs.Lemmas.Glyphs.{and_both, all_of_both, all_of_front, all_of_back, all_dropped}
+use Rattle.buffer_stages.specs.Performing.{cut_with, Performed}
+use Rattle.buffer_stages.proofs.Lemmas.Performed.{made_of_acted}
 use Rattle.layout_gsub.specs.Replacements.{substituted_item, substituted_props, substituted_cut, substituted}
 
 -- the glyph at the cursor with other properties

@@ -1,18 +1,18 @@
 -- What subtables make of the glyph at the cursor.
 use Rattle.std.proofs.Common.{ℕ, ◌≡◌, ◌<◌, true, [], ◌∷◌, length, arith, Bool, List, Option, Result, Some, sym, ap, subst, ◌∙◌, slice_get}
-use Rattle.glyph_lists.specs.declared.info.hb_glyph_info_t.{hb_glyph_info_t}
-use Rattle.glyph_lists.specs.declared.cause.ShapeCause.{ShapeCause}
-use Rattle.glyph_lists.specs.Items.{Item, item_of, strip}
-use Rattle.glyph_lists.specs.Parts.{first_of}
-use Rattle.glyph_buffer.specs.Sides.{Sides}
+use Rattle.buffer_glyphs.specs.declared.info.hb_glyph_info_t.{hb_glyph_info_t}
+use Rattle.buffer_glyphs.specs.declared.cause.ShapeCause.{ShapeCause}
+use Rattle.buffer_glyphs.specs.Items.{Item, item_of, strip}
+use Rattle.buffer_glyphs.specs.Parts.{first_of}
+use Rattle.buffer_core.specs.Sides.{Sides}
 use Rattle.layout_common.specs.Rows.{value_of}
 use Rattle.layout_common.specs.declared.glyph_row.GlyphRow.{GlyphRow}
-use Rattle.layout_substitutions.specs.declared.sequence.SequenceRow.{SequenceRow}
-use Rattle.layout_substitutions.specs.Substitutions.{glyphs_of}
-use Rattle.font_face.specs.declared.parts.GlyphDefinition.{GlyphDefinition}
-use Rattle.stage_rules.specs.Actions.{Outcome, Action, at_first}
-use Rattle.stage_rules.specs.Performing.{cut_with, Performed, Performs}
-use Rattle.stage_rules.specs.Lemmas.Glyphs.{first_item}
+use Rattle.layout_subtables.specs.declared.sequence.SequenceRow.{SequenceRow}
+use Rattle.layout_subtables.specs.Substitutions.{glyphs_of}
+use Rattle.layout_face.specs.declared.parts.GlyphDefinition.{GlyphDefinition}
+use Rattle.buffer_stages.specs.Actions.{Outcome, Action, at_first}
+use Rattle.buffer_stages.specs.Performing.{cut_with, Performed, Performs}
+use Rattle.buffer_stages.proofs.Lemmas.Glyphs.{first_item}
 use Rattle.layout_gsub.specs.Multiples.{covered_sequence, multiple_subtable, deleted, sequence}
 use Rattle.layout_gsub.specs.Replacements.{substituted, single_subtable}
 use Rattle.layout_gsub.specs.Alternates.{alternate_set, alternate_subtable, feature_value}

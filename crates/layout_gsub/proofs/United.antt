@@ -3,17 +3,17 @@ use Rattle.std.proofs.Common.{ℕ, suc, zero, ◌≡◌, ◌≤◌, ◌<◌, ◌
 use Rattle.std.specs.Prelude.{slice_set, slice_range}
 use Rattle.std.proofs.lemmas.List.{map-append, length-append, length-map, length-take-le, drop-map, drop-drop, take-append-drop, append-nil, drop_more, drop_all}
 use Rattle.std.proofs.lemmas.Bool.Decides.{nat_tests}
-use Rattle.glyph_lists.specs.declared.info.hb_glyph_info_t.{hb_glyph_info_t}
-use Rattle.glyph_lists.specs.declared.level.BufferClusterLevel.{BufferClusterLevel}
-use Rattle.glyph_lists.specs.Lists.{take_next, drop_next}
-use Rattle.glyph_lists.specs.Items.{Item, item_of, strip}
-use Rattle.glyph_lists.specs.Parts.{copies}
-use Rattle.glyph_lists.specs.Origins.{Asks, origin_of, origins}
-use Rattle.glyph_lists.specs.Events.{Replace, origins_after}
-use Rattle.glyph_buffer.specs.Sides.{Sides, asks_of, fits_next, has_output_room, moved_on, origins_of, origins_by}
-use Rattle.glyph_buffer.specs.Lending.{with_glyph_ahead}
-use Rattle.glyph_buffer.specs.Merging.{with_skipped}
-use Rattle.glyph_lists.specs.LigatureWords.{lig_num_comps}
+use Rattle.buffer_glyphs.specs.declared.info.hb_glyph_info_t.{hb_glyph_info_t}
+use Rattle.buffer_glyphs.specs.declared.level.BufferClusterLevel.{BufferClusterLevel}
+use Rattle.buffer_glyphs.specs.Lists.{take_next, drop_next}
+use Rattle.buffer_glyphs.specs.Items.{Item, item_of, strip}
+use Rattle.buffer_glyphs.specs.Parts.{copies}
+use Rattle.buffer_glyphs.specs.Origins.{Asks, origin_of, origins}
+use Rattle.buffer_glyphs.specs.Events.{Replace, origins_after}
+use Rattle.buffer_core.specs.Sides.{Sides, asks_of, fits_next, has_output_room, moved_on, origins_of, origins_by}
+use Rattle.buffer_core.specs.Lending.{with_glyph_ahead}
+use Rattle.buffer_core.specs.Merging.{with_skipped}
+use Rattle.buffer_glyphs.specs.LigatureWords.{lig_num_comps}
 use Rattle.layout_gsub.specs.Ligating.{component_count, components_at, parts_gone, passed_item, passed_items}
 use Rattle.layout_gsub.specs.Uniting.{ArePassedAs, AreRising, AreUnited, IsPassedAs, end_of}
 use Rattle.layout_gsub.proofs.Parted.{counted_cons}

@@ -2,12 +2,12 @@
 use Rattle.std.specs.Prelude.{ℕ, ◌-◌, ◌/◌, ◌%◌, ◌^◌, ◌==◌, ◌&&◌, Bool, not, if◌then◌else◌, List, [], ◌∷◌, length, Option, Some, None, slice_get}
 use Rattle.std.specs.Int.{trailing_zeros, w32}
 use Rattle.std.specs.Int.RustNames.{bit_and}
-use Rattle.glyph_lists.specs.Parts.{first_of}
-use Rattle.glyph_lists.specs.Events.{Break}
-use Rattle.font_face.specs.declared.parts.GlyphDefinition.{GlyphDefinition}
-use Rattle.layout_substitutions.specs.declared.sequence.SequenceRow.{SequenceRow}
-use Rattle.layout_substitutions.specs.Substitutions.{glyphs_of}
-use Rattle.stage_rules.specs.Actions.{Passes, Action, whole, later, at_first}
+use Rattle.buffer_glyphs.specs.Parts.{first_of}
+use Rattle.buffer_glyphs.specs.Events.{Break}
+use Rattle.layout_face.specs.declared.parts.GlyphDefinition.{GlyphDefinition}
+use Rattle.layout_subtables.specs.declared.sequence.SequenceRow.{SequenceRow}
+use Rattle.layout_subtables.specs.Substitutions.{glyphs_of}
+use Rattle.buffer_stages.specs.Actions.{Passes, Action, whole, later, at_first}
 use Rattle.layout_match.specs.Applied.{next_random}
 use Rattle.layout_gsub.specs.Replacements.{substituted}
 

@@ -2,18 +2,18 @@
 use Rattle.std.specs.Prelude.{ℕ, ◌+◌, ◌-◌, ◌%◌, ◌==◌, ◌&&◌, ◌||◌, Bool, false, not, min, nat_lt, is_some, if◌then◌else◌, List, [], ◌∷◌, ◌++◌, length, map, take, drop, Option, Some, None, Result, Ok, Err, slice_get, slice_range}
 use Rattle.std.specs.Int.RustNames.{bit_and, bit_or}
 use Rattle.std.specs.List.{list_all, sum}
-use Rattle.glyph_lists.specs.Items.{Item}
-use Rattle.glyph_lists.specs.Parts.{first_of, copies}
-use Rattle.glyph_lists.specs.Levels.{InList}
-use Rattle.glyph_lists.specs.Events.{Event, Merge, Replace}
-use Rattle.glyph_buffer.specs.Settings.{next_lig_id}
-use Rattle.font_face.specs.declared.parts.GlyphDefinition.{GlyphDefinition}
-use Rattle.layout_font.specs.Layout.{LigatureTable, LigatureSetTable, ligature_set_of}
+use Rattle.buffer_glyphs.specs.Items.{Item}
+use Rattle.buffer_glyphs.specs.Parts.{first_of, copies}
+use Rattle.buffer_glyphs.specs.Levels.{InList}
+use Rattle.buffer_glyphs.specs.Events.{Event, Merge, Replace}
+use Rattle.buffer_core.specs.Settings.{next_lig_id}
+use Rattle.layout_face.specs.declared.parts.GlyphDefinition.{GlyphDefinition}
+use Rattle.layout_tables.specs.Layout.{LigatureTable, LigatureSetTable, ligature_set_of}
 use Rattle.layout_match.specs.Applied.{Applied, own_search}
-use Rattle.glyph_lists.specs.LigatureWords.{component_word, is_base_glyph, is_mark, lig_comp, lig_id, lig_num_comps, ligature_word}
+use Rattle.buffer_glyphs.specs.LigatureWords.{component_word, is_base_glyph, is_mark, lig_comp, lig_id, lig_num_comps, ligature_word}
 use Rattle.layout_match.specs.Matches.{input_end, input_indices}
 use Rattle.layout_match.specs.Sequences.{is_glyph}
-use Rattle.stage_rules.specs.Actions.{Passes, Acts, Action, at_first, first_rule, within_limit, attempt_around}
+use Rattle.buffer_stages.specs.Actions.{Passes, Acts, Action, at_first, first_rule, within_limit, attempt_around}
 use Rattle.layout_gsub.specs.Replacements.{glyph_props_of, substituted}
 
 -- ---- parts

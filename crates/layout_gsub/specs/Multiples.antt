@@ -1,14 +1,14 @@
 -- Multiple substitution (OpenType, GSUB lookup type 2): a sequence of glyphs takes the place of one.
 use Rattle.std.specs.Prelude.{ℕ, ◌+◌, ◌==◌, is_some, if◌then◌else◌, List, [], ◌∷◌, ◌++◌, length, drop, Option, Some, None}
 use Rattle.std.specs.Int.RustNames.{bit_and, bit_or}
-use Rattle.glyph_lists.specs.Items.{Item}
-use Rattle.glyph_lists.specs.Parts.{first_of}
-use Rattle.glyph_lists.specs.Events.{Replace, Delete}
-use Rattle.font_face.specs.declared.parts.GlyphDefinition.{GlyphDefinition}
-use Rattle.layout_substitutions.specs.declared.sequence.SequenceRow.{SequenceRow}
-use Rattle.layout_substitutions.specs.Substitutions.{glyphs_of}
-use Rattle.glyph_lists.specs.LigatureWords.{component_word, is_ligature, lig_id}
-use Rattle.stage_rules.specs.Actions.{Cut, Passes, Acts, Action, at_first, within_limit}
+use Rattle.buffer_glyphs.specs.Items.{Item}
+use Rattle.buffer_glyphs.specs.Parts.{first_of}
+use Rattle.buffer_glyphs.specs.Events.{Replace, Delete}
+use Rattle.layout_face.specs.declared.parts.GlyphDefinition.{GlyphDefinition}
+use Rattle.layout_subtables.specs.declared.sequence.SequenceRow.{SequenceRow}
+use Rattle.layout_subtables.specs.Substitutions.{glyphs_of}
+use Rattle.buffer_glyphs.specs.LigatureWords.{component_word, is_ligature, lig_id}
+use Rattle.buffer_stages.specs.Actions.{Cut, Passes, Acts, Action, at_first, within_limit}
 use Rattle.layout_gsub.specs.Replacements.{glyph_props_of, substituted}
 
 -- the properties of one of several glyphs that come in for one: it is marked as substituted and as one of several, and keeps the marks of what became of

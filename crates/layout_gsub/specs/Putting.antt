@@ -1,8 +1,8 @@
 -- A glyph that goes behind the output of a buffer, by its item and its origin.
 use Rattle.std.specs.Prelude.{◌≡◌, [], ◌∷◌, ◌++◌}
-use Rattle.glyph_lists.specs.Items.{Item, strip}
-use Rattle.glyph_lists.specs.Origins.{Origin, origins}
-use Rattle.glyph_buffer.specs.Sides.{Sides}
+use Rattle.buffer_glyphs.specs.Items.{Item, strip}
+use Rattle.buffer_glyphs.specs.Origins.{Origin, origins}
+use Rattle.buffer_core.specs.Sides.{Sides}
 
 -- nothing else changes
 pub record IsPut (x : Item) (o : Origin) (old new : Sides) : Type 0 where

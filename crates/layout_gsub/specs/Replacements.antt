@@ -1,14 +1,14 @@
 -- A glyph in the place of another (OpenType, GSUB lookup types 1 and 3; GDEF, glyph class definition).
 use Rattle.std.specs.Prelude.{ℕ, ◌+◌, ◌*◌, ◌%◌, ◌==◌, if◌then◌else◌, List, [], ◌++◌, map, take, drop, Option, Some, None, is_some}
 use Rattle.std.specs.Int.RustNames.{bit_and, bit_or}
-use Rattle.glyph_lists.specs.Items.{Item}
-use Rattle.glyph_lists.specs.Parts.{first_of}
+use Rattle.buffer_glyphs.specs.Items.{Item}
+use Rattle.buffer_glyphs.specs.Parts.{first_of}
 use Rattle.layout_common.specs.Classes.{class_of}
 use Rattle.layout_common.specs.Rows.{value_of}
 use Rattle.layout_common.specs.declared.glyph_row.GlyphRow.{GlyphRow}
-use Rattle.font_face.specs.Glyphs.{glyph_class}
-use Rattle.font_face.specs.declared.parts.GlyphDefinition.{GlyphDefinition}
-use Rattle.stage_rules.specs.Actions.{Cut, Passes, Acts, Action, at_first, within_limit}
+use Rattle.layout_face.specs.Glyphs.{glyph_class}
+use Rattle.layout_face.specs.declared.parts.GlyphDefinition.{GlyphDefinition}
+use Rattle.buffer_stages.specs.Actions.{Cut, Passes, Acts, Action, at_first, within_limit}
 
 -- the properties that GDEF gives a glyph: the bit of its class, of a mark its attachment class in the second byte too
 abbrev pub props_of_class : ℕ → ℕ → ℕ

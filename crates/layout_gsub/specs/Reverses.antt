@@ -1,15 +1,15 @@
 -- Reverse chaining single substitution (OpenType, GSUB lookup type 8): a glyph takes the place of another, in a context.
 use Rattle.std.specs.Prelude.{ℕ, ◌+◌, ◌-◌, Bool, List, [], ◌∷◌, ◌++◌, length, map, take, drop, Option, Some, None, Result, Ok, Err}
-use Rattle.glyph_lists.specs.Items.{Item}
-use Rattle.glyph_lists.specs.Parts.{first_of}
-use Rattle.glyph_lists.specs.Events.{Break}
+use Rattle.buffer_glyphs.specs.Items.{Item}
+use Rattle.buffer_glyphs.specs.Parts.{first_of}
+use Rattle.buffer_glyphs.specs.Events.{Break}
 use Rattle.layout_common.specs.Rows.{value_of}
-use Rattle.font_face.specs.declared.parts.GlyphDefinition.{GlyphDefinition}
-use Rattle.layout_substitutions.specs.declared.reverse.ReverseChainSubst.{ReverseChainSubst}
+use Rattle.layout_face.specs.declared.parts.GlyphDefinition.{GlyphDefinition}
+use Rattle.layout_subtables.specs.declared.reverse.ReverseChainSubst.{ReverseChainSubst}
 use Rattle.layout_match.specs.Applied.{Applied, context_search}
 use Rattle.layout_match.specs.Matches.{backtrack_end, lookahead_end}
 use Rattle.layout_match.specs.Sequences.{is_covered_by}
-use Rattle.stage_rules.specs.Actions.{Cut, Outcome, Passes, Acts, Action, at_first, attempt_around}
+use Rattle.buffer_stages.specs.Actions.{Cut, Outcome, Passes, Acts, Action, at_first, attempt_around}
 use Rattle.layout_gsub.specs.Replacements.{substituted_item}
 
 -- the item at the cut has another glyph, and is not passed

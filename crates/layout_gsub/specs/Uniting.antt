@@ -1,11 +1,11 @@
 -- What the calls that make a ligature leave of a buffer.
 use Rattle.std.specs.Prelude.{ℕ, ◌≡◌, ◌≤◌, ◌+◌, List, [], ◌∷◌, ◌++◌, length, map, take, drop}
-use Rattle.glyph_lists.specs.Items.{Item, strip}
-use Rattle.glyph_lists.specs.Levels.{InList}
-use Rattle.glyph_lists.specs.Origins.{origins}
-use Rattle.glyph_lists.specs.Events.{Merge}
-use Rattle.glyph_buffer.specs.Sides.{Sides, origins_of, origins_by}
-use Rattle.stage_rules.specs.Buffers.{cut_of, Happened, IsStill}
+use Rattle.buffer_glyphs.specs.Items.{Item, strip}
+use Rattle.buffer_glyphs.specs.Levels.{InList}
+use Rattle.buffer_glyphs.specs.Origins.{origins}
+use Rattle.buffer_glyphs.specs.Events.{Merge}
+use Rattle.buffer_core.specs.Sides.{Sides, origins_of, origins_by}
+use Rattle.buffer_stages.specs.Buffers.{cut_of, Happened, IsStill}
 use Rattle.layout_gsub.specs.Ligating.{parts_gone}
 
 -- indices that rise from one on, each behind the one before it

@@ -4,9 +4,9 @@ use Rattle.std.specs.Cmp.Lexicographic.{pointwise}
 use Rattle.std.specs.List.{list_any}
 use Rattle.layout_common.specs.Rows.{value_of}
 use Rattle.layout_common.specs.declared.glyph_row.GlyphRow.{GlyphRow}
-use Rattle.layout_font.specs.Layout.{LigatureSetTable, ligature_set_of}
-use Rattle.layout_substitutions.specs.declared.sequence.SequenceRow.{SequenceRow}
-use Rattle.layout_substitutions.specs.Substitutions.{glyphs_of}
+use Rattle.layout_tables.specs.Layout.{LigatureSetTable, ligature_set_of}
+use Rattle.layout_subtables.specs.declared.sequence.SequenceRow.{SequenceRow}
+use Rattle.layout_subtables.specs.Substitutions.{glyphs_of}
 
 -- single and reverse chaining substitution act on one glyph that they cover
 abbrev pub single_would : List (GlyphRow ℕ) → List ℕ → Bool

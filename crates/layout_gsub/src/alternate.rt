@@ -1,19 +1,19 @@
 ghost use Rattle.std.specs.Prelude.{◌≡◌, ◌<◌, ◌∷◌, true, [], length};
-ghost use Rattle.glyph_lists.specs.Events.{Break};
-ghost use Rattle.glyph_lists.specs.Items.{item_of};
+ghost use Rattle.buffer_glyphs.specs.Events.{Break};
+ghost use Rattle.buffer_glyphs.specs.Items.{item_of};
 ghost use Rattle.layout_match.specs.Applied.{applied_of};
-ghost use Rattle.stage_rules.specs.Actions.{whole};
-ghost use Rattle.stage_rules.specs.Buffers.{IsPassed, cut_of};
-ghost use Rattle.stage_rules.specs.Performing.{Performs, cut_with};
+ghost use Rattle.buffer_stages.specs.Actions.{whole};
+ghost use Rattle.buffer_stages.specs.Buffers.{IsPassed, cut_of};
+ghost use Rattle.buffer_stages.specs.Performing.{Performs, cut_with};
 ghost use Rattle.layout_gsub.specs.Alternates.{alternate_of, alternate_of_value, alternate_subtable, drawn_alternate, feature_value, is_drawn};
 
 use crate::apply::Apply;
 use crate::replacement::replace_glyph;
-use glyph_buffer::buffer::hb_buffer_t;
-use glyph_lists::cause::ShapeCause;
-use glyph_lists::info::{DEFINED, hb_glyph_info_t};
+use buffer_core::buffer::hb_buffer_t;
+use buffer_glyphs::cause::ShapeCause;
+use buffer_glyphs::info::{DEFINED, hb_glyph_info_t};
 use layout_match::hb_ot_apply_context_t;
-use layout_substitutions::sequence::AlternateSubst;
+use layout_subtables::sequence::AlternateSubst;
 
 /// The greatest value that a feature can have.
 const MAX_VALUE: u64 = 255;
@@ -100,7 +100,7 @@ fn apply_alternate(
 impl Apply for AlternateSubst {
     ghost action = { λ s a. alternate_subtable a.font.gdef a.random a.mask s.rows };
 
-    #[tactic(auto, using(stage_rules::specs::Lemmas::Glyphs::number_ahead))]
+    #[tactic(auto, using(buffer_stages::proofs::Lemmas::Glyphs::number_ahead))]
     fn apply(
         &self,
         ctx: &mut hb_ot_apply_context_t,

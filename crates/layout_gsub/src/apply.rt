@@ -1,12 +1,12 @@
 ghost use Rattle.std.specs.Prelude.{◌≡◌, ◌<◌, true, [], length};
-ghost use Rattle.glyph_buffer.specs.Sides.{items_of};
+ghost use Rattle.buffer_core.specs.Sides.{items_of};
 ghost use Rattle.layout_match.specs.Applied.{Applied, applied_of};
-ghost use Rattle.stage_rules.specs.Actions.{Action, first_rule};
-ghost use Rattle.stage_rules.specs.Buffers.{are_glyphs};
-ghost use Rattle.stage_rules.specs.Performing.{Performs, cut_with};
+ghost use Rattle.buffer_stages.specs.Actions.{Action, first_rule};
+ghost use Rattle.buffer_stages.specs.Buffers.{are_glyphs};
+ghost use Rattle.buffer_stages.specs.Performing.{Performs, cut_with};
 
-use glyph_buffer::buffer::hb_buffer_t;
-use glyph_lists::cause::ShapeCause;
+use buffer_core::buffer::hb_buffer_t;
+use buffer_glyphs::cause::ShapeCause;
 use layout_match::hb_ot_apply_context_t;
 
 /// A subtable of a substitution lookup, applied at the cursor of a buffer.
@@ -30,7 +30,7 @@ pub trait Apply {
 }
 
 /// Does what the first of some subtables does that acts.
-#[tactic(auto, using(stage_rules::specs::Lemmas::Performed::passed_first, stage_rules::specs::Lemmas::Performed::passed_open, stage_rules::specs::Lemmas::Performed::passed_numbers, stage_rules::specs::Lemmas::Performed::passed_all))]
+#[tactic(auto, using(buffer_stages::proofs::Lemmas::Performed::passed_first, buffer_stages::proofs::Lemmas::Performed::passed_open, buffer_stages::proofs::Lemmas::Performed::passed_numbers, buffer_stages::proofs::Lemmas::Performed::passed_all))]
 pub fn apply_first<S: Apply>(
     subtables: &[S],
     ctx: &mut hb_ot_apply_context_t,

@@ -1,28 +1,28 @@
 ghost use Rattle.std.specs.Prelude.{ℕ, ◌≡◌, ◌≢◌, ◌<◌, ◌≤◌, ◌+◌, ◌^◌, ◌∷◌, ◌==◌, ◌&&◌, ◌||◌, not, true, false, Some, length, nat_le, slice_get, if◌then◌else◌, IfErr, OnOk};
 ghost use Rattle.std.specs.List.{All};
-ghost use Rattle.glyph_lists.specs.declared.info.hb_glyph_info_t.{hb_glyph_info_t as Glyph};
-ghost use Rattle.glyph_lists.specs.Items.{Item, item_of, strip};
-ghost use Rattle.glyph_lists.specs.Origins.{origin_of};
-ghost use Rattle.glyph_buffer.specs.Lending.{with_glyph_ahead};
-ghost use Rattle.glyph_buffer.specs.Settings.{next_lig_id};
-ghost use Rattle.glyph_buffer.specs.Sides.{has_output_room};
-ghost use Rattle.glyph_lists.specs.LigatureWords.{lig_comp, lig_id, lig_num_comps, ligature_word};
-ghost use Rattle.stage_rules.specs.Actions.{Refuses};
-ghost use Rattle.stage_rules.specs.Performing.{Performed, cut_with};
+ghost use Rattle.buffer_glyphs.specs.declared.info.hb_glyph_info_t.{hb_glyph_info_t as Glyph};
+ghost use Rattle.buffer_glyphs.specs.Items.{Item, item_of, strip};
+ghost use Rattle.buffer_glyphs.specs.Origins.{origin_of};
+ghost use Rattle.buffer_core.specs.Lending.{with_glyph_ahead};
+ghost use Rattle.buffer_core.specs.Settings.{next_lig_id};
+ghost use Rattle.buffer_core.specs.Sides.{has_output_room};
+ghost use Rattle.buffer_glyphs.specs.LigatureWords.{lig_comp, lig_id, lig_num_comps, ligature_word};
+ghost use Rattle.buffer_stages.specs.Actions.{Refuses};
+ghost use Rattle.buffer_stages.specs.Performing.{Performed, cut_with};
 ghost use Rattle.layout_gsub.specs.Ligating.{component_now, following_items, ligated_over, ligature_category, ligature_props, passed_item, passed_items, with_component};
 ghost use Rattle.layout_gsub.specs.Uniting.{ArePassedAs, AreRising, AreUnited, IsMerged, IsPassedAs, IsRenumbered, end_of};
 
 use crate::parts::LigatureParts;
 use crate::replacement::glyph_props;
-use font_face::Face;
-use glyph_buffer::buffer::hb_buffer_t;
-use glyph_lists::cause::ShapeCause;
-use glyph_lists::flags::{GlyphPropsFlags, UnicodeProps};
-use glyph_lists::info::hb_glyph_info_t;
-use glyph_lists::ligature_words::{
+use buffer_core::buffer::hb_buffer_t;
+use buffer_glyphs::cause::ShapeCause;
+use buffer_glyphs::flags::{GlyphPropsFlags, UnicodeProps};
+use buffer_glyphs::info::hb_glyph_info_t;
+use buffer_glyphs::ligature_words::{
     _hb_glyph_info_get_lig_comp, _hb_glyph_info_get_lig_id, _hb_glyph_info_get_lig_num_comps,
     _hb_glyph_info_set_lig_props_for_ligature, _hb_glyph_info_set_lig_props_for_mark,
 };
+use layout_face::Face;
 
 /// The properties of a ligature that comes in where a glyph was its first part; `own_number` tells that it gets a number.
 fn ligature_props(

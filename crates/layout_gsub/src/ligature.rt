@@ -1,21 +1,21 @@
 ghost use Rattle.std.specs.Prelude.{◌≡◌, ◌<◌, true, length, map};
-ghost use Rattle.glyph_lists.specs.Items.{strip};
+ghost use Rattle.buffer_glyphs.specs.Items.{strip};
 ghost use Rattle.layout_match.specs.Applied.{applied_of, own_search};
 ghost use Rattle.layout_match.specs.Matches.{input_end};
 ghost use Rattle.layout_match.specs.Sequences.{is_glyph};
-ghost use Rattle.stage_rules.specs.Performing.{Performs, cut_with};
+ghost use Rattle.buffer_stages.specs.Performing.{Performs, cut_with};
 ghost use Rattle.layout_gsub.specs.Ligating.{ligature_found, ligature_over, ligature_subst};
 
 use crate::apply::{Apply, apply_first};
 use crate::ligate::ligate_input;
 use crate::replacement::replace_glyph;
 use crate::reverse::mark_attempt;
-use glyph_buffer::buffer::hb_buffer_t;
-use glyph_lists::cause::ShapeCause;
-use layout_font::ligature::{Ligature, LigatureSubst};
+use buffer_core::buffer::hb_buffer_t;
+use buffer_glyphs::cause::ShapeCause;
 use layout_match::{
     MAX_CONTEXT_LENGTH, MatchPositions, MatchSequence, hb_ot_apply_context_t, match_input,
 };
+use layout_tables::ligature::{Ligature, LigatureSubst};
 
 /// Puts a ligature in the place of its parts, where the search finds them from the cursor on.
 fn apply_ligature(
@@ -71,7 +71,7 @@ impl Apply for Ligature {
 impl Apply for LigatureSubst {
     ghost action = { λ s a. ligature_subst a s };
 
-    #[tactic(auto, using(stage_rules::specs::Lemmas::Glyphs::number_ahead))]
+    #[tactic(auto, using(buffer_stages::proofs::Lemmas::Glyphs::number_ahead))]
     fn apply(
         &self,
         ctx: &mut hb_ot_apply_context_t,

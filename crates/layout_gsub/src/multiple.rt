@@ -1,25 +1,25 @@
 ghost use Rattle.std.specs.Prelude.{ℕ, ◌≡◌, ◌≢◌, ◌<◌, true, false, [], length, slice_get, Some, IfErr, OnOk};
-ghost use Rattle.glyph_lists.specs.Items.{item_of};
-ghost use Rattle.glyph_lists.specs.Origins.{origin_of};
-ghost use Rattle.glyph_buffer.specs.Sides.{has_output_room};
+ghost use Rattle.buffer_glyphs.specs.Items.{item_of};
+ghost use Rattle.buffer_glyphs.specs.Origins.{origin_of};
+ghost use Rattle.buffer_core.specs.Sides.{has_output_room};
 ghost use Rattle.layout_gsub.specs.Putting.{IsPut};
-ghost use Rattle.stage_rules.specs.Actions.{Refuses};
-ghost use Rattle.stage_rules.specs.Performing.{Performed, Performs, cut_with};
+ghost use Rattle.buffer_stages.specs.Actions.{Refuses};
+ghost use Rattle.buffer_stages.specs.Performing.{Performed, Performs, cut_with};
 ghost use Rattle.layout_gsub.specs.Multiples.{component_item, component_props, deleted, multiple_subtable, multiplied, sequence};
 
 use crate::apply::Apply;
 use crate::replacement::{glyph_props, replace_glyph};
-use font_face::Face;
-use glyph_buffer::buffer::hb_buffer_t;
-use glyph_lists::cause::ShapeCause;
-use glyph_lists::flags::GlyphPropsFlags;
-use glyph_lists::info::hb_glyph_info_t;
-use glyph_lists::ligature_words::{
+use buffer_core::buffer::hb_buffer_t;
+use buffer_glyphs::cause::ShapeCause;
+use buffer_glyphs::flags::GlyphPropsFlags;
+use buffer_glyphs::info::hb_glyph_info_t;
+use buffer_glyphs::ligature_words::{
     _hb_glyph_info_get_lig_id, _hb_glyph_info_is_ligature,
     _hb_glyph_info_set_lig_props_for_component,
 };
+use layout_face::Face;
 use layout_match::hb_ot_apply_context_t;
-use layout_substitutions::sequence::MultipleSubst;
+use layout_subtables::sequence::MultipleSubst;
 
 /// The properties of one of several glyphs that come in where a glyph was.
 fn component_props(face: &Face, glyph: u16, info: &hb_glyph_info_t) -> GlyphPropsFlags
@@ -131,7 +131,7 @@ fn apply_sequence(
 impl Apply for MultipleSubst {
     ghost action = { λ s a. multiple_subtable a.font.gdef s.rows };
 
-    #[tactic(auto, using(stage_rules::specs::Lemmas::Glyphs::number_ahead))]
+    #[tactic(auto, using(buffer_stages::proofs::Lemmas::Glyphs::number_ahead))]
     fn apply(
         &self,
         ctx: &mut hb_ot_apply_context_t,

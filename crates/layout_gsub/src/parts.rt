@@ -1,13 +1,13 @@
 //! The glyphs that become one by a ligature: the one at the cursor, and others ahead of it.
 ghost use Rattle.std.specs.Prelude.{◌≡◌, ◌<◌, ◌≤◌, ◌+◌, ◌-◌, ◌*◌, ◌^◌, ◌∷◌, Some, length, slice_get};
 ghost use Rattle.std.specs.List.{All};
-ghost use Rattle.glyph_lists.specs.declared.info.hb_glyph_info_t.{hb_glyph_info_t as Glyph};
-ghost use Rattle.glyph_lists.specs.Items.{item_of, strip};
-ghost use Rattle.glyph_lists.specs.LigatureWords.{lig_id, lig_num_comps};
+ghost use Rattle.buffer_glyphs.specs.declared.info.hb_glyph_info_t.{hb_glyph_info_t as Glyph};
+ghost use Rattle.buffer_glyphs.specs.Items.{item_of, strip};
+ghost use Rattle.buffer_glyphs.specs.LigatureWords.{lig_id, lig_num_comps};
 ghost use Rattle.layout_gsub.specs.Ligating.{are_marks, component_count, components_at, has_own_number, items_at};
 
-use glyph_buffer::buffer::hb_buffer_t;
-use glyph_lists::ligature_words::{
+use buffer_core::buffer::hb_buffer_t;
+use buffer_glyphs::ligature_words::{
     _hb_glyph_info_get_lig_id, _hb_glyph_info_get_lig_num_comps, _hb_glyph_info_is_base_glyph,
     _hb_glyph_info_is_mark,
 };

@@ -1,13 +1,13 @@
 ghost use Rattle.std.specs.Prelude.{◌≡◌, ◌<◌, true, Some, [], length, slice_get, OnOk, IfErr};
-ghost use Rattle.glyph_lists.specs.declared.info.hb_glyph_info_t.{hb_glyph_info_t as Glyph};
-ghost use Rattle.glyph_buffer.specs.Lending.{with_glyph_ahead};
-ghost use Rattle.stage_rules.specs.Performing.{Performs, cut_with};
+ghost use Rattle.buffer_glyphs.specs.declared.info.hb_glyph_info_t.{hb_glyph_info_t as Glyph};
+ghost use Rattle.buffer_core.specs.Lending.{with_glyph_ahead};
+ghost use Rattle.buffer_stages.specs.Performing.{Performs, cut_with};
 ghost use Rattle.layout_gsub.specs.Replacements.{glyph_props_of, props_of_class, substituted, substituted_props};
 
-use font_face::Face;
-use glyph_buffer::buffer::hb_buffer_t;
-use glyph_lists::cause::ShapeCause;
-use glyph_lists::flags::GlyphPropsFlags;
+use buffer_core::buffer::hb_buffer_t;
+use buffer_glyphs::cause::ShapeCause;
+use buffer_glyphs::flags::GlyphPropsFlags;
+use layout_face::Face;
 use layout_match::hb_ot_apply_context_t;
 
 fn props_of_class(class: u16, attachment: u16) -> GlyphPropsFlags

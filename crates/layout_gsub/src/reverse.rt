@@ -1,23 +1,23 @@
 ghost use Rattle.std.specs.Prelude.{◌≡◌, ◌<◌, ◌≤◌, ◌+◌, ◌-◌, ◌∷◌, true, Some, [], length, map, slice_get};
-ghost use Rattle.glyph_lists.specs.declared.info.hb_glyph_info_t.{hb_glyph_info_t as Glyph};
-ghost use Rattle.glyph_buffer.specs.Lending.{with_glyph_ahead};
-ghost use Rattle.glyph_lists.specs.Events.{Break, Concat};
-ghost use Rattle.glyph_lists.specs.Items.{strip};
-ghost use Rattle.glyph_buffer.specs.Sides.{items_of};
+ghost use Rattle.buffer_glyphs.specs.declared.info.hb_glyph_info_t.{hb_glyph_info_t as Glyph};
+ghost use Rattle.buffer_core.specs.Lending.{with_glyph_ahead};
+ghost use Rattle.buffer_glyphs.specs.Events.{Break, Concat};
+ghost use Rattle.buffer_glyphs.specs.Items.{strip};
+ghost use Rattle.buffer_core.specs.Sides.{items_of};
 ghost use Rattle.layout_match.specs.Applied.{applied_of, context_search};
 ghost use Rattle.layout_match.specs.Matches.{backtrack_end};
 ghost use Rattle.layout_match.specs.Sequences.{is_covered_by};
-ghost use Rattle.stage_rules.specs.Actions.{Acts};
-ghost use Rattle.stage_rules.specs.Buffers.{IsPassed, are_glyphs, cut_of};
-ghost use Rattle.stage_rules.specs.Performing.{PerformsInPlace};
+ghost use Rattle.buffer_stages.specs.Actions.{Acts};
+ghost use Rattle.buffer_stages.specs.Buffers.{IsPassed, are_glyphs, cut_of};
+ghost use Rattle.buffer_stages.specs.Performing.{PerformsInPlace};
 ghost use Rattle.layout_gsub.specs.Reverses.{put_before, put_in_place, reverse_subtable};
 
 use crate::replacement::substituted_props;
-use glyph_buffer::buffer::hb_buffer_t;
-use glyph_lists::flags::GlyphPropsFlags;
+use buffer_core::buffer::hb_buffer_t;
+use buffer_glyphs::flags::GlyphPropsFlags;
 use layout_common::coverage::Coverage;
 use layout_match::{MatchSequence, hb_ot_apply_context_t, match_backtrack, match_lookahead};
-use layout_substitutions::reverse::ReverseChainSubst;
+use layout_subtables::reverse::ReverseChainSubst;
 
 /// Marks so many glyphs before the cursor, and so many from there on, as unsafe to concat, where that is asked for.
 pub(crate) fn mark_attempt(back: usize, ahead: usize, buffer: &mut hb_buffer_t)
@@ -97,7 +97,7 @@ fn apply_backtrack(
 /// Reverse chaining single substitution (OpenType, GSUB lookup type 8) at the cursor of a buffer, in place: where the subtable
 /// covers the glyph there, and its sets follow and precede it, its substitute takes its place. It tells whether it did;
 /// where it didn't, it changed glyph flags alone. It takes no memory.
-#[tactic(auto, using(stage_rules::specs::Lemmas::Glyphs::number_ahead))]
+#[tactic(auto, using(buffer_stages::proofs::Lemmas::Glyphs::number_ahead))]
 pub fn apply_reverse_chain_single_subst(
     subtable: &ReverseChainSubst,
     ctx: &hb_ot_apply_context_t,

@@ -2,17 +2,17 @@ ghost use Rattle.layout_gsub.specs.Replacements.{single_subtable};
 
 use crate::apply::Apply;
 use crate::replacement::replace_glyph;
-use glyph_buffer::buffer::hb_buffer_t;
-use glyph_lists::cause::ShapeCause;
+use buffer_core::buffer::hb_buffer_t;
+use buffer_glyphs::cause::ShapeCause;
 use layout_match::hb_ot_apply_context_t;
-use layout_substitutions::single::SingleSubst;
+use layout_subtables::single_subst::SingleSubst;
 
 /// Single substitution (OpenType, GSUB lookup type 1): where the subtable covers the glyph at the cursor, its substitute takes
 /// its place.
 impl Apply for SingleSubst {
     ghost action = { λ s a. single_subtable a.font.gdef s.rows };
 
-    #[tactic(auto, using(stage_rules::specs::Lemmas::Glyphs::number_ahead))]
+    #[tactic(auto, using(buffer_stages::proofs::Lemmas::Glyphs::number_ahead))]
     fn apply(
         &self,
         ctx: &mut hb_ot_apply_context_t,

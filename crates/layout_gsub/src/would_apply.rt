@@ -3,10 +3,10 @@ ghost use Rattle.std.specs.List.{list_any};
 ghost use Rattle.std.specs.Cmp.Lexicographic.{pointwise};
 ghost use Rattle.layout_gsub.specs.Woulds.{ligature_would, sequence_would, single_would};
 
-use layout_font::ligature::{Ligature, LigatureSubst};
-use layout_substitutions::reverse::ReverseChainSubst;
-use layout_substitutions::sequence::{AlternateSubst, MultipleSubst};
-use layout_substitutions::single::SingleSubst;
+use layout_subtables::reverse::ReverseChainSubst;
+use layout_subtables::sequence::{AlternateSubst, MultipleSubst};
+use layout_subtables::single_subst::SingleSubst;
+use layout_tables::ligature::{Ligature, LigatureSubst};
 
 /// Glyphs, and nothing around them.
 #[derive(Clone, Copy)]

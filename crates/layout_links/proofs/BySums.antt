@@ -6,18 +6,18 @@ use Rattle.std.specs.List.{fold}
 use Rattle.std.proofs.lemmas.Bool.Decides.{nat_tests, eqb_tells}
 use Rattle.std.proofs.lemmas.Int.{ints, int_wrap-add_same, int_wrap-add_left, int_wrap-sub_right}
 use Rattle.std.proofs.lemmas.List.{length-set}
-use Rattle.glyph_lists.specs.Items.{Position, zero_position}
-use Rattle.glyph_lists.specs.Lists.{seen_at}
-use Rattle.shaping_text.specs.declared.direction.Direction.{Direction}
-use Rattle.shaping_text.specs.Direction.{is_forward, is_horizontal}
+use Rattle.buffer_glyphs.specs.Items.{Position, zero_position}
+use Rattle.buffer_glyphs.specs.Lists.{seen_at}
+use Rattle.buffer_common.specs.declared.direction.Direction.{Direction}
+use Rattle.buffer_common.specs.Direction.{is_forward, is_horizontal}
 use Rattle.layout_links.specs.declared.sums.Pen.{Pen}
 use Rattle.layout_links.specs.Links.{unlinked, plus, minus, offset_by, back_over, on_over, mark_drawn, child_drawn, drawn_position, has_kind, kind_tested, kinds_tested, hung, hung_on, followed, followed_from, all_followed, finished}
-use Rattle.position_chains.specs.Links.{position_at, linked, parent, without_link}
+use Rattle.layout_offsets.specs.Links.{position_at, linked, parent, without_link}
 use Rattle.layout_links.specs.Sums.{Fits, AllFit, pen_down, pen_after, pen_of, pen_way, pen_before, with_pen, summed_from, summed, apart_from, taken_apart, back_by, on_by, after_parent, mark_by_sums, drawn_by_sums}
 use Rattle.layout_links.specs.Walks.{is_link, is_open, are_shut}
 use Rattle.layout_links.specs.Trees.{only_advances}
 use Rattle.layout_links.specs.Marks.{total}
-use Rattle.position_chains.specs.Lemmas.Linked.{linked_there}
+use Rattle.layout_offsets.proofs.Lemmas.Linked.{linked_there}
 use Rattle.layout_links.proofs.Going.{followed_step, followed_none}
 use Rattle.layout_links.proofs.Shut.{unlinked_closed}
 use Rattle.layout_links.proofs.Drawn.{drawn_advances}

@@ -4,15 +4,15 @@ use Rattle.std.specs.Prelude.{slice_range}
 use Rattle.std.specs.List.{fold}
 use Rattle.std.proofs.lemmas.Bool.Decides.{eqb_tells}
 use Rattle.std.proofs.lemmas.List.{map-set, length-set, get_or-set_same, set-get_or}
-use Rattle.glyph_lists.specs.Items.{Position, zero_position}
-use Rattle.glyph_lists.specs.Lists.{seen_at}
-use Rattle.glyph_lists.specs.Lemmas.Origins.{slice_seen}
-use Rattle.shaping_text.specs.declared.direction.Direction.{Direction}
-use Rattle.shaping_text.specs.Direction.{is_forward, is_horizontal}
+use Rattle.buffer_glyphs.specs.Items.{Position, zero_position}
+use Rattle.buffer_glyphs.specs.Lists.{seen_at}
+use Rattle.buffer_glyphs.specs.Lemmas.Origins.{slice_seen}
+use Rattle.buffer_common.specs.declared.direction.Direction.{Direction}
+use Rattle.buffer_common.specs.Direction.{is_forward, is_horizontal}
 use Rattle.layout_links.specs.Links.{unlinked, offset_by, back_over, on_over, mark_drawn, child_drawn, drawn_position, hung, hung_on, followed, followed_from, all_followed, kinds_tested}
-use Rattle.position_chains.specs.Links.{position_at, linked, parent, without_link}
+use Rattle.layout_offsets.specs.Links.{position_at, linked, parent, without_link}
 use Rattle.layout_links.specs.Trees.{HaveDepths, only_advances, drawn_from, final, AreDrawn, TreesAreDrawn, ArePartlyDrawn}
-use Rattle.position_chains.specs.Lemmas.Linked.{linked_there}
+use Rattle.layout_offsets.proofs.Lemmas.Linked.{linked_there}
 use Rattle.layout_links.proofs.Going.{followed_step, elsewhere}
 
 -- ---- what is drawn reads only the advances of others

@@ -3,14 +3,14 @@ use Rattle.std.proofs.Common.{ℕ, ◌≡◌, ◌<◌, ◌+◌, ◌++◌, arith,
 use Rattle.std.specs.Prelude.{bit_and}
 use Rattle.std.proofs.lemmas.List.{take_at, length-map, length-set}
 use Rattle.std.proofs.lemmas.Nat.{and_assoc}
-use Rattle.glyph_lists.specs.Items.{Position, zero_position}
-use Rattle.glyph_lists.specs.Lists.{map_step}
-use Rattle.glyph_buffer.specs.Readings.{View, Read, always, with_events, Follows}
-use Rattle.glyph_buffer.specs.Lending.{refilled, with_positions_refilled}
-use Rattle.glyph_buffer.specs.Sides.{Sides, run_of, told_of, view_of}
-use Rattle.stage_rules.specs.Ready.{IsDone, IsReady}
+use Rattle.buffer_glyphs.specs.Items.{Position, zero_position}
+use Rattle.buffer_glyphs.specs.Lists.{map_step}
+use Rattle.buffer_core.specs.Readings.{View, Read, always, with_events, Follows}
+use Rattle.buffer_core.specs.Lending.{refilled, with_positions_refilled}
+use Rattle.buffer_core.specs.Sides.{Sides, run_of, told_of, view_of}
+use Rattle.buffer_stages.specs.Ready.{IsDone, IsReady}
 use Rattle.layout_links.specs.Links.{finished}
-use Rattle.position_chains.specs.Links.{position_at}
+use Rattle.layout_offsets.specs.Links.{position_at}
 use Rattle.layout_links.specs.Finishing.{has_attachments, all_drawn, drawn_if, links_followed}
 use Rattle.layout_links.specs.Starting.{links_cleared, unattached}
 use Rattle.layout_links.proofs.Kept.{finished_length}

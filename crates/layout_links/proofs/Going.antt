@@ -4,13 +4,13 @@ use Rattle.std.specs.Prelude.{nat_abs, int_le, int_lt}
 use Rattle.std.proofs.lemmas.Int.{ints}
 use Rattle.std.proofs.lemmas.Bool.Decides.{eqb_tells}
 use Rattle.std.proofs.lemmas.List.{map-set, length-set, get_or-set_same, get_or-set_other, set-get_or}
-use Rattle.glyph_lists.specs.Items.{Position, zero_position}
-use Rattle.shaping_text.specs.declared.direction.Direction.{Direction}
+use Rattle.buffer_glyphs.specs.Items.{Position, zero_position}
+use Rattle.buffer_common.specs.declared.direction.Direction.{Direction}
 use Rattle.layout_links.specs.Links.{unlinked, Drawing, hung, hung_on, followed}
-use Rattle.position_chains.specs.Links.{position_at, linked, parent, without_link}
+use Rattle.layout_offsets.specs.Links.{position_at, linked, parent, without_link}
 use Rattle.layout_links.specs.Sums.{drawn_by_sums}
 use Rattle.layout_links.specs.Walks.{is_link, is_open, opened, shut, all_shut, are_shut, Apart, Trail, unwound, IsWalk, IsGoing, IsComing, Stops, Goes, CameFrom, GoesBack}
-use Rattle.position_chains.specs.Lemmas.Linked.{linked_there}
+use Rattle.layout_offsets.proofs.Lemmas.Linked.{linked_there}
 use Rattle.layout_links.proofs.Shut.{shut_at, shut_closed, open_opened, parent_shut, parent_open, unlinked_open, unlinked_shut, opened_shut, hung_shut, drawn_hold, unlinked_closed}
 
 pub followed_step : (draw : Drawing) (fuel next at : ℕ) (ps : List Position) → fuel ≡ suc next → followed draw fuel at ps ≡ hung_on draw (followed draw next) at (parent at ps) ps

@@ -2,11 +2,11 @@
 use Rattle.std.proofs.Common.{ℕ, zero, suc, pos, ◌≡◌, ◌≢◌, ◌≤◌, ◌<◌, ◌+◌, ◌-◌, inl, inr, true, false, if◌then◌else◌, List, [], ◌∷◌, Option, Some, None, length, map, arith, refl, ap, sym, ◌∙◌}
 use Rattle.std.proofs.lemmas.Bool.Decides.{eqb_tells}
 use Rattle.std.proofs.lemmas.List.{length-map, length-set}
-use Rattle.glyph_lists.specs.Items.{Position, zero_position}
-use Rattle.glyph_lists.specs.Lists.{seen_at}
-use Rattle.shaping_text.specs.declared.direction.Direction.{Direction}
+use Rattle.buffer_glyphs.specs.Items.{Position, zero_position}
+use Rattle.buffer_glyphs.specs.Lists.{seen_at}
+use Rattle.buffer_common.specs.declared.direction.Direction.{Direction}
 use Rattle.layout_links.specs.Links.{unlinked, drawn_position, hung_on, followed, followed_from, all_followed, has_kind, kind_tested, kinds_tested, finished}
-use Rattle.position_chains.specs.Links.{position_at, parent, without_link}
+use Rattle.layout_offsets.specs.Links.{position_at, parent, without_link}
 use Rattle.layout_links.specs.Trees.{only_advances}
 use Rattle.layout_links.specs.Kept.{IsFinished, LinksAreCleared}
 use Rattle.layout_links.proofs.Going.{followed_step, followed_none, elsewhere}

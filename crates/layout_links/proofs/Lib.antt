@@ -1,3 +1,4 @@
+pub mod Lemmas
 pub mod Summing
 pub mod Shut
 pub mod Going

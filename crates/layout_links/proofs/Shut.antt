@@ -3,12 +3,12 @@ use Rattle.std.proofs.Common.{ℕ, ℤ, pos, ◌≡◌, ◌+◌, ◌-◌, ◌==�
 use Rattle.std.specs.Prelude.{nat_lt}
 use Rattle.std.proofs.lemmas.Bool.Decides.{nat_tests}
 use Rattle.std.proofs.lemmas.List.{length-map, map-set, set-get_or}
-use Rattle.glyph_lists.specs.Items.{Position, zero_position}
-use Rattle.glyph_lists.specs.Lists.{seen_at}
-use Rattle.shaping_text.specs.declared.direction.Direction.{Direction}
-use Rattle.shaping_text.specs.Direction.{is_forward, is_horizontal}
+use Rattle.buffer_glyphs.specs.Items.{Position, zero_position}
+use Rattle.buffer_glyphs.specs.Lists.{seen_at}
+use Rattle.buffer_common.specs.declared.direction.Direction.{Direction}
+use Rattle.buffer_common.specs.Direction.{is_forward, is_horizontal}
 use Rattle.layout_links.specs.Links.{unlinked, offset_by, child_drawn, hung}
-use Rattle.position_chains.specs.Links.{position_at, linked, parent, without_link}
+use Rattle.layout_offsets.specs.Links.{position_at, linked, parent, without_link}
 use Rattle.layout_links.specs.Sums.{pen_down, pen_of, pen_way, pen_before, back_by, on_by, after_parent, mark_by_sums, drawn_by_sums}
 use Rattle.layout_links.specs.declared.sums.Pen.{Pen}
 use Rattle.layout_links.specs.Walks.{is_link, is_open, opened, shut_if, shut, all_shut}

@@ -5,12 +5,12 @@ use Rattle.std.proofs.lemmas.List.{length-set, get_or-set_same, get_or-set_other
 use Rattle.std.specs.Int.{int_wrap, w32}
 use Rattle.std.proofs.lemmas.Int.{int_wrap_fits, fits_signed_from_abs}
 use Rattle.std.proofs.lemmas.Nat.{pow_pos}
-use Rattle.glyph_lists.specs.Items.{Position, zero_position}
+use Rattle.buffer_glyphs.specs.Items.{Position, zero_position}
 use Rattle.layout_links.specs.declared.sums.Pen.{Pen}
 use Rattle.layout_links.specs.Links.{kind_tested, kinds_tested}
-use Rattle.position_chains.specs.Links.{position_at}
+use Rattle.layout_offsets.specs.Links.{position_at}
 use Rattle.layout_links.specs.Sums.{Fits, AllFit, pen_down, pen_after, pen_of, pen_way, with_pen, summed_from, summed, apart_from, taken_apart}
-use Rattle.layout_links.specs.Summing.{IsSumming, IsParting}
+use Rattle.layout_links.proofs.Lemmas.Summing.{IsSumming, IsParting}
 
 -- a list that is rewritten from its front
 step : {S : Type 0} (run : S → List Position → List Position) (s s' : S) (q : Position) (i : ℕ) (ps : List Position) → i < length ps

@@ -6,13 +6,13 @@ use Rattle.std.specs.List.{fold}
 use Rattle.std.proofs.lemmas.Bool.Decides.{eqb_tells}
 use Rattle.std.proofs.lemmas.Int.{ints, int_wrap_fits, SFits-int_wrap, int_wrap-add_same}
 use Rattle.std.proofs.lemmas.List.{take-append-drop, drop-drop, length-map}
-use Rattle.glyph_lists.specs.Items.{Position, zero_position}
-use Rattle.glyph_lists.specs.Lists.{seen_at}
-use Rattle.glyph_lists.specs.Lemmas.Origins.{slice_seen}
-use Rattle.shaping_text.specs.declared.direction.Direction.{Direction}
-use Rattle.shaping_text.specs.Direction.{is_forward, is_horizontal}
+use Rattle.buffer_glyphs.specs.Items.{Position, zero_position}
+use Rattle.buffer_glyphs.specs.Lists.{seen_at}
+use Rattle.buffer_glyphs.specs.Lemmas.Origins.{slice_seen}
+use Rattle.buffer_common.specs.declared.direction.Direction.{Direction}
+use Rattle.buffer_common.specs.Direction.{is_forward, is_horizontal}
 use Rattle.layout_links.specs.Links.{plus, minus, offset_by, back_over, on_over, mark_drawn, child_drawn, drawn_position, kind_tested, kinds_tested, all_followed, finished}
-use Rattle.position_chains.specs.Links.{position_at, parent, linked, without_link}
+use Rattle.layout_offsets.specs.Links.{position_at, parent, linked, without_link}
 use Rattle.layout_links.specs.Trees.{HaveDepths, only_advances, drawn_from}
 use Rattle.layout_links.specs.Marks.{total, pen, drawn_x, drawn_y, IsDrawnFrom, MarksAreDrawn}
 use Rattle.layout_links.proofs.Going.{elsewhere}

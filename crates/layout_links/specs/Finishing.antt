@@ -1,6 +1,6 @@
 -- Links of a buffer followed.
 use Rattle.std.specs.Prelude.{ℕ, ◌==◌, Bool, true, false, not, [], bit_and}
-use Rattle.glyph_buffer.specs.Readings.{View, Read, with_events}
+use Rattle.buffer_core.specs.Readings.{View, Read, with_events}
 use Rattle.layout_links.specs.Links.{finished}
 
 -- whether glyphs were attached to others

@@ -1,9 +1,9 @@
 -- What following links leaves, rings or not.
 use Rattle.std.specs.Prelude.{ℕ, pos, ◌≡◌, ◌<◌, List, map, length}
-use Rattle.glyph_lists.specs.Items.{Position}
-use Rattle.shaping_text.specs.declared.direction.Direction.{Direction}
+use Rattle.buffer_glyphs.specs.Items.{Position}
+use Rattle.buffer_common.specs.declared.direction.Direction.{Direction}
 use Rattle.layout_links.specs.Links.{finished}
-use Rattle.position_chains.specs.Links.{position_at}
+use Rattle.layout_offsets.specs.Links.{position_at}
 use Rattle.layout_links.specs.Trees.{only_advances}
 
 -- each link is cleared, each advance stays, and so does each position without a link

@@ -5,5 +5,4 @@ pub mod Kept
 pub mod Finishing
 pub mod Sums
 pub mod Walks
-pub mod Summing
 pub mod Starting

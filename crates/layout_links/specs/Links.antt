@@ -1,11 +1,11 @@
 -- Glyphs that hang on others by links, and where they are drawn.
 use Rattle.std.specs.Prelude.{ℕ, zero, suc, ◌+◌, ◌==◌, Bool, true, false, ◌||◌, if◌then◌else◌, List, set, map, length, slice_range, Option, Some, None}
 use Rattle.std.specs.List.{fold}
-use Rattle.glyph_lists.specs.Items.{Position}
-use Rattle.shaping_text.specs.declared.direction.Direction.{Direction}
-use Rattle.shaping_text.specs.Direction.{is_forward, is_horizontal}
-pub use Rattle.position_sums.specs.Sums.{minus, plus}
-use Rattle.position_chains.specs.Links.{position_at, without_link, parent}
+use Rattle.buffer_glyphs.specs.Items.{Position}
+use Rattle.buffer_common.specs.declared.direction.Direction.{Direction}
+use Rattle.buffer_common.specs.Direction.{is_forward, is_horizontal}
+pub use Rattle.layout_offsets.specs.Sums.{minus, plus}
+use Rattle.layout_offsets.specs.Links.{position_at, without_link, parent}
 
 -- a link is a mark's (1) or a cursive child's (2)
 abbrev pub has_kind : Position → Bool

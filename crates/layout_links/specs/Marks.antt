@@ -1,11 +1,11 @@
 -- Where a mark is drawn: at its recorded offset from where its base is drawn.
 use Rattle.std.specs.Prelude.{ℕ, ℤ, pos, ◌+ℤ◌, ◌+◌, ◌≡◌, ◌<◌, Bool, true, false, List, [], ◌∷◌, take, drop, Some}
 use Rattle.std.specs.Int.{int_wrap, w32}
-use Rattle.glyph_lists.specs.Items.{Position}
-use Rattle.shaping_text.specs.declared.direction.Direction.{Direction}
-use Rattle.shaping_text.specs.Direction.{is_forward}
+use Rattle.buffer_glyphs.specs.Items.{Position}
+use Rattle.buffer_common.specs.declared.direction.Direction.{Direction}
+use Rattle.buffer_common.specs.Direction.{is_forward}
 use Rattle.layout_links.specs.Links.{kinds_tested, finished}
-use Rattle.position_chains.specs.Links.{position_at, parent}
+use Rattle.layout_offsets.specs.Links.{position_at, parent}
 use Rattle.layout_links.specs.Trees.{HaveDepths}
 
 -- a sum over positions

@@ -1,7 +1,7 @@
 -- Positions before positioning.
 use Rattle.std.specs.Prelude.{pos, [], map}
-use Rattle.glyph_lists.specs.Items.{Position}
-use Rattle.glyph_buffer.specs.Readings.{View, Read, with_events}
+use Rattle.buffer_glyphs.specs.Items.{Position}
+use Rattle.buffer_core.specs.Readings.{View, Read, with_events}
 
 -- a position that hangs on nothing
 abbrev pub unattached : Position → Position

@@ -1,12 +1,12 @@
 -- Positions whose advances are replaced by the sums up to them: the way between two glyphs is then a difference.
 use Rattle.std.specs.Int.{int_wrap, w32}
 use Rattle.std.specs.Prelude.{ℕ, pos, ◌≡◌, ◌-◌, ◌==◌, Bool, true, false, nat_lt, if◌then◌else◌, List, [], ◌∷◌}
-use Rattle.glyph_lists.specs.Items.{Position}
-use Rattle.shaping_text.specs.declared.direction.Direction.{Direction}
-use Rattle.shaping_text.specs.Direction.{is_forward, is_horizontal}
+use Rattle.buffer_glyphs.specs.Items.{Position}
+use Rattle.buffer_common.specs.declared.direction.Direction.{Direction}
+use Rattle.buffer_common.specs.Direction.{is_forward, is_horizontal}
 use Rattle.layout_links.specs.declared.sums.Pen.{Pen}
 use Rattle.layout_links.specs.Links.{plus, minus, offset_by, child_drawn}
-use Rattle.position_chains.specs.Links.{position_at}
+use Rattle.layout_offsets.specs.Links.{position_at}
 
 -- the pen at the beginning
 abbrev pub pen_down : Pen

@@ -1,9 +1,9 @@
 -- What links mean that form no ring: each glyph is drawn from what it hangs on as that is drawn at last.
 use Rattle.std.specs.Prelude.{ℕ, pos, ◌≡◌, ◌<◌, Bool, true, false, List, map, set, length, Option, Some, None}
-use Rattle.glyph_lists.specs.Items.{Position}
-use Rattle.shaping_text.specs.declared.direction.Direction.{Direction}
+use Rattle.buffer_glyphs.specs.Items.{Position}
+use Rattle.buffer_common.specs.declared.direction.Direction.{Direction}
 use Rattle.layout_links.specs.Links.{drawn_position, kinds_tested, finished}
-use Rattle.position_chains.specs.Links.{position_at, parent, without_link}
+use Rattle.layout_offsets.specs.Links.{position_at, parent, without_link}
 
 -- links form no ring: each glyph has a depth, and hangs on one of a lesser depth
 pub record HaveDepths (depth : ℕ → ℕ) (ps : List Position) : Type 0 where

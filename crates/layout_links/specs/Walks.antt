@@ -1,9 +1,9 @@
 -- A walk along links and back, without a stack: a glyph that it came through keeps the link by which it came to that glyph, and 128 more as its kind.
 use Rattle.std.specs.Prelude.{ℕ, ℤ, pos, ◌+ℤ◌, ◌+◌, ◌-◌, ◌<◌, ◌≡◌, ◌≢◌, Bool, true, false, nat_le, nat_abs, not, ◌&&◌, ◌==◌, ◌⊎◌, List, [], ◌∷◌, map, set, length, Some, None}
-use Rattle.glyph_lists.specs.Items.{Position}
-use Rattle.shaping_text.specs.declared.direction.Direction.{Direction}
+use Rattle.buffer_glyphs.specs.Items.{Position}
+use Rattle.buffer_common.specs.declared.direction.Direction.{Direction}
 use Rattle.layout_links.specs.Links.{unlinked, hung, followed}
-use Rattle.position_chains.specs.Links.{position_at, parent}
+use Rattle.layout_offsets.specs.Links.{position_at, parent}
 use Rattle.layout_links.specs.Sums.{drawn_by_sums}
 
 -- whether a position has a link

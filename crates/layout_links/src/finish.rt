@@ -1,14 +1,14 @@
 //! Positioning begun and ended, on the buffer.
 ghost use Rattle.std.specs.Prelude.{◌≡◌, map};
-ghost use Rattle.glyph_buffer.specs.Readings.{always};
-ghost use Rattle.stage_rules.specs.Ready.{IsDone, IsReady};
+ghost use Rattle.buffer_core.specs.Readings.{always};
+ghost use Rattle.buffer_stages.specs.Ready.{IsDone, IsReady};
 ghost use Rattle.layout_links.specs.Finishing.{all_drawn, links_followed};
 ghost use Rattle.layout_links.specs.Starting.{links_cleared, unattached};
 
 use crate::links::finish_offsets;
-use glyph_buffer::buffer::hb_buffer_t;
-use glyph_lists::position::GlyphPosition;
-use shaping_text::constants::HB_BUFFER_SCRATCH_FLAG_HAS_GPOS_ATTACHMENT;
+use buffer_common::constants::HB_BUFFER_SCRATCH_FLAG_HAS_GPOS_ATTACHMENT;
+use buffer_core::buffer::hb_buffer_t;
+use buffer_glyphs::position::GlyphPosition;
 
 /// Before positioning: no glyph hangs on another. It takes linear time and no memory.
 #[tactic(auto, using(crate::proofs::Ended::cleared_done))]

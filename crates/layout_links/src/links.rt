@@ -1,17 +1,17 @@
 //! Glyphs drawn where their links say, on a list of positions.
 ghost use Rattle.std.specs.Prelude.{◌≡◌, ◌<◌, length};
-ghost use Rattle.shaping_text.specs.declared.direction.Direction.{Direction as Way};
+ghost use Rattle.buffer_common.specs.declared.direction.Direction.{Direction as Way};
 ghost use Rattle.std.specs.Prelude.{MatchOption, true, false, pos, ◌+ℤ◌};
 ghost use Rattle.layout_links.specs.Links.{hung, unlinked, finished, followed, all_followed, offset_by, child_drawn};
-ghost use Rattle.position_chains.specs.Links.{linked, position_at};
+ghost use Rattle.layout_offsets.specs.Links.{linked, position_at};
 ghost use Rattle.layout_links.specs.Sums.{drawn_by_sums, mark_by_sums, pen_before, back_by, on_by};
 ghost use Rattle.layout_links.specs.Walks.{IsComing, Stops, Goes, CameFrom, GoesBack, are_shut, is_open, opened, shut};
 
 use crate::sums::{PEN_DOWN, Pen, pen_of, pen_way, sum_up, take_apart};
-use glyph_lists::position::GlyphPosition;
-use position_chains::links::linked;
-use position_sums::sums::{minus, plus};
-use shaping_text::direction::Direction;
+use buffer_common::direction::Direction;
+use buffer_glyphs::position::GlyphPosition;
+use layout_offsets::links::linked;
+use layout_offsets::sums::{minus, plus};
 
 fn offset_by(base: GlyphPosition, place: GlyphPosition) -> GlyphPosition
     ensures { result ≡ offset_by base place }

@@ -3,8 +3,8 @@ ghost use Rattle.std.specs.Prelude.{◌≡◌};
 ghost use Rattle.layout_links.specs.Links.{kinds_tested, kind_tested, has_kind};
 ghost use Rattle.layout_links.specs.Sums.{AllFit, Fits, pen_down, pen_after, pen_of, pen_way, with_pen, summed, taken_apart};
 
-use glyph_lists::position::GlyphPosition;
-pub use position_sums::sums::{minus, plus};
+use buffer_glyphs::position::GlyphPosition;
+pub use layout_offsets::sums::{minus, plus};
 
 /// Where the pen stands, in font units from the beginning of the line, modulo 2^32.
 #[derive(Clone, Copy)]

@@ -1,6 +1,6 @@
 -- The tests of a sequence by their indices.
 use Rattle.std.proofs.Common.{ℕ, ◌≡◌, zero, suc, Bool, false, List, [], ◌∷◌, map, Some, None, slice_get, refl}
-use Rattle.glyph_lists.specs.Items.{Item}
+use Rattle.buffer_glyphs.specs.Items.{Item}
 use Rattle.layout_match.specs.Sequences.{test_at}
 
 pub test_there : {A : Type 0} (f : A → Item → Bool) (bs : List A) (k : ℕ) (a : A) (x : Item) → slice_get bs k ≡ Some a → test_at (map f bs) k x ≡ f a x

@@ -1,3 +1,4 @@
+pub mod Lemmas
 pub mod Indexed
 pub mod Each
 pub mod Own

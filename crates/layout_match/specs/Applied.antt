@@ -1,10 +1,10 @@
 -- With what a lookup is applied, and how it searches.
 use Rattle.std.specs.Prelude.{ℕ, ◌*◌, ◌%◌, ◌||◌, Bool, true, false, if◌then◌else◌, List, Option, Some, None, option_map}
-use Rattle.glyph_lists.specs.Items.{Item}
-use Rattle.glyph_lists.specs.Parts.{first_of}
-use Rattle.font_face.specs.declared.parts.FaceParts.{FaceParts}
-use Rattle.map_features.specs.declared.per_table.TableIndex.{TableIndex}
-use Rattle.map_features.specs.declared.per_table.TableIndex.TheVariants.{GSUB, GPOS}
+use Rattle.buffer_glyphs.specs.Items.{Item}
+use Rattle.buffer_glyphs.specs.Parts.{first_of}
+use Rattle.layout_face.specs.declared.parts.FaceParts.{FaceParts}
+use Rattle.layout_map_features.specs.declared.per_table.TableIndex.{TableIndex}
+use Rattle.layout_map_features.specs.declared.per_table.TableIndex.TheVariants.{GSUB, GPOS}
 use Rattle.layout_match.specs.declared.apply_context.hb_ot_apply_context_t.{hb_ot_apply_context_t}
 use Rattle.layout_match.specs.Searches.{Search}
 

@@ -1,9 +1,9 @@
 -- What is found and read.
 use Rattle.std.specs.Prelude.{ℕ, ◌≡◌, ◌≤◌, ◌<◌, ◌+◌, ◌-◌, ◌⊎◌, List, [], ◌∷◌, length, Ok, Err, Some, true, option_map, slice_get}
-use Rattle.glyph_lists.specs.Items.{Item}
+use Rattle.buffer_glyphs.specs.Items.{Item}
 use Rattle.layout_match.specs.declared.search.match_t.{match_t}
 use Rattle.layout_match.specs.declared.search.match_t.TheVariants.{MATCH, SKIP, NOT_MATCH}
-use Rattle.glyph_lists.specs.LigatureWords.{component_bound, component_word, is_ligature, lig_comp, lig_id, lig_num_comps, ligature_word}
+use Rattle.buffer_glyphs.specs.LigatureWords.{component_bound, component_word, is_ligature, lig_comp, lig_id, lig_num_comps, ligature_word}
 use Rattle.layout_match.specs.Matches.{nearest_from, reached, indices}
 
 -- an item is there, and this is said of it

@@ -4,4 +4,5 @@ pub mod Matches
 pub mod Applied
 pub mod Walks
 pub mod Laws
-pub mod Lemmas
+pub mod Trying
+pub mod Steps

@@ -1,8 +1,8 @@
 -- What a search for the glyphs of a rule says of an item (OpenType, chapter 2, lookupFlag; GDEF).
 use Rattle.std.specs.Prelude.{ℕ, ◌==◌, ◌/◌, ◌&&◌, ◌||◌, Bool, not, true, if◌then◌else◌, List, Option, Some, None, bit_and}
-use Rattle.glyph_lists.specs.Items.{Item}
-use Rattle.glyph_lists.specs.LigatureWords.{has_bits}
-use Rattle.font_face.specs.Glyphs.{has_mark}
+use Rattle.buffer_glyphs.specs.Items.{Item}
+use Rattle.buffer_glyphs.specs.LigatureWords.{has_bits}
+use Rattle.layout_face.specs.Glyphs.{has_mark}
 use Rattle.layout_match.specs.Sequences.{is_number, test_at, tests_of}
 use Rattle.layout_match.specs.declared.sequence.MatchSequence.{MatchSequence}
 use Rattle.layout_match.specs.declared.search.GlyphSearch.{GlyphSearch}

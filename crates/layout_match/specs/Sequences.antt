@@ -1,6 +1,6 @@
 -- The glyphs that a rule asks for (OpenType, chapter 2, sequence context formats 1 to 3): by number, by class, or by a set.
 use Rattle.std.specs.Prelude.{ℕ, ◌==◌, ◌&&◌, Bool, false, nat_le, List, map, get_or}
-use Rattle.glyph_lists.specs.Items.{Item}
+use Rattle.buffer_glyphs.specs.Items.{Item}
 use Rattle.layout_common.specs.Classes.{class_of}
 use Rattle.layout_common.specs.Coverage.{is_covered}
 use Rattle.layout_common.specs.declared.class_definition.ClassDefinition.{ClassDefinition}

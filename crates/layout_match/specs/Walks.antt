@@ -1,6 +1,6 @@
 -- A walk over the glyphs that a lookup meets.
 use Rattle.std.specs.Prelude.{ℕ, ◌+◌, Result, Ok, Err}
-use Rattle.glyph_lists.specs.Items.{Item}
+use Rattle.buffer_glyphs.specs.Items.{Item}
 use Rattle.layout_match.specs.declared.search.match_t.{match_t}
 use Rattle.layout_match.specs.declared.skipping.skipping_iterator_t.{skipping_iterator_t}
 use Rattle.layout_match.specs.Searches.{answer, search_of, test_of}

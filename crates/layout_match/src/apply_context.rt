@@ -1,13 +1,13 @@
 ghost use Rattle.std.specs.Prelude.{◌≡◌, ◌<◌, not, length, true, false};
-ghost use Rattle.glyph_lists.specs.Items.{item_of, strip};
+ghost use Rattle.buffer_glyphs.specs.Items.{item_of, strip};
 ghost use Rattle.layout_match.specs.Searches.{is_left_out, search_of};
 ghost use Rattle.layout_match.specs.Applied.{applied_of, context_search, next_random, own_search, own_syllable, positions_glyphs};
 
 use crate::search::{GlyphSearch, is_left_out};
-use font_face::Face;
-use glyph_buffer::buffer::hb_buffer_t;
-use glyph_lists::info::hb_glyph_info_t;
-use map_features::per_table::TableIndex;
+use buffer_core::buffer::hb_buffer_t;
+use buffer_glyphs::info::hb_glyph_info_t;
+use layout_face::Face;
+use layout_map_features::per_table::TableIndex;
 
 /// With what a lookup is applied.
 #[derive(Clone, Copy)]

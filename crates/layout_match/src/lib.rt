@@ -1,8 +1,10 @@
-//! Matching: the glyphs that a rule asks for, with glyphs between that its lookup passes over.
+//! Matching: the glyphs that a rule asks for, with glyphs between that its lookup passes over; a lookup on its way over the
+//! glyphs of a buffer.
 #![tactic(auto)]
 
 pub mod apply_context;
 pub mod laws;
+pub mod lookup;
 pub mod matching;
 pub mod search;
 pub mod sequence;

@@ -1,6 +1,6 @@
 ghost use Rattle.std.specs.Prelude.{◌≡◌, ◌<◌, ◌≤◌, ◌∷◌, Some, length, reverse, slice_get, IfOk, IfErr};
 ghost use Rattle.std.specs.List.{All};
-ghost use Rattle.glyph_lists.specs.Items.{strip};
+ghost use Rattle.buffer_glyphs.specs.Items.{strip};
 ghost use Rattle.layout_match.specs.Applied.{applied_of, context_search, own_search};
 ghost use Rattle.layout_match.specs.Searches.{answer, search_of, test_of};
 ghost use Rattle.layout_match.specs.Sequences.{tests_of};
@@ -10,8 +10,8 @@ use crate::apply_context::hb_ot_apply_context_t;
 use crate::search::{GlyphSearch, match_t};
 use crate::sequence::MatchSequence;
 use arrayvec::ArrayVec;
-use glyph_buffer::buffer::hb_buffer_t;
-use glyph_lists::info::hb_glyph_info_t;
+use buffer_core::buffer::hb_buffer_t;
+use buffer_glyphs::info::hb_glyph_info_t;
 
 /// How many glyphs a rule may ask for, its first among them.
 pub const MAX_CONTEXT_LENGTH: usize = 64;
@@ -19,7 +19,7 @@ pub const MAX_CONTEXT_LENGTH: usize = 64;
 /// The indices of a match, counted from the cursor.
 pub type MatchPositions = ArrayVec<usize, MAX_CONTEXT_LENGTH>;
 
-#[tactic(auto, using(crate::specs::Lemmas::Nearest::taken_there, crate::specs::Lemmas::Nearest::refused_there, crate::specs::Lemmas::Nearest::passed_there, crate::specs::Lemmas::Nearest::ended_there))]
+#[tactic(auto, using(crate::proofs::Lemmas::Nearest::taken_there, crate::proofs::Lemmas::Nearest::refused_there, crate::proofs::Lemmas::Nearest::passed_there, crate::proofs::Lemmas::Nearest::ended_there))]
 /// The nearest glyph from an index ahead on that is the k-th of a sequence.
 pub(crate) fn nearest_ahead<'a>(
     search: &GlyphSearch<'a>,
@@ -55,7 +55,7 @@ fn behind(buffer: &hb_buffer_t, at: usize) -> &hb_glyph_info_t
     &buffer.out_info()[index]
 }
 
-#[tactic(auto, using(crate::specs::Lemmas::Nearest::taken_before, crate::specs::Lemmas::Nearest::refused_before, crate::specs::Lemmas::Nearest::passed_before, crate::specs::Lemmas::Nearest::ended_before))]
+#[tactic(auto, using(crate::proofs::Lemmas::Nearest::taken_before, crate::proofs::Lemmas::Nearest::refused_before, crate::proofs::Lemmas::Nearest::passed_before, crate::proofs::Lemmas::Nearest::ended_before))]
 /// As `nearest_ahead`, backward from the cursor.
 pub(crate) fn nearest_behind<'a>(
     search: &GlyphSearch<'a>,

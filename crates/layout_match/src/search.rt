@@ -1,12 +1,12 @@
 ghost use Rattle.std.specs.Prelude.{◌≡◌};
-ghost use Rattle.glyph_lists.specs.Items.{item_of};
+ghost use Rattle.buffer_glyphs.specs.Items.{item_of};
 ghost use Rattle.layout_match.specs.Searches.{answer, has_mask, is_ignorable, is_in_syllable, is_left_out, is_other_mark, is_skippable, search_of, test_of};
 
 use crate::sequence::MatchSequence;
-use font_face::Face;
-use glyph_lists::flags::{GlyphPropsFlags, UnicodeProps};
-use glyph_lists::info::{DEFINED, hb_glyph_info_t};
+use buffer_glyphs::flags::{GlyphPropsFlags, UnicodeProps};
+use buffer_glyphs::info::{DEFINED, hb_glyph_info_t};
 use layout_common::flags::{IGNORE_FLAGS, MARK_ATTACHMENT_TYPE_MASK, USE_MARK_FILTERING_SET};
+use layout_face::Face;
 
 /// What a search says of a glyph.
 #[derive(Clone, Copy)]

@@ -1,8 +1,8 @@
 ghost use Rattle.std.specs.Prelude.{◌≡◌, length, map};
-ghost use Rattle.glyph_lists.specs.Items.{item_of};
+ghost use Rattle.buffer_glyphs.specs.Items.{item_of};
 ghost use Rattle.layout_match.specs.Sequences.{is_covered_by, is_glyph, is_of_class, test_at, tests_of};
 
-use glyph_lists::info::hb_glyph_info_t;
+use buffer_glyphs::info::hb_glyph_info_t;
 use layout_common::class_definition::ClassDefinition;
 use layout_common::coverage::Coverage;
 

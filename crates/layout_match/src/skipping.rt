@@ -1,5 +1,5 @@
 ghost use Rattle.std.specs.Prelude.{◌≡◌, ◌<◌, ◌≤◌, length, reverse, IfOk, if◌then◌else◌};
-ghost use Rattle.glyph_lists.specs.Items.{item_of, strip};
+ghost use Rattle.buffer_glyphs.specs.Items.{item_of, strip};
 ghost use Rattle.layout_match.specs.Applied.{applied_of, context_search, own_search};
 ghost use Rattle.layout_match.specs.Searches.{search_of};
 ghost use Rattle.layout_match.specs.Matches.{nearest_from};
@@ -9,8 +9,8 @@ use crate::apply_context::hb_ot_apply_context_t;
 use crate::matching::{nearest_ahead, nearest_behind};
 use crate::search::{GlyphSearch, match_t};
 use crate::sequence::MatchSequence;
-use glyph_buffer::buffer::hb_buffer_t;
-use glyph_lists::info::hb_glyph_info_t;
+use buffer_core::buffer::hb_buffer_t;
+use buffer_glyphs::info::hb_glyph_info_t;
 
 /// A walk from glyph to glyph, ahead or back from the cursor, over those that a lookup passes over. It holds no buffer: each
 /// call is given it.

@@ -1,31 +1,31 @@
 -- Glyphs joined at the cursor.
 use Rattle.std.proofs.Common.{ℕ, ◌≡◌, ◌<◌, ◌≤◌, ◌+◌, ◌-◌, Bool, true, false, List, [], ◌∷◌, Option, Some, None, Result, Ok, length, drop, reverse, arith, refl, sym, ap, subst, ◌∙◌, slice_get}
 use Rattle.std.proofs.lemmas.List.{take_at}
-use Rattle.glyph_lists.specs.declared.info.hb_glyph_info_t.{hb_glyph_info_t}
-use Rattle.shaping_text.specs.declared.direction.Direction.{Direction}
-use Rattle.glyph_lists.specs.Items.{Position}
-use Rattle.glyph_lists.specs.Events.{Break}
-use Rattle.glyph_buffer.specs.Lending.{with_positions_refilled}
-use Rattle.glyph_buffer.specs.Sides.{Sides, moved_on, told_of}
+use Rattle.buffer_glyphs.specs.declared.info.hb_glyph_info_t.{hb_glyph_info_t}
+use Rattle.buffer_common.specs.declared.direction.Direction.{Direction}
+use Rattle.buffer_glyphs.specs.Items.{Position}
+use Rattle.buffer_glyphs.specs.Events.{Break}
+use Rattle.buffer_core.specs.Lending.{with_positions_refilled}
+use Rattle.buffer_core.specs.Sides.{Sides, moved_on, told_of}
 use Rattle.layout_common.specs.declared.glyph_row.GlyphRow.{GlyphRow}
 use Rattle.layout_match.specs.Applied.{Applied}
-use Rattle.layout_positions.specs.declared.cursive.EntryExit.{EntryExit}
-use Rattle.layout_positions.specs.declared.value.Anchor.{Anchor}
-use Rattle.stage_rules.specs.Actions.{Cut, Outcome, at_first, attempt_around}
-use Rattle.stage_rules.specs.Buffers.{IsPassed, Frame, cut_of}
-use Rattle.stage_rules.specs.Performing.{Performed, cut_with}
-use Rattle.stage_rules.specs.Lemmas.Frames.{same_lengths}
-use Rattle.stage_rules.specs.Lemmas.Glyphs.{first_item}
-use Rattle.stage_rules.specs.Lemmas.Performed.{passes_nothing}
+use Rattle.layout_subtables.specs.declared.cursive.EntryExit.{EntryExit}
+use Rattle.layout_subtables.specs.declared.value.Anchor.{Anchor}
+use Rattle.buffer_stages.specs.Actions.{Cut, Outcome, at_first, attempt_around}
+use Rattle.buffer_stages.specs.Buffers.{IsPassed, Frame, cut_of}
+use Rattle.buffer_stages.specs.Performing.{Performed, cut_with}
+use Rattle.buffer_stages.proofs.Lemmas.Frames.{same_lengths}
+use Rattle.buffer_stages.proofs.Lemmas.Glyphs.{first_item}
+use Rattle.buffer_stages.proofs.Lemmas.Performed.{passes_nothing}
 use Rattle.layout_gpos.specs.Anchors.{told_if}
-use Rattle.position_chains.specs.Links.{is_near}
-use Rattle.position_chains.specs.Cursive.{hangs_earlier, joined}
-use Rattle.position_chains.specs.Lemmas.Joined.{joined_length}
+use Rattle.layout_offsets.specs.Links.{is_near}
+use Rattle.layout_offsets.specs.Cursive.{hangs_earlier, joined}
+use Rattle.layout_offsets.proofs.Lemmas.Joined.{joined_length}
 use Rattle.layout_positioning.specs.Joins.{cursive_subtable, entry_of, exit_of, from_entry, join, join_if, on_exit}
 use Rattle.layout_gpos.specs.Marks.{item_before, with_found}
 use Rattle.layout_gpos.specs.Moving.{break_around}
-use Rattle.layout_gpos.specs.Lemmas.Performed.{found_is, marked_told, told_same}
-use Rattle.layout_gpos.specs.Lemmas.Placed.{break_passed, front_count}
+use Rattle.layout_gpos.proofs.Lemmas.Performed.{found_is, marked_told, told_same}
+use Rattle.layout_gpos.proofs.Lemmas.Placed.{break_passed, front_count}
 
 pub joined_back : (ps : List Position) (d : Direction) (earlier : Bool) (first second : ℕ) (exit entry : Anchor) (s new : Sides) → new ≡ with_positions_refilled ps s → ps ≡ joined d earlier first exit second entry s.positions
     → new ≡ record s { positions = joined d earlier first exit second entry s.positions }

@@ -2,29 +2,29 @@
 use Rattle.std.proofs.Common.{ℕ, ◌≡◌, ◌++◌, Bool, false, Option, None, append_assoc, List, [], take, drop, length, min, Ok, Err, sym, ap, subst, ◌∙◌}
 use Rattle.std.specs.Prelude.{Result, OnOk}
 use Rattle.std.proofs.lemmas.List.{take-append-drop, map-append}
-use Rattle.glyph_lists.specs.declared.cause.ShapeCause.{ShapeCause}
-use Rattle.glyph_lists.specs.Items.{Item, item_of, strip}
-use Rattle.glyph_buffer.specs.Sides.{Sides, all_glyphs, items_of, moved_on}
-use Rattle.layout_contexts.specs.declared.context.SequenceLookupRecord.{SequenceLookupRecord}
-use Rattle.font_face.specs.declared.positioning.PositioningLookup.{PositioningLookup}
-use Rattle.font_face.specs.declared.positioning.PositioningSubtables.{PositioningSubtables}
+use Rattle.buffer_glyphs.specs.declared.cause.ShapeCause.{ShapeCause}
+use Rattle.buffer_glyphs.specs.Items.{Item, item_of, strip}
+use Rattle.buffer_core.specs.Sides.{Sides, all_glyphs, items_of, moved_on}
+use Rattle.layout_subtables.specs.declared.context.SequenceLookupRecord.{SequenceLookupRecord}
+use Rattle.layout_face.specs.declared.positioning.PositioningLookup.{PositioningLookup}
+use Rattle.layout_face.specs.declared.positioning.PositioningSubtables.{PositioningSubtables}
 use Rattle.layout_match.specs.Applied.{Applied}
-use Rattle.stage_rules.specs.Actions.{Cut, whole, Action, Outcome, Passes, Acts, Refuses}
-use Rattle.stage_rules.specs.Performing.{Performed, Performs, cut_with}
-use Rattle.stage_rules.specs.Lemmas.Frames.{same_numbers}
-use Rattle.layout_chain.specs.Chains.{Chain, chain_rule}
-use Rattle.layout_chain.specs.Fitting.{IsMatched, Matched}
-use Rattle.layout_chain.specs.Nested.{Walks, cut_at, cut_behind, holds, spent}
-use Rattle.layout_chain.specs.Nesting.{Nests}
-use Rattle.layout_chain.specs.Records.{IsBegun}
-use Rattle.layout_positions.specs.declared.mark.MarkBasePos.{MarkBasePos}
-use Rattle.layout_positions.specs.declared.mark.MarkLigPos.{MarkLigPos}
+use Rattle.buffer_stages.specs.Actions.{Cut, whole, Action, Outcome, Passes, Acts, Refuses}
+use Rattle.buffer_stages.specs.Performing.{Performed, Performs, cut_with}
+use Rattle.buffer_stages.proofs.Lemmas.Frames.{same_numbers}
+use Rattle.layout_contexts.specs.Chains.{Chain, chain_rule}
+use Rattle.layout_contexts.specs.Fitting.{IsMatched, Matched}
+use Rattle.layout_contexts.specs.Nested.{Walks, cut_at, cut_behind, holds, spent}
+use Rattle.layout_contexts.specs.Nesting.{Nests}
+use Rattle.layout_contexts.specs.Records.{IsBegun}
+use Rattle.layout_subtables.specs.declared.mark.MarkBasePos.{MarkBasePos}
+use Rattle.layout_subtables.specs.declared.mark.MarkLigPos.{MarkLigPos}
 use Rattle.layout_gpos.specs.Bases.{AreKept, IsKept, any_sought}
 use Rattle.layout_gpos.specs.Marks.{mark_to_base, mark_to_ligature}
 use Rattle.layout_gpos.specs.declared.bases.LastSearch.{LastSearch}
 use Rattle.layout_gpos.specs.declared.bases.Sought.TheVariants.{Base, Ligature}
 use Rattle.layout_gpos.specs.Moving.{KeepsItems, ItemsStay}
-use Rattle.layout_gpos.specs.Lemmas.Left.{base_keeps, either_way, ligature_keeps, performed_left}
+use Rattle.layout_gpos.proofs.Lemmas.Left.{base_keeps, either_way, ligature_keeps, performed_left}
 use Rattle.layout_gpos.specs.declared.bases.LastSearches.{LastSearches}
 use Rattle.layout_positioning.specs.Lookups.{first_subtable, nested}
 use Rattle.layout_positioning.proofs.Left.{chain_keeps, cut_whole, nest_keeps, subtable_keeps}

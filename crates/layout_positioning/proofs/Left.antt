@@ -2,41 +2,41 @@
 use Rattle.std.proofs.Common.{ℕ, zero, suc, ◌≡◌, ◌+◌, ◌-◌, Bool, true, false, if◌then◌else◌, slice_get, Option, Some, None, List, [], ◌∷◌, drop, length, min, Ok, Err, refl, ap, subst, ◌∙◌}
 use Rattle.std.specs.Prelude.{◌&&◌, nat_lt, nat_le, Result, IfOk}
 use Rattle.std.proofs.lemmas.List.{take-append-drop}
-use Rattle.shaping_text.specs.declared.direction.Direction.{Direction}
-use Rattle.glyph_lists.specs.Events.{Event, Break}
-use Rattle.glyph_lists.specs.Items.{Item}
-use Rattle.glyph_lists.specs.Parts.{first_of}
-use Rattle.glyph_buffer.specs.Readings.{View, Read, Reading, Stage, Run, Follows, and_then, always, read_of, then_reading, with_events}
-use Rattle.glyph_buffer.specs.Sides.{Sides, items_of, run_of}
-use Rattle.font_face.specs.declared.parts.FaceParts.{FaceParts}
+use Rattle.buffer_common.specs.declared.direction.Direction.{Direction}
+use Rattle.buffer_glyphs.specs.Events.{Event, Break}
+use Rattle.buffer_glyphs.specs.Items.{Item}
+use Rattle.buffer_glyphs.specs.Parts.{first_of}
+use Rattle.buffer_core.specs.Readings.{View, Read, Reading, Stage, Run, Follows, and_then, always, read_of, then_reading, with_events}
+use Rattle.buffer_core.specs.Sides.{Sides, items_of, run_of}
+use Rattle.layout_face.specs.declared.parts.FaceParts.{FaceParts}
 use Rattle.layout_common.specs.declared.glyph_row.GlyphRow.{GlyphRow}
-use Rattle.layout_contexts.specs.declared.context.ClassRules.{ClassRules}
-use Rattle.layout_contexts.specs.declared.context.ContextSubtable.{ContextSubtable}
-use Rattle.layout_contexts.specs.declared.context.ContextSubtable.TheVariants.{Glyphs, Classes, Coverage}
-use Rattle.layout_contexts.specs.declared.context.SequenceLookupRecord.{SequenceLookupRecord}
-use Rattle.font_face.specs.declared.positioning.PositioningLookup.{PositioningLookup}
-use Rattle.font_face.specs.declared.positioning.PositioningSubtables.{PositioningSubtables}
-use Rattle.font_face.specs.declared.positioning.PositioningSubtables.TheVariants.{Single, Pair, Cursive, MarkToBase, MarkToLigature, MarkToMark, Context, ChainContext}
-use Rattle.layout_positions.specs.declared.cursive.EntryExit.{EntryExit}
-use Rattle.layout_positions.specs.declared.value.Anchor.{Anchor}
-use Rattle.map_builder.specs.Compiled.{OtMapValue, TableStages, lookups_of_stage}
-use Rattle.map_features.specs.declared.lookup.lookup_map_t.{lookup_map_t}
-use Rattle.map_builder.specs.declared.stages.StageMap.{StageMap}
+use Rattle.layout_subtables.specs.declared.context.ClassRules.{ClassRules}
+use Rattle.layout_subtables.specs.declared.context.ContextSubtable.{ContextSubtable}
+use Rattle.layout_subtables.specs.declared.context.ContextSubtable.TheVariants.{Glyphs, Classes, Coverage}
+use Rattle.layout_subtables.specs.declared.context.SequenceLookupRecord.{SequenceLookupRecord}
+use Rattle.layout_face.specs.declared.positioning.PositioningLookup.{PositioningLookup}
+use Rattle.layout_face.specs.declared.positioning.PositioningSubtables.{PositioningSubtables}
+use Rattle.layout_face.specs.declared.positioning.PositioningSubtables.TheVariants.{Single, Pair, Cursive, MarkToBase, MarkToLigature, MarkToMark, Context, ChainContext}
+use Rattle.layout_subtables.specs.declared.cursive.EntryExit.{EntryExit}
+use Rattle.layout_subtables.specs.declared.value.Anchor.{Anchor}
+use Rattle.layout_map.specs.Compiled.{OtMapValue, TableStages, lookups_of_stage}
+use Rattle.layout_map_features.specs.declared.lookup.lookup_map_t.{lookup_map_t}
+use Rattle.layout_map.specs.declared.stages.StageMap.{StageMap}
 use Rattle.layout_match.specs.Applied.{Applied, context_search, own_search}
 use Rattle.layout_match.specs.Matches.{backtrack_end, input_end, lookahead_end}
 use Rattle.layout_match.specs.Sequences.{is_covered_by}
-use Rattle.stage_rules.specs.Actions.{Cut, whole, view_at, past_item, uncut_placed, Outcome, Passes, Acts, Refuses, Action}
-use Rattle.stage_rules.specs.Ready.{IsDone}
-use Rattle.layout_chain.specs.Chains.{Chain, begins, by_backtrack, by_input, by_lookahead, chain_at, chain_rule, class_chain, class_rules, context_subtable, coverage_chain, glyph_chain, nested_lookups}
-use Rattle.layout_chain.specs.Nested.{Walked, Walks, Stops, by_place, cut_at, cut_behind, each_nested, each_record, has_budget, holds, nested_at, nested_there, one_record, spent, then_walk, walked_later}
+use Rattle.buffer_stages.specs.Actions.{Cut, whole, view_at, past_item, uncut_placed, Outcome, Passes, Acts, Refuses, Action}
+use Rattle.buffer_stages.specs.Ready.{IsDone}
+use Rattle.layout_contexts.specs.Chains.{Chain, begins, by_backtrack, by_input, by_lookahead, chain_at, chain_rule, class_chain, class_rules, context_subtable, coverage_chain, glyph_chain, nested_lookups}
+use Rattle.layout_contexts.specs.Nested.{Walked, Walks, Stops, by_place, cut_at, cut_behind, each_nested, each_record, has_budget, holds, nested_at, nested_there, one_record, spent, then_walk, walked_later}
 use Rattle.layout_positioning.specs.Joins.{cursive_subtable, entry_of, exit_of, from_entry, join_if, on_exit}
 use Rattle.layout_gpos.specs.Marks.{item_before, mark_to_base, mark_to_ligature, mark_to_mark}
 use Rattle.layout_gpos.specs.Moving.{KeepsItems, ItemsStay}
 use Rattle.layout_gpos.specs.Pairs.{pair_subtable}
 use Rattle.layout_gpos.specs.Singles.{single_subtable}
-use Rattle.layout_gpos.specs.Lemmas.Left.{at_first_left, base_keeps, either_way, first_left, found_left, later_left, ligature_keeps, mark_keeps, pair_keeps, past_left, single_keeps}
-use Rattle.stage_rules.specs.Pauses.{Pauses, pause_stage}
-use Rattle.layout_walks.specs.Trying.{after_outcome, at_met, gone_over, meets, tried, tried_before}
+use Rattle.layout_gpos.proofs.Lemmas.Left.{at_first_left, base_keeps, either_way, first_left, found_left, later_left, ligature_keeps, mark_keeps, pair_keeps, past_left, single_keeps}
+use Rattle.buffer_stages.specs.Pauses.{Pauses, pause_stage}
+use Rattle.layout_match.specs.Trying.{after_outcome, at_met, gone_over, meets, tried, tried_before}
 use Rattle.layout_positioning.specs.Lookups.{applied_by, first_subtable, lookup_action, lookup_stage, nested, nested_lookup, under_flag}
 use Rattle.layout_positioning.specs.Positioning.{LeavesItems, lookups_stage, positioned_by, positioning_lookups, table_stage, table_stages}
 

@@ -1,26 +1,26 @@
 -- Lookups nested in others, level by level.
 use Rattle.std.proofs.Common.{ℕ, zero, suc, ◌≡◌, ◌≢◌, ◌-◌, Ok, Err, true, false, Bool, List, Option, Some, None, slice_get, refl, sym, ap, subst, arith}
 use Rattle.std.specs.Prelude.{Result}
-use Rattle.shaping_text.specs.declared.direction.Direction.{Direction}
-use Rattle.glyph_lists.specs.declared.cause.ShapeCause.{ShapeCause}
-use Rattle.glyph_lists.specs.declared.cause.ShapeCause.TheVariants.{OutOfMemory}
-use Rattle.glyph_lists.specs.declared.info.hb_glyph_info_t.{hb_glyph_info_t}
-use Rattle.glyph_lists.specs.Items.{item_of}
-use Rattle.glyph_buffer.specs.Sides.{Sides}
-use Rattle.font_face.specs.declared.positioning.PositioningLookup.{PositioningLookup}
+use Rattle.buffer_common.specs.declared.direction.Direction.{Direction}
+use Rattle.buffer_glyphs.specs.declared.cause.ShapeCause.{ShapeCause}
+use Rattle.buffer_glyphs.specs.declared.cause.ShapeCause.TheVariants.{OutOfMemory}
+use Rattle.buffer_glyphs.specs.declared.info.hb_glyph_info_t.{hb_glyph_info_t}
+use Rattle.buffer_glyphs.specs.Items.{item_of}
+use Rattle.buffer_core.specs.Sides.{Sides}
+use Rattle.layout_face.specs.declared.positioning.PositioningLookup.{PositioningLookup}
 use Rattle.layout_match.specs.Applied.{Applied}
-use Rattle.layout_contexts.specs.declared.context.SequenceLookupRecord.{SequenceLookupRecord}
-use Rattle.layout_chain.specs.Nested.{one_record}
-use Rattle.layout_chain.specs.Nesting.{Walking}
-use Rattle.layout_chain.specs.Records.{IsBegun}
-use Rattle.layout_chain.specs.Lemmas.Steps.{performs_nests}
-use Rattle.layout_chain.specs.Lemmas.Walks.{lookup_refused}
-use Rattle.stage_rules.specs.Lemmas.Frames.{still_direction}
-use Rattle.stage_rules.specs.Actions.{Action, Outcome, Refuses}
-use Rattle.stage_rules.specs.Performing.{cut_with, Performed, Performs}
-use Rattle.stage_rules.specs.Lemmas.Performed.{passes_nothing}
-use Rattle.layout_walks.specs.Trying.{meets}
-use Rattle.layout_walks.specs.Lemmas.Met.{met, unmet}
+use Rattle.layout_subtables.specs.declared.context.SequenceLookupRecord.{SequenceLookupRecord}
+use Rattle.layout_contexts.specs.Nested.{one_record}
+use Rattle.layout_contexts.specs.Nesting.{Walking}
+use Rattle.layout_contexts.specs.Records.{IsBegun}
+use Rattle.layout_contexts.proofs.Lemmas.Steps.{performs_nests}
+use Rattle.layout_contexts.proofs.Lemmas.Walks.{lookup_refused}
+use Rattle.buffer_stages.proofs.Lemmas.Frames.{still_direction}
+use Rattle.buffer_stages.specs.Actions.{Action, Outcome, Refuses}
+use Rattle.buffer_stages.specs.Performing.{cut_with, Performed, Performs}
+use Rattle.buffer_stages.proofs.Lemmas.Performed.{passes_nothing}
+use Rattle.layout_match.specs.Trying.{meets}
+use Rattle.layout_match.proofs.Lemmas.Met.{met, unmet}
 use Rattle.layout_positioning.specs.Lookups.{first_subtable, lookup_action, nested, nested_act, nested_lookup, under_flag}
 
 pub no_depth : (table : List PositioningLookup) (depth : ℕ) (d : Direction) (a : Applied) → depth ≡ 0 → nested table depth d a ≡ None

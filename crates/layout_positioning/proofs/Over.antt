@@ -2,22 +2,22 @@
 use Rattle.std.proofs.Common.{ℕ, suc, ◌≡◌, ◌≤◌, ◌<◌, ◌+◌, ◌-◌, nat_le, true, [], length, Err, refl, sym, ap, subst, ◌∙◌, arith}
 use Rattle.std.proofs.lemmas.Bool.Decides.{nat_tests}
 use Rattle.std.proofs.lemmas.List.{take-append-drop, length-map, length-append}
-use Rattle.shaping_text.specs.declared.direction.Direction.{Direction}
-use Rattle.glyph_lists.specs.declared.cause.ShapeCause.{ShapeCause}
-use Rattle.glyph_lists.specs.Items.{item_of, strip}
-use Rattle.glyph_lists.specs.Origins.{origins}
-use Rattle.glyph_buffer.specs.Readings.{Run, Follows, read_of}
-use Rattle.glyph_buffer.specs.Steps.{follows_from}
-use Rattle.glyph_buffer.specs.Sides.{Sides, all_glyphs, run_of, settings_of}
-use Rattle.glyph_buffer.specs.Moving.{moved_to}
-use Rattle.stage_rules.specs.Actions.{Cut, uncut_placed, Action}
-use Rattle.stage_rules.specs.Buffers.{are_glyphs, IsStill}
-use Rattle.stage_rules.specs.Performing.{cut_with}
-use Rattle.stage_rules.specs.Ready.{IsReady, IsDoneFrom, run_with}
-use Rattle.stage_rules.specs.Lemmas.Frames.{still_settings, still_open, still_refused, still_direction}
-use Rattle.layout_walks.specs.Trying.{tried}
-use Rattle.layout_walks.specs.Steps.{IsGivenUp, IsStep}
-use Rattle.layout_walks.specs.Lemmas.Passage.{IsUnderway, ended_view, gone_on}
+use Rattle.buffer_common.specs.declared.direction.Direction.{Direction}
+use Rattle.buffer_glyphs.specs.declared.cause.ShapeCause.{ShapeCause}
+use Rattle.buffer_glyphs.specs.Items.{item_of, strip}
+use Rattle.buffer_glyphs.specs.Origins.{origins}
+use Rattle.buffer_core.specs.Readings.{Run, Follows, read_of}
+use Rattle.buffer_core.specs.Steps.{follows_from}
+use Rattle.buffer_core.specs.Sides.{Sides, all_glyphs, run_of, settings_of}
+use Rattle.buffer_core.specs.Moving.{moved_to}
+use Rattle.buffer_stages.specs.Actions.{Cut, uncut_placed, Action}
+use Rattle.buffer_stages.specs.Buffers.{are_glyphs, IsStill}
+use Rattle.buffer_stages.specs.Performing.{cut_with}
+use Rattle.buffer_stages.specs.Ready.{IsReady, IsDoneFrom, run_with}
+use Rattle.buffer_stages.proofs.Lemmas.Frames.{still_settings, still_open, still_refused, still_direction}
+use Rattle.layout_match.specs.Trying.{tried}
+use Rattle.layout_match.specs.Steps.{IsGivenUp, IsStep}
+use Rattle.layout_match.proofs.Lemmas.Passage.{IsUnderway, ended_view, gone_on}
 use Rattle.layout_positioning.specs.Lookups.{looked_over}
 
 -- in a list within its limit a glyph more may be done

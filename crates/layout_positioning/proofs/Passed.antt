@@ -1,10 +1,10 @@
 -- Rules that passed on a buffer without an output.
 use Rattle.std.proofs.Common.{ℕ, ◌≡◌, Bool, false, List, subst, ◌∙◌}
-use Rattle.glyph_buffer.specs.Sides.{Sides}
-use Rattle.stage_rules.specs.Actions.{Outcome, Passes, Acts, Refuses, Action}
-use Rattle.stage_rules.specs.Performing.{cut_with, Performed}
-use Rattle.stage_rules.specs.Lemmas.Frames.{still_open}
-use Rattle.stage_rules.specs.Lemmas.Performed.{ArePassed}
+use Rattle.buffer_core.specs.Sides.{Sides}
+use Rattle.buffer_stages.specs.Actions.{Outcome, Passes, Acts, Refuses, Action}
+use Rattle.buffer_stages.specs.Performing.{cut_with, Performed}
+use Rattle.buffer_stages.proofs.Lemmas.Frames.{still_open}
+use Rattle.buffer_stages.proofs.Lemmas.Performed.{ArePassed}
 
 pub passed_closed : {R : Type 0} (act : R → Action) (all left : List R) (r : ℕ) (start now : Sides) → ArePassed act all left r start now → start.is_open ≡ false → now.is_open ≡ false
 passed_closed act all left r start now t e = still_open start now t.still ∙ e

@@ -3,19 +3,19 @@ use Rattle.std.proofs.Common.{ℕ, ◌≡◌, ◌≤◌, ◌<◌, ◌+◌, List,
 use Rattle.std.specs.Prelude.{slice_get}
 use Rattle.std.specs.Option.{option_map_or}
 use Rattle.std.proofs.lemmas.List.{drop_more, drop_all}
-use Rattle.glyph_lists.specs.declared.cause.ShapeCause.{ShapeCause}
-use Rattle.glyph_buffer.specs.Readings.{Stage, read_of}
-use Rattle.glyph_buffer.specs.Steps.{follows_same}
-use Rattle.glyph_buffer.specs.Sides.{Sides}
-use Rattle.map_builder.specs.declared.stages.StageMap.{StageMap}
-use Rattle.font_face.specs.declared.parts.FaceParts.{FaceParts}
-use Rattle.font_face.specs.declared.positioning.PositioningLookup.{PositioningLookup}
-use Rattle.font_face.specs.declared.positioning.PositioningTable.{PositioningTable}
-use Rattle.map_features.specs.declared.lookup.lookup_map_t.{lookup_map_t}
-use Rattle.map_builder.specs.Compiled.{TableStages, lookups_of_stage}
-use Rattle.stage_rules.specs.Ready.{IsReady, IsDone, IsDoneFrom, run_with}
-use Rattle.stage_rules.specs.Pauses.{Pauses, pause_stage}
-use Rattle.stage_rules.specs.Lemmas.Ways.{AreStagesDone, both_done, first_refused, next_done, next_refused, no_stage_done, nothing_done, second_refused, stages_done}
+use Rattle.buffer_glyphs.specs.declared.cause.ShapeCause.{ShapeCause}
+use Rattle.buffer_core.specs.Readings.{Stage, read_of}
+use Rattle.buffer_core.specs.Steps.{follows_same}
+use Rattle.buffer_core.specs.Sides.{Sides}
+use Rattle.layout_map.specs.declared.stages.StageMap.{StageMap}
+use Rattle.layout_face.specs.declared.parts.FaceParts.{FaceParts}
+use Rattle.layout_face.specs.declared.positioning.PositioningLookup.{PositioningLookup}
+use Rattle.layout_face.specs.declared.positioning.PositioningTable.{PositioningTable}
+use Rattle.layout_map_features.specs.declared.lookup.lookup_map_t.{lookup_map_t}
+use Rattle.layout_map.specs.Compiled.{TableStages, lookups_of_stage}
+use Rattle.buffer_stages.specs.Ready.{IsReady, IsDone, IsDoneFrom, run_with}
+use Rattle.buffer_stages.specs.Pauses.{Pauses, pause_stage}
+use Rattle.buffer_stages.proofs.Lemmas.Ways.{AreStagesDone, both_done, first_refused, next_done, next_refused, no_stage_done, nothing_done, second_refused, stages_done}
 use Rattle.layout_positioning.specs.Lookups.{lookup_stage}
 use Rattle.layout_positioning.specs.Positioning.{lookups_stage, positioning_lookups, table_stage, table_stages}
 

@@ -1,17 +1,17 @@
 -- Cursive attachment at a cut (OpenType, GPOS lookup type 3): the item before exits where the item at the cut enters.
 use Rattle.std.specs.Prelude.{ℕ, ◌+◌, ◌-◌, List, [], length, Option, Some, None, option_and_then}
-use Rattle.shaping_text.specs.declared.direction.Direction.{Direction}
-use Rattle.glyph_lists.specs.Items.{Item}
-use Rattle.glyph_lists.specs.Parts.{first_of}
+use Rattle.buffer_common.specs.declared.direction.Direction.{Direction}
+use Rattle.buffer_glyphs.specs.Items.{Item}
+use Rattle.buffer_glyphs.specs.Parts.{first_of}
 use Rattle.layout_common.specs.Rows.{value_of}
 use Rattle.layout_common.specs.declared.glyph_row.GlyphRow.{GlyphRow}
-use Rattle.layout_positions.specs.declared.cursive.EntryExit.{EntryExit}
-use Rattle.layout_positions.specs.declared.value.Anchor.{Anchor}
+use Rattle.layout_subtables.specs.declared.cursive.EntryExit.{EntryExit}
+use Rattle.layout_subtables.specs.declared.value.Anchor.{Anchor}
 use Rattle.layout_match.specs.Applied.{Applied}
-use Rattle.stage_rules.specs.Actions.{Action, Passes, Acts, at_first, attempt_around}
+use Rattle.buffer_stages.specs.Actions.{Action, Passes, Acts, at_first, attempt_around}
 use Rattle.layout_gpos.specs.Anchors.{told_if}
-use Rattle.position_chains.specs.Links.{is_near}
-use Rattle.position_chains.specs.Cursive.{hangs_earlier, joined}
+use Rattle.layout_offsets.specs.Links.{is_near}
+use Rattle.layout_offsets.specs.Cursive.{hangs_earlier, joined}
 use Rattle.layout_gpos.specs.Marks.{item_before, with_found}
 use Rattle.layout_gpos.specs.Moving.{break_around, placed_past}
 

@@ -1,22 +1,22 @@
 -- A lookup of positioning by the type of its subtables, tried at each index of a list (OpenType, chapter 2).
 use Rattle.std.specs.Prelude.{ℕ, suc, zero, List, [], length, Option, Some, None, slice_get}
-use Rattle.shaping_text.specs.declared.direction.Direction.{Direction}
-use Rattle.glyph_buffer.specs.Readings.{Stage, as_it_is}
-use Rattle.font_face.specs.declared.parts.FaceParts.{FaceParts}
-use Rattle.font_face.specs.Lookups.{props_of}
-use Rattle.font_face.specs.declared.positioning.PositioningLookup.{PositioningLookup}
-use Rattle.font_face.specs.declared.positioning.PositioningSubtables.{PositioningSubtables}
-use Rattle.font_face.specs.declared.positioning.PositioningSubtables.TheVariants.{Single, Pair, Cursive, MarkToBase, MarkToLigature, MarkToMark, Context, ChainContext}
-use Rattle.map_features.specs.declared.lookup.lookup_map_t.{lookup_map_t}
-use Rattle.map_features.specs.declared.per_table.TableIndex.TheVariants.{GPOS}
+use Rattle.buffer_common.specs.declared.direction.Direction.{Direction}
+use Rattle.buffer_core.specs.Readings.{Stage, as_it_is}
+use Rattle.layout_face.specs.declared.parts.FaceParts.{FaceParts}
+use Rattle.layout_face.specs.Lookups.{props_of}
+use Rattle.layout_face.specs.declared.positioning.PositioningLookup.{PositioningLookup}
+use Rattle.layout_face.specs.declared.positioning.PositioningSubtables.{PositioningSubtables}
+use Rattle.layout_face.specs.declared.positioning.PositioningSubtables.TheVariants.{Single, Pair, Cursive, MarkToBase, MarkToLigature, MarkToMark, Context, ChainContext}
+use Rattle.layout_map_features.specs.declared.lookup.lookup_map_t.{lookup_map_t}
+use Rattle.layout_map_features.specs.declared.per_table.TableIndex.TheVariants.{GPOS}
 use Rattle.layout_match.specs.Applied.{Applied}
-use Rattle.stage_rules.specs.Actions.{uncut_placed, Passes, Action, first_rule}
-use Rattle.layout_chain.specs.Chains.{context_subtable}
+use Rattle.buffer_stages.specs.Actions.{uncut_placed, Passes, Action, first_rule}
+use Rattle.layout_contexts.specs.Chains.{context_subtable}
 use Rattle.layout_positioning.specs.Joins.{cursive_subtable}
 use Rattle.layout_gpos.specs.Marks.{mark_to_base, mark_to_ligature, mark_to_mark}
 use Rattle.layout_gpos.specs.Pairs.{pair_subtable}
 use Rattle.layout_gpos.specs.Singles.{single_subtable}
-use Rattle.layout_walks.specs.Trying.{met_first, tried}
+use Rattle.layout_match.specs.Trying.{met_first, tried}
 
 -- with what a lookup of a map is applied: its flag is its own, its mask and how it passes over joiners, keeps to syllables and draws are the map's
 abbrev pub applied_by : FaceParts → PositioningLookup → lookup_map_t → Applied

@@ -1,13 +1,13 @@
 -- The lookups of positioning, stage after stage, each stage ended by its pause.
 use Rattle.std.specs.Prelude.{ℕ, ◌≡◌, ◌+◌, IfOk, List, [], ◌∷◌, Option, slice_get}
 use Rattle.std.specs.Option.{option_map_or}
-use Rattle.glyph_buffer.specs.Readings.{View, Stage, and_then, as_it_is}
-use Rattle.font_face.specs.declared.parts.FaceParts.{FaceParts}
-use Rattle.font_face.specs.declared.positioning.PositioningLookup.{PositioningLookup}
-use Rattle.map_features.specs.declared.lookup.lookup_map_t.{lookup_map_t}
-use Rattle.map_builder.specs.declared.stages.StageMap.{StageMap}
-use Rattle.map_builder.specs.Compiled.{OtMapValue, TableStages, lookups_of_stage}
-use Rattle.stage_rules.specs.Pauses.{Pauses, pause_stage}
+use Rattle.buffer_core.specs.Readings.{View, Stage, and_then, as_it_is}
+use Rattle.layout_face.specs.declared.parts.FaceParts.{FaceParts}
+use Rattle.layout_face.specs.declared.positioning.PositioningLookup.{PositioningLookup}
+use Rattle.layout_map_features.specs.declared.lookup.lookup_map_t.{lookup_map_t}
+use Rattle.layout_map.specs.declared.stages.StageMap.{StageMap}
+use Rattle.layout_map.specs.Compiled.{OtMapValue, TableStages, lookups_of_stage}
+use Rattle.buffer_stages.specs.Pauses.{Pauses, pause_stage}
 use Rattle.layout_positioning.specs.Lookups.{lookup_stage}
 
 -- lookups of a table, one after another

@@ -1,20 +1,20 @@
 ghost use Rattle.std.specs.Prelude.{◌≡◌, ◌≢◌, true, Err, slice_get, IfErr, OnOk};
-ghost use Rattle.glyph_buffer.specs.Readings.{read_of};
-ghost use Rattle.glyph_buffer.specs.Sides.{items_of};
+ghost use Rattle.buffer_core.specs.Readings.{read_of};
+ghost use Rattle.buffer_core.specs.Sides.{items_of};
 ghost use Rattle.layout_match.specs.Applied.{applied_of};
-ghost use Rattle.stage_rules.specs.Buffers.{are_glyphs};
-ghost use Rattle.stage_rules.specs.Ready.{IsDoneFrom, IsReady, run_with};
+ghost use Rattle.buffer_stages.specs.Buffers.{are_glyphs};
+ghost use Rattle.buffer_stages.specs.Ready.{IsDoneFrom, IsReady, run_with};
 ghost use Rattle.layout_positioning.specs.Lookups.{applied_by, lookup_stage};
 ghost use Rattle.layout_positioning.specs.Positioning.{lookups_stage};
 
 use crate::forward::apply_forward;
-use font_face::Face;
-use font_face::positioning::{PositioningLookup, PositioningTable};
-use glyph_buffer::buffer::hb_buffer_t;
-use glyph_lists::cause::ShapeCause;
+use buffer_core::buffer::hb_buffer_t;
+use buffer_glyphs::cause::ShapeCause;
+use layout_face::Face;
+use layout_face::positioning::{PositioningLookup, PositioningTable};
+use layout_map_features::lookup::lookup_map_t;
+use layout_map_features::per_table::TableIndex;
 use layout_match::hb_ot_apply_context_t;
-use map_features::lookup::lookup_map_t;
-use map_features::per_table::TableIndex;
 
 /// With what a lookup is applied: its own flag, and what the map says of it.
 fn context_of<'a>(

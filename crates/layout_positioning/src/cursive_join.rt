@@ -1,23 +1,23 @@
 //! Cursive attachment.
 ghost use Rattle.std.specs.Prelude.{ℕ, ◌≡◌, ◌<◌, ◌≤◌, IfErr, IfOk, Ok, false, true, length};
-ghost use Rattle.glyph_buffer.specs.Sides.{all_glyphs, items_of};
+ghost use Rattle.buffer_core.specs.Sides.{all_glyphs, items_of};
 ghost use Rattle.layout_match.specs.Applied.{applied_of};
-ghost use Rattle.stage_rules.specs.Buffers.{are_glyphs};
-ghost use Rattle.stage_rules.specs.Performing.{Performed, cut_with};
+ghost use Rattle.buffer_stages.specs.Buffers.{are_glyphs};
+ghost use Rattle.buffer_stages.specs.Performing.{Performed, cut_with};
 ghost use Rattle.layout_positioning.specs.Joins.{cursive_subtable, entry_of, exit_of, join, join_if, on_exit};
-ghost use Rattle.position_chains.specs.Cursive.{joined};
+ghost use Rattle.layout_offsets.specs.Cursive.{joined};
 ghost use Rattle.layout_gpos.specs.Marks.{with_found};
 
-use glyph_buffer::buffer::hb_buffer_t;
+use buffer_core::buffer::hb_buffer_t;
 use layout_gpos::mark::tell_attached;
 use layout_gpos::marking::{mark_attempt, mark_match};
 use layout_gpos::placing::pass;
 use layout_gpos::search::{glyph_before, item_before};
 use layout_match::hb_ot_apply_context_t;
-use layout_positions::cursive::CursivePos;
-use layout_positions::value::Anchor;
-use position_chains::cursive_join::{Joint, hangs_earlier, join_both};
-use position_chains::links::is_near;
+use layout_offsets::cursive_join::{Joint, hangs_earlier, join_both};
+use layout_offsets::links::is_near;
+use layout_subtables::cursive::CursivePos;
+use layout_subtables::value::Anchor;
 
 #[tactic(auto, using(crate::proofs::Joined::joined_back))]
 fn join_at(buffer: &mut hb_buffer_t, earlier: bool, join: Joint)
@@ -79,7 +79,7 @@ fn entry_of(subtable: &CursivePos, glyph: u16) -> Option<Anchor>
 }
 
 /// Joins the glyph at the cursor to one before it, where that has an exit.
-#[tactic(auto, using(crate::proofs::Joined::not_joined, crate::proofs::Joined::both_joined, layout_gpos::specs::Lemmas::Performed::attempt_performed))]
+#[tactic(auto, using(crate::proofs::Joined::not_joined, crate::proofs::Joined::both_joined, layout_gpos::proofs::Lemmas::Performed::attempt_performed))]
 fn join_if(
     ctx: &hb_ot_apply_context_t,
     exit: Option<Anchor>,
@@ -105,7 +105,7 @@ fn join_if(
 }
 
 /// Joins the glyph at the cursor to what was found before it.
-#[tactic(auto, using(layout_gpos::specs::Lemmas::Nearest::number_back, crate::proofs::Joined::found_joined, layout_gpos::specs::Lemmas::Performed::attempt_performed))]
+#[tactic(auto, using(layout_gpos::proofs::Lemmas::Nearest::number_back, crate::proofs::Joined::found_joined, layout_gpos::proofs::Lemmas::Performed::attempt_performed))]
 fn join_found(
     subtable: &CursivePos,
     ctx: &hb_ot_apply_context_t,
@@ -137,7 +137,7 @@ fn join_found(
 /// Cursive attachment (OpenType, GPOS lookup type 3): where the subtable has an entry for the glyph at the cursor, and an exit
 /// for the nearest before it, the two are joined. With RIGHT_TO_LEFT in the lookup's flag the earlier glyph hangs on the
 /// later one. It tells whether it acted; where it didn't, it changed glyph flags alone. It takes no memory.
-#[tactic(auto, using(stage_rules::specs::Lemmas::Glyphs::number_ahead, crate::proofs::Joined::no_entry))]
+#[tactic(auto, using(buffer_stages::proofs::Lemmas::Glyphs::number_ahead, crate::proofs::Joined::no_entry))]
 pub fn apply_cursive_pos(
     subtable: &CursivePos,
     ctx: &hb_ot_apply_context_t,

@@ -1,23 +1,23 @@
 ghost use Rattle.std.specs.Prelude.{◌≡◌, ◌≢◌, true, false, Err, IfErr, OnOk};
-ghost use Rattle.glyph_buffer.specs.Readings.{read_of};
-ghost use Rattle.glyph_buffer.specs.Sides.{items_of};
+ghost use Rattle.buffer_core.specs.Readings.{read_of};
+ghost use Rattle.buffer_core.specs.Sides.{items_of};
 ghost use Rattle.layout_match.specs.Applied.{applied_of};
-ghost use Rattle.stage_rules.specs.Buffers.{are_glyphs};
-ghost use Rattle.stage_rules.specs.Ready.{IsDoneFrom, IsReady, run_with};
-ghost use Rattle.layout_walks.specs.Steps.{IsGivenUp, IsStep};
+ghost use Rattle.buffer_stages.specs.Buffers.{are_glyphs};
+ghost use Rattle.buffer_stages.specs.Ready.{IsDoneFrom, IsReady, run_with};
+ghost use Rattle.layout_match.specs.Steps.{IsGivenUp, IsStep};
 ghost use Rattle.layout_gpos.specs.Bases.{AreKept};
 ghost use Rattle.layout_positioning.specs.Lookups.{looked_over, lookup_action};
 
 use crate::lookup::apply_lookup;
-use font_face::positioning::{PositioningLookup, PositioningTable};
-use glyph_buffer::buffer::hb_buffer_t;
-use glyph_lists::cause::ShapeCause;
+use buffer_core::buffer::hb_buffer_t;
+use buffer_glyphs::cause::ShapeCause;
+use layout_face::positioning::{PositioningLookup, PositioningTable};
 use layout_gpos::bases::LastSearches;
 use layout_gpos::placing::pass;
 use layout_match::hb_ot_apply_context_t;
 
 /// Tries a lookup at the cursor, and goes on over the glyph where it doesn't act; at the end it does nothing.
-#[tactic(auto, using(layout_walks::specs::Lemmas::Steps::step_ended, layout_walks::specs::Lemmas::Steps::given_up, layout_walks::specs::Lemmas::Steps::passed_there, crate::proofs::Passed::closed_there, crate::proofs::Kept::passed_kept))]
+#[tactic(auto, using(layout_match::proofs::Lemmas::Steps::step_ended, layout_match::proofs::Lemmas::Steps::given_up, layout_match::proofs::Lemmas::Steps::passed_there, crate::proofs::Passed::closed_there, crate::proofs::Kept::passed_kept))]
 fn apply_next(
     table: &PositioningTable,
     lookup: &PositioningLookup,

@@ -1,7 +1,7 @@
 //! Kerning by other tables than GPOS: a font that was read has none.
 ghost use Rattle.std.specs.Prelude.{◌≡◌, false};
 
-use font_face::Face;
+use layout_face::Face;
 
 /// Whether the font has kerning beside GPOS.
 pub fn hb_ot_layout_has_kerning(_face: &Face) -> bool

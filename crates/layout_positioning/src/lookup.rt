@@ -1,19 +1,19 @@
 ghost use Rattle.std.specs.Prelude.{◌≡◌, ◌<◌, true, false, OnOk, length};
-ghost use Rattle.glyph_buffer.specs.Sides.{items_of};
+ghost use Rattle.buffer_core.specs.Sides.{items_of};
 ghost use Rattle.layout_match.specs.Applied.{applied_of};
-ghost use Rattle.stage_rules.specs.Buffers.{are_glyphs};
-ghost use Rattle.stage_rules.specs.Performing.{Performs, cut_with};
+ghost use Rattle.buffer_stages.specs.Buffers.{are_glyphs};
+ghost use Rattle.buffer_stages.specs.Performing.{Performs, cut_with};
 ghost use Rattle.layout_gpos.specs.Bases.{AreKept};
 ghost use Rattle.layout_positioning.specs.Lookups.{lookup_action};
 
 use crate::nested::apply_subtables;
-use font_face::positioning::{PositioningLookup, PositioningTable};
-use glyph_buffer::buffer::hb_buffer_t;
-use glyph_lists::cause::ShapeCause;
-use layout_chain::MAX_NESTING_LEVEL;
+use buffer_core::buffer::hb_buffer_t;
+use buffer_glyphs::cause::ShapeCause;
+use layout_contexts::MAX_NESTING_LEVEL;
+use layout_face::positioning::{PositioningLookup, PositioningTable};
 use layout_gpos::bases::LastSearches;
 use layout_match::hb_ot_apply_context_t;
-use layout_walks::lookup::meets;
+use layout_match::lookup::meets;
 
 /// Does what a lookup does at the glyph at the cursor of a buffer without an output, where it meets it: what the first of
 /// its subtables does that acts. It tells whether one acted; where none did it changed glyph flags alone. Searches for

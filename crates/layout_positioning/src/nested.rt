@@ -1,33 +1,33 @@
 //! Lookups that are nested in others: a rule of a context applies them at the places of its match.
 ghost use Rattle.std.specs.Prelude.{◌≡◌, ◌≢◌, ◌≤◌, ◌<◌, ◌+◌, true, false, length, slice_get, IfOk, OnOk, Some, None};
-ghost use Rattle.glyph_buffer.specs.Sides.{items_of};
-ghost use Rattle.layout_chain.specs.Chains.{chain_rule, context_subtable};
-ghost use Rattle.layout_chain.specs.Fitting.{chain_of};
-ghost use Rattle.layout_chain.specs.Inside.{StaysInside};
-ghost use Rattle.layout_chain.specs.Nested.{each_nested, one_record};
-ghost use Rattle.layout_chain.specs.Nesting.{Walking};
-ghost use Rattle.layout_chain.specs.Places.{AreRising};
-ghost use Rattle.layout_chain.specs.Rules.{chains_of};
+ghost use Rattle.buffer_core.specs.Sides.{items_of};
+ghost use Rattle.layout_contexts.specs.Chains.{chain_rule, context_subtable};
+ghost use Rattle.layout_contexts.specs.Fitting.{chain_of};
+ghost use Rattle.layout_contexts.specs.Inside.{StaysInside};
+ghost use Rattle.layout_contexts.specs.Nested.{each_nested, one_record};
+ghost use Rattle.layout_contexts.specs.Nesting.{Walking};
+ghost use Rattle.layout_contexts.specs.Places.{AreRising};
+ghost use Rattle.layout_contexts.specs.Rules.{chains_of};
 ghost use Rattle.layout_gpos.specs.Bases.{AreKept};
 ghost use Rattle.layout_match.specs.Applied.{applied_of};
-ghost use Rattle.stage_rules.specs.Actions.{first_rule, whole};
-ghost use Rattle.stage_rules.specs.Buffers.{are_glyphs, cut_of};
-ghost use Rattle.stage_rules.specs.Performing.{Performs, cut_with};
+ghost use Rattle.buffer_stages.specs.Actions.{first_rule, whole};
+ghost use Rattle.buffer_stages.specs.Buffers.{are_glyphs, cut_of};
+ghost use Rattle.buffer_stages.specs.Performing.{Performs, cut_with};
 ghost use Rattle.layout_positioning.specs.Lookups.{first_subtable, nested, nested_act, nested_lookup, under_flag};
 
 use crate::subtables::{
     apply_first, apply_first_base, apply_first_cursive, apply_first_ligature, apply_first_mark,
 };
-use font_face::positioning::{PositioningLookup, PositioningSubtables, PositioningTable};
-use glyph_buffer::buffer::hb_buffer_t;
-use glyph_lists::cause::ShapeCause;
-use layout_chain::{
+use buffer_core::buffer::hb_buffer_t;
+use buffer_glyphs::cause::ShapeCause;
+use layout_contexts::{
     ChainRule, begin_record, glyph_count, go_behind, is_tried_at, match_chain, rule_at, rule_count,
     settle_match,
 };
-use layout_contexts::context::{ContextSubtable, SequenceLookupRecord};
+use layout_face::positioning::{PositioningLookup, PositioningSubtables, PositioningTable};
 use layout_gpos::bases::LastSearches;
 use layout_match::{MatchPositions, hb_ot_apply_context_t};
+use layout_subtables::context::{ContextSubtable, SequenceLookupRecord};
 
 /// With what a lookup is applied that is nested in another: its own flag, and all else as that one.
 fn under_flag<'a>(
@@ -119,7 +119,7 @@ pub(crate) fn apply_subtables(
 
 /// Does what the first of some contexts does that acts.
 #[cycle(nested)]
-#[tactic(auto, using(stage_rules::specs::Lemmas::Performed::passed_first, crate::proofs::Passed::passed_closed, stage_rules::specs::Lemmas::Performed::passed_unrefused, stage_rules::specs::Lemmas::Performed::passed_numbers))]
+#[tactic(auto, using(buffer_stages::proofs::Lemmas::Performed::passed_first, crate::proofs::Passed::passed_closed, buffer_stages::proofs::Lemmas::Performed::passed_unrefused, buffer_stages::proofs::Lemmas::Performed::passed_numbers))]
 fn apply_contexts(
     table: &PositioningTable,
     depth: u32,
@@ -177,7 +177,7 @@ fn apply_context(
 
 /// Does what the first of a context's rules does that matches at the cursor.
 #[cycle(nested)]
-#[tactic(auto, using(stage_rules::specs::Lemmas::Performed::passed_first, crate::proofs::Passed::passed_closed, stage_rules::specs::Lemmas::Performed::passed_unrefused, stage_rules::specs::Lemmas::Performed::passed_numbers))]
+#[tactic(auto, using(buffer_stages::proofs::Lemmas::Performed::passed_first, crate::proofs::Passed::passed_closed, buffer_stages::proofs::Lemmas::Performed::passed_unrefused, buffer_stages::proofs::Lemmas::Performed::passed_numbers))]
 fn apply_rules(
     table: &PositioningTable,
     depth: u32,
@@ -297,7 +297,7 @@ fn apply_records(
 
 /// Applies a record of a rule: its lookup, at its place; answers where the match ends then.
 #[cycle(nested)]
-#[tactic(auto, using(layout_chain::specs::Lemmas::Nested::begun_closed, layout_chain::specs::Lemmas::Nested::begun_unrefused, layout_chain::specs::Lemmas::Nested::begun_numbers, layout_chain::specs::Lemmas::Nested::begun_there))]
+#[tactic(auto, using(layout_contexts::proofs::Lemmas::Nested::begun_closed, layout_contexts::proofs::Lemmas::Nested::begun_unrefused, layout_contexts::proofs::Lemmas::Nested::begun_numbers, layout_contexts::proofs::Lemmas::Nested::begun_there))]
 fn apply_record(
     table: &PositioningTable,
     depth: u32,

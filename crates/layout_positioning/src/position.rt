@@ -1,20 +1,20 @@
 //! Positioning, stage after stage.
 ghost use Rattle.std.specs.Prelude.{ℕ, ◌≡◌, ◌≢◌, true, Err, IfErr, OnOk};
-ghost use Rattle.glyph_buffer.specs.Readings.{read_of};
-ghost use Rattle.glyph_buffer.specs.Sides.{items_of, run_of};
-ghost use Rattle.stage_rules.specs.Buffers.{are_glyphs};
-ghost use Rattle.stage_rules.specs.Ready.{IsDone, IsDoneFrom, IsReady, run_with};
-ghost use Rattle.stage_rules.specs.Settings.{text_settings};
+ghost use Rattle.buffer_core.specs.Readings.{read_of};
+ghost use Rattle.buffer_core.specs.Sides.{items_of, run_of};
+ghost use Rattle.buffer_stages.specs.Buffers.{are_glyphs};
+ghost use Rattle.buffer_stages.specs.Ready.{IsDone, IsDoneFrom, IsReady, run_with};
+ghost use Rattle.buffer_stages.specs.Settings.{text_settings};
 ghost use Rattle.layout_positioning.specs.Positioning.{LeavesItems, lookups_stage, positioned_by, positioning_lookups, table_stages};
 
 use crate::apply::apply_lookups;
-use font_face::Face;
-use glyph_buffer::buffer::hb_buffer_t;
-use glyph_lists::cause::ShapeCause;
-use map_builder::map::hb_ot_map_t;
-use map_features::lookup::lookup_map_t;
-use map_features::per_table::TableIndex;
-use stage_rules::pause::{Pause, run_pause};
+use buffer_core::buffer::hb_buffer_t;
+use buffer_glyphs::cause::ShapeCause;
+use buffer_stages::pause::{Pause, run_pause};
+use layout_face::Face;
+use layout_map::map::hb_ot_map_t;
+use layout_map_features::lookup::lookup_map_t;
+use layout_map_features::per_table::TableIndex;
 
 /// Does the lookups of a stage one after another; a font without a table of positioning has none.
 fn apply_stage(

@@ -1,27 +1,27 @@
 //! Subtables of positioning that call no other lookup, tried one after another.
 ghost use Rattle.std.specs.Prelude.{◌≡◌, ◌<◌, false, true, length};
-ghost use Rattle.glyph_buffer.specs.Sides.{items_of};
+ghost use Rattle.buffer_core.specs.Sides.{items_of};
 ghost use Rattle.layout_match.specs.Applied.{applied_of};
-ghost use Rattle.stage_rules.specs.Actions.{first_rule};
-ghost use Rattle.stage_rules.specs.Buffers.{are_glyphs};
-ghost use Rattle.stage_rules.specs.Performing.{Performed, cut_with};
+ghost use Rattle.buffer_stages.specs.Actions.{first_rule};
+ghost use Rattle.buffer_stages.specs.Buffers.{are_glyphs};
+ghost use Rattle.buffer_stages.specs.Performing.{Performed, cut_with};
 ghost use Rattle.layout_positioning.specs.Joins.{cursive_subtable};
 ghost use Rattle.layout_gpos.specs.Bases.{AreKept};
 ghost use Rattle.layout_gpos.specs.Marks.{mark_to_base, mark_to_ligature, mark_to_mark};
 
 use crate::cursive_join::apply_cursive_pos;
-use glyph_buffer::buffer::hb_buffer_t;
+use buffer_core::buffer::hb_buffer_t;
 use layout_gpos::apply::Apply;
 use layout_gpos::bases::LastSearches;
 use layout_gpos::mark::apply_mark_base_pos;
 use layout_gpos::mark_lig::apply_mark_lig_pos;
 use layout_gpos::mark_mark::apply_mark_mark_pos;
 use layout_match::hb_ot_apply_context_t;
-use layout_positions::cursive::CursivePos;
-use layout_positions::mark::{MarkBasePos, MarkLigPos};
+use layout_subtables::cursive::CursivePos;
+use layout_subtables::mark::{MarkBasePos, MarkLigPos};
 
 /// Does what the first of some subtables does that acts, and tells whether one acted.
-#[tactic(auto, using(stage_rules::specs::Lemmas::Performed::passed_first, crate::proofs::Passed::passed_closed, stage_rules::specs::Lemmas::Performed::passed_numbers, stage_rules::specs::Lemmas::Performed::passed_all))]
+#[tactic(auto, using(buffer_stages::proofs::Lemmas::Performed::passed_first, crate::proofs::Passed::passed_closed, buffer_stages::proofs::Lemmas::Performed::passed_numbers, buffer_stages::proofs::Lemmas::Performed::passed_all))]
 pub fn apply_first<S: Apply>(
     subtables: &[S],
     ctx: &hb_ot_apply_context_t,
@@ -44,7 +44,7 @@ pub fn apply_first<S: Apply>(
 }
 
 /// The same with subtables of cursive attachment.
-#[tactic(auto, using(stage_rules::specs::Lemmas::Performed::passed_first, crate::proofs::Passed::passed_closed, stage_rules::specs::Lemmas::Performed::passed_numbers, stage_rules::specs::Lemmas::Performed::passed_all))]
+#[tactic(auto, using(buffer_stages::proofs::Lemmas::Performed::passed_first, crate::proofs::Passed::passed_closed, buffer_stages::proofs::Lemmas::Performed::passed_numbers, buffer_stages::proofs::Lemmas::Performed::passed_all))]
 pub fn apply_first_cursive(
     subtables: &[CursivePos],
     ctx: &hb_ot_apply_context_t,
@@ -67,7 +67,7 @@ pub fn apply_first_cursive(
 }
 
 /// The same with subtables of mark to mark attachment.
-#[tactic(auto, using(stage_rules::specs::Lemmas::Performed::passed_first, crate::proofs::Passed::passed_closed, stage_rules::specs::Lemmas::Performed::passed_numbers, stage_rules::specs::Lemmas::Performed::passed_all))]
+#[tactic(auto, using(buffer_stages::proofs::Lemmas::Performed::passed_first, crate::proofs::Passed::passed_closed, buffer_stages::proofs::Lemmas::Performed::passed_numbers, buffer_stages::proofs::Lemmas::Performed::passed_all))]
 pub fn apply_first_mark(
     subtables: &[MarkBasePos],
     ctx: &hb_ot_apply_context_t,
@@ -90,7 +90,7 @@ pub fn apply_first_mark(
 }
 
 /// The same with subtables of mark to base attachment; the search for a base goes on from the last one.
-#[tactic(auto, using(stage_rules::specs::Lemmas::Performed::passed_first, crate::proofs::Passed::passed_closed, stage_rules::specs::Lemmas::Performed::passed_numbers))]
+#[tactic(auto, using(buffer_stages::proofs::Lemmas::Performed::passed_first, crate::proofs::Passed::passed_closed, buffer_stages::proofs::Lemmas::Performed::passed_numbers))]
 pub fn apply_first_base(
     subtables: &[MarkBasePos],
     ctx: &hb_ot_apply_context_t,
@@ -116,7 +116,7 @@ pub fn apply_first_base(
 }
 
 /// The same with subtables of mark to ligature attachment; the search for a ligature goes on from the last one.
-#[tactic(auto, using(stage_rules::specs::Lemmas::Performed::passed_first, crate::proofs::Passed::passed_closed, stage_rules::specs::Lemmas::Performed::passed_numbers))]
+#[tactic(auto, using(buffer_stages::proofs::Lemmas::Performed::passed_first, crate::proofs::Passed::passed_closed, buffer_stages::proofs::Lemmas::Performed::passed_numbers))]
 pub fn apply_first_ligature(
     subtables: &[MarkLigPos],
     ctx: &hb_ot_apply_context_t,

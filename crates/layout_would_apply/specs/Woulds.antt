@@ -4,13 +4,13 @@ use Rattle.std.specs.Cmp.Lexicographic.{pointwise}
 use Rattle.std.specs.List.{list_any}
 use Rattle.layout_common.specs.Classes.{class_of}
 use Rattle.layout_common.specs.Coverage.{is_covered}
-use Rattle.layout_contexts.specs.declared.context.SequenceRule.{SequenceRule}
-use Rattle.layout_contexts.specs.declared.context.ClassRules.{ClassRules}
-use Rattle.layout_contexts.specs.declared.context.ContextSubtable.{ContextSubtable}
-use Rattle.layout_contexts.specs.declared.context.ContextSubtable.TheVariants.{Glyphs, Classes, Coverage}
+use Rattle.layout_subtables.specs.declared.context.SequenceRule.{SequenceRule}
+use Rattle.layout_subtables.specs.declared.context.ClassRules.{ClassRules}
+use Rattle.layout_subtables.specs.declared.context.ContextSubtable.{ContextSubtable}
+use Rattle.layout_subtables.specs.declared.context.ContextSubtable.TheVariants.{Glyphs, Classes, Coverage}
 use Rattle.layout_gsub.specs.Woulds.{ligature_would, sequence_would, single_would}
-use Rattle.font_face.specs.declared.substitution.SubstitutionSubtables.{SubstitutionSubtables}
-use Rattle.font_face.specs.declared.substitution.SubstitutionSubtables.TheVariants.{Single, Multiple, Alternate, Ligature, Context, ChainContext, ReverseChainSingle}
+use Rattle.layout_face.specs.declared.substitution.SubstitutionSubtables.{SubstitutionSubtables}
+use Rattle.layout_face.specs.declared.substitution.SubstitutionSubtables.TheVariants.{Single, Multiple, Alternate, Ligature, Context, ChainContext, ReverseChainSingle}
 
 -- with nothing around the glyphs a rule doesn't count that asks for something there
 abbrev pub counts : {I : Type 0} → Bool → SequenceRule I → Bool

@@ -5,11 +5,11 @@ ghost use Rattle.layout_common.specs.Classes.{class_of};
 ghost use Rattle.layout_common.specs.Coverage.{is_covered};
 ghost use Rattle.layout_would_apply.specs.Woulds.{any_rule_would, class_rule_would, context_would, counts, coverage_rule_would, fit, glyph_rule_would, is_first_covered, lookup_would};
 
-use font_face::substitution::{SubstLookup, SubstitutionSubtables};
 use layout_common::class_definition::ClassDefinition;
 use layout_common::coverage::Coverage;
-use layout_contexts::context::{ClassRules, ContextSubtable, SequenceRule};
+use layout_face::substitution::{SubstLookup, SubstitutionSubtables};
 use layout_gsub::would_apply::{WouldApply, WouldApplyContext};
+use layout_subtables::context::{ClassRules, ContextSubtable, SequenceRule};
 
 /// Whether a rule counts: with nothing around the glyphs, one that asks for something before or after its input doesn't.
 fn counts<I>(rule: &SequenceRule<I>, ctx: &WouldApplyContext) -> bool

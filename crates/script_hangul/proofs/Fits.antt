@@ -4,9 +4,9 @@ use Rattle.std.specs.Prelude.{slice_get}
 use Rattle.std.proofs.lemmas.Bool.{and_parts}
 use Rattle.std.proofs.lemmas.Bool.Decides.{nat_tests}
 use Rattle.std.proofs.lemmas.Option.{slice_get_within}
-use Rattle.font_face.specs.declared.parts.FaceParts.{FaceParts}
-use Rattle.unicode_tables.specs.Hangul.{hangul_pair}
-use Rattle.glyph_lists.specs.Items.{Item}
+use Rattle.layout_face.specs.declared.parts.FaceParts.{FaceParts}
+use Rattle.buffer_unicode_tables.specs.Hangul.{hangul_pair}
+use Rattle.buffer_glyphs.specs.Items.{Item}
 use Rattle.script_hangul.specs.declared.jamo.Letters.{Letters}
 use Rattle.script_hangul.specs.declared.jamo.Letters.TheVariants.{Two, Three}
 use Rattle.script_hangul.specs.declared.actions.Action.{Action}

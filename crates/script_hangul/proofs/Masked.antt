@@ -2,12 +2,12 @@
 use Rattle.std.proofs.Common.{ℕ, ◌≡◌, ◌==◌, Bool, true, false, if◌then◌else◌, refl, ap, ◌∙◌}
 use Rattle.std.specs.Prelude.{bit_and, bit_or}
 use Rattle.std.proofs.lemmas.Nat.{and_or_apart}
-use Rattle.glyph_lists.specs.declared.info.hb_glyph_info_t.{hb_glyph_info_t}
-use Rattle.glyph_lists.specs.Items.{item_of, without_flags}
-use Rattle.glyph_lists.specs.Origins.{origin_of}
+use Rattle.buffer_glyphs.specs.declared.info.hb_glyph_info_t.{hb_glyph_info_t}
+use Rattle.buffer_glyphs.specs.Items.{item_of, without_flags}
+use Rattle.buffer_glyphs.specs.Origins.{origin_of}
 use Rattle.script_hangul.specs.declared.masks.JamoMasks.{JamoMasks}
 use Rattle.script_hangul.specs.Masks.{AreFlagless, mask_of, with_place_mask}
-use Rattle.stage_rules.specs.Lemmas.Masks.{mask_above}
+use Rattle.buffer_stages.proofs.Lemmas.Masks.{mask_above}
 
 either : (t : Bool) (a b : ℕ) → bit_and a 7 ≡ 0 → bit_and b 7 ≡ 0 → bit_and (if t then a else b) 7 ≡ 0
 either true a b e f = e

@@ -2,23 +2,23 @@
 use Rattle.std.proofs.Common.{ℕ, ◌≡◌, ◌<◌, ◌+◌, ◌-◌, Bool, true, false, if◌then◌else◌, List, [], ◌∷◌, ◌++◌, Some, length, take, drop, arith, refl, ap, ap₂, sym, subst, ◌∙◌, append_assoc}
 use Rattle.std.specs.Prelude.{slice_get}
 use Rattle.std.proofs.lemmas.List.{append-nil, drop-drop, length-append, length-drop, length-map, length-take-le, take-append-le, drop-append-le}
-use Rattle.glyph_lists.specs.declared.cause.ShapeCause.{ShapeCause}
-use Rattle.glyph_buffer.specs.Readings.{View}
-use Rattle.glyph_lists.specs.declared.info.hb_glyph_info_t.{hb_glyph_info_t}
-use Rattle.glyph_lists.specs.Items.{Item, item_of, strip}
-use Rattle.glyph_lists.specs.Levels.{InOutput}
-use Rattle.glyph_lists.specs.Events.{Event, Move, Replace}
-use Rattle.glyph_lists.specs.Replacements.{item_numbered}
-use Rattle.glyph_buffer.specs.Sides.{Sides}
-use Rattle.stage_rules.specs.Moves.{moved, order_of_move}
-use Rattle.stage_rules.specs.Walks.{Exceeds, Walked, renumbered_first}
-use Rattle.stage_rules.specs.Lemmas.Moved.{moved_length}
-use Rattle.stage_rules.specs.Lemmas.Walked.{both_walked}
+use Rattle.buffer_glyphs.specs.declared.cause.ShapeCause.{ShapeCause}
+use Rattle.buffer_core.specs.Readings.{View}
+use Rattle.buffer_glyphs.specs.declared.info.hb_glyph_info_t.{hb_glyph_info_t}
+use Rattle.buffer_glyphs.specs.Items.{Item, item_of, strip}
+use Rattle.buffer_glyphs.specs.Levels.{InOutput}
+use Rattle.buffer_glyphs.specs.Events.{Event, Move, Replace}
+use Rattle.buffer_glyphs.specs.Replacements.{item_numbered}
+use Rattle.buffer_core.specs.Sides.{Sides}
+use Rattle.buffer_stages.specs.Moves.{moved, order_of_move}
+use Rattle.buffer_stages.specs.Walks.{Exceeds, Walked, renumbered_first}
+use Rattle.buffer_stages.specs.Lemmas.Moved.{moved_length}
+use Rattle.buffer_stages.proofs.Lemmas.Walked.{both_walked}
 use Rattle.script_hangul.specs.declared.jamo.Letters.{Letters}
 use Rattle.script_hangul.specs.declared.jamo.Letters.TheVariants.{Two, Three}
 use Rattle.script_hangul.specs.Steps.{apart, before_syllable, circle_for, circled, composed, grapheme_merged, kept, letters_from, numbers_of, parted, placed, put_before, split, with_circle}
 use Rattle.script_hangul.specs.Stepped.{Refuses, Stepped, is_two}
-use Rattle.stage_rules.specs.Lemmas.Fitting.{level_same}
+use Rattle.buffer_stages.proofs.Lemmas.Fitting.{level_same}
 
 -- other words for the same
 renamed : (o r o' r' : List Item) (es es' : List Event) (s t : Sides) → Walked o r es s t → o ≡ o' → r ≡ r' → es ≡ es' → Walked o' r' es' s t

@@ -2,19 +2,19 @@
 use Rattle.std.proofs.Common.{ℕ, zero, suc, ◌≡◌, ◌≢◌, ◌<◌, ◌≤◌, ◌+◌, ◌-◌, ◌&&◌, inl, inr, Bool, true, false, nat_le, nat_lt, if◌then◌else◌, List, [], ◌∷◌, ◌++◌, Option, Some, None, Err, length, take, drop, refl, sym, ap, subst, ◌∙◌, append_assoc, arith}
 use Rattle.std.proofs.lemmas.Bool.Decides.{nat_tests}
 use Rattle.std.proofs.lemmas.List.{append-nil, length-append, length-map, length-drop}
-use Rattle.glyph_lists.specs.declared.cause.ShapeCause.{ShapeCause}
-use Rattle.glyph_lists.specs.declared.cause.ShapeCause.TheVariants.{OutOfMemory, TooLong}
-use Rattle.glyph_lists.specs.declared.info.hb_glyph_info_t.{hb_glyph_info_t}
-use Rattle.shaping_text.specs.declared.constants.BufferFlags.{BufferFlags}
-use Rattle.font_face.specs.declared.parts.FaceParts.{FaceParts}
-use Rattle.glyph_lists.specs.Items.{Item, item_of, strip}
-use Rattle.glyph_lists.specs.Events.{Event}
-use Rattle.glyph_buffer.specs.Readings.{read_of}
-use Rattle.glyph_buffer.specs.Sides.{Sides, Settings, all_glyphs, items_of, run_of, with_output, synced, fits_joined}
-use Rattle.stage_rules.specs.Ready.{IsReady}
-use Rattle.stage_rules.specs.Stages.{IsFollowed}
-use Rattle.stage_rules.specs.Walks.{Exceeds, Walked, renumbered_first}
-use Rattle.stage_rules.specs.Lemmas.Walked.{both_walked, nothing_walked, walked_followed}
+use Rattle.buffer_glyphs.specs.declared.cause.ShapeCause.{ShapeCause}
+use Rattle.buffer_glyphs.specs.declared.cause.ShapeCause.TheVariants.{OutOfMemory, TooLong}
+use Rattle.buffer_glyphs.specs.declared.info.hb_glyph_info_t.{hb_glyph_info_t}
+use Rattle.buffer_common.specs.declared.constants.BufferFlags.{BufferFlags}
+use Rattle.layout_face.specs.declared.parts.FaceParts.{FaceParts}
+use Rattle.buffer_glyphs.specs.Items.{Item, item_of, strip}
+use Rattle.buffer_glyphs.specs.Events.{Event}
+use Rattle.buffer_core.specs.Readings.{read_of}
+use Rattle.buffer_core.specs.Sides.{Sides, Settings, all_glyphs, items_of, run_of, with_output, synced, fits_joined}
+use Rattle.buffer_stages.specs.Ready.{IsReady}
+use Rattle.buffer_stages.specs.Stages.{IsFollowed}
+use Rattle.buffer_stages.specs.Walks.{Exceeds, Walked, renumbered_first}
+use Rattle.buffer_stages.proofs.Lemmas.Walked.{both_walked, nothing_walked, walked_followed}
 use Rattle.script_hangul.specs.declared.actions.Action.{Action}
 use Rattle.script_hangul.specs.declared.actions.Action.TheVariants.{Keep, Apart, Compose, Split}
 use Rattle.script_hangul.specs.Jamo.{is_tone}
@@ -22,7 +22,7 @@ use Rattle.script_hangul.specs.Actions.{action_on, has_character}
 use Rattle.script_hangul.specs.Steps.{Step, DOTTED_CIRCLE, before_syllable, circled, has_no_width, kept, letters_from, parted, performed, put_before, toned, with_circle}
 use Rattle.script_hangul.specs.Hangul.{character_at, events_behind, step, step_by, syllables_formed, text_behind, wants_circles}
 use Rattle.script_hangul.specs.Stepped.{Passes, Stepped}
-use Rattle.stage_rules.specs.Lemmas.Fitting.{limit_same, written_exceed, written_fit}
+use Rattle.buffer_stages.proofs.Lemmas.Fitting.{limit_same, written_exceed, written_fit}
 
 -- what is behind and ahead comes to what all does
 pub record IsUnderway (font : FaceParts) (circles : Bool) (left start : ℕ) (s t : Sides) : Type 0 where

@@ -1,8 +1,8 @@
 -- The letters of Hangul (The Unicode Standard, section 3.12, and the blocks Hangul Jamo, Jamo Extended-A and Jamo Extended-B).
 use Rattle.std.specs.Prelude.{ℕ, Bool, ◌==◌, ◌||◌, Option, Some, None, option_map}
 use Rattle.std.specs.Option.{option_and_then}
-use Rattle.unicode_tables.specs.Hangul.{hangul_split, hangul_pair}
-use Rattle.unicode_chars.specs.Character.{is_in_range}
+use Rattle.buffer_unicode_tables.specs.Hangul.{hangul_split, hangul_pair}
+use Rattle.buffer_unicode.specs.Character.{is_in_range}
 use Rattle.script_hangul.specs.declared.jamo.Letters.{Letters}
 use Rattle.script_hangul.specs.declared.jamo.Letters.TheVariants.{Two, Three}
 

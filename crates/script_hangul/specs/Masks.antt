@@ -1,8 +1,8 @@
 -- The masks of the features that letters of Hangul ask for by their places in a syllable.
 use Rattle.std.specs.Prelude.{ℕ, ◌≡◌, ◌==◌, if◌then◌else◌}
 use Rattle.std.specs.Int.RustNames.{bit_and, bit_or}
-use Rattle.glyph_lists.specs.declared.info.TheConstants.{DEFINED}
-use Rattle.glyph_lists.specs.Items.{Item, without_flags}
+use Rattle.buffer_glyphs.specs.declared.info.TheConstants.{DEFINED}
+use Rattle.buffer_glyphs.specs.Items.{Item, without_flags}
 use Rattle.script_hangul.specs.declared.masks.JamoMasks.{JamoMasks}
 
 -- the mask of a place in a syllable; what has no place asks for none

@@ -1,14 +1,14 @@
 -- A step through a text of Hangul in an open output.
 use Rattle.std.specs.Prelude.{ℕ, ◌≡◌, ◌<◌, ◌⊎◌, ◌+◌, ◌&&◌, Bool, true, false, nat_le, nat_lt, if◌then◌else◌, drop, length}
-use Rattle.glyph_lists.specs.declared.cause.ShapeCause.{ShapeCause}
-use Rattle.glyph_lists.specs.Items.{strip}
-use Rattle.glyph_buffer.specs.Sides.{Sides}
-use Rattle.stage_rules.specs.Walks.{Exceeds, Walked}
+use Rattle.buffer_glyphs.specs.declared.cause.ShapeCause.{ShapeCause}
+use Rattle.buffer_glyphs.specs.Items.{strip}
+use Rattle.buffer_core.specs.Sides.{Sides}
+use Rattle.buffer_stages.specs.Walks.{Exceeds, Walked}
 use Rattle.script_hangul.specs.declared.jamo.Letters.{Letters}
 use Rattle.script_hangul.specs.declared.jamo.Letters.TheVariants.{Two, Three}
 use Rattle.script_hangul.specs.declared.actions.Action.{Action}
 use Rattle.script_hangul.specs.declared.actions.Action.TheVariants.{Keep, Apart, Compose, Split}
-use Rattle.font_face.specs.declared.parts.FaceParts.{FaceParts}
+use Rattle.layout_face.specs.declared.parts.FaceParts.{FaceParts}
 use Rattle.script_hangul.specs.Steps.{Step}
 use Rattle.script_hangul.specs.Hangul.{step}
 

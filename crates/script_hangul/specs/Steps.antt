@@ -1,17 +1,17 @@
 -- What becomes of the front of the rest of a text, and of the text before it.
 use Rattle.std.specs.Prelude.{ℕ, ◌+◌, ◌-◌, ◌==◌, ◌&&◌, Bool, false, nat_lt, if◌then◌else◌, List, [], ◌∷◌, ◌++◌, length, map, take, drop}
 use Rattle.std.specs.Option.{option_map_or}
-use Rattle.glyph_lists.specs.declared.level.BufferClusterLevel.{BufferClusterLevel}
-use Rattle.glyph_lists.specs.declared.level.BufferClusterLevel.TheVariants.{MonotoneGraphemes, MonotoneCharacters, Characters}
-use Rattle.font_face.specs.declared.parts.FaceParts.{FaceParts}
-use Rattle.font_face.specs.Glyphs.{nominal_glyph, width_of}
-use Rattle.glyph_properties.specs.Properties.{properties_of}
-use Rattle.glyph_lists.specs.Items.{Item}
-use Rattle.glyph_lists.specs.Levels.{InOutput}
-use Rattle.glyph_lists.specs.Events.{Event, Merge, Move, Replace}
-use Rattle.glyph_lists.specs.Replacements.{item_numbered}
-use Rattle.stage_rules.specs.Moves.{order_of_move}
-use Rattle.stage_rules.specs.Walks.{renumbered_first}
+use Rattle.buffer_glyphs.specs.declared.level.BufferClusterLevel.{BufferClusterLevel}
+use Rattle.buffer_glyphs.specs.declared.level.BufferClusterLevel.TheVariants.{MonotoneGraphemes, MonotoneCharacters, Characters}
+use Rattle.layout_face.specs.declared.parts.FaceParts.{FaceParts}
+use Rattle.layout_face.specs.Glyphs.{nominal_glyph, width_of}
+use Rattle.buffer_properties.specs.Properties.{properties_of}
+use Rattle.buffer_glyphs.specs.Items.{Item}
+use Rattle.buffer_glyphs.specs.Levels.{InOutput}
+use Rattle.buffer_glyphs.specs.Events.{Event, Merge, Move, Replace}
+use Rattle.buffer_glyphs.specs.Replacements.{item_numbered}
+use Rattle.buffer_stages.specs.Moves.{order_of_move}
+use Rattle.buffer_stages.specs.Walks.{renumbered_first}
 use Rattle.script_hangul.specs.declared.jamo.Letters.{Letters}
 use Rattle.script_hangul.specs.declared.jamo.Letters.TheVariants.{Two, Three}
 use Rattle.script_hangul.specs.declared.actions.Action.{Action}

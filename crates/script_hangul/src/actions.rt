@@ -3,8 +3,8 @@ ghost use Rattle.std.specs.Prelude.{◌≡◌};
 ghost use Rattle.script_hangul.specs.Actions.{action_on, before_trailing, has_letters, joining_action, leading_action, letters_action, split_action, syllable_action, trailing_of};
 
 use crate::jamo::{Letters, is_leading, is_syllable, is_trailing, is_vowel, letters_of, whole_of};
-use font_face::Face;
-use unicode_tables::compose_hangul;
+use buffer_unicode_tables::compose_hangul;
+use layout_face::Face;
 
 /// What becomes of the characters at the front of a text.
 #[derive(Clone, Copy)]

@@ -1,26 +1,26 @@
 //! A text of Hangul.
 ghost use Rattle.std.specs.Prelude.{◌≡◌, ◌≢◌, ◌<◌, ◌≤◌, true, false, length, IfOk, OnOk, IfErr, Err};
-ghost use Rattle.glyph_lists.specs.Items.{strip};
-ghost use Rattle.glyph_buffer.specs.Readings.{read_of};
-ghost use Rattle.glyph_buffer.specs.Sides.{run_of};
-ghost use Rattle.stage_rules.specs.Ready.{IsReady};
+ghost use Rattle.buffer_glyphs.specs.Items.{strip};
+ghost use Rattle.buffer_core.specs.Readings.{read_of};
+ghost use Rattle.buffer_core.specs.Sides.{run_of};
+ghost use Rattle.buffer_stages.specs.Ready.{IsReady};
 ghost use Rattle.script_hangul.specs.Actions.{action_on};
 ghost use Rattle.script_hangul.specs.Steps.{performed};
 ghost use Rattle.script_hangul.specs.Hangul.{character_at, step, syllables_formed, wants_circles};
 ghost use Rattle.script_hangul.specs.Stepped.{Passes, Refuses, Stepped};
-ghost use Rattle.stage_rules.specs.Walks.{Exceeds};
-ghost use Rattle.stage_rules.specs.Stages.{IsFollowed};
+ghost use Rattle.buffer_stages.specs.Walks.{Exceeds};
+ghost use Rattle.buffer_stages.specs.Stages.{IsFollowed};
 
 use crate::actions::action_on;
 use crate::jamo::is_tone;
 use crate::performing::{keep, perform};
 use crate::tones::put_tone;
 use bitflags::Flags;
-use font_face::Face;
-use glyph_buffer::buffer::hb_buffer_t;
-use glyph_lists::cause::ShapeCause;
-use shaping_text::constants::BufferFlags;
-use stage_rules::walks::finish;
+use buffer_common::constants::BufferFlags;
+use buffer_core::buffer::hb_buffer_t;
+use buffer_glyphs::cause::ShapeCause;
+use buffer_stages::walks::finish;
+use layout_face::Face;
 
 /// Composes letters to syllables that the font has, and splits syllables that it lacks into letters; marks letters that
 /// stay apart with their place in the syllable; puts tone marks that have a width before the syllable that they follow,

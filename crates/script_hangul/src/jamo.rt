@@ -2,7 +2,7 @@
 ghost use Rattle.std.specs.Prelude.{◌≡◌};
 ghost use Rattle.script_hangul.specs.Jamo.{is_leading, is_syllable, is_tone, is_trailing, is_vowel, letters_of, whole_of};
 
-use unicode_tables::{compose_hangul, decompose_hangul};
+use buffer_unicode_tables::{compose_hangul, decompose_hangul};
 
 /// The letters of a syllable.
 #[derive(Clone, Copy)]

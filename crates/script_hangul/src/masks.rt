@@ -1,17 +1,17 @@
 //! The masks of the letters of Hangul.
 ghost use Rattle.std.specs.Prelude.{◌≡◌};
 ghost use Rattle.std.specs.Int.RustNames.{bit_and};
-ghost use Rattle.glyph_lists.specs.Items.{item_of};
-ghost use Rattle.glyph_lists.specs.Origins.{origin_of};
-ghost use Rattle.glyph_buffer.specs.Readings.{always};
-ghost use Rattle.stage_rules.specs.Ready.{IsReady};
+ghost use Rattle.buffer_glyphs.specs.Items.{item_of};
+ghost use Rattle.buffer_glyphs.specs.Origins.{origin_of};
+ghost use Rattle.buffer_core.specs.Readings.{always};
+ghost use Rattle.buffer_stages.specs.Ready.{IsReady};
 ghost use Rattle.script_hangul.specs.Masks.{AreFlagless, mask_of, with_place_mask};
-ghost use Rattle.stage_rules.specs.Stages.{IsFollowed, mapped};
+ghost use Rattle.buffer_stages.specs.Stages.{IsFollowed, mapped};
 
 use crate::performing::{LJMO, TJMO, VJMO};
-use glyph_buffer::buffer::hb_buffer_t;
-use glyph_lists::info::{hb_glyph_info_t, hb_mask_t};
-use stage_rules::glyphs::map_glyphs;
+use buffer_core::buffer::hb_buffer_t;
+use buffer_glyphs::info::{hb_glyph_info_t, hb_mask_t};
+use buffer_stages::glyphs::map_glyphs;
 
 /// The masks of the features for the letters of a syllable, by their places in it.
 #[derive(Clone, Copy)]

@@ -1,20 +1,20 @@
 //! What becomes of characters, done on a buffer.
 ghost use Rattle.std.specs.Prelude.{◌≡◌, if◌then◌else◌, ◌<◌, ◌≤◌, ◌+◌, ◌++◌, ◌∷◌, [], true, drop, length, take, slice_get, Some, IfOk, IfErr, OnOk};
-ghost use Rattle.glyph_lists.specs.Items.{item_of, strip};
-ghost use Rattle.glyph_lists.specs.Origins.{origin_of};
-ghost use Rattle.glyph_lists.specs.Replacements.{item_numbered};
-ghost use Rattle.glyph_lists.specs.Events.{Replace};
+ghost use Rattle.buffer_glyphs.specs.Items.{item_of, strip};
+ghost use Rattle.buffer_glyphs.specs.Origins.{origin_of};
+ghost use Rattle.buffer_glyphs.specs.Replacements.{item_numbered};
+ghost use Rattle.buffer_glyphs.specs.Events.{Replace};
 ghost use Rattle.script_hangul.specs.Steps.{apart, composed, grapheme_merged, kept, letters_from, numbers_of, parted, performed, placed, split};
 ghost use Rattle.script_hangul.specs.Stepped.{Refuses, Stepped, fits_ahead};
-ghost use Rattle.stage_rules.specs.Walks.{Exceeds, Walked};
+ghost use Rattle.buffer_stages.specs.Walks.{Exceeds, Walked};
 
 use crate::actions::Action;
 use crate::jamo::Letters;
-use glyph_buffer::buffer::hb_buffer_t;
-use glyph_lists::cause::ShapeCause;
-use glyph_lists::info::hb_glyph_info_t;
-use glyph_lists::level::BufferClusterLevel;
-use stage_rules::walks::{advance, advance_as, merge_behind, replace_current, replace_front};
+use buffer_core::buffer::hb_buffer_t;
+use buffer_glyphs::cause::ShapeCause;
+use buffer_glyphs::info::hb_glyph_info_t;
+use buffer_glyphs::level::BufferClusterLevel;
+use buffer_stages::walks::{advance, advance_as, merge_behind, replace_current, replace_front};
 
 /// What the letters of a syllable are marked with: their places in it.
 pub const LJMO: u8 = 1;

@@ -1,18 +1,18 @@
 //! Tone marks.
 ghost use Rattle.std.specs.Prelude.{◌≡◌, ◌<◌, ◌≤◌, true, false, length, IfOk, IfErr};
-ghost use Rattle.glyph_lists.specs.Items.{item_of, strip};
-ghost use Rattle.glyph_lists.specs.Origins.{origin_of};
+ghost use Rattle.buffer_glyphs.specs.Items.{item_of, strip};
+ghost use Rattle.buffer_glyphs.specs.Origins.{origin_of};
 ghost use Rattle.script_hangul.specs.Steps.{before_syllable, circle_for, has_no_width, toned, with_circle};
 ghost use Rattle.script_hangul.specs.Stepped.{Refuses, Stepped};
 
 use crate::performing::keep;
-use font_face::Face;
-use glyph_buffer::buffer::hb_buffer_t;
-use glyph_lists::cause::ShapeCause;
-use glyph_lists::flags::UnicodeProps;
-use glyph_lists::info::hb_glyph_info_t;
-use glyph_properties::character::properties_of;
-use stage_rules::walks::{advance, move_behind, replace_current};
+use buffer_core::buffer::hb_buffer_t;
+use buffer_glyphs::cause::ShapeCause;
+use buffer_glyphs::flags::UnicodeProps;
+use buffer_glyphs::info::hb_glyph_info_t;
+use buffer_properties::character::properties_of;
+use buffer_stages::walks::{advance, move_behind, replace_current};
+use layout_face::Face;
 
 const DOTTED_CIRCLE: char = '\u{25CC}';
 

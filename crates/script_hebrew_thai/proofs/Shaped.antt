@@ -1,18 +1,18 @@
 -- The machines of Thai over the glyphs of a text.
 use Rattle.std.proofs.Common.{ℕ, zero, suc, ◌≡◌, ◌≤◌, ◌<◌, ◌+◌, true, false, List, [], ◌∷◌, ◌++◌, length, map, take, drop, set, get_or, arith, add-one, refl, ap, sym, ◌∙◌}
 use Rattle.std.proofs.lemmas.List.{append-nil, at_drop_more, drop_all, length-set, take_all}
-use Rattle.unicode_tables.specs.Tables.{Tables}
-use Rattle.font_face.specs.declared.parts.FaceParts.{FaceParts}
-use Rattle.glyph_lists.specs.declared.info.hb_glyph_info_t.{hb_glyph_info_t}
-use Rattle.glyph_lists.specs.Items.{item_of, strip}
-use Rattle.glyph_lists.specs.Origins.{origin_of, origins}
-use Rattle.glyph_buffer.specs.Readings.{always}
-use Rattle.glyph_lists.specs.Replacements.{glyph_numbered, item_numbered}
-use Rattle.glyph_buffer.specs.Sides.{Sides, all_glyphs, items_of}
-use Rattle.glyph_buffer.specs.Lending.{with_refilled}
-use Rattle.stage_rules.specs.Ready.{IsReady}
-use Rattle.stage_rules.specs.Stages.{IsFollowed}
-use Rattle.stage_rules.specs.Lemmas.Written.{becomes_followed, written_becomes}
+use Rattle.buffer_unicode_tables.specs.Tables.{Tables}
+use Rattle.layout_face.specs.declared.parts.FaceParts.{FaceParts}
+use Rattle.buffer_glyphs.specs.declared.info.hb_glyph_info_t.{hb_glyph_info_t}
+use Rattle.buffer_glyphs.specs.Items.{item_of, strip}
+use Rattle.buffer_glyphs.specs.Origins.{origin_of, origins}
+use Rattle.buffer_core.specs.Readings.{always}
+use Rattle.buffer_glyphs.specs.Replacements.{glyph_numbered, item_numbered}
+use Rattle.buffer_core.specs.Sides.{Sides, all_glyphs, items_of}
+use Rattle.buffer_core.specs.Lending.{with_refilled}
+use Rattle.buffer_stages.specs.Ready.{IsReady}
+use Rattle.buffer_stages.specs.Stages.{IsFollowed}
+use Rattle.buffer_stages.specs.Lemmas.Written.{becomes_followed, written_becomes}
 use Rattle.script_hebrew_thai.specs.declared.thai_private.Consonant.TheVariants.{NotConsonant}
 use Rattle.script_hebrew_thai.specs.declared.thai_private.Mark.{Mark}
 use Rattle.script_hebrew_thai.specs.declared.thai_private.Mark.TheVariants.{AV, BV, T, NotMark}

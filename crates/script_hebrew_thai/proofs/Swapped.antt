@@ -3,14 +3,14 @@ use Rattle.std.proofs.Common.{ℕ, zero, suc, ◌≡◌, ◌≤◌, ◌+◌, ◌
 use Rattle.std.specs.Prelude.{slice_range}
 use Rattle.std.specs.Option.{option_map}
 use Rattle.std.proofs.lemmas.List.{drop-drop, drop_all, length-drop, length-map, length-take-le, take_all}
-use Rattle.glyph_lists.specs.declared.info.hb_glyph_info_t.{hb_glyph_info_t}
-use Rattle.glyph_lists.specs.Items.{Item, item_of, strip}
-use Rattle.glyph_lists.specs.Lemmas.Origins.{slice_seen}
-use Rattle.glyph_buffer.specs.Readings.{always}
-use Rattle.glyph_buffer.specs.Sides.{Sides}
-use Rattle.stage_rules.specs.Ready.{IsReady}
-use Rattle.stage_rules.specs.Stages.{IsFollowed}
-use Rattle.stage_rules.specs.Moves.{with_move}
+use Rattle.buffer_glyphs.specs.declared.info.hb_glyph_info_t.{hb_glyph_info_t}
+use Rattle.buffer_glyphs.specs.Items.{Item, item_of, strip}
+use Rattle.buffer_glyphs.specs.Lemmas.Origins.{slice_seen}
+use Rattle.buffer_core.specs.Readings.{always}
+use Rattle.buffer_core.specs.Sides.{Sides}
+use Rattle.buffer_stages.specs.Ready.{IsReady}
+use Rattle.buffer_stages.specs.Stages.{IsFollowed}
+use Rattle.buffer_stages.specs.Moves.{with_move}
 use Rattle.script_hebrew_thai.specs.Hebrew.{begins_with_three, first_three, with_swapped}
 use Rattle.script_hebrew_thai.specs.Places.{IsThreeWithin}
 

@@ -2,15 +2,15 @@
 use Rattle.std.proofs.Common.{ℕ, ◌≡◌, ◌≤◌, ◌+◌, ◌-◌, ◌==◌, Bool, true, false, if◌then◌else◌, List, [], ◌∷◌, ◌++◌, Some, length, take, drop, arith, refl, ap, sym, subst, ◌∙◌, append_assoc}
 use Rattle.std.specs.Prelude.{slice_get}
 use Rattle.std.proofs.lemmas.List.{append-nil, drop-drop, length-append, length-drop, length-map, length-take-le, take-append-drop, take-append-le, drop-append-le}
-use Rattle.glyph_lists.specs.declared.cause.ShapeCause.{ShapeCause}
-use Rattle.glyph_lists.specs.declared.info.hb_glyph_info_t.{hb_glyph_info_t}
-use Rattle.glyph_lists.specs.Items.{Item, item_of, strip}
-use Rattle.glyph_lists.specs.Events.{Move, Replace}
-use Rattle.glyph_lists.specs.Levels.{InOutput}
-use Rattle.glyph_buffer.specs.Sides.{Sides, Settings}
-use Rattle.stage_rules.specs.Moves.{moved, order_of_move}
-use Rattle.stage_rules.specs.Walks.{Exceeds, Walked}
-use Rattle.stage_rules.specs.Lemmas.Walked.{both_walked}
+use Rattle.buffer_glyphs.specs.declared.cause.ShapeCause.{ShapeCause}
+use Rattle.buffer_glyphs.specs.declared.info.hb_glyph_info_t.{hb_glyph_info_t}
+use Rattle.buffer_glyphs.specs.Items.{Item, item_of, strip}
+use Rattle.buffer_glyphs.specs.Events.{Move, Replace}
+use Rattle.buffer_glyphs.specs.Levels.{InOutput}
+use Rattle.buffer_core.specs.Sides.{Sides, Settings}
+use Rattle.buffer_stages.specs.Moves.{moved, order_of_move}
+use Rattle.buffer_stages.specs.Walks.{Exceeds, Walked}
+use Rattle.buffer_stages.proofs.Lemmas.Walked.{both_walked}
 use Rattle.script_hebrew_thai.specs.ThaiVowel.{count_above, is_sara_am, nikhahit, sara_aa, with_vowel, with_character, events_of_vowel, events_of_character, placing}
 
 item_ahead : (g : hb_glyph_info_t) (hs : List hb_glyph_info_t) (x : Item) (xs : List Item) → slice_get hs 0 ≡ Some g → strip hs ≡ x ∷ xs → x ≡ item_of g

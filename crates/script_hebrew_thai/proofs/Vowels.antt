@@ -2,21 +2,21 @@
 use Rattle.std.proofs.Common.{ℕ, ◌≡◌, ◌≢◌, ◌<◌, ◌≤◌, ◌+◌, ◌-◌, Bool, true, false, nat_le, if◌then◌else◌, List, [], ◌∷◌, ◌++◌, Err, length, refl, sym, ap, subst, ◌∙◌, append_assoc, arith}
 use Rattle.std.proofs.lemmas.Bool.Decides.{nat_tests}
 use Rattle.std.proofs.lemmas.List.{append-nil, length-append, length-map}
-use Rattle.glyph_lists.specs.declared.cause.ShapeCause.{ShapeCause}
-use Rattle.glyph_lists.specs.declared.cause.ShapeCause.TheVariants.{OutOfMemory, TooLong}
-use Rattle.glyph_lists.specs.declared.info.hb_glyph_info_t.{hb_glyph_info_t}
-use Rattle.glyph_lists.specs.declared.level.BufferClusterLevel.{BufferClusterLevel}
-use Rattle.glyph_lists.specs.Items.{Item, item_of, strip}
-use Rattle.glyph_lists.specs.Events.{Event}
-use Rattle.glyph_buffer.specs.Readings.{read_of}
-use Rattle.glyph_buffer.specs.Sides.{Sides, all_glyphs, items_of, run_of, with_output, synced, fits_joined}
-use Rattle.stage_rules.specs.Ready.{IsReady}
-use Rattle.stage_rules.specs.Stages.{IsFollowed}
-use Rattle.stage_rules.specs.Walks.{Exceeds, Walked}
-use Rattle.stage_rules.specs.Lemmas.Walked.{both_walked, nothing_walked, walked_followed}
+use Rattle.buffer_glyphs.specs.declared.cause.ShapeCause.{ShapeCause}
+use Rattle.buffer_glyphs.specs.declared.cause.ShapeCause.TheVariants.{OutOfMemory, TooLong}
+use Rattle.buffer_glyphs.specs.declared.info.hb_glyph_info_t.{hb_glyph_info_t}
+use Rattle.buffer_glyphs.specs.declared.level.BufferClusterLevel.{BufferClusterLevel}
+use Rattle.buffer_glyphs.specs.Items.{Item, item_of, strip}
+use Rattle.buffer_glyphs.specs.Events.{Event}
+use Rattle.buffer_core.specs.Readings.{read_of}
+use Rattle.buffer_core.specs.Sides.{Sides, all_glyphs, items_of, run_of, with_output, synced, fits_joined}
+use Rattle.buffer_stages.specs.Ready.{IsReady}
+use Rattle.buffer_stages.specs.Stages.{IsFollowed}
+use Rattle.buffer_stages.specs.Walks.{Exceeds, Walked}
+use Rattle.buffer_stages.proofs.Lemmas.Walked.{both_walked, nothing_walked, walked_followed}
 use Rattle.script_hebrew_thai.proofs.Vowel.{vowel_long}
 use Rattle.script_hebrew_thai.specs.ThaiVowel.{is_sara_am, with_vowel, with_character, split_behind, events_of_character, events_behind, vowels_split}
-use Rattle.stage_rules.specs.Lemmas.Fitting.{level_same, limit_same, written_exceed, written_fit}
+use Rattle.buffer_stages.proofs.Lemmas.Fitting.{level_same, limit_same, written_exceed, written_fit}
 
 -- what is behind and ahead comes to what all does
 pub record IsUnderway (left : ℕ) (s t : Sides) : Type 0 where

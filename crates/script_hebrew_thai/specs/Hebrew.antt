@@ -1,11 +1,11 @@
 -- Hebrew: presentation forms that stand for a letter with a point, and the order of three marks (UAX 15, composition exclusions; UCD, Alphabetic Presentation Forms).
 use Rattle.std.specs.Prelude.{ℕ, ◌+◌, ◌==◌, ◌&&◌, ◌||◌, Bool, false, if◌then◌else◌, List, [], ◌∷◌, Option, None, Some, find, slice_range}
 use Rattle.std.specs.Option.{option_map, option_or}
-use Rattle.unicode_tables.specs.Tables.{Tables, pair_of}
-use Rattle.glyph_properties.specs.Characters.{mark_class}
-use Rattle.glyph_lists.specs.Items.{Item}
-use Rattle.glyph_buffer.specs.Readings.{View, Read, with_events}
-use Rattle.stage_rules.specs.Moves.{with_move}
+use Rattle.buffer_unicode_tables.specs.Tables.{Tables, pair_of}
+use Rattle.buffer_properties.specs.Characters.{mark_class}
+use Rattle.buffer_glyphs.specs.Items.{Item}
+use Rattle.buffer_core.specs.Readings.{View, Read, with_events}
+use Rattle.buffer_stages.specs.Moves.{with_move}
 
 -- a letter, a point, and the form that stands for both
 abbrev pub presentation_forms : List (ℕ × ℕ × ℕ)

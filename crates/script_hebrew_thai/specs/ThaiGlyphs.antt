@@ -1,9 +1,9 @@
 -- Glyphs of Thai, with the characters that came to stand for their own.
 use Rattle.std.specs.Prelude.{ℕ, List, [], ◌∷◌, map}
-use Rattle.unicode_tables.specs.Tables.{Tables}
-use Rattle.font_face.specs.declared.parts.FaceParts.{FaceParts}
-use Rattle.glyph_lists.specs.declared.info.hb_glyph_info_t.{hb_glyph_info_t}
-use Rattle.glyph_lists.specs.Replacements.{glyph_numbered}
+use Rattle.buffer_unicode_tables.specs.Tables.{Tables}
+use Rattle.layout_face.specs.declared.parts.FaceParts.{FaceParts}
+use Rattle.buffer_glyphs.specs.declared.info.hb_glyph_info_t.{hb_glyph_info_t}
+use Rattle.buffer_glyphs.specs.Replacements.{glyph_numbered}
 use Rattle.script_hebrew_thai.specs.declared.thai_private.State.{State}
 use Rattle.script_hebrew_thai.specs.ThaiPrivate.{character_shaped, state_after}
 

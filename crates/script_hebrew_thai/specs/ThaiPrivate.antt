@@ -3,13 +3,13 @@ use Rattle.std.specs.Prelude.{ℕ, ◌==◌, ◌&&◌, Bool, true, false, nat_le
 use Rattle.std.specs.Option.{option_or}
 use Rattle.std.specs.List.{list_any}
 use lib.Utf8.{scalar}
-use Rattle.unicode_tables.specs.Tables.{Tables, thai_of}
-use Rattle.font_face.specs.declared.parts.FaceParts.{FaceParts}
-use Rattle.font_face.specs.Glyphs.{nominal_glyph}
-use Rattle.script_constants.specs.declared.thai_action.TheConstants as action
-use Rattle.glyph_lists.specs.Items.{Item}
-use Rattle.glyph_buffer.specs.Readings.{View, Read, with_events}
-use Rattle.glyph_lists.specs.Replacements.{item_numbered}
+use Rattle.buffer_unicode_tables.specs.Tables.{Tables, thai_of}
+use Rattle.layout_face.specs.declared.parts.FaceParts.{FaceParts}
+use Rattle.layout_face.specs.Glyphs.{nominal_glyph}
+use Rattle.script_categories.specs.declared.thai_action.TheConstants as action
+use Rattle.buffer_glyphs.specs.Items.{Item}
+use Rattle.buffer_core.specs.Readings.{View, Read, with_events}
+use Rattle.buffer_glyphs.specs.Replacements.{item_numbered}
 use Rattle.script_hebrew_thai.specs.declared.thai_private.Consonant.{Consonant}
 use Rattle.script_hebrew_thai.specs.declared.thai_private.Consonant.TheVariants.{NC, AC, RC, DC, NotConsonant}
 use Rattle.script_hebrew_thai.specs.declared.thai_private.Mark.{Mark}

@@ -3,18 +3,18 @@ use Rattle.std.specs.Prelude.{ℕ, ◌+◌, ◌-◌, ◌==◌, nat_le, Bool, if�
 use Rattle.std.specs.Int.RustNames.{bit_or}
 use Rattle.std.specs.List.{list_any, prefix_len}
 use Rattle.ucd_category.specs.declared.GeneralCategory.TheVariants.{NonspacingMark}
-use Rattle.unicode_chars.specs.Category.{category_number}
-use Rattle.glyph_properties.specs.Characters.{with_category}
-use Rattle.glyph_properties.specs.Properties.{CONTINUATION, without_bits}
-use Rattle.glyph_lists.specs.declared.cause.ShapeCause.TheVariants.{TooLong}
-use Rattle.glyph_lists.specs.declared.level.BufferClusterLevel.{BufferClusterLevel}
-use Rattle.glyph_lists.specs.declared.level.BufferClusterLevel.TheVariants.{MonotoneGraphemes, MonotoneCharacters, Characters}
-use Rattle.glyph_lists.specs.Items.{Item}
-use Rattle.glyph_lists.specs.Levels.{InOutput}
-use Rattle.glyph_lists.specs.Events.{Event, Merge, Move, Replace}
-use Rattle.glyph_buffer.specs.Readings.{Stage}
-use Rattle.glyph_buffer.specs.Sides.{zero_positions}
-use Rattle.stage_rules.specs.Moves.{order_of_move}
+use Rattle.buffer_unicode.specs.Category.{category_number}
+use Rattle.buffer_properties.specs.Characters.{with_category}
+use Rattle.buffer_properties.specs.Properties.{CONTINUATION, without_bits}
+use Rattle.buffer_glyphs.specs.declared.cause.ShapeCause.TheVariants.{TooLong}
+use Rattle.buffer_glyphs.specs.declared.level.BufferClusterLevel.{BufferClusterLevel}
+use Rattle.buffer_glyphs.specs.declared.level.BufferClusterLevel.TheVariants.{MonotoneGraphemes, MonotoneCharacters, Characters}
+use Rattle.buffer_glyphs.specs.Items.{Item}
+use Rattle.buffer_glyphs.specs.Levels.{InOutput}
+use Rattle.buffer_glyphs.specs.Events.{Event, Merge, Move, Replace}
+use Rattle.buffer_core.specs.Readings.{Stage}
+use Rattle.buffer_core.specs.Sides.{zero_positions}
+use Rattle.buffer_stages.specs.Moves.{order_of_move}
 
 -- a character of Thai, or that of Lao which stands at the same place of its block
 abbrev pub thai_or_lao : ℕ → ℕ

@@ -1,20 +1,20 @@
 //! Hebrew: presentation forms, and the order of marks.
 ghost use Rattle.std.specs.Prelude.{◌≡◌, ◌≤◌, ◌+◌, ◌<◌, ◌==◌, ◌&&◌, ◌^◌, find, length, slice_range};
 ghost use Rattle.std.specs.Option.{option_map};
-ghost use Rattle.glyph_lists.specs.Items.{item_of, strip};
-ghost use Rattle.glyph_buffer.specs.Readings.{always};
-ghost use Rattle.glyph_buffer.specs.Sides.{all_glyphs, items_of};
-ghost use Rattle.stage_rules.specs.Ready.{IsReady};
-ghost use Rattle.glyph_properties.specs.Characters.{mark_class};
+ghost use Rattle.buffer_glyphs.specs.Items.{item_of, strip};
+ghost use Rattle.buffer_core.specs.Readings.{always};
+ghost use Rattle.buffer_core.specs.Sides.{all_glyphs, items_of};
+ghost use Rattle.buffer_stages.specs.Ready.{IsReady};
+ghost use Rattle.buffer_properties.specs.Characters.{mark_class};
 ghost use Rattle.script_hebrew_thai.specs.Hebrew.{begins_with_three, first_three, hebrew_pair, is_meteg_or_below, is_patah_or_qamats, is_sheva_or_hiriq, marks_reordered, presentation_form, with_swapped};
 ghost use Rattle.script_hebrew_thai.specs.Places.{IsThreeWithin};
-ghost use Rattle.stage_rules.specs.Stages.{IsFollowed};
+ghost use Rattle.buffer_stages.specs.Stages.{IsFollowed};
 
-use glyph_buffer::buffer::hb_buffer_t;
-use glyph_lists::info::hb_glyph_info_t;
-use glyph_properties::categories::is_mark;
-use stage_rules::moves::move_back;
-use unicode_tables::UnicodeTables;
+use buffer_core::buffer::hb_buffer_t;
+use buffer_glyphs::info::hb_glyph_info_t;
+use buffer_properties::categories::is_mark;
+use buffer_stages::moves::move_back;
+use buffer_unicode_tables::UnicodeTables;
 
 /// A letter, a point, and the form that stands for both.
 const PRESENTATION_FORMS: [(char, char, char); 36] = [
@@ -60,7 +60,7 @@ const PRESENTATION_FORMS: [(char, char, char); 36] = [
 pub fn compose(tables: &UnicodeTables, has_gpos_mark: bool, a: char, b: char) -> Option<char>
     ensures { result ≡ hebrew_pair tables.now has_gpos_mark a b }
 {
-    if let Some(whole) = unicode_tables::compose(tables, a, b) {
+    if let Some(whole) = buffer_unicode_tables::compose(tables, a, b) {
         return Some(whole);
     }
     if has_gpos_mark {

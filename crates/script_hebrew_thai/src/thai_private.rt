@@ -1,17 +1,17 @@
 //! Thai in fonts that have forms of their own at private characters.
 ghost use Rattle.std.specs.Prelude.{◌≡◌, Some, map};
 ghost use Rattle.std.specs.Option.{option_or};
-ghost use Rattle.glyph_buffer.specs.Readings.{always};
-ghost use Rattle.stage_rules.specs.Ready.{IsReady};
+ghost use Rattle.buffer_core.specs.Readings.{always};
+ghost use Rattle.buffer_stages.specs.Ready.{IsReady};
 ghost use Rattle.script_hebrew_thai.specs.ThaiGlyphs.{glyphs_shaped, number_of};
 ghost use Rattle.script_hebrew_thai.specs.ThaiPrivate.{above_action, above_next, above_start, action_on, below_action, below_next, below_start, character_after, character_shaped, consonant_action, consonant_of, first_known, is_followed_below, is_followed_from, mark_of, started, state_after, state_from, with_private};
-ghost use Rattle.stage_rules.specs.Stages.{IsFollowed};
+ghost use Rattle.buffer_stages.specs.Stages.{IsFollowed};
 
-use font_face::Face;
-use glyph_buffer::buffer::hb_buffer_t;
-use glyph_lists::info::hb_glyph_info_t;
-use script_constants::thai_action::{RD, SD, SDL, SL};
-use unicode_tables::UnicodeTables;
+use buffer_core::buffer::hb_buffer_t;
+use buffer_glyphs::info::hb_glyph_info_t;
+use buffer_unicode_tables::UnicodeTables;
+use layout_face::Face;
+use script_categories::thai_action::{RD, SD, SDL, SL};
 
 /// How consonants differ for the marks on them.
 #[derive(Clone, Copy)]

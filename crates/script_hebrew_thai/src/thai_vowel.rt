@@ -1,23 +1,23 @@
 //! The vowels SARA AM of Thai and AM of Lao.
 ghost use Rattle.std.specs.Prelude.{◌≡◌, ◌≢◌, ◌<◌, ◌≤◌, ◌+◌, ◌-◌, ◌∷◌, List, Some, true, length, slice_get, OnOk, IfErr, Err};
-ghost use Rattle.glyph_lists.specs.Items.{Item, item_of, strip};
-ghost use Rattle.glyph_lists.specs.Origins.{origin_of};
-ghost use Rattle.glyph_buffer.specs.Readings.{read_of};
-ghost use Rattle.glyph_buffer.specs.Sides.{run_of};
-ghost use Rattle.stage_rules.specs.Ready.{IsReady};
+ghost use Rattle.buffer_glyphs.specs.Items.{Item, item_of, strip};
+ghost use Rattle.buffer_glyphs.specs.Origins.{origin_of};
+ghost use Rattle.buffer_core.specs.Readings.{read_of};
+ghost use Rattle.buffer_core.specs.Sides.{run_of};
+ghost use Rattle.buffer_stages.specs.Ready.{IsReady};
 ghost use Rattle.script_hebrew_thai.specs.ThaiVowel.{count_above, events_of_character, events_of_vowel, is_mark_above, is_sara_am, nikhahit, nonspacing, placing, sara_aa, thai_or_lao, vowels_split, with_character, with_vowel};
-ghost use Rattle.stage_rules.specs.Moves.{moved};
-ghost use Rattle.stage_rules.specs.Walks.{Exceeds, Walked};
-ghost use Rattle.stage_rules.specs.Stages.{IsFollowed};
+ghost use Rattle.buffer_stages.specs.Moves.{moved};
+ghost use Rattle.buffer_stages.specs.Walks.{Exceeds, Walked};
+ghost use Rattle.buffer_stages.specs.Stages.{IsFollowed};
 
-use glyph_buffer::buffer::hb_buffer_t;
-use glyph_lists::cause::ShapeCause;
-use glyph_lists::flags::UnicodeProps;
-use glyph_lists::info::hb_glyph_info_t;
-use glyph_lists::level::BufferClusterLevel;
-use stage_rules::walks::{advance, finish, merge_behind, move_behind, replace_current};
+use buffer_core::buffer::hb_buffer_t;
+use buffer_glyphs::cause::ShapeCause;
+use buffer_glyphs::flags::UnicodeProps;
+use buffer_glyphs::info::hb_glyph_info_t;
+use buffer_glyphs::level::BufferClusterLevel;
+use buffer_stages::walks::{advance, finish, merge_behind, move_behind, replace_current};
+use buffer_unicode::category::GeneralCategoryExt;
 use unicode::properties::GeneralCategory;
-use unicode_chars::category::GeneralCategoryExt;
 
 const SARA_AM: u32 = 0x0E33;
 

@@ -3,23 +3,23 @@ use Rattle.std.proofs.Common.{ℕ, zero, suc, ◌≡◌, Bool, true, false, if�
 use Rattle.std.specs.Prelude.{bit_and, find, unwrap_or}
 use Rattle.std.proofs.lemmas.List.{length-map}
 use Rattle.std.proofs.lemmas.Nat.{and_or_apart}
-use Rattle.glyph_lists.specs.declared.info.hb_glyph_info_t.{hb_glyph_info_t}
-use Rattle.glyph_lists.specs.Items.{Item, item_of, strip}
-use Rattle.glyph_lists.specs.Origins.{Origin, origin_of, origins}
-use Rattle.glyph_lists.specs.Events.{Event, origins_after}
-use Rattle.glyph_buffer.specs.Readings.{Run, View, always}
-use Rattle.glyph_buffer.specs.Sides.{Sides, all_glyphs, items_of, origins_by, origins_of, view_of}
-use Rattle.glyph_buffer.specs.Lending.{with_refilled}
-use Rattle.stage_rules.specs.Stages.{Happens, IsFollowed, mapped}
-use Rattle.stage_rules.specs.Lemmas.Written.{happened_followed, written_becomes}
-use Rattle.unicode_tables.specs.Tables.{Tables}
-use Rattle.script_constants.specs.declared.joining_types.hb_arabic_joining_type_t.TheVariants.{U, L, R, D, GroupAlaph, GroupDalathRish, T, X}
+use Rattle.buffer_glyphs.specs.declared.info.hb_glyph_info_t.{hb_glyph_info_t}
+use Rattle.buffer_glyphs.specs.Items.{Item, item_of, strip}
+use Rattle.buffer_glyphs.specs.Origins.{Origin, origin_of, origins}
+use Rattle.buffer_glyphs.specs.Events.{Event, origins_after}
+use Rattle.buffer_core.specs.Readings.{Run, View, always}
+use Rattle.buffer_core.specs.Sides.{Sides, all_glyphs, items_of, origins_by, origins_of, view_of}
+use Rattle.buffer_core.specs.Lending.{with_refilled}
+use Rattle.buffer_stages.specs.Stages.{Happens, IsFollowed, mapped}
+use Rattle.buffer_stages.specs.Lemmas.Written.{happened_followed, written_becomes}
+use Rattle.buffer_unicode_tables.specs.Tables.{Tables}
+use Rattle.script_categories.specs.declared.joining_types.hb_arabic_joining_type_t.TheVariants.{U, L, R, D, GroupAlaph, GroupDalathRish, T, X}
 use Rattle.script_joining.specs.Types.{JoiningType, type_of_item}
 use Rattle.script_joining.specs.Forms.{letter_form}
 use Rattle.script_joining.specs.Joining.{form_after, forms, forms_copied, is_letter, joined, joined_items, mask_of, nearest, nearest_past, neighbour_events, settled_forms, types_of_characters, types_of_items, with_form, with_forms}
 use Rattle.script_joining.specs.Flagged.{type_of_typed}
 use Rattle.script_joining.specs.Glyphs.{AreFlagless, glyph_joined, glyphs_copied, glyphs_formed, glyphs_settled, item_typed, nearest_or, number_of, type_kept, type_numbered}
-use Rattle.stage_rules.specs.Lemmas.Masks.{mask_above}
+use Rattle.buffer_stages.proofs.Lemmas.Masks.{mask_above}
 
 -- ---- types that are kept
 

@@ -2,18 +2,18 @@
 use Rattle.std.proofs.Common.{ℕ, zero, suc, ◌≡◌, ◌<◌, ◌≤◌, ◌+◌, Bool, true, false, if◌then◌else◌, List, [], ◌∷◌, ◌++◌, Option, Some, None, length, drop, map, slice_get, get_or, arith, add-one, refl, sym, ap, subst, ◌∙◌, append_assoc}
 use Rattle.std.specs.Prelude.{nat_lt}
 use Rattle.std.proofs.lemmas.List.{append-nil, drop_all, length-map}
-use Rattle.glyph_lists.specs.declared.info.hb_glyph_info_t.{hb_glyph_info_t}
-use Rattle.glyph_lists.specs.Items.{Item, clusters, item_of, strip}
-use Rattle.glyph_lists.specs.Glyphs.{glyphs_flagged, glyphs_marked, tells_apart}
-use Rattle.glyph_lists.specs.Parts.{stretch}
-use Rattle.glyph_lists.specs.Events.{Event, Concat, Tatweel}
-use Rattle.glyph_buffer.specs.Readings.{View}
-use Rattle.glyph_buffer.specs.Sides.{Sides, all_glyphs, items_of, origins_by, origins_of, view_of}
-use Rattle.glyph_buffer.specs.Merging.{index_in_all}
-use Rattle.glyph_buffer.specs.Marking.{asks_concat, asks_tatweel, concat_marked, end_in_all, flagged_range, marked_range, start_in_all, tatweel_marked}
-use Rattle.stage_rules.specs.Ready.{IsReady}
-use Rattle.stage_rules.specs.Stages.{Happens}
-use Rattle.stage_rules.specs.Lemmas.Happened.{both_happen, call_happens, nothing_happens}
+use Rattle.buffer_glyphs.specs.declared.info.hb_glyph_info_t.{hb_glyph_info_t}
+use Rattle.buffer_glyphs.specs.Items.{Item, clusters, item_of, strip}
+use Rattle.buffer_glyphs.specs.Glyphs.{glyphs_flagged, glyphs_marked, tells_apart}
+use Rattle.buffer_glyphs.specs.Parts.{stretch}
+use Rattle.buffer_glyphs.specs.Events.{Event, Concat, Tatweel}
+use Rattle.buffer_core.specs.Readings.{View}
+use Rattle.buffer_core.specs.Sides.{Sides, all_glyphs, items_of, origins_by, origins_of, view_of}
+use Rattle.buffer_core.specs.Merging.{index_in_all}
+use Rattle.buffer_core.specs.Marking.{asks_concat, asks_tatweel, concat_marked, end_in_all, flagged_range, marked_range, start_in_all, tatweel_marked}
+use Rattle.buffer_stages.specs.Ready.{IsReady}
+use Rattle.buffer_stages.specs.Stages.{Happens}
+use Rattle.buffer_stages.proofs.Lemmas.Happened.{both_happen, call_happens, nothing_happens}
 use Rattle.script_joining.specs.declared.flags.Letter.{Letter}
 use Rattle.script_joining.specs.Types.{JoiningType}
 use Rattle.script_joining.specs.Joining.{event_at, is_letter, letter_after, nearest_past, neighbour_events}

@@ -3,21 +3,21 @@ use Rattle.std.proofs.Common.{ℕ, ◌≡◌, ◌≤◌, ◌+◌, ◌-◌, ◌==
 use Rattle.std.specs.Prelude.{max, nat_lt, slice_range}
 use Rattle.std.specs.List.{prefix_len}
 use Rattle.std.proofs.lemmas.List.{drop-drop, drop-map, length-drop, length-map, take_all}
-use Rattle.glyph_lists.specs.Lemmas.Origins.{slice_seen, within_kept, within_seen}
+use Rattle.buffer_glyphs.specs.Lemmas.Origins.{slice_seen, within_kept, within_seen}
 use Rattle.std.proofs.lemmas.Bool.{eqb-true, false_from_ne_true}
 use borrow.Rule.Slice.PartMut.{put_mid}
-use Rattle.glyph_lists.specs.declared.info.hb_glyph_info_t.{hb_glyph_info_t}
-use Rattle.glyph_properties.specs.Characters.{mark_class}
-use Rattle.glyph_lists.specs.Items.{Item, Position, item_of, strip}
-use Rattle.glyph_lists.specs.Origins.{changed_within, origin_of, origins}
-use Rattle.glyph_buffer.specs.Readings.{Read, Run, View, always, run_after, with_events}
-use Rattle.glyph_buffer.specs.Steps.{run_after_both}
-use Rattle.glyph_buffer.specs.Sides.{Sides, all_glyphs, items_of, origins_of, run_of, view_of}
-use Rattle.glyph_buffer.specs.Lending.{with_refilled}
-use Rattle.stage_rules.specs.Ready.{IsReady}
-use Rattle.stage_rules.specs.Stages.{IsFollowed}
-use Rattle.stage_rules.specs.Lemmas.Written.{happened_followed, written_becomes}
-use Rattle.stage_rules.specs.Moves.{with_move}
+use Rattle.buffer_glyphs.specs.declared.info.hb_glyph_info_t.{hb_glyph_info_t}
+use Rattle.buffer_properties.specs.Characters.{mark_class}
+use Rattle.buffer_glyphs.specs.Items.{Item, Position, item_of, strip}
+use Rattle.buffer_glyphs.specs.Origins.{changed_within, origin_of, origins}
+use Rattle.buffer_core.specs.Readings.{Read, Run, View, always, run_after, with_events}
+use Rattle.buffer_core.specs.Steps.{run_after_both}
+use Rattle.buffer_core.specs.Sides.{Sides, all_glyphs, items_of, origins_of, run_of, view_of}
+use Rattle.buffer_core.specs.Lending.{with_refilled}
+use Rattle.buffer_stages.specs.Ready.{IsReady}
+use Rattle.buffer_stages.specs.Stages.{IsFollowed}
+use Rattle.buffer_stages.specs.Lemmas.Written.{happened_followed, written_becomes}
+use Rattle.buffer_stages.specs.Moves.{with_move}
 use Rattle.script_joining.specs.Classed.{glyph_classed}
 use Rattle.script_joining.specs.Marks.{classed, count_below, count_leading, is_modifier_of, led, marks_reordered, reclassed, with_leading}
 

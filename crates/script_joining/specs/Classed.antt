@@ -1,6 +1,6 @@
 -- Glyphs of another class.
 use Rattle.std.specs.Prelude.{ℕ}
-use Rattle.glyph_lists.specs.declared.info.hb_glyph_info_t.{hb_glyph_info_t}
+use Rattle.buffer_glyphs.specs.declared.info.hb_glyph_info_t.{hb_glyph_info_t}
 
 abbrev pub glyph_classed : ℕ → hb_glyph_info_t → hb_glyph_info_t
 glyph_classed class g = record g { modified_combining_class = class }

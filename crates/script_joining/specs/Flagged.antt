@@ -1,6 +1,6 @@
 -- Letters of a text that were passed.
 use Rattle.std.specs.Prelude.{ℕ, ◌<◌, Option, None, Some}
-use Rattle.glyph_lists.specs.Items.{Item}
+use Rattle.buffer_glyphs.specs.Items.{Item}
 use Rattle.script_joining.specs.declared.flags.Letter.{Letter}
 use Rattle.script_joining.specs.Types.{JoiningType}
 use Rattle.script_joining.specs.Glyphs.{type_numbered}

@@ -1,7 +1,7 @@
 -- The form that a letter takes between its neighbours (Unicode core specification, 'Arabic' and 'Syriac', joining rules).
 use Rattle.std.specs.Prelude.{ℕ, Bool, true, false, if◌then◌else◌}
-use Rattle.script_constants.specs.declared.joining_types.hb_arabic_joining_type_t.TheVariants.{U, L, R, D, GroupAlaph, GroupDalathRish, T, X}
-use Rattle.script_constants.specs.declared.arabic_action_t.TheConstants as action
+use Rattle.script_categories.specs.declared.joining_types.hb_arabic_joining_type_t.TheVariants.{U, L, R, D, GroupAlaph, GroupDalathRish, T, X}
+use Rattle.script_categories.specs.declared.arabic_action_t.TheConstants as action
 use Rattle.script_joining.specs.Types.{JoiningType}
 
 -- a letter that joins the one that follows

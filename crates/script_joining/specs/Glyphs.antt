@@ -1,11 +1,11 @@
 -- Glyphs on the way to their forms: each keeps its joining type where its form will stand.
 use Rattle.std.specs.Prelude.{ℕ, ◌≡◌, bit_and, Bool, true, false, List, [], ◌∷◌, Option, None, Some, find, slice_get, unwrap_or, map, bit_or}
-use Rattle.script_constants.specs.declared.joining_types.hb_arabic_joining_type_t.TheVariants.{U, L, R, D, GroupAlaph, GroupDalathRish, T, X}
-use Rattle.script_constants.specs.Joining.{joining_types}
-use Rattle.unicode_tables.specs.Tables.{Tables}
-use Rattle.glyph_lists.specs.declared.info.TheConstants.{DEFINED}
-use Rattle.glyph_lists.specs.declared.info.hb_glyph_info_t.{hb_glyph_info_t}
-use Rattle.glyph_lists.specs.Items.{Item, item_of}
+use Rattle.script_categories.specs.declared.joining_types.hb_arabic_joining_type_t.TheVariants.{U, L, R, D, GroupAlaph, GroupDalathRish, T, X}
+use Rattle.script_categories.specs.Joining.{joining_types}
+use Rattle.buffer_unicode_tables.specs.Tables.{Tables}
+use Rattle.buffer_glyphs.specs.declared.info.TheConstants.{DEFINED}
+use Rattle.buffer_glyphs.specs.declared.info.hb_glyph_info_t.{hb_glyph_info_t}
+use Rattle.buffer_glyphs.specs.Items.{Item, item_of}
 use Rattle.script_joining.specs.Types.{JoiningType, type_of_item}
 use Rattle.script_joining.specs.Forms.{letter_form}
 pub use Rattle.script_joining.specs.Joining.{mask_of, nearest_past}

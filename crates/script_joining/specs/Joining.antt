@@ -1,10 +1,10 @@
 -- The forms of a text's letters, their masks, and where a text may be stretched or may not be put together.
 use Rattle.std.specs.Prelude.{ℕ, ◌+◌, ◌==◌, ◌&&◌, ◌||◌, Bool, true, false, nat_le, if◌then◌else◌, List, [], ◌∷◌, ◌++◌, Option, None, Some, find, slice_get, unwrap_or, map, bit_or}
-use Rattle.script_constants.specs.declared.joining_types.hb_arabic_joining_type_t.TheVariants.{U, L, R, D, GroupAlaph, GroupDalathRish, T, X}
-use Rattle.unicode_tables.specs.Tables.{Tables}
-use Rattle.glyph_lists.specs.Items.{Item, without_flags}
-use Rattle.glyph_lists.specs.Events.{Event, Concat, Tatweel}
-use Rattle.glyph_buffer.specs.Readings.{View, Read, with_events}
+use Rattle.script_categories.specs.declared.joining_types.hb_arabic_joining_type_t.TheVariants.{U, L, R, D, GroupAlaph, GroupDalathRish, T, X}
+use Rattle.buffer_unicode_tables.specs.Tables.{Tables}
+use Rattle.buffer_glyphs.specs.Items.{Item, without_flags}
+use Rattle.buffer_glyphs.specs.Events.{Event, Concat, Tatweel}
+use Rattle.buffer_core.specs.Readings.{View, Read, with_events}
 use Rattle.script_joining.specs.declared.flags.Letter.{Letter}
 use Rattle.script_joining.specs.Types.{JoiningType, type_of_item, type_of_character}
 use Rattle.script_joining.specs.Forms.{letter_form}

@@ -1,9 +1,9 @@
 -- What the shapers of Arabic do to where the glyphs come from.
 use Rattle.std.specs.Prelude.{ℕ, Bool, List}
-use Rattle.glyph_lists.specs.declared.level.BufferClusterLevel.{BufferClusterLevel}
-use Rattle.unicode_tables.specs.Tables.{Tables}
-use Rattle.glyph_lists.specs.Events.{IsPlain}
-use Rattle.glyph_buffer.specs.Readings.{View}
+use Rattle.buffer_glyphs.specs.declared.level.BufferClusterLevel.{BufferClusterLevel}
+use Rattle.buffer_unicode_tables.specs.Tables.{Tables}
+use Rattle.buffer_glyphs.specs.Events.{IsPlain}
+use Rattle.buffer_core.specs.Readings.{View}
 use Rattle.script_joining.specs.Joining.{joined}
 use Rattle.script_joining.specs.Marks.{marks_reordered}
 

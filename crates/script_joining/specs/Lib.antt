@@ -1,3 +1,4 @@
+pub mod Lemmas
 pub mod Types
 pub mod Forms
 pub mod Joining
@@ -6,4 +7,3 @@ pub mod Flagged
 pub mod Marks
 pub mod Classed
 pub mod Laws
-pub mod Lemmas

@@ -1,11 +1,11 @@
 -- The order of Arabic marks (UTR 53, Unicode Arabic mark rendering).
 use Rattle.std.specs.Prelude.{ℕ, ◌+◌, ◌==◌, ◌&&◌, Bool, nat_lt, if◌then◌else◌, List, [], ◌∷◌, drop, slice_range}
 use Rattle.std.specs.List.{list_any, prefix_len}
-use Rattle.glyph_properties.specs.Characters.{mark_class}
-use Rattle.glyph_lists.specs.Items.{Item}
-use Rattle.glyph_lists.specs.Origins.{changed_within}
-use Rattle.glyph_buffer.specs.Readings.{View, Read, then_read, with_events}
-use Rattle.stage_rules.specs.Moves.{with_move}
+use Rattle.buffer_properties.specs.Characters.{mark_class}
+use Rattle.buffer_glyphs.specs.Items.{Item}
+use Rattle.buffer_glyphs.specs.Origins.{changed_within}
+use Rattle.buffer_core.specs.Readings.{View, Read, then_read, with_events}
+use Rattle.buffer_stages.specs.Moves.{with_move}
 
 -- the modifier combining marks
 abbrev pub modifier_marks : List ℕ

@@ -5,13 +5,13 @@ use lib.Utf8.{scalar}
 use Rattle.ucd_category.specs.declared.GeneralCategory.{GeneralCategory}
 use Rattle.ucd_category.specs.declared.GeneralCategory.TheVariants.{NonspacingMark, EnclosingMark, Format}
 use Rattle.unicode.specs.GeneralCategory.{general_category}
-use Rattle.unicode_chars.specs.Category.{category_number}
-use Rattle.unicode_tables.specs.Tables.{Tables, joining_of}
-use Rattle.script_constants.specs.declared.joining_types.hb_arabic_joining_type_t.{hb_arabic_joining_type_t}
-use Rattle.script_constants.specs.declared.joining_types.hb_arabic_joining_type_t.TheVariants.{U, T}
-use Rattle.script_constants.specs.Joining.{joining_types}
-use Rattle.glyph_properties.specs.Characters.{category_of}
-use Rattle.glyph_lists.specs.Items.{Item}
+use Rattle.buffer_unicode.specs.Category.{category_number}
+use Rattle.buffer_unicode_tables.specs.Tables.{Tables, joining_of}
+use Rattle.script_categories.specs.declared.joining_types.hb_arabic_joining_type_t.{hb_arabic_joining_type_t}
+use Rattle.script_categories.specs.declared.joining_types.hb_arabic_joining_type_t.TheVariants.{U, T}
+use Rattle.script_categories.specs.Joining.{joining_types}
+use Rattle.buffer_properties.specs.Characters.{category_of}
+use Rattle.buffer_glyphs.specs.Items.{Item}
 
 abbrev pub JoiningType : Type 0
 JoiningType = hb_arabic_joining_type_t

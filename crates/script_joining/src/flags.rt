@@ -1,17 +1,17 @@
 //! Where a text may be stretched between two letters, or may not be put together.
 ghost use Rattle.std.specs.Prelude.{◌≡◌, ◌<◌, ◌+◌, ◌^◌, ◌==◌, not, None, Some, [], ◌∷◌, length, map, slice_get};
-ghost use Rattle.glyph_buffer.specs.Sides.{all_glyphs, items_of};
-ghost use Rattle.stage_rules.specs.Ready.{IsReady};
-ghost use Rattle.script_constants.specs.declared.joining_types.hb_arabic_joining_type_t.TheVariants.{U};
+ghost use Rattle.buffer_core.specs.Sides.{all_glyphs, items_of};
+ghost use Rattle.buffer_stages.specs.Ready.{IsReady};
+ghost use Rattle.script_categories.specs.declared.joining_types.hb_arabic_joining_type_t.TheVariants.{U};
 ghost use Rattle.script_joining.specs.Flagged.{IsEarlier, type_of_typed};
 ghost use Rattle.script_joining.specs.Forms.{letter_form};
 ghost use Rattle.script_joining.specs.Joining.{event_at, letter_after, neighbour_events, neighbours_event};
-ghost use Rattle.stage_rules.specs.Stages.{Happens};
+ghost use Rattle.buffer_stages.specs.Stages.{Happens};
 
 use crate::forms::letter_form;
 use crate::types::{is_letter, nearest_past, type_kept};
-use glyph_buffer::buffer::hb_buffer_t;
-use script_constants::hb_arabic_joining_type_t;
+use buffer_core::buffer::hb_buffer_t;
+use script_categories::hb_arabic_joining_type_t;
 
 /// A letter that stands in the text: its index, its type, and that of the nearest letter before it.
 #[derive(Clone, Copy)]
@@ -68,7 +68,7 @@ fn letter_after(
 }
 
 /// Flags a letter and the one before it in the text, if there is one.
-#[tactic(auto, using(stage_rules::specs::Lemmas::Happened::nothing_happens))]
+#[tactic(auto, using(buffer_stages::proofs::Lemmas::Happened::nothing_happens))]
 fn flag_after(
     last: Option<Letter>,
     joining: hb_arabic_joining_type_t,
@@ -89,7 +89,7 @@ fn flag_after(
     }
 }
 
-#[tactic(auto, using(crate::proofs::Marked::concat_happens, crate::proofs::Marked::tatweel_happens, stage_rules::specs::Lemmas::Happened::end_of_input))]
+#[tactic(auto, using(crate::proofs::Marked::concat_happens, crate::proofs::Marked::tatweel_happens, buffer_stages::proofs::Lemmas::Happened::end_of_input))]
 fn flag_between(
     letter: Letter,
     joining: hb_arabic_joining_type_t,

@@ -2,8 +2,8 @@
 ghost use Rattle.std.specs.Prelude.{◌≡◌};
 ghost use Rattle.script_joining.specs.Forms.{alaph_form, final_alaph, joined_form, joins_before, joins_next, letter_form};
 
-use script_constants::arabic_action_t::{FIN2, FIN3, FINA, INIT, ISOL, MED2, MEDI, NONE};
-use script_constants::hb_arabic_joining_type_t;
+use script_categories::arabic_action_t::{FIN2, FIN3, FINA, INIT, ISOL, MED2, MEDI, NONE};
+use script_categories::hb_arabic_joining_type_t;
 
 /// The form of a letter between the nearest letters before and after it: by how the three join. What is transparent or
 /// does not join has none.

@@ -1,15 +1,15 @@
 //! The forms of a text's letters.
 ghost use Rattle.std.specs.Prelude.{◌≡◌, None, find, map};
 ghost use Rattle.std.specs.Option.{option_map};
-ghost use Rattle.glyph_lists.specs.Items.{item_of};
+ghost use Rattle.buffer_glyphs.specs.Items.{item_of};
 ghost use Rattle.script_joining.specs.Glyphs.{glyph_formed, glyph_joined, glyphs_copied, glyphs_formed, glyphs_settled, mask_of, nearest_or, type_kept};
 ghost use Rattle.script_joining.specs.Forms.{letter_form};
 ghost use Rattle.script_joining.specs.Joining.{form_after, is_letter, is_mongolian_selector};
 
 use crate::forms::letter_form;
 use crate::types::{is_letter, nearest_past, type_kept};
-use glyph_lists::info::{hb_glyph_info_t, hb_mask_t};
-use script_constants::hb_arabic_joining_type_t;
+use buffer_glyphs::info::{hb_glyph_info_t, hb_mask_t};
+use script_categories::hb_arabic_joining_type_t;
 
 /// Gives glyphs that keep how they join their forms, between the nearest letters before and after them, and the masks of
 /// these.
@@ -116,7 +116,7 @@ fn is_mongolian_selector(glyph: &hb_glyph_info_t) -> bool
     matches!(glyph.glyph_id, 0x180B..=0x180D | 0x180F)
 }
 
-#[tactic(auto, using(glyph_lists::specs::Lists::map_step))]
+#[tactic(auto, using(buffer_glyphs::specs::Lists::map_step))]
 fn add_masks(masks: &[hb_mask_t], glyphs: &mut [hb_glyph_info_t])
     ensures { glyphs.new ≡ map (glyph_joined masks.now) glyphs.old }
 {

@@ -1,20 +1,20 @@
 //! The order of Arabic marks.
 ghost use Rattle.std.specs.Prelude.{◌≡◌, ◌≤◌, ◌+◌, ◌<◌, ◌^◌, length, map, nat_lt, slice_range};
 ghost use Rattle.std.specs.List.{prefix_len};
-ghost use Rattle.glyph_lists.specs.Items.{item_of, strip};
-ghost use Rattle.glyph_buffer.specs.Readings.{always};
-ghost use Rattle.glyph_lists.specs.Origins.{changed_within};
-ghost use Rattle.glyph_buffer.specs.Sides.{all_glyphs, items_of};
-ghost use Rattle.stage_rules.specs.Ready.{IsReady};
-ghost use Rattle.glyph_properties.specs.Characters.{mark_class};
+ghost use Rattle.buffer_glyphs.specs.Items.{item_of, strip};
+ghost use Rattle.buffer_core.specs.Readings.{always};
+ghost use Rattle.buffer_glyphs.specs.Origins.{changed_within};
+ghost use Rattle.buffer_core.specs.Sides.{all_glyphs, items_of};
+ghost use Rattle.buffer_stages.specs.Ready.{IsReady};
+ghost use Rattle.buffer_properties.specs.Characters.{mark_class};
 ghost use Rattle.script_joining.specs.Marks.{count_below, count_leading, is_modifier_of, led, marks_reordered, with_leading};
 ghost use Rattle.script_joining.specs.Classed.{glyph_classed};
-ghost use Rattle.stage_rules.specs.Stages.{IsFollowed};
+ghost use Rattle.buffer_stages.specs.Stages.{IsFollowed};
 
-use glyph_buffer::buffer::hb_buffer_t;
-use glyph_lists::info::hb_glyph_info_t;
-use glyph_properties::categories::is_mark;
-use stage_rules::moves::move_back;
+use buffer_core::buffer::hb_buffer_t;
+use buffer_glyphs::info::hb_glyph_info_t;
+use buffer_properties::categories::is_mark;
+use buffer_stages::moves::move_back;
 
 /// The class that modifier marks below come to have.
 const CCC22: u8 = 25;
@@ -140,7 +140,7 @@ fn set_classes(glyphs: &mut [hb_glyph_info_t], from: usize, to: usize, class: u8
     set_class(&mut glyphs[from..to], class);
 }
 
-#[tactic(auto, using(glyph_lists::specs::Lists::map_step))]
+#[tactic(auto, using(buffer_glyphs::specs::Lists::map_step))]
 fn set_class(glyphs: &mut [hb_glyph_info_t], class: u8)
     ensures { glyphs.new ≡ map (glyph_classed class) glyphs.old }
 {

@@ -1,19 +1,19 @@
 //! The masks of the features that give letters their forms.
 ghost use Rattle.std.specs.Prelude.{◌≡◌};
-ghost use Rattle.glyph_buffer.specs.Readings.{always};
-ghost use Rattle.stage_rules.specs.Ready.{IsReady};
+ghost use Rattle.buffer_core.specs.Readings.{always};
+ghost use Rattle.buffer_stages.specs.Ready.{IsReady};
 ghost use Rattle.script_joining.specs.Glyphs.{AreFlagless, item_typed};
 ghost use Rattle.script_joining.specs.Joining.{joined};
-ghost use Rattle.stage_rules.specs.Stages.{IsFollowed, mapped};
+ghost use Rattle.buffer_stages.specs.Stages.{IsFollowed, mapped};
 
 use crate::flags::flag_neighbours;
 use crate::letters::join;
 use crate::types::{nearest_in_context, typed};
-use glyph_buffer::buffer::hb_buffer_t;
-use glyph_lists::info::hb_mask_t;
-use shaping_text::script::Script;
-use stage_rules::glyphs::map_glyphs;
-use unicode_tables::UnicodeTables;
+use buffer_common::script::Script;
+use buffer_core::buffer::hb_buffer_t;
+use buffer_glyphs::info::hb_mask_t;
+use buffer_stages::glyphs::map_glyphs;
+use buffer_unicode_tables::UnicodeTables;
 
 /// Gives each letter of a text its form, as its `auxiliary`, and the mask of the form's feature: `masks` has those of ISOL,
 /// FINA, FIN2, FIN3, MEDI, MED2 and INIT, in this order. The contexts' letters count as neighbours. In Mongolian a selector

@@ -1,17 +1,17 @@
 //! How a character joins.
 ghost use Rattle.std.specs.Prelude.{◌≡◌, find};
 ghost use Rattle.std.specs.Option.{option_map};
-ghost use Rattle.glyph_lists.specs.Items.{item_of};
+ghost use Rattle.buffer_glyphs.specs.Items.{item_of};
 ghost use Rattle.script_joining.specs.Glyphs.{item_typed, number_of, type_kept, type_numbered};
 ghost use Rattle.script_joining.specs.Joining.{is_letter, nearest, nearest_past, types_of_characters};
 ghost use Rattle.script_joining.specs.Types.{joining_type, listed_type, type_of_category, type_of_character, type_of_item};
-ghost use Rattle.glyph_lists.specs.Origins.{origin_of};
+ghost use Rattle.buffer_glyphs.specs.Origins.{origin_of};
 
-use glyph_lists::info::hb_glyph_info_t;
-use script_constants::{hb_arabic_joining_type_t, joining_type_of_number};
+use buffer_glyphs::info::hb_glyph_info_t;
+use buffer_unicode::{CharExt, GeneralCategoryExt};
+use buffer_unicode_tables::UnicodeTables;
+use script_categories::{hb_arabic_joining_type_t, joining_type_of_number};
 use unicode::properties::GeneralCategory;
-use unicode_chars::{CharExt, GeneralCategoryExt};
-use unicode_tables::UnicodeTables;
 
 /// How a character of a general category joins: by its row in the tables; what has none is transparent where it is a
 /// nonspacing or an enclosing mark or a format character, else it does not join.

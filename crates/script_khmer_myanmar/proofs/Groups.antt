@@ -4,11 +4,11 @@ use Rattle.std.specs.Prelude.{not}
 use Rattle.std.specs.List.{flat_map}
 use Rattle.std.proofs.lemmas.Grind.{reverse_onto}
 use Rattle.std.proofs.lemmas.List.{append-nil, map-append}
-use Rattle.glyph_slices.specs.Groups.{joined_after}
-use Rattle.glyph_slices.specs.Lemmas.GroupsTurned.{groups_cut}
+use Rattle.buffer_groups.specs.Groups.{joined_after}
+use Rattle.buffer_groups.specs.Lemmas.GroupsTurned.{groups_cut}
 use Rattle.std.proofs.lemmas.List.Concat.{flat_map-append}
-use Rattle.glyph_slices.specs.Turning.{groups, groups_turned, in_front}
-use Rattle.glyph_slices.specs.Lemmas.Picked.{AreAt}
+use Rattle.buffer_groups.specs.Turning.{groups, groups_turned, in_front}
+use Rattle.buffer_groups.specs.Lemmas.Picked.{AreAt}
 use Rattle.script_khmer_myanmar.specs.Turned.{leading_turned}
 
 -- what stands after the first of a group begins none

@@ -1,21 +1,21 @@
 -- The steps of a Khmer syllable on a buffer.
 use Rattle.std.proofs.Common.{ℕ, ◌≡◌, ◌≤◌, ◌+◌, ◌-◌, List, length, true, false, if◌then◌else◌, Some, None, slice_get, refl, sym, ap, subst, ◌∙◌, arith}
 use Rattle.std.specs.Prelude.{slice_range, bit_and, Bool, ◌==◌}
-use Rattle.script_constants.specs.declared.ot_category_t.TheConstants as category
-use Rattle.script_constants.specs.declared.shaper.hb_ot_script_shaper_t.TheVariants.{KHMER_SHAPER}
-use Rattle.script_constants.specs.Shapers.{is_reordered}
-use Rattle.stage_rules.specs.Ready.{IsReady}
-use Rattle.glyph_lists.specs.Items.{Item}
-use Rattle.glyph_buffer.specs.Sides.{Sides, all_glyphs, items_of}
-use Rattle.stage_rules.specs.Rewriting.{kept, then_rule, within}
-use Rattle.stage_rules.specs.SyllableBuffers.{IsRewritten}
-use Rattle.stage_rules.specs.Lemmas.Rewritings.{rewritten_next, rewritten_same, counted}
-use Rattle.stage_rules.specs.Parts.{masked_all, first_to_back}
-use Rattle.stage_rules.specs.Lemmas.Parts.{rewritten_part, range_size, masked_size, moved_size}
+use Rattle.script_categories.specs.declared.ot_category_t.TheConstants as category
+use Rattle.script_categories.specs.declared.shaper.hb_ot_script_shaper_t.TheVariants.{KHMER_SHAPER}
+use Rattle.script_categories.specs.Shapers.{is_reordered}
+use Rattle.buffer_stages.specs.Ready.{IsReady}
+use Rattle.buffer_glyphs.specs.Items.{Item}
+use Rattle.buffer_core.specs.Sides.{Sides, all_glyphs, items_of}
+use Rattle.buffer_stages.specs.Rewriting.{kept, then_rule, within}
+use Rattle.buffer_stages.specs.SyllableBuffers.{IsRewritten}
+use Rattle.buffer_stages.specs.Lemmas.Rewritings.{rewritten_next, rewritten_same, counted}
+use Rattle.buffer_stages.specs.Parts.{masked_all, first_to_back}
+use Rattle.buffer_stages.specs.Lemmas.Parts.{rewritten_part, range_size, masked_size, moved_size}
 use Rattle.script_khmer_myanmar.specs.declared.khmer.KhmerMasks.{KhmerMasks}
 use Rattle.script_khmer_myanmar.specs.Khmer.{Step, passed, is_coeng, coeng_met, vowel_met, khmer_at, coeng_moved, vowel_moved, khmer_reordered, khmer_syllable}
 use Rattle.script_khmer_myanmar.specs.Lemmas.KhmerSize.{coeng_pref_size, coeng_moved_size}
-use Rattle.stage_rules.specs.Lemmas.Counts.{rewritten_even}
+use Rattle.buffer_stages.proofs.Lemmas.Counts.{rewritten_even}
 
 pub masked_count : (bits from to : ℕ) (a b : Sides) → from ≤ to → to ≤ length (all_glyphs a) → IsRewritten (masked_all bits (slice_range (items_of a) from to)) from to a b → length (all_glyphs b) ≡ length (all_glyphs a)
 masked_count bits from to a b le fits f = rewritten_even (masked_all bits (slice_range (items_of a) from to)) from to a b le fits (masked_size bits (slice_range (items_of a) from to)) f

@@ -7,19 +7,19 @@ use Rattle.std.proofs.lemmas.Bool.Decides.{nat_tests}
 use Rattle.std.proofs.lemmas.Grind.{common_steps}
 use Rattle.std.proofs.lemmas.List.{append-nil, length-append, length-map, map-append}
 use Rattle.std.proofs.Math.Seq.{take-append_seam, drop-append_seam}
-use Rattle.script_constants.specs.declared.ot_category_t.TheConstants as category
-use Rattle.glyph_lists.specs.Items.{Item, without_flags}
-use Rattle.glyph_lists.specs.Levels.{InList}
-use Rattle.glyph_lists.specs.Events.{Event, Move}
-use Rattle.stage_rules.specs.Moves.{FrontMove, all_moved, move_events, moved, order_of_move}
-use Rattle.stage_rules.specs.Fronts.{front_moves, fronts, stayed}
-use Rattle.stage_rules.specs.Rewriting.{Rewritten, kept, shifted, then_rule, within}
-use Rattle.stage_rules.specs.Parts.{fronts_moved, masked, masked_all}
-use Rattle.stage_rules.specs.Lemmas.Fronts.{shift_moves}
+use Rattle.script_categories.specs.declared.ot_category_t.TheConstants as category
+use Rattle.buffer_glyphs.specs.Items.{Item, without_flags}
+use Rattle.buffer_glyphs.specs.Levels.{InList}
+use Rattle.buffer_glyphs.specs.Events.{Event, Move}
+use Rattle.buffer_stages.specs.Moves.{FrontMove, all_moved, move_events, moved, order_of_move}
+use Rattle.buffer_stages.specs.Fronts.{front_moves, fronts, stayed}
+use Rattle.buffer_stages.specs.Rewriting.{Rewritten, kept, shifted, then_rule, within}
+use Rattle.buffer_stages.specs.Parts.{fronts_moved, masked, masked_all}
+use Rattle.buffer_stages.proofs.Lemmas.Fronts.{shift_moves}
 use Rattle.script_khmer_myanmar.specs.declared.khmer.KhmerMasks.{KhmerMasks}
 use Rattle.script_khmer_myanmar.specs.Khmer.{Step, is_coeng, khmer_at, khmer_walk, passed, vowel_moved}
 use Rattle.script_khmer_myanmar.specs.Runs.{IsPlain, IsRun, forms_masked, forms_moved, is_vowel, together}
-use Rattle.stage_rules.specs.Lemmas.Fronted.{all_moved_fronts, moved_one, moved_two, moves_seen}
+use Rattle.buffer_stages.specs.Lemmas.Fronted.{all_moved_fronts, moved_one, moved_two, moves_seen}
 use Rattle.script_khmer_myanmar.proofs.KhmerSteps.{at_form, at_other, coeng_turned, front_turned, got_after, got_next, met_if, within_at}
 
 abbrev kind : Item → ℕ

@@ -5,21 +5,21 @@ use Rattle.std.proofs.lemmas.Bool.{eqb-true}
 use Rattle.std.proofs.lemmas.Bool.Decides.{nat_tests}
 use Rattle.std.proofs.lemmas.Grind.{common_steps}
 use Rattle.std.proofs.lemmas.List.{drop_all, drop-map, length-drop, length-map, take-append-drop}
-use Rattle.script_constants.specs.declared.ot_category_t.TheConstants as category
-use Rattle.glyph_lists.specs.declared.info.hb_glyph_info_t.{hb_glyph_info_t}
-use Rattle.glyph_lists.specs.Items.{Item, clusters, item_of, strip}
-use Rattle.glyph_lists.specs.Origins.{numbers, origin_of, origins}
-use Rattle.glyph_lists.specs.Lemmas.Origins.{numbers_origins}
-use Rattle.glyph_buffer.specs.Sides.{Sides, all_glyphs, items_of}
-use Rattle.glyph_buffer.specs.Lending.{with_refilled}
-use Rattle.stage_rules.specs.Ready.{IsReady}
-use Rattle.stage_rules.specs.Moves.{FrontMove, reach}
-use Rattle.stage_rules.specs.Fronts.{front_moves, pair_seen}
-use Rattle.stage_rules.specs.Rewriting.{kept}
-use Rattle.stage_rules.specs.Parts.{glyph_masked, masked}
-use Rattle.stage_rules.specs.SyllableBuffers.{IsRewritten}
-use Rattle.stage_rules.specs.Lemmas.Parts.{item_masked_is, origin_masked_is, part_clusters, part_written, range_seen}
-use Rattle.stage_rules.specs.Lemmas.Rewritings.{middle}
+use Rattle.script_categories.specs.declared.ot_category_t.TheConstants as category
+use Rattle.buffer_glyphs.specs.declared.info.hb_glyph_info_t.{hb_glyph_info_t}
+use Rattle.buffer_glyphs.specs.Items.{Item, clusters, item_of, strip}
+use Rattle.buffer_glyphs.specs.Origins.{numbers, origin_of, origins}
+use Rattle.buffer_glyphs.specs.Lemmas.Origins.{numbers_origins}
+use Rattle.buffer_core.specs.Sides.{Sides, all_glyphs, items_of}
+use Rattle.buffer_core.specs.Lending.{with_refilled}
+use Rattle.buffer_stages.specs.Ready.{IsReady}
+use Rattle.buffer_stages.specs.Moves.{FrontMove, reach}
+use Rattle.buffer_stages.specs.Fronts.{front_moves, pair_seen}
+use Rattle.buffer_stages.specs.Rewriting.{kept}
+use Rattle.buffer_stages.specs.Parts.{glyph_masked, masked}
+use Rattle.buffer_stages.specs.SyllableBuffers.{IsRewritten}
+use Rattle.buffer_stages.specs.Lemmas.Parts.{item_masked_is, origin_masked_is, part_clusters, part_written, range_seen}
+use Rattle.buffer_stages.specs.Lemmas.Rewritings.{middle}
 use Rattle.script_khmer_myanmar.specs.Runs.{IsRun, ends_run, forms_masked, is_vowel, run_length, taken, together}
 use Rattle.script_khmer_myanmar.specs.Lemmas.Forms.{ra_no_coeng}
 

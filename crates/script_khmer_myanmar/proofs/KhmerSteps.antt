@@ -3,13 +3,13 @@ use Rattle.std.proofs.Common.{ℕ, ◌≡◌, ◌+◌, ◌-◌, ◌==◌, Bool, 
 use Rattle.std.specs.Prelude.{slice_range}
 use Rattle.std.proofs.Math.Seq.{take-append_seam, drop-append_seam, drop-append-add}
 use Rattle.std.proofs.lemmas.List.{append-nil, length-append}
-use Rattle.script_constants.specs.declared.ot_category_t.TheConstants as category
-use Rattle.glyph_lists.specs.Items.{Item}
-use Rattle.glyph_lists.specs.Levels.{InList}
-use Rattle.glyph_lists.specs.Events.{Event, Move}
-use Rattle.stage_rules.specs.Moves.{order_of_move}
-use Rattle.stage_rules.specs.Rewriting.{Rewritten, shifted, then_rule, within}
-use Rattle.stage_rules.specs.Parts.{first_to_back, masked, masked_all}
+use Rattle.script_categories.specs.declared.ot_category_t.TheConstants as category
+use Rattle.buffer_glyphs.specs.Items.{Item}
+use Rattle.buffer_glyphs.specs.Levels.{InList}
+use Rattle.buffer_glyphs.specs.Events.{Event, Move}
+use Rattle.buffer_stages.specs.Moves.{order_of_move}
+use Rattle.buffer_stages.specs.Rewriting.{Rewritten, shifted, then_rule, within}
+use Rattle.buffer_stages.specs.Parts.{first_to_back, masked, masked_all}
 use Rattle.script_khmer_myanmar.specs.declared.khmer.KhmerMasks.{KhmerMasks}
 use Rattle.script_khmer_myanmar.specs.Khmer.{Step, coeng_met, coeng_moved, is_coeng, khmer_at, passed, met, vowel_met, vowel_moved}
 

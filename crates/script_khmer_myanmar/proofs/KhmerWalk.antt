@@ -3,17 +3,17 @@ use Rattle.std.proofs.Common.{ℕ, zero, suc, ◌≡◌, ◌≤◌, ◌<◌, ◌
 use Rattle.std.specs.Prelude.{slice_range}
 use Rattle.std.proofs.lemmas.Bool.{and_parts, true≢false}
 use Rattle.std.proofs.lemmas.List.{length-take-le, drop-drop, take-append-drop, take-take}
-use Rattle.glyph_lists.specs.declared.info.hb_glyph_info_t.{hb_glyph_info_t}
-use Rattle.glyph_lists.specs.Items.{Item, item_of, strip}
-use Rattle.glyph_buffer.specs.Sides.{Sides, all_glyphs, items_of}
-use Rattle.stage_rules.specs.Ready.{IsReady}
-use Rattle.script_constants.specs.declared.ot_category_t.TheConstants as category
-use Rattle.stage_rules.specs.SyllableBuffers.{IsRewritten}
-use Rattle.stage_rules.specs.Lemmas.Fronted.{gathered_after_length}
-use Rattle.stage_rules.specs.Lemmas.Rewritings.{rewritten_next, rewritten_same, counted}
-use Rattle.stage_rules.specs.Rewriting.{Rewritten, kept, then_rule, within}
-use Rattle.stage_rules.specs.Parts.{fronts_moved, masked, masked_all}
-use Rattle.stage_rules.specs.Lemmas.Parts.{masked_size, range_seen, range_size, range_within, rewritten_part, within_size}
+use Rattle.buffer_glyphs.specs.declared.info.hb_glyph_info_t.{hb_glyph_info_t}
+use Rattle.buffer_glyphs.specs.Items.{Item, item_of, strip}
+use Rattle.buffer_core.specs.Sides.{Sides, all_glyphs, items_of}
+use Rattle.buffer_stages.specs.Ready.{IsReady}
+use Rattle.script_categories.specs.declared.ot_category_t.TheConstants as category
+use Rattle.buffer_stages.specs.SyllableBuffers.{IsRewritten}
+use Rattle.buffer_stages.specs.Lemmas.Fronted.{gathered_after_length}
+use Rattle.buffer_stages.specs.Lemmas.Rewritings.{rewritten_next, rewritten_same, counted}
+use Rattle.buffer_stages.specs.Rewriting.{Rewritten, kept, then_rule, within}
+use Rattle.buffer_stages.specs.Parts.{fronts_moved, masked, masked_all}
+use Rattle.buffer_stages.specs.Lemmas.Parts.{masked_size, range_seen, range_size, range_within, rewritten_part, within_size}
 use Rattle.script_khmer_myanmar.specs.declared.khmer.KhmerMasks.{KhmerMasks}
 use Rattle.script_khmer_myanmar.specs.Khmer.{khmer_at, khmer_walk, khmer_reordered}
 use Rattle.script_khmer_myanmar.specs.Runs.{IsRun, IsWalked, OpensForms, forms_masked, forms_moved, is_vowel, run_length, together}
@@ -21,7 +21,7 @@ use Rattle.script_khmer_myanmar.specs.Lemmas.KhmerSize.{khmer_at_size, after_siz
 use Rattle.script_khmer_myanmar.proofs.KhmerMoves.{masked_count}
 use Rattle.script_khmer_myanmar.proofs.KhmerRuns.{formed_size, forms_walked, vowels_walked}
 use Rattle.script_khmer_myanmar.proofs.KhmerScan.{run_is}
-use Rattle.stage_rules.specs.Lemmas.Counts.{rewritten_even}
+use Rattle.buffer_stages.proofs.Lemmas.Counts.{rewritten_even}
 
 -- ---- one part after another
 

@@ -1,3 +1,4 @@
+pub mod Lemmas
 pub mod There
 pub mod KhmerMoves
 pub mod KhmerSteps

@@ -7,41 +7,41 @@ use Rattle.std.proofs.lemmas.List.Folds.{list_all-append}
 use Rattle.std.proofs.lemmas.List.FromFn.{length-range_with_len}
 use Rattle.std.proofs.lemmas.Bool.Decides.{nat_tests}
 use Rattle.std.proofs.lemmas.Grind.{common_steps}
-use Rattle.glyph_lists.specs.declared.info.hb_glyph_info_t.{hb_glyph_info_t}
-use Rattle.script_constants.specs.declared.ot_position_t.TheConstants as position
-use Rattle.script_constants.specs.declared.shaper.hb_ot_script_shaper_t.TheVariants.{MYANMAR_SHAPER}
-use Rattle.script_constants.specs.Shapers.{is_reordered}
-use Rattle.stable_order.specs.Keys.{key_order}
-use Rattle.glyph_slices.specs.Events.{order_of}
-use Rattle.glyph_slices.specs.Lemmas.Picked.{AreAt, are_all, arranged_as}
-use Rattle.glyph_slices.specs.Sorting.{range_sorted}
-use Rattle.glyph_slices.specs.Turning.{groups_turned}
-use Rattle.glyph_lists.specs.Items.{Item, clusters, item_of, strip}
-use Rattle.glyph_lists.specs.Levels.{InList}
-use Rattle.glyph_lists.specs.Origins.{arranged, manner, merged_as, origin_of, origins}
-use Rattle.glyph_lists.specs.Events.{Merge, Sort}
-use Rattle.glyph_buffer.specs.Readings.{View}
+use Rattle.buffer_glyphs.specs.declared.info.hb_glyph_info_t.{hb_glyph_info_t}
+use Rattle.script_categories.specs.declared.ot_position_t.TheConstants as position
+use Rattle.script_categories.specs.declared.shaper.hb_ot_script_shaper_t.TheVariants.{MYANMAR_SHAPER}
+use Rattle.script_categories.specs.Shapers.{is_reordered}
+use Rattle.buffer_stable_order.specs.Keys.{key_order}
+use Rattle.buffer_groups.specs.Events.{order_of}
+use Rattle.buffer_groups.specs.Lemmas.Picked.{AreAt, are_all, arranged_as}
+use Rattle.buffer_groups.specs.Sorting.{range_sorted}
+use Rattle.buffer_groups.specs.Turning.{groups_turned}
+use Rattle.buffer_glyphs.specs.Items.{Item, clusters, item_of, strip}
+use Rattle.buffer_glyphs.specs.Levels.{InList}
+use Rattle.buffer_glyphs.specs.Origins.{arranged, manner, merged_as, origin_of, origins}
+use Rattle.buffer_glyphs.specs.Events.{Merge, Sort}
+use Rattle.buffer_core.specs.Readings.{View}
 use Rattle.buffer_lists.specs.declared.order.KnownOrder.{KnownOrder}
 use Rattle.buffer_lists.specs.Known.{HasOrder}
-use Rattle.glyph_buffer.specs.Sides.{Sides, all_glyphs, items_of, origins_by, origins_of, settings_of, view_of}
-use Rattle.glyph_buffer.specs.Sorting.{with_range_sorted}
-use Rattle.glyph_buffer.specs.Told.{told_telling}
-use Rattle.glyph_buffer.specs.Lending.{with_refilled}
-use Rattle.stage_rules.specs.Ready.{IsReady}
-use Rattle.stage_rules.specs.Stages.{Happens}
-use Rattle.stage_rules.specs.Lemmas.Written.{written_all, written_ready}
-use Rattle.stage_rules.specs.Moves.{are_one_cluster}
-use Rattle.stage_rules.specs.Lemmas.Ordered.{clusters_among}
-use Rattle.stage_rules.specs.Rewriting.{Rewritten, kept, then_rule, within}
-use Rattle.stage_rules.specs.SyllableBuffers.{IsRewritten}
-use Rattle.stage_rules.specs.Lemmas.Rewritings.{counted, rewritten_count, rewritten_next, rewritten_same}
-use Rattle.stage_rules.specs.Lemmas.Parts.{order_put, part_clusters, part_written, range_size, rewritten_part, range_seen}
+use Rattle.buffer_core.specs.Sides.{Sides, all_glyphs, items_of, origins_by, origins_of, settings_of, view_of}
+use Rattle.buffer_core.specs.Sorting.{with_range_sorted}
+use Rattle.buffer_core.proofs.Told.{told_telling}
+use Rattle.buffer_core.specs.Lending.{with_refilled}
+use Rattle.buffer_stages.specs.Ready.{IsReady}
+use Rattle.buffer_stages.specs.Stages.{Happens}
+use Rattle.buffer_stages.specs.Lemmas.Written.{written_all, written_ready}
+use Rattle.buffer_stages.specs.Moves.{are_one_cluster}
+use Rattle.buffer_stages.specs.Lemmas.Ordered.{clusters_among}
+use Rattle.buffer_stages.specs.Rewriting.{Rewritten, kept, then_rule, within}
+use Rattle.buffer_stages.specs.SyllableBuffers.{IsRewritten}
+use Rattle.buffer_stages.specs.Lemmas.Rewritings.{counted, rewritten_count, rewritten_next, rewritten_same}
+use Rattle.buffer_stages.specs.Lemmas.Parts.{order_put, part_clusters, part_written, range_size, rewritten_part, range_seen}
 use Rattle.script_khmer_myanmar.specs.Myanmar.{all_placed, groups_reversed, has_two_matras, is_left_at, is_left_matra, matras_of, matras_reversed, myanmar_places, myanmar_reordered, myanmar_syllable, same_group, sorted_by_place, with_place, with_places}
 use Rattle.script_khmer_myanmar.specs.Turned.{glyphs_at, leading_turned}
 use Rattle.script_khmer_myanmar.specs.Lemmas.MyanmarSize.{all_placed_size, sorted_size}
 use Rattle.script_khmer_myanmar.specs.Lemmas.Sizes.{groups_turned_size, places_size}
 use Rattle.script_khmer_myanmar.proofs.Groups.{turned_all, turned_at, turned_seen}
-use Rattle.stage_rules.specs.Lemmas.Elements.{split_at}
+use Rattle.buffer_stages.proofs.Lemmas.Elements.{split_at}
 
 -- ---- what is seen of glyphs
 

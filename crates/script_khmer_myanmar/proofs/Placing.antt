@@ -5,8 +5,8 @@ use borrow.Rule.Slice.PartMut.{mid_of, put_mid}
 use Rattle.std.proofs.Math.Seq.{take-append_seam, drop-append_seam}
 use Rattle.std.specs.List.{list_any, position_or_len}
 use Rattle.std.proofs.lemmas.List.{length-append, length-map, length-replicate, drop_all, drop_more, take_all, append-nil, take-append-drop, length-take-le, drop-map}
-use Rattle.glyph_lists.specs.declared.info.hb_glyph_info_t.{hb_glyph_info_t}
-use Rattle.script_constants.specs.declared.ot_position_t.TheConstants as position
+use Rattle.buffer_glyphs.specs.declared.info.hb_glyph_info_t.{hb_glyph_info_t}
+use Rattle.script_categories.specs.declared.ot_position_t.TheConstants as position
 use Rattle.script_khmer_myanmar.specs.Myanmar.{base_of, from_base, is_base, place_after, place_of, places_after}
 use Rattle.script_khmer_myanmar.specs.Turned.{glyph_at, glyphs_at}
 use Rattle.script_khmer_myanmar.specs.Lemmas.Sizes.{after_size}

@@ -3,10 +3,10 @@ use Rattle.std.proofs.Common.{ℕ, ◌≡◌, ◌≤◌, ◌<◌, ◌+◌, ◌-�
 use Rattle.std.specs.Prelude.{slice_range}
 use Rattle.std.proofs.lemmas.Option.{slice_get-get_or, slice_get_past}
 use Rattle.std.proofs.lemmas.List.{length-map, get_or-take, get_or-drop}
-use Rattle.glyph_lists.specs.Lists.{seen_at}
-use Rattle.glyph_lists.specs.declared.info.hb_glyph_info_t.{hb_glyph_info_t}
-use Rattle.glyph_lists.specs.Items.{item_of, strip}
-use Rattle.stage_rules.specs.Lemmas.Parts.{range_size}
+use Rattle.buffer_glyphs.specs.Lists.{seen_at}
+use Rattle.buffer_glyphs.specs.declared.info.hb_glyph_info_t.{hb_glyph_info_t}
+use Rattle.buffer_glyphs.specs.Items.{item_of, strip}
+use Rattle.buffer_stages.specs.Lemmas.Parts.{range_size}
 
 ranged : {X : Type 0} (start end place : ℕ) (d : X) (xs : List X) → place < end - start → get_or (slice_range xs start end) place d ≡ get_or xs (start + place) d
 ranged start end place d xs lt = get_or-take (end - start) (drop start xs) place d lt ∙ get_or-drop start xs place d

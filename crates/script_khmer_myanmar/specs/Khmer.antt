@@ -1,14 +1,14 @@
 -- Khmer: how vowels split, and which items of a syllable go to its start (Unicode core specification, Khmer; OpenType specification, Creating fonts for Khmer).
 use Rattle.std.specs.Prelude.{ℕ, zero, suc, ◌+◌, ◌-◌, ◌==◌, ◌&&◌, Bool, nat_le, bit_and, if◌then◌else◌, List, [], ◌∷◌, length, map, slice_get, Option, None, Some}
 use Rattle.std.specs.List.{list_any}
-use Rattle.script_constants.specs.declared.ot_category_t.TheConstants as category
-use Rattle.script_constants.specs.declared.shaper.hb_ot_script_shaper_t.TheVariants.{KHMER_SHAPER}
-use Rattle.script_constants.specs.Shapers.{is_reordered}
-use Rattle.unicode_tables.specs.Tables.{Tables, split_of}
-use Rattle.glyph_lists.specs.Items.{Item}
-use Rattle.syllable_lists.specs.Pieces.{ArePermuted}
-use Rattle.stage_rules.specs.Rewriting.{Rewritten, kept, then_rule, within, in_syllables, by_syllable}
-use Rattle.stage_rules.specs.Parts.{masked_all, first_to_back}
+use Rattle.script_categories.specs.declared.ot_category_t.TheConstants as category
+use Rattle.script_categories.specs.declared.shaper.hb_ot_script_shaper_t.TheVariants.{KHMER_SHAPER}
+use Rattle.script_categories.specs.Shapers.{is_reordered}
+use Rattle.buffer_unicode_tables.specs.Tables.{Tables, split_of}
+use Rattle.buffer_glyphs.specs.Items.{Item}
+use Rattle.buffer_stages.specs.Pieces.{ArePermuted}
+use Rattle.buffer_stages.specs.Rewriting.{Rewritten, kept, then_rule, within, in_syllables, by_syllable}
+use Rattle.buffer_stages.specs.Parts.{masked_all, first_to_back}
 use Rattle.script_khmer_myanmar.specs.declared.khmer.KhmerMasks.{KhmerMasks}
 
 -- ---- vowels that split

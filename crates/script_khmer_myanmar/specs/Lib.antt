@@ -1,5 +1,5 @@
+pub mod Lemmas
 pub mod Khmer
 pub mod Runs
 pub mod Myanmar
 pub mod Turned
-pub mod Lemmas

@@ -1,18 +1,18 @@
 -- Myanmar: the places of the items of a syllable, and their order (OpenType specification, Creating fonts for Myanmar).
 use Rattle.std.specs.Prelude.{ℕ, ◌==◌, ◌&&◌, ◌||◌, not, Bool, false, nat_lt, bit_and, if◌then◌else◌, List, [], ◌∷◌, ◌++◌, drop, filter, length, map, replicate, slice_get, take, Option, None, Some}
 use Rattle.std.specs.List.{list_any, position_or_len, prefix_len, range_with_len}
-use Rattle.script_constants.specs.declared.ot_category_t.TheConstants as category
-use Rattle.script_constants.specs.declared.ot_position_t.TheConstants as position
-use Rattle.script_constants.specs.declared.shaper.hb_ot_script_shaper_t.TheVariants.{MYANMAR_SHAPER}
-use Rattle.script_constants.specs.Shapers.{is_reordered}
-use Rattle.stable_order.specs.Keys.{key_order}
-use Rattle.glyph_slices.specs.Events.{order_of}
-use Rattle.glyph_slices.specs.Turning.{groups_turned}
-use Rattle.glyph_lists.specs.Items.{Item}
-use Rattle.glyph_lists.specs.Levels.{InList}
-use Rattle.glyph_lists.specs.Events.{Move, Sort}
-use Rattle.syllable_lists.specs.Pieces.{ArePermuted}
-use Rattle.stage_rules.specs.Rewriting.{Rewritten, kept, then_rule, within, in_syllables, by_syllable}
+use Rattle.script_categories.specs.declared.ot_category_t.TheConstants as category
+use Rattle.script_categories.specs.declared.ot_position_t.TheConstants as position
+use Rattle.script_categories.specs.declared.shaper.hb_ot_script_shaper_t.TheVariants.{MYANMAR_SHAPER}
+use Rattle.script_categories.specs.Shapers.{is_reordered}
+use Rattle.buffer_stable_order.specs.Keys.{key_order}
+use Rattle.buffer_groups.specs.Events.{order_of}
+use Rattle.buffer_groups.specs.Turning.{groups_turned}
+use Rattle.buffer_glyphs.specs.Items.{Item}
+use Rattle.buffer_glyphs.specs.Levels.{InList}
+use Rattle.buffer_glyphs.specs.Events.{Move, Sort}
+use Rattle.buffer_stages.specs.Pieces.{ArePermuted}
+use Rattle.buffer_stages.specs.Rewriting.{Rewritten, kept, then_rule, within, in_syllables, by_syllable}
 
 -- ---- places, by the categories of a syllable's items
 

@@ -1,6 +1,6 @@
 -- Glyphs at their places, and groups put in front of others one by one.
 use Rattle.std.specs.Prelude.{ℕ, Bool, if◌then◌else◌, List, [], ◌∷◌, ◌++◌}
-use Rattle.glyph_lists.specs.declared.info.hb_glyph_info_t.{hb_glyph_info_t}
+use Rattle.buffer_glyphs.specs.declared.info.hb_glyph_info_t.{hb_glyph_info_t}
 
 abbrev pub glyph_at : ℕ → hb_glyph_info_t → hb_glyph_info_t
 glyph_at p g = record g { auxiliary = p }

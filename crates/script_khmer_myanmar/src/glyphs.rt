@@ -1,11 +1,11 @@
 //! The glyphs of a syllable in a buffer.
 ghost use Rattle.std.specs.Prelude.{◌≡◌, ◌≤◌, ◌+◌, length, option_map, slice_get, slice_range, IfSome};
-ghost use Rattle.glyph_lists.specs.Items.{item_of};
-ghost use Rattle.glyph_buffer.specs.Sides.{all_glyphs, items_of};
-ghost use Rattle.stage_rules.specs.Ready.{IsReady};
+ghost use Rattle.buffer_glyphs.specs.Items.{item_of};
+ghost use Rattle.buffer_core.specs.Sides.{all_glyphs, items_of};
+ghost use Rattle.buffer_stages.specs.Ready.{IsReady};
 
-use glyph_buffer::buffer::hb_buffer_t;
-use glyph_lists::info::hb_glyph_info_t;
+use buffer_core::buffer::hb_buffer_t;
+use buffer_glyphs::info::hb_glyph_info_t;
 
 /// Of the glyphs from `start` up to before `end` the one at an index, where there is one.
 #[tactic(auto, using(crate::proofs::There::there, crate::proofs::There::none_there))]

@@ -1,25 +1,25 @@
 //! Khmer: vowels that split, and coeng forms and left vowels, which go to the start of their syllable.
 ghost use Rattle.std.specs.Prelude.{◌≡◌, ◌≤◌, ◌<◌, ◌+◌, ◌-◌, length, nat_le, slice_range, true, OnOk};
-ghost use Rattle.glyph_lists.specs.Items.{item_of};
-ghost use Rattle.glyph_buffer.specs.Readings.{always};
-ghost use Rattle.glyph_buffer.specs.Sides.{all_glyphs, items_of};
-ghost use Rattle.stage_rules.specs.Ready.{IsReady};
-ghost use Rattle.stage_rules.specs.Stages.{IsFollowed};
-ghost use Rattle.stage_rules.specs.Rewriting.{by_syllable};
-ghost use Rattle.stage_rules.specs.SyllableBuffers.{IsRewritten, with_rule};
+ghost use Rattle.buffer_glyphs.specs.Items.{item_of};
+ghost use Rattle.buffer_core.specs.Readings.{always};
+ghost use Rattle.buffer_core.specs.Sides.{all_glyphs, items_of};
+ghost use Rattle.buffer_stages.specs.Ready.{IsReady};
+ghost use Rattle.buffer_stages.specs.Stages.{IsFollowed};
+ghost use Rattle.buffer_stages.specs.Rewriting.{by_syllable};
+ghost use Rattle.buffer_stages.specs.SyllableBuffers.{IsRewritten, with_rule};
 ghost use Rattle.script_khmer_myanmar.specs.Khmer.{coeng_met, coeng_moved, khmer_at, khmer_reordered, khmer_split, khmer_syllable, khmer_walk, vowel_met};
 ghost use Rattle.script_khmer_myanmar.specs.Runs.{IsRun, IsWalked, OpensForms};
 
 use crate::glyphs::glyph_in;
 use crate::runs::{move_forms, move_run, opens_forms, run_length};
-use glyph_buffer::buffer::hb_buffer_t;
-use glyph_lists::info::{hb_glyph_info_t, hb_mask_t};
-use script_constants::hb_ot_script_shaper_t::KHMER_SHAPER;
-use script_constants::ot_category_t::{OT_H, OT_Ra, OT_VPre};
-use stage_rules::parts::{add_mask, first_to_back};
-use stage_rules::walk::{SyllableRule, each_syllable};
+use buffer_core::buffer::hb_buffer_t;
+use buffer_glyphs::info::{hb_glyph_info_t, hb_mask_t};
+use buffer_stages::parts::{add_mask, first_to_back};
+use buffer_stages::walk::{SyllableRule, each_syllable};
+use buffer_unicode_tables::UnicodeTables;
+use script_categories::hb_ot_script_shaper_t::KHMER_SHAPER;
+use script_categories::ot_category_t::{OT_H, OT_Ra, OT_VPre};
 use std::alloc::AllocError;
-use unicode_tables::UnicodeTables;
 
 /// The masks of the features that parts of a syllable get.
 #[derive(Clone, Copy)]
@@ -40,7 +40,7 @@ pub fn decompose(tables: &UnicodeTables, ab: char) -> Option<(char, char)>
     match ab {
         '\u{17C1}' => None,
         '\u{17BE}' | '\u{17BF}' | '\u{17C0}' | '\u{17C4}' | '\u{17C5}' => Some(('\u{17C1}', ab)),
-        _ => unicode_tables::decompose(tables, ab),
+        _ => buffer_unicode_tables::decompose(tables, ab),
     }
 }
 

@@ -1,28 +1,28 @@
 //! Myanmar: the glyphs of a syllable go to their places around its base.
 ghost use Rattle.std.specs.Prelude.{◌≡◌, ◌≤◌, ◌++◌, ◌∷◌, [], false, ◌+◌, length, map, take, drop, reverse, slice_range, OnOk};
-ghost use Rattle.glyph_lists.specs.Items.{item_of, strip};
-ghost use Rattle.glyph_buffer.specs.Readings.{always};
-ghost use Rattle.glyph_buffer.specs.Sides.{all_glyphs, items_of, origins_by, origins_of};
-ghost use Rattle.glyph_buffer.specs.Sorting.{with_range_sorted};
-ghost use Rattle.glyph_lists.specs.Events.{Sort};
-ghost use Rattle.glyph_slices.specs.Events.{order_of};
-ghost use Rattle.stable_order.specs.Keys.{key_order};
-ghost use Rattle.stage_rules.specs.Ready.{IsReady};
-ghost use Rattle.stage_rules.specs.Stages.{IsFollowed};
-ghost use Rattle.stage_rules.specs.Rewriting.{by_syllable};
-ghost use Rattle.stage_rules.specs.SyllableBuffers.{IsRewritten, with_rule};
+ghost use Rattle.buffer_glyphs.specs.Items.{item_of, strip};
+ghost use Rattle.buffer_core.specs.Readings.{always};
+ghost use Rattle.buffer_core.specs.Sides.{all_glyphs, items_of, origins_by, origins_of};
+ghost use Rattle.buffer_core.specs.Sorting.{with_range_sorted};
+ghost use Rattle.buffer_glyphs.specs.Events.{Sort};
+ghost use Rattle.buffer_groups.specs.Events.{order_of};
+ghost use Rattle.buffer_stable_order.specs.Keys.{key_order};
+ghost use Rattle.buffer_stages.specs.Ready.{IsReady};
+ghost use Rattle.buffer_stages.specs.Stages.{IsFollowed};
+ghost use Rattle.buffer_stages.specs.Rewriting.{by_syllable};
+ghost use Rattle.buffer_stages.specs.SyllableBuffers.{IsRewritten, with_rule};
 ghost use Rattle.script_khmer_myanmar.specs.Myanmar.{all_placed, groups_reversed, has_two_matras, is_left_matra, matras_of, matras_reversed, myanmar_places, myanmar_reordered, myanmar_syllable, sorted_by_place};
 ghost use Rattle.script_khmer_myanmar.specs.Turned.{glyphs_at, leading_turned};
 
 use crate::glyphs::glyph_in;
 use crate::places::set_places;
-use glyph_buffer::buffer::hb_buffer_t;
-use glyph_lists::info::hb_glyph_info_t;
-use script_constants::hb_ot_script_shaper_t::MYANMAR_SHAPER;
-use script_constants::ot_category_t::OT_VPre;
-use script_constants::ot_position_t::POS_PRE_M;
-use stage_rules::moves::order_kept;
-use stage_rules::walk::{SyllableRule, each_syllable};
+use buffer_core::buffer::hb_buffer_t;
+use buffer_glyphs::info::hb_glyph_info_t;
+use buffer_stages::moves::order_kept;
+use buffer_stages::walk::{SyllableRule, each_syllable};
+use script_categories::hb_ot_script_shaper_t::MYANMAR_SHAPER;
+use script_categories::ot_category_t::OT_VPre;
+use script_categories::ot_position_t::POS_PRE_M;
 use std::alloc::{AllocError, Global};
 
 /// Reorders each Myanmar syllable that is one: its glyphs get their places around its base, as their `auxiliary`, and go in

@@ -1,16 +1,16 @@
 //! The places of the glyphs of a Myanmar syllable around its base.
 ghost use Rattle.std.specs.Prelude.{◌≡◌, ◌≤◌, length, map, replicate};
-ghost use Rattle.glyph_lists.specs.declared.info.hb_glyph_info_t.{hb_glyph_info_t as Glyph};
-ghost use Rattle.script_constants.specs.declared.ot_position_t.TheConstants as position;
+ghost use Rattle.buffer_glyphs.specs.declared.info.hb_glyph_info_t.{hb_glyph_info_t as Glyph};
+ghost use Rattle.script_categories.specs.declared.ot_position_t.TheConstants as position;
 ghost use Rattle.script_khmer_myanmar.specs.Myanmar.{base_of, based, from_base, is_base, kinzi, myanmar_places, place_after, place_below, place_of, place_there, places_after, stays_apart};
 ghost use Rattle.script_khmer_myanmar.specs.Turned.{glyph_at, glyphs_at};
 
-use glyph_lists::info::hb_glyph_info_t;
-use script_constants::ot_category_t::{
+use buffer_glyphs::info::hb_glyph_info_t;
+use script_categories::ot_category_t::{
     Category, OT_A, OT_As, OT_C, OT_CS, OT_DOTTEDCIRCLE, OT_H, OT_MR, OT_PLACEHOLDER, OT_Ra, OT_V,
     OT_VBlw, OT_VPre, OT_VS,
 };
-use script_constants::ot_position_t::{
+use script_categories::ot_position_t::{
     POS_AFTER_MAIN, POS_AFTER_SUB, POS_BASE_C, POS_BEFORE_SUB, POS_BELOW_C, POS_PRE_C, POS_PRE_M,
     Position,
 };

@@ -1,23 +1,23 @@
 //! Glyphs of a Khmer syllable that are walked at once: forms of a coeng with Ra, and left vowels.
 ghost use Rattle.std.specs.Prelude.{◌≡◌, ◌≤◌, ◌<◌, ◌+◌, ◌++◌, Bool, true, false, drop, length, map, slice_get, slice_range, take, Some};
-ghost use Rattle.glyph_lists.specs.declared.info.hb_glyph_info_t.{hb_glyph_info_t as Glyph};
-ghost use Rattle.glyph_lists.specs.Items.{item_of, strip};
-ghost use Rattle.glyph_buffer.specs.Sides.{all_glyphs, items_of};
-ghost use Rattle.stage_rules.specs.Ready.{IsReady};
-ghost use Rattle.stage_rules.specs.Moves.{reach};
-ghost use Rattle.stage_rules.specs.Fronts.{front_moves, pair_seen};
-ghost use Rattle.stage_rules.specs.Rewriting.{kept};
-ghost use Rattle.stage_rules.specs.Parts.{fronts_moved, glyph_masked, masked};
-ghost use Rattle.stage_rules.specs.SyllableBuffers.{IsRewritten};
+ghost use Rattle.buffer_glyphs.specs.declared.info.hb_glyph_info_t.{hb_glyph_info_t as Glyph};
+ghost use Rattle.buffer_glyphs.specs.Items.{item_of, strip};
+ghost use Rattle.buffer_core.specs.Sides.{all_glyphs, items_of};
+ghost use Rattle.buffer_stages.specs.Ready.{IsReady};
+ghost use Rattle.buffer_stages.specs.Moves.{reach};
+ghost use Rattle.buffer_stages.specs.Fronts.{front_moves, pair_seen};
+ghost use Rattle.buffer_stages.specs.Rewriting.{kept};
+ghost use Rattle.buffer_stages.specs.Parts.{fronts_moved, glyph_masked, masked};
+ghost use Rattle.buffer_stages.specs.SyllableBuffers.{IsRewritten};
 ghost use Rattle.script_khmer_myanmar.specs.Runs.{IsRun, OpensForms, ends_run, forms_masked, forms_moved, is_vowel, run_length, taken, together};
 
 use crate::khmer::KhmerMasks;
-use glyph_buffer::buffer::hb_buffer_t;
-use glyph_lists::info::{hb_glyph_info_t, hb_mask_t};
-use script_constants::ot_category_t::{OT_H, OT_Ra, OT_VPre};
-use stage_rules::fronts::FrontRule;
-use stage_rules::parts::{add_mask, mask_within};
-use stage_rules::syllable_fronts::move_fronts;
+use buffer_core::buffer::hb_buffer_t;
+use buffer_glyphs::info::{hb_glyph_info_t, hb_mask_t};
+use buffer_stages::fronts::FrontRule;
+use buffer_stages::parts::{add_mask, mask_within};
+use buffer_stages::syllable_fronts::move_fronts;
+use script_categories::ot_category_t::{OT_H, OT_Ra, OT_VPre};
 
 /// Whether a form stands at an index of a syllable, no more than two coengs were met, and the glyph before it is neither a
 /// coeng nor a left vowel, so that nothing happens when it is met again.

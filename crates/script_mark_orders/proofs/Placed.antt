@@ -2,20 +2,20 @@
 use Rattle.std.proofs.Common.{ℕ, suc, ◌≡◌, ◌≤◌, ◌+◌, ◌-◌, ◌==◌, Bool, true, false, if◌then◌else◌, List, [], ◌∷◌, ◌++◌, Option, None, Some, length, map, take, drop, refl, sym, ap, ◌∙◌, arith, append_assoc}
 use Rattle.std.specs.Prelude.{max, slice_range}
 use Rattle.std.proofs.lemmas.List.{length-append, length-drop, length-take-le, take-append-le, drop-append-le, take-append-drop, map-append, take_all, append-nil}
-use Rattle.glyph_lists.specs.Items.{Item}
-use Rattle.glyph_lists.specs.Levels.{InList}
-use Rattle.glyph_lists.specs.declared.level.BufferClusterLevel.{BufferClusterLevel}
-use Rattle.glyph_lists.specs.Events.{Event, Merge, Replace, Circle, Delete, Move, Arrange, Sort, Reverse, Break, Concat, Tatweel, Spread, Reset}
-use Rattle.glyph_lists.specs.Origins.{changed_within}
-use Rattle.glyph_buffer.specs.Readings.{Read, Run, View, always, with_events}
-use Rattle.glyph_buffer.specs.Sides.{Settings, Sides, items_of, origins_by, settings_of, view_of}
-use Rattle.stage_rules.specs.Ready.{IsReady}
-use Rattle.stage_rules.specs.Stages.{IsFollowed}
-use Rattle.glyph_properties.specs.Arranged.{Arranged, kept, shifted}
-use Rattle.normal_rounds.specs.Brought.{frame_of}
-use Rattle.normal_rounds.specs.Rearranged.{IsRearranged}
-use Rattle.stage_rules.specs.Moves.{moved, order_of_move, with_move}
-use Rattle.stage_rules.specs.Lemmas.Moved.{moved_front, moved_length}
+use Rattle.buffer_glyphs.specs.Items.{Item}
+use Rattle.buffer_glyphs.specs.Levels.{InList}
+use Rattle.buffer_glyphs.specs.declared.level.BufferClusterLevel.{BufferClusterLevel}
+use Rattle.buffer_glyphs.specs.Events.{Event, Merge, Replace, Circle, Delete, Move, Arrange, Sort, Reverse, Break, Concat, Tatweel, Spread, Reset}
+use Rattle.buffer_glyphs.specs.Origins.{changed_within}
+use Rattle.buffer_core.specs.Readings.{Read, Run, View, always, with_events}
+use Rattle.buffer_core.specs.Sides.{Settings, Sides, items_of, origins_by, settings_of, view_of}
+use Rattle.buffer_stages.specs.Ready.{IsReady}
+use Rattle.buffer_stages.specs.Stages.{IsFollowed}
+use Rattle.buffer_glyphs.specs.Arranged.{Arranged, kept, shifted}
+use Rattle.buffer_stages.specs.Brought.{frame_of}
+use Rattle.buffer_stages.specs.Rearranged.{IsRearranged}
+use Rattle.buffer_stages.specs.Moves.{moved, order_of_move, with_move}
+use Rattle.buffer_stages.specs.Lemmas.Moved.{moved_front, moved_length}
 use Rattle.script_joining.specs.Marks as arabic
 use Rattle.script_hebrew_thai.specs.Hebrew as hebrew
 use Rattle.script_mark_orders.specs.Orders.{arabic_order, hebrew_order, leading_first, led_by, swapped_at}

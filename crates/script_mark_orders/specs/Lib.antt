@@ -1,2 +1,2 @@
-pub mod Orders
 pub mod Lemmas
+pub mod Orders

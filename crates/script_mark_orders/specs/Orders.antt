@@ -1,11 +1,11 @@
 -- What becomes of a run of marks by itself.
 use Rattle.std.specs.Prelude.{ℕ, ◌+◌, ◌==◌, ◌≡◌, if◌then◌else◌, List, [], ◌∷◌, ◌++◌, Option, None, Some, drop, length, map, take}
-use Rattle.glyph_lists.specs.Items.{Item}
-use Rattle.glyph_lists.specs.Levels.{InList}
-use Rattle.glyph_lists.specs.Events.{Move, IsPlain}
-use Rattle.glyph_lists.specs.Origins.{changed_within}
-use Rattle.glyph_properties.specs.Arranged.{Arranged, kept, shifted, and_arranged}
-use Rattle.stage_rules.specs.Moves.{moved, order_of_move}
+use Rattle.buffer_glyphs.specs.Items.{Item}
+use Rattle.buffer_glyphs.specs.Levels.{InList}
+use Rattle.buffer_glyphs.specs.Events.{Move, IsPlain}
+use Rattle.buffer_glyphs.specs.Origins.{changed_within}
+use Rattle.buffer_glyphs.specs.Arranged.{Arranged, kept, shifted, and_arranged}
+use Rattle.buffer_stages.specs.Moves.{moved, order_of_move}
 use Rattle.script_joining.specs.Marks.{classed, count_below, count_leading}
 use Rattle.script_hebrew_thai.specs.Hebrew.{first_three}
 

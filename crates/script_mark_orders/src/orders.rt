@@ -1,11 +1,11 @@
 //! A shaper's own order of a run of marks.
 ghost use Rattle.std.specs.Prelude.{◌≤◌, length};
-ghost use Rattle.glyph_buffer.specs.Sides.{all_glyphs};
-ghost use Rattle.stage_rules.specs.Ready.{IsReady};
-ghost use Rattle.normal_rounds.specs.Rearranged.{Rearranges};
+ghost use Rattle.buffer_core.specs.Sides.{all_glyphs};
+ghost use Rattle.buffer_stages.specs.Ready.{IsReady};
+ghost use Rattle.buffer_stages.specs.Rearranged.{Rearranges};
 ghost use Rattle.script_mark_orders.specs.Orders.{arabic_order, hebrew_order};
 
-use glyph_buffer::buffer::hb_buffer_t;
+use buffer_core::buffer::hb_buffer_t;
 use script_hebrew_thai::hebrew;
 use script_joining::marks;
 

@@ -2,17 +2,17 @@
 use Rattle.std.proofs.Common.{ℕ, zero, suc, ◌≡◌, ◌<◌, ◌≤◌, ◌+◌, true, List, [], ◌∷◌, ◌++◌, Some, length, take, drop, refl, sym, ap, subst, ◌∙◌, append_assoc, arith}
 use Rattle.std.specs.Prelude.{slice_get, replicate, Result, Ok, Err, OnOk}
 use Rattle.std.proofs.lemmas.List.{append-nil, map-append, length-append, length-map, replicate-append-replicate}
-use Rattle.glyph_lists.specs.declared.cause.ShapeCause.{ShapeCause}
-use Rattle.glyph_lists.specs.declared.info.hb_glyph_info_t.{hb_glyph_info_t}
-use Rattle.glyph_lists.specs.Items.{Item, item_of, strip}
-use Rattle.glyph_lists.specs.Parts.{first_of, last_of, or}
-use Rattle.glyph_lists.specs.Replacements.{copied, glyph_numbered}
-use Rattle.glyph_lists.specs.Events.{Replace}
-use Rattle.glyph_buffer.specs.Readings.{View}
-use Rattle.glyph_buffer.specs.Sides.{Sides, origins_of, origins_by}
-use Rattle.glyph_buffer.specs.Merging.{with_copy}
-use Rattle.stage_rules.specs.Walks.{Exceeds, Walked}
-use Rattle.stage_rules.specs.Lemmas.Walked.{both_walked, nothing_walked}
+use Rattle.buffer_glyphs.specs.declared.cause.ShapeCause.{ShapeCause}
+use Rattle.buffer_glyphs.specs.declared.info.hb_glyph_info_t.{hb_glyph_info_t}
+use Rattle.buffer_glyphs.specs.Items.{Item, item_of, strip}
+use Rattle.buffer_glyphs.specs.Parts.{first_of, last_of, or}
+use Rattle.buffer_glyphs.specs.Replacements.{copied, glyph_numbered}
+use Rattle.buffer_glyphs.specs.Events.{Replace}
+use Rattle.buffer_core.specs.Readings.{View}
+use Rattle.buffer_core.specs.Sides.{Sides, origins_of, origins_by}
+use Rattle.buffer_core.specs.Merging.{with_copy}
+use Rattle.buffer_stages.specs.Walks.{Exceeds, Walked}
+use Rattle.buffer_stages.proofs.Lemmas.Walked.{both_walked, nothing_walked}
 use Rattle.script_pauses.specs.Copying.{copy_events}
 
 -- a copy of the glyph at the cursor

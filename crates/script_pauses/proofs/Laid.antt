@@ -2,19 +2,19 @@
 use Rattle.std.proofs.Common.{ℕ, ℤ, zero, suc, ◌≡◌, ◌+◌, ◌&&◌, Bool, true, false, nat_le, if◌then◌else◌, List, [], ◌∷◌, ◌++◌, Option, None, Some, Ok, Err, length, refl, sym, ap, subst, ◌∙◌, arith}
 use Rattle.std.specs.Prelude.{replicate}
 use Rattle.std.proofs.lemmas.List.{length-append, length-map, length-replicate}
-use Rattle.glyph_lists.specs.declared.cause.ShapeCause.{ShapeCause}
-use Rattle.glyph_lists.specs.declared.cause.ShapeCause.TheVariants.{TooLong}
-use Rattle.glyph_lists.specs.Items.{Item, Position, item_of}
-use Rattle.glyph_buffer.specs.Readings.{View, Run, Reading, Follows, read_of, with_events}
-use Rattle.glyph_buffer.specs.Sides.{Sides, all_glyphs, items_of, run_of, view_of, zero_positions}
-use Rattle.glyph_buffer.specs.Lending.{with_positions_refilled}
-use Rattle.stage_rules.specs.Buffers.{are_glyphs}
-use Rattle.stage_rules.specs.Ready.{IsDone, IsReady}
-use Rattle.stage_rules.specs.Lemmas.Written.{refilled_whole}
-use Rattle.stage_rules.specs.Stages.{IsFollowed}
-use Rattle.tile_places.specs.declared.tile.Tile.{Tile}
+use Rattle.buffer_glyphs.specs.declared.cause.ShapeCause.{ShapeCause}
+use Rattle.buffer_glyphs.specs.declared.cause.ShapeCause.TheVariants.{TooLong}
+use Rattle.buffer_glyphs.specs.Items.{Item, Position, item_of}
+use Rattle.buffer_core.specs.Readings.{View, Run, Reading, Follows, read_of, with_events}
+use Rattle.buffer_core.specs.Sides.{Sides, all_glyphs, items_of, run_of, view_of, zero_positions}
+use Rattle.buffer_core.specs.Lending.{with_positions_refilled}
+use Rattle.buffer_stages.specs.Buffers.{are_glyphs}
+use Rattle.buffer_stages.specs.Ready.{IsDone, IsReady}
+use Rattle.buffer_stages.specs.Lemmas.Written.{refilled_whole}
+use Rattle.buffer_stages.specs.Stages.{IsFollowed}
+use Rattle.script_tiles.specs.declared.tile.Tile.{Tile}
 use Rattle.script_pauses.specs.Copying.{copied, copies_in, events_from, tiles_copied}
-use Rattle.tile_places.specs.Placing.{begin, copies_placed, laid, placed}
+use Rattle.script_tiles.specs.Placing.{begin, copies_placed, laid, placed}
 use Rattle.script_pauses.specs.Stretch.{laid_over}
 
 copies_long : (p : Position) (t : Tile) (x : ℤ) (n : ℕ) → length (copies_placed p t x n) ≡ n + 1

@@ -1,3 +1,4 @@
+pub mod Lemmas
 pub mod Measured
 pub mod Walked
 pub mod Shared

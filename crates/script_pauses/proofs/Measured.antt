@@ -1,13 +1,13 @@
 -- Tiles that are measured one after another.
 use Rattle.std.proofs.Common.{ℕ, ℤ, ◌≡◌, ◌≤◌, ◌+◌, ◌*◌, ◌^◌, Bool, true, false, if◌then◌else◌, List, Some, length, drop, slice_get, refl, sym, ap, ◌∙◌, arith}
 use Rattle.std.proofs.lemmas.List.{drop_all}
-use Rattle.glyph_lists.specs.declared.info.hb_glyph_info_t.{hb_glyph_info_t}
-use Rattle.font_face.specs.declared.parts.FaceParts.{FaceParts}
-use Rattle.glyph_lists.specs.Items.{Item, item_of, strip}
+use Rattle.buffer_glyphs.specs.declared.info.hb_glyph_info_t.{hb_glyph_info_t}
+use Rattle.layout_face.specs.declared.parts.FaceParts.{FaceParts}
+use Rattle.buffer_glyphs.specs.Items.{Item, item_of, strip}
 use Rattle.script_pauses.specs.declared.runs.Run.{Run}
 use Rattle.script_pauses.specs.Tiles.{is_tile}
 use Rattle.script_pauses.specs.Runs.{run_begun, with_tile, with_tiles}
-use Rattle.stage_rules.specs.Lemmas.Elements.{split_at}
+use Rattle.buffer_stages.proofs.Lemmas.Elements.{split_at}
 
 -- so many tiles were measured, and each made the run so much wider at most
 pub record IsMeasured (font : FaceParts) (word : ℤ) (gs : List hb_glyph_info_t) (i : ℕ) (r : Run) : Type 0 where

@@ -4,18 +4,18 @@ use Rattle.std.specs.List.{list_all}
 use Rattle.std.proofs.lemmas.Int.{ints}
 use Rattle.std.proofs.lemmas.Bool.Decides.{nat_tests}
 use Rattle.std.proofs.Math.Nat.{mul-le-mul_right}
-use Rattle.font_face.specs.declared.parts.FaceParts.{FaceParts}
-use Rattle.glyph_lists.specs.Items.{Item, Position}
-use Rattle.glyph_lists.specs.Parts.{first_of}
+use Rattle.layout_face.specs.declared.parts.FaceParts.{FaceParts}
+use Rattle.buffer_glyphs.specs.Items.{Item, Position}
+use Rattle.buffer_glyphs.specs.Parts.{first_of}
 use Rattle.script_pauses.specs.declared.runs.Run.{Run}
 use Rattle.script_pauses.specs.declared.runs.Before.{Before}
 use Rattle.script_pauses.specs.declared.runs.Before.TheVariants.{Tiles, Word}
 use Rattle.script_pauses.specs.Copies.{copies, left_of_word, natural}
 use Rattle.script_pauses.specs.Runs.{next_before, run_begun, runs, tile_run, width, with_tile, with_tiles, word_after}
 use Rattle.script_pauses.specs.Tiles.{is_fixed, is_repeating, is_tile}
-use Rattle.tile_places.specs.declared.tile.Tile.{Tile}
+use Rattle.script_tiles.specs.declared.tile.Tile.{Tile}
 use Rattle.script_pauses.specs.Laying.{copies_of, overlap, tile_in_run, tile_of, tiles}
-use Rattle.tile_places.specs.Placing.{begin, begins_at, copies_placed, copy_begin, laid, tile_at}
+use Rattle.script_tiles.specs.Placing.{begin, begins_at, copies_placed, copy_begin, laid, tile_at}
 use Rattle.script_pauses.specs.TileLaws.{LeftmostIsThere, TilesReach, begins_otherwise}
 use Rattle.script_pauses.proofs.Numbers.{between, copies_begin, fixed_grown, grown}
 use Rattle.script_pauses.proofs.Shared.{are_enough, repeats_some}

@@ -3,20 +3,20 @@ use Rattle.std.proofs.Common.{ℕ, ◌≡◌, ◌≢◌, ◌<◌, ◌≤◌, ◌
 use Rattle.std.specs.Prelude.{replicate}
 use Rattle.std.proofs.lemmas.Bool.Decides.{nat_tests}
 use Rattle.std.proofs.lemmas.List.{append-nil, length-append, length-map, length-replicate, drop_more, drop_all}
-use Rattle.glyph_lists.specs.declared.cause.ShapeCause.{ShapeCause}
-use Rattle.glyph_lists.specs.declared.cause.ShapeCause.TheVariants.{OutOfMemory, TooLong}
-use Rattle.glyph_lists.specs.declared.info.hb_glyph_info_t.{hb_glyph_info_t}
-use Rattle.glyph_lists.specs.Items.{Item, item_of, strip}
-use Rattle.glyph_lists.specs.Events.{Event}
-use Rattle.glyph_buffer.specs.Readings.{read_of}
-use Rattle.glyph_buffer.specs.Sides.{Sides, all_glyphs, items_of, run_of, with_output, synced, fits_joined}
-use Rattle.stage_rules.specs.Ready.{IsReady}
-use Rattle.stage_rules.specs.Stages.{IsFollowed}
-use Rattle.stage_rules.specs.Walks.{Exceeds, Walked}
-use Rattle.stage_rules.specs.Lemmas.Walked.{both_walked, nothing_walked, walked_followed}
-use Rattle.tile_places.specs.declared.tile.Tile.{Tile}
+use Rattle.buffer_glyphs.specs.declared.cause.ShapeCause.{ShapeCause}
+use Rattle.buffer_glyphs.specs.declared.cause.ShapeCause.TheVariants.{OutOfMemory, TooLong}
+use Rattle.buffer_glyphs.specs.declared.info.hb_glyph_info_t.{hb_glyph_info_t}
+use Rattle.buffer_glyphs.specs.Items.{Item, item_of, strip}
+use Rattle.buffer_glyphs.specs.Events.{Event}
+use Rattle.buffer_core.specs.Readings.{read_of}
+use Rattle.buffer_core.specs.Sides.{Sides, all_glyphs, items_of, run_of, with_output, synced, fits_joined}
+use Rattle.buffer_stages.specs.Ready.{IsReady}
+use Rattle.buffer_stages.specs.Stages.{IsFollowed}
+use Rattle.buffer_stages.specs.Walks.{Exceeds, Walked}
+use Rattle.buffer_stages.proofs.Lemmas.Walked.{both_walked, nothing_walked, walked_followed}
+use Rattle.script_tiles.specs.declared.tile.Tile.{Tile}
 use Rattle.script_pauses.specs.Copying.{copied, copies_in, copy_events, events_from, tiles_copied}
-use Rattle.stage_rules.specs.Lemmas.Fitting.{limit_same, written_exceed, written_fit}
+use Rattle.buffer_stages.proofs.Lemmas.Fitting.{limit_same, written_exceed, written_fit}
 
 -- the glyphs before a place are behind with their copies
 pub record IsUnderway (ts : List (Option Tile)) (at : ℕ) (s t : Sides) : Type 0 where

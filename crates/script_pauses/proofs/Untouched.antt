@@ -4,21 +4,21 @@ use Rattle.std.specs.Prelude.{replicate}
 use Rattle.std.specs.List.{list_all, list_any}
 use Rattle.std.proofs.lemmas.Bool.Decides.{nat_tests}
 use Rattle.std.proofs.lemmas.List.{length-map}
-use Rattle.glyph_lists.specs.declared.cause.ShapeCause.TheVariants.{StretchRange, TooLong}
-use Rattle.glyph_lists.specs.declared.info.hb_glyph_info_t.{hb_glyph_info_t}
-use Rattle.font_face.specs.declared.parts.FaceParts.{FaceParts}
-use Rattle.glyph_lists.specs.Items.{Item, Position, item_of, strip}
-use Rattle.glyph_lists.specs.Events.{Event}
-use Rattle.glyph_buffer.specs.Readings.{Follows, Reading, View, as_it_is, with_events}
-use Rattle.glyph_buffer.specs.Sides.{Sides, all_glyphs, items_of, run_of, view_of}
-use Rattle.stage_rules.specs.Ready.{IsDone, IsReady}
+use Rattle.buffer_glyphs.specs.declared.cause.ShapeCause.TheVariants.{StretchRange, TooLong}
+use Rattle.buffer_glyphs.specs.declared.info.hb_glyph_info_t.{hb_glyph_info_t}
+use Rattle.layout_face.specs.declared.parts.FaceParts.{FaceParts}
+use Rattle.buffer_glyphs.specs.Items.{Item, Position, item_of, strip}
+use Rattle.buffer_glyphs.specs.Events.{Event}
+use Rattle.buffer_core.specs.Readings.{Follows, Reading, View, as_it_is, with_events}
+use Rattle.buffer_core.specs.Sides.{Sides, all_glyphs, items_of, run_of, view_of}
+use Rattle.buffer_stages.specs.Ready.{IsDone, IsReady}
 use Rattle.script_pauses.specs.declared.runs.Before.TheVariants.{Tiles, Word}
 use Rattle.script_pauses.specs.Runs.{next_before, run_here, runs, tile_run, word_after}
 use Rattle.script_pauses.specs.Tiles.{is_tile}
-use Rattle.tile_places.specs.declared.tile.Tile.{Tile}
+use Rattle.script_tiles.specs.declared.tile.Tile.{Tile}
 use Rattle.script_pauses.specs.Laying.{is_in_range, tiles}
 use Rattle.script_pauses.specs.Copying.{copied, events_from}
-use Rattle.tile_places.specs.Placing.{laid}
+use Rattle.script_tiles.specs.Placing.{laid}
 use Rattle.script_pauses.specs.Stretch.{laid_over, text_runs, tiles_laid}
 use Rattle.std.proofs.lemmas.Bool.{or_parts}
 

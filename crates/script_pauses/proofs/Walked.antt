@@ -1,10 +1,10 @@
 -- The runs of a text's tiles, one glyph after another.
 use Rattle.std.proofs.Common.{ℕ, ℤ, zero, suc, pos, ◌≡◌, ◌≤◌, ◌<◌, ◌+◌, ◌-◌, ◌*◌, ◌^◌, Bool, false, if◌then◌else◌, List, [], ◌∷◌, ◌++◌, Option, length, take, drop, get_or, refl, sym, ap, subst, ◌∙◌, arith, append_assoc, append-nil}
 use Rattle.std.proofs.lemmas.List.{drop_all, take_all, length-drop}
-use Rattle.glyph_lists.specs.declared.info.hb_glyph_info_t.{hb_glyph_info_t}
-use Rattle.font_face.specs.declared.parts.FaceParts.{FaceParts}
-use Rattle.glyph_lists.specs.Items.{Item, Position, item_of, strip}
-use Rattle.glyph_text.specs.Pen.{IsNear}
+use Rattle.buffer_glyphs.specs.declared.info.hb_glyph_info_t.{hb_glyph_info_t}
+use Rattle.layout_face.specs.declared.parts.FaceParts.{FaceParts}
+use Rattle.buffer_glyphs.specs.Items.{Item, Position, item_of, strip}
+use Rattle.buffer_serialize.specs.Pen.{IsNear}
 use Rattle.script_pauses.specs.declared.runs.Run.{Run}
 use Rattle.script_pauses.specs.declared.runs.Before.{Before}
 use Rattle.script_pauses.specs.declared.runs.Before.TheVariants.{Word, Tiles}

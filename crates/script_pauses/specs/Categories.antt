@@ -1,12 +1,12 @@
 -- The categories that the shapers of syllables see characters in.
 use Rattle.std.specs.Prelude.{ℕ, Option, None, Some, if◌then◌else◌, unwrap_or}
 use lib.Utf8.{scalar}
-use Rattle.script_constants.specs.declared.category.TheConstants as category
-use Rattle.script_constants.specs.declared.ot_category_t.TheConstants as ot_category
-use Rattle.unicode_tables.specs.Tables.{Tables, indic_of, universal_of}
-use Rattle.glyph_lists.specs.Items.{Item}
-use Rattle.glyph_buffer.specs.Readings.{Stage, always}
-use Rattle.stage_rules.specs.Stages.{mapped}
+use Rattle.script_categories.specs.declared.category.TheConstants as category
+use Rattle.script_categories.specs.declared.ot_category_t.TheConstants as ot_category
+use Rattle.buffer_unicode_tables.specs.Tables.{Tables, indic_of, universal_of}
+use Rattle.buffer_glyphs.specs.Items.{Item}
+use Rattle.buffer_core.specs.Readings.{Stage, always}
+use Rattle.buffer_stages.specs.Stages.{mapped}
 
 abbrev pub category_or_none : Option (ℕ × ℕ) → ℕ
 category_or_none None = ot_category.OT_X

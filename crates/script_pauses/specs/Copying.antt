@@ -1,10 +1,10 @@
 -- The copies of tiles.
 use Rattle.std.specs.Prelude.{ℕ, zero, suc, ◌+◌, nat_le, if◌then◌else◌, List, [], ◌∷◌, ◌++◌, Option, None, Some, Ok, Err, length, replicate}
-use Rattle.glyph_lists.specs.declared.cause.ShapeCause.TheVariants.{TooLong}
-use Rattle.glyph_lists.specs.Events.{Event, Replace}
-use Rattle.glyph_buffer.specs.Readings.{Stage, with_events}
-use Rattle.glyph_buffer.specs.Sides.{zero_positions}
-use Rattle.tile_places.specs.declared.tile.Tile.{Tile}
+use Rattle.buffer_glyphs.specs.declared.cause.ShapeCause.TheVariants.{TooLong}
+use Rattle.buffer_glyphs.specs.Events.{Event, Replace}
+use Rattle.buffer_core.specs.Readings.{Stage, with_events}
+use Rattle.buffer_core.specs.Sides.{zero_positions}
+use Rattle.script_tiles.specs.declared.tile.Tile.{Tile}
 
 -- what is no tile has no copies
 abbrev pub copies_in : Option Tile → ℕ

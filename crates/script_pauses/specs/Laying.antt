@@ -1,12 +1,12 @@
 -- How often each tile of a run repeats, and how wide it is (OpenType specification, feature stch).
 use Rattle.std.specs.Prelude.{ℕ, ℤ, pos, negsuc, ◌+◌, ◌-◌, ◌*◌, ◌/◌, ◌&&◌, Bool, true, nat_le, int_le, if◌then◌else◌, List, [], ◌∷◌, Option, None, Some}
-use Rattle.font_face.specs.declared.parts.FaceParts.{FaceParts}
-use Rattle.glyph_lists.specs.Items.{Item}
+use Rattle.layout_face.specs.declared.parts.FaceParts.{FaceParts}
+use Rattle.buffer_glyphs.specs.Items.{Item}
 use Rattle.script_pauses.specs.declared.runs.Run.{Run}
 use Rattle.script_pauses.specs.Tiles.{is_repeating}
 use Rattle.script_pauses.specs.Runs.{width}
 use Rattle.script_pauses.specs.Copies.{copies, left_of_word}
-use Rattle.tile_places.specs.declared.tile.Tile.{Tile}
+use Rattle.script_tiles.specs.declared.tile.Tile.{Tile}
 
 -- a number of 32 bits
 abbrev pub fits : ℤ → Bool

@@ -1,7 +1,7 @@
+pub mod Lemmas
 pub mod Quiet
 pub mod Syllables
 pub mod Categories
-pub mod Lemmas
 pub mod Tiles
 pub mod Words
 pub mod Runs

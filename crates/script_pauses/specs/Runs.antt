@@ -1,8 +1,8 @@
 -- Runs of tiles, and the word in front of each.
 use Rattle.std.specs.Prelude.{ℕ, ℤ, pos, ◌+◌, ◌+ℤ◌, nat_le, if◌then◌else◌, List, [], ◌∷◌, Option, None, Some}
-use Rattle.font_face.specs.declared.parts.FaceParts.{FaceParts}
-use Rattle.font_face.specs.Glyphs.{width_of}
-use Rattle.glyph_lists.specs.Items.{Item, Position}
+use Rattle.layout_face.specs.declared.parts.FaceParts.{FaceParts}
+use Rattle.layout_face.specs.Glyphs.{width_of}
+use Rattle.buffer_glyphs.specs.Items.{Item, Position}
 use Rattle.script_pauses.specs.declared.runs.Run.{Run}
 use Rattle.script_pauses.specs.declared.runs.Before.{Before}
 use Rattle.script_pauses.specs.declared.runs.Before.TheVariants.{Word, Tiles}

@@ -1,16 +1,16 @@
 -- How tiles are laid over the word in front of them (OpenType specification, feature stch).
 use Rattle.std.specs.Prelude.{pos, nat_le, if◌then◌else◌, List, Option, Ok, Err, length}
 use Rattle.std.specs.List.{list_all}
-use Rattle.glyph_lists.specs.declared.cause.ShapeCause.TheVariants.{StretchRange, TooLong}
-use Rattle.font_face.specs.declared.parts.FaceParts.{FaceParts}
-use Rattle.glyph_buffer.specs.Readings.{Stage, View, with_events}
+use Rattle.buffer_glyphs.specs.declared.cause.ShapeCause.TheVariants.{StretchRange, TooLong}
+use Rattle.layout_face.specs.declared.parts.FaceParts.{FaceParts}
+use Rattle.buffer_core.specs.Readings.{Stage, View, with_events}
 use Rattle.script_pauses.specs.declared.runs.Run.{Run}
 use Rattle.script_pauses.specs.declared.runs.Before.TheVariants.{Word}
 use Rattle.script_pauses.specs.Runs.{runs}
-use Rattle.tile_places.specs.declared.tile.Tile.{Tile}
+use Rattle.script_tiles.specs.declared.tile.Tile.{Tile}
 use Rattle.script_pauses.specs.Laying.{is_in_range, tiles}
 use Rattle.script_pauses.specs.Copying.{copied, events_from}
-use Rattle.tile_places.specs.Placing.{laid}
+use Rattle.script_tiles.specs.Placing.{laid}
 
 -- such tiles with their copies, where the list does not grow past the limit
 abbrev pub laid_over : List (Option Tile) → Stage

@@ -1,28 +1,28 @@
 -- What is done between the stages of lookups for texts in syllables (OpenType specification, script development for Khmer, Myanmar and the Universal Shaping Engine).
 use Rattle.std.specs.Prelude.{ℕ, ◌-◌, List, Option, None, Some, bit_and}
-use Rattle.shaping_text.specs.declared.constants.BufferFlags.{BufferFlags}
-use Rattle.font_face.specs.declared.parts.FaceParts.{FaceParts}
-use Rattle.script_constants.specs.declared.category.TheConstants as category
-use Rattle.script_constants.specs.declared.ot_category_t.TheConstants as ot_category
-use Rattle.script_constants.specs.declared.shaper.hb_ot_script_shaper_t.{hb_ot_script_shaper_t}
-use Rattle.script_constants.specs.declared.syllable_kinds.khmer.TheConstants as khmer
-use Rattle.script_constants.specs.declared.syllable_kinds.myanmar.TheConstants as myanmar
-use Rattle.script_constants.specs.declared.syllable_kinds.universal.TheConstants as universal
-use Rattle.glyph_lists.specs.Items.{Item}
-use Rattle.glyph_buffer.specs.Readings.{Stage, and_then, always, as_it_is}
-use Rattle.stage_rules.specs.Stages.{mapped}
-use Rattle.stage_rules.specs.Rewriting.{Rewritten, by_syllable}
-use Rattle.stage_rules.specs.SyllableBuffers.{with_rule}
-use Rattle.syllable_stages.specs.declared.circles.CircleRule.{CircleRule}
-use Rattle.syllable_stages.specs.Circles.{circles_by}
-use Rattle.syllable_stages.specs.Rules.{circle_rule}
+use Rattle.buffer_common.specs.declared.constants.BufferFlags.{BufferFlags}
+use Rattle.layout_face.specs.declared.parts.FaceParts.{FaceParts}
+use Rattle.script_categories.specs.declared.category.TheConstants as category
+use Rattle.script_categories.specs.declared.ot_category_t.TheConstants as ot_category
+use Rattle.script_categories.specs.declared.shaper.hb_ot_script_shaper_t.{hb_ot_script_shaper_t}
+use Rattle.script_categories.specs.declared.syllable_kinds.khmer.TheConstants as khmer
+use Rattle.script_categories.specs.declared.syllable_kinds.myanmar.TheConstants as myanmar
+use Rattle.script_categories.specs.declared.syllable_kinds.universal.TheConstants as universal
+use Rattle.buffer_glyphs.specs.Items.{Item}
+use Rattle.buffer_core.specs.Readings.{Stage, and_then, always, as_it_is}
+use Rattle.buffer_stages.specs.Stages.{mapped}
+use Rattle.buffer_stages.specs.Rewriting.{Rewritten, by_syllable}
+use Rattle.buffer_stages.specs.SyllableBuffers.{with_rule}
+use Rattle.script_syllabic.specs.declared.circles.CircleRule.{CircleRule}
+use Rattle.script_syllabic.specs.Circles.{circles_by}
+use Rattle.script_syllabic.specs.Rules.{circle_rule}
 use Rattle.script_khmer_myanmar.specs.declared.khmer.KhmerMasks.{KhmerMasks}
 use Rattle.script_khmer_myanmar.specs.Khmer.{khmer_syllable}
 use Rattle.script_khmer_myanmar.specs.Myanmar.{myanmar_syllable}
 use Rattle.script_universal.specs.Reordering.{universal_syllable}
-use Rattle.syllable_stages.specs.declared.forms.FormMasks.{FormMasks}
-use Rattle.syllable_stages.specs.Features.{rphf_masked, topography}
-use Rattle.syllable_stages.specs.Spans.{universal_set}
+use Rattle.script_syllabic.specs.declared.forms.FormMasks.{FormMasks}
+use Rattle.script_syllabic.specs.Features.{rphf_masked, topography}
+use Rattle.script_syllabic.specs.Spans.{universal_set}
 
 -- each syllable is rewritten by itself
 abbrev pub syllables_by : (List Item → Rewritten) → Stage

@@ -1,19 +1,19 @@
 -- Laws of laid tiles: how wide they are with their copies, and that no glyph changes its place.
 use Rattle.std.specs.Prelude.{ℕ, ℤ, pos, neg_ℤ, ◌≡◌, ◌<◌, ◌*◌, ◌≤ℤ◌, ◌<ℤ◌, ◌+ℤ◌, Bool, true, not, List, [], ◌∷◌, ◌++◌, Option, Some, Ok, length}
 use Rattle.std.specs.List.{list_all}
-use Rattle.glyph_lists.specs.declared.level.BufferClusterLevel.{BufferClusterLevel}
-use Rattle.font_face.specs.declared.parts.FaceParts.{FaceParts}
-use Rattle.glyph_lists.specs.Items.{Item, Position}
-use Rattle.glyph_lists.specs.Events.{IsPlain}
-use Rattle.glyph_lists.specs.Parts.{first_of}
-use Rattle.glyph_buffer.specs.Readings.{Read, View}
+use Rattle.buffer_glyphs.specs.declared.level.BufferClusterLevel.{BufferClusterLevel}
+use Rattle.layout_face.specs.declared.parts.FaceParts.{FaceParts}
+use Rattle.buffer_glyphs.specs.Items.{Item, Position}
+use Rattle.buffer_glyphs.specs.Events.{IsPlain}
+use Rattle.buffer_glyphs.specs.Parts.{first_of}
+use Rattle.buffer_core.specs.Readings.{Read, View}
 use Rattle.script_pauses.specs.declared.runs.Before.TheVariants.{Word}
 use Rattle.script_pauses.specs.Copies.{copies}
 use Rattle.script_pauses.specs.Runs.{run_begun, runs, with_tiles}
 use Rattle.script_pauses.specs.Tiles.{is_tile}
-use Rattle.tile_places.specs.declared.tile.Tile.{Tile}
+use Rattle.script_tiles.specs.declared.tile.Tile.{Tile}
 use Rattle.script_pauses.specs.Laying.{tiles}
-use Rattle.tile_places.specs.Placing.{begin, laid, tile_at}
+use Rattle.script_tiles.specs.Placing.{begin, laid, tile_at}
 use Rattle.script_pauses.specs.Stretch.{tiles_laid}
 
 -- nothing, or what is no tile

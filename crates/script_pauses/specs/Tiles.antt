@@ -1,10 +1,10 @@
 -- The tiles that a word is stretched over (OpenType specification, feature stch).
 use Rattle.std.specs.Prelude.{◌==◌, ◌||◌, ◌%◌, Bool, if◌then◌else◌}
-use Rattle.script_constants.specs.declared.arabic_action_t.TheConstants as action
-use Rattle.glyph_lists.specs.LigatureWords.{is_multiplied, lig_comp}
-use Rattle.glyph_lists.specs.Items.{Item}
-use Rattle.glyph_buffer.specs.Readings.{Stage, always, as_it_is}
-use Rattle.stage_rules.specs.Stages.{mapped}
+use Rattle.script_categories.specs.declared.arabic_action_t.TheConstants as action
+use Rattle.buffer_glyphs.specs.LigatureWords.{is_multiplied, lig_comp}
+use Rattle.buffer_glyphs.specs.Items.{Item}
+use Rattle.buffer_core.specs.Readings.{Stage, always, as_it_is}
+use Rattle.buffer_stages.specs.Stages.{mapped}
 
 abbrev pub is_fixed : Item → Bool
 is_fixed x = x.auxiliary == action.STRETCHING_FIXED

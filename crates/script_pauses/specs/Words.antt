@@ -3,10 +3,10 @@ use Rattle.std.specs.Prelude.{ℕ, ◌==◌, ◌||◌, Bool, List, [], ◌∷◌
 use Rattle.std.specs.List.{list_any}
 use Rattle.ucd_category.specs.declared.GeneralCategory.{GeneralCategory}
 use Rattle.ucd_category.specs.declared.GeneralCategory.TheVariants.{Unassigned, PrivateUse, ModifierLetter, OtherLetter, SpacingMark, EnclosingMark, NonspacingMark, DecimalNumber, LetterNumber, OtherNumber, CurrencySymbol, ModifierSymbol, MathSymbol, OtherSymbol}
-use Rattle.unicode_chars.specs.Category.{category_number}
-use Rattle.glyph_properties.specs.Characters.{category_of}
-use Rattle.glyph_lists.specs.Items.{Item}
-use Rattle.glyph_buffer.specs.Graphemes.{is_default_ignorable}
+use Rattle.buffer_unicode.specs.Category.{category_number}
+use Rattle.buffer_properties.specs.Characters.{category_of}
+use Rattle.buffer_glyphs.specs.Items.{Item}
+use Rattle.buffer_core.specs.Graphemes.{is_default_ignorable}
 
 -- letters without case, marks, numbers, symbols, and what has no category of its own
 abbrev pub word_categories : List GeneralCategory

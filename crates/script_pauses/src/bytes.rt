@@ -1,17 +1,16 @@
 //! Where the syllables of Khmer and Myanmar stand.
 ghost use Rattle.std.specs.Prelude.{◌≡◌, ◌≢◌, false, Ok, Err, IfErr, OnOk};
-ghost use Rattle.glyph_buffer.specs.Readings.{read_of};
-ghost use Rattle.glyph_buffer.specs.Sides.{items_of, run_of};
-ghost use Rattle.stage_rules.specs.Ready.{IsDone, IsReady};
-ghost use Rattle.stage_rules.specs.Pauses.{BringsNoGlyph};
-ghost use Rattle.syllable_stages.specs.Bytes.{syllables_set};
+ghost use Rattle.buffer_core.specs.Readings.{read_of};
+ghost use Rattle.buffer_core.specs.Sides.{items_of, run_of};
+ghost use Rattle.buffer_stages.specs.Ready.{IsDone, IsReady};
+ghost use Rattle.buffer_stages.specs.Pauses.{BringsNoGlyph};
+ghost use Rattle.script_syllabic.specs.Bytes.{syllables_set};
 
-use glyph_buffer::buffer::hb_buffer_t;
-use glyph_lists::cause::ShapeCause;
-use script_constants::hb_ot_script_shaper_t;
-use script_syllables::SyllableSpans;
+use buffer_core::buffer::hb_buffer_t;
+use buffer_glyphs::cause::ShapeCause;
+use script_categories::{SyllableSpans, hb_ot_script_shaper_t};
+use script_syllabic::syllables;
 use std::alloc::Global;
-use syllable_stages::syllables;
 
 /// Gives the glyphs of each syllable its byte and marks it as unsafe to break. Answers false: no glyph came in.
 ///

@@ -1,17 +1,17 @@
 //! The categories of a text's characters.
 ghost use Rattle.std.specs.Prelude.{◌≡◌};
-ghost use Rattle.glyph_lists.specs.Items.{item_of};
-ghost use Rattle.glyph_lists.specs.Origins.{origin_of};
-ghost use Rattle.stage_rules.specs.Ready.{IsReady};
-ghost use Rattle.stage_rules.specs.Stages.{IsFollowed};
+ghost use Rattle.buffer_glyphs.specs.Items.{item_of};
+ghost use Rattle.buffer_glyphs.specs.Origins.{origin_of};
+ghost use Rattle.buffer_stages.specs.Ready.{IsReady};
+ghost use Rattle.buffer_stages.specs.Stages.{IsFollowed};
 ghost use Rattle.script_pauses.specs.Categories.{categories_set, listed_category, ot_category_of, universal_category_of, with_category};
 
-use glyph_buffer::buffer::hb_buffer_t;
-use glyph_lists::info::hb_glyph_info_t;
-use script_constants::category;
-use script_constants::ot_category_t::OT_X;
-use stage_rules::glyphs::map_glyphs;
-use unicode_tables::UnicodeTables;
+use buffer_core::buffer::hb_buffer_t;
+use buffer_glyphs::info::hb_glyph_info_t;
+use buffer_stages::glyphs::map_glyphs;
+use buffer_unicode_tables::UnicodeTables;
+use script_categories::category;
+use script_categories::ot_category_t::OT_X;
 
 /// Each character keeps its category for the universal shaper. It takes linear time and no memory.
 pub fn set_universal_categories(tables: &UnicodeTables, buffer: &mut hb_buffer_t)

@@ -1,17 +1,17 @@
 //! What is forgotten once the syllables are in order.
 ghost use Rattle.std.specs.Prelude.{◌≡◌};
-ghost use Rattle.glyph_lists.specs.Items.{item_of};
-ghost use Rattle.glyph_lists.specs.Origins.{origin_of};
-ghost use Rattle.glyph_buffer.specs.Sides.{items_of};
-ghost use Rattle.stage_rules.specs.Ready.{IsDone, IsReady};
-ghost use Rattle.stage_rules.specs.Pauses.{BringsNoGlyph};
-ghost use Rattle.stage_rules.specs.Stages.{IsFollowed};
+ghost use Rattle.buffer_glyphs.specs.Items.{item_of};
+ghost use Rattle.buffer_glyphs.specs.Origins.{origin_of};
+ghost use Rattle.buffer_core.specs.Sides.{items_of};
+ghost use Rattle.buffer_stages.specs.Ready.{IsDone, IsReady};
+ghost use Rattle.buffer_stages.specs.Pauses.{BringsNoGlyph};
+ghost use Rattle.buffer_stages.specs.Stages.{IsFollowed};
 ghost use Rattle.script_pauses.specs.Syllables.{substitutions_forgotten, syllables_cleared, unsubstituted, without_syllable};
 
-use glyph_buffer::buffer::hb_buffer_t;
-use glyph_lists::flags::GlyphPropsFlags;
-use glyph_lists::info::hb_glyph_info_t;
-use stage_rules::glyphs::map_glyphs;
+use buffer_core::buffer::hb_buffer_t;
+use buffer_glyphs::flags::GlyphPropsFlags;
+use buffer_glyphs::info::hb_glyph_info_t;
+use buffer_stages::glyphs::map_glyphs;
 
 /// No glyph is of a syllable any more. It takes linear time and no memory.
 pub fn clear_syllables(buffer: &mut hb_buffer_t)

@@ -1,18 +1,18 @@
 //! The copies of tiles.
 ghost use Rattle.std.specs.Prelude.{◌≡◌, ◌≢◌, ◌<◌, ◌+◌, ◌++◌, ◌∷◌, [], List, Err, IfErr, OnOk, length, replicate, true};
-ghost use Rattle.glyph_lists.specs.Items.{Item, item_of, strip};
-ghost use Rattle.glyph_lists.specs.Events.{Replace};
-ghost use Rattle.glyph_buffer.specs.Readings.{read_of};
-ghost use Rattle.glyph_buffer.specs.Sides.{all_glyphs, run_of};
-ghost use Rattle.stage_rules.specs.Ready.{IsReady};
-ghost use Rattle.stage_rules.specs.Walks.{Exceeds, Walked};
-ghost use Rattle.stage_rules.specs.Stages.{IsFollowed};
+ghost use Rattle.buffer_glyphs.specs.Items.{Item, item_of, strip};
+ghost use Rattle.buffer_glyphs.specs.Events.{Replace};
+ghost use Rattle.buffer_core.specs.Readings.{read_of};
+ghost use Rattle.buffer_core.specs.Sides.{all_glyphs, run_of};
+ghost use Rattle.buffer_stages.specs.Ready.{IsReady};
+ghost use Rattle.buffer_stages.specs.Walks.{Exceeds, Walked};
+ghost use Rattle.buffer_stages.specs.Stages.{IsFollowed};
 ghost use Rattle.script_pauses.specs.Copying.{copies_in, copy_events, tiles_copied};
 
-use glyph_buffer::buffer::hb_buffer_t;
-use glyph_lists::cause::ShapeCause;
-use stage_rules::walks::{advance, finish};
-use tile_places::tile::Tile;
+use buffer_core::buffer::hb_buffer_t;
+use buffer_glyphs::cause::ShapeCause;
+use buffer_stages::walks::{advance, finish};
+use script_tiles::tile::Tile;
 
 /// Puts the copies of each tile beside it.
 ///

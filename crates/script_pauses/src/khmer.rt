@@ -1,20 +1,20 @@
 //! The pauses of the Khmer shaper.
 ghost use Rattle.std.specs.Prelude.{◌≡◌, ◌≢◌, true, false, Ok, Err, IfErr, OnOk};
-ghost use Rattle.glyph_buffer.specs.Readings.{read_of};
-ghost use Rattle.glyph_buffer.specs.Sides.{items_of, run_of};
-ghost use Rattle.stage_rules.specs.Buffers.{are_glyphs};
-ghost use Rattle.stage_rules.specs.Ready.{IsDone, IsReady};
-ghost use Rattle.stage_rules.specs.Pauses.{BringsNoGlyph};
-ghost use Rattle.stage_rules.specs.Settings.{text_settings};
+ghost use Rattle.buffer_core.specs.Readings.{read_of};
+ghost use Rattle.buffer_core.specs.Sides.{items_of, run_of};
+ghost use Rattle.buffer_stages.specs.Buffers.{are_glyphs};
+ghost use Rattle.buffer_stages.specs.Ready.{IsDone, IsReady};
+ghost use Rattle.buffer_stages.specs.Pauses.{BringsNoGlyph};
+ghost use Rattle.buffer_stages.specs.Settings.{text_settings};
 ghost use Rattle.script_pauses.specs.Syllables.{khmer_order};
 
-use font_face::Face;
-use glyph_buffer::buffer::hb_buffer_t;
-use glyph_lists::cause::ShapeCause;
-use script_constants::ot_category_t::{OT_DOTTEDCIRCLE, OT_Repha};
-use script_constants::syllable_kinds::khmer::BROKEN_CLUSTER;
+use buffer_core::buffer::hb_buffer_t;
+use buffer_glyphs::cause::ShapeCause;
+use layout_face::Face;
+use script_categories::ot_category_t::{OT_DOTTEDCIRCLE, OT_Repha};
+use script_categories::syllable_kinds::khmer::BROKEN_CLUSTER;
 use script_khmer_myanmar::khmer::{self, KhmerMasks};
-use syllable_stages::circles::insert_dotted_circles;
+use script_syllabic::circles::insert_dotted_circles;
 
 /// Puts a circle into each broken syllable and its glyphs in order. Answers whether circles came in.
 ///

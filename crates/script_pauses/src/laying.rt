@@ -1,7 +1,7 @@
 //! How often each tile of a text repeats, and how wide it is.
 ghost use Rattle.std.specs.Prelude.{◌≡◌, ◌≤◌, ◌<◌, ◌*◌, ◌/◌, ◌+◌, ◌-◌, pos, true, length, IfOk};
 ghost use Rattle.std.specs.List.{list_all};
-ghost use Rattle.glyph_lists.specs.Items.{item_of, strip};
+ghost use Rattle.buffer_glyphs.specs.Items.{item_of, strip};
 ghost use Rattle.script_pauses.specs.Copies;
 ghost use Rattle.script_pauses.specs.Copies.{copies, left_of_word};
 ghost use Rattle.script_pauses.specs.Runs.{width};
@@ -10,10 +10,10 @@ ghost use Rattle.script_pauses.specs.Laying.{copies_of, fits, is_in_range, overl
 use crate::copies::{copies, left_of_word};
 use crate::runs::Run;
 use crate::words::is_repeating;
-use font_face::Face;
-use glyph_lists::info::hb_glyph_info_t;
+use buffer_glyphs::info::hb_glyph_info_t;
+use layout_face::Face;
+use script_tiles::tile::Tile;
 use std::alloc::{AllocFailed, Global};
-use tile_places::tile::Tile;
 
 /// Whether the widths of each run are numbers of 32 bits.
 pub fn are_in_range(runs: &[Option<Run>]) -> bool

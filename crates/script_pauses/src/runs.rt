@@ -1,13 +1,13 @@
 //! Runs of tiles, and the word in front of each.
 ghost use Rattle.std.specs.Prelude.{ℕ, ◌≡◌, ◌≤◌, ◌<◌, ◌+◌, ◌+ℤ◌, ◌^◌, pos, length, IfOk};
-ghost use Rattle.glyph_text.specs.Pen.{IsNear};
-ghost use Rattle.glyph_lists.specs.Items.{item_of, strip};
+ghost use Rattle.buffer_serialize.specs.Pen.{IsNear};
+ghost use Rattle.buffer_glyphs.specs.Items.{item_of, strip};
 ghost use Rattle.script_pauses.specs.Runs.{next_before, run_begun, run_here, runs, tile_run, width, with_tile, with_tiles, word_before, word_after};
 
 use crate::words::{is_fixed, is_of_word, is_tile};
-use font_face::Face;
-use glyph_lists::info::hb_glyph_info_t;
-use glyph_lists::position::GlyphPosition;
+use buffer_glyphs::info::hb_glyph_info_t;
+use buffer_glyphs::position::GlyphPosition;
+use layout_face::Face;
 use std::alloc::{AllocFailed, Global};
 
 /// What the tiles of a run are laid over, and how wide they are, in font units.

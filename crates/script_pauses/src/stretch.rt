@@ -1,10 +1,10 @@
 //! How tiles are laid over the word in front of them.
 ghost use Rattle.std.specs.Prelude.{◌≡◌, ◌≢◌, ◌≤◌, Err, IfErr, OnOk, false, length};
 ghost use Rattle.std.specs.List.{list_any};
-ghost use Rattle.glyph_lists.specs.Items.{item_of};
-ghost use Rattle.glyph_buffer.specs.Readings.{read_of};
-ghost use Rattle.glyph_buffer.specs.Sides.{all_glyphs, items_of, run_of};
-ghost use Rattle.stage_rules.specs.Ready.{IsDone, IsReady};
+ghost use Rattle.buffer_glyphs.specs.Items.{item_of};
+ghost use Rattle.buffer_core.specs.Readings.{read_of};
+ghost use Rattle.buffer_core.specs.Sides.{all_glyphs, items_of, run_of};
+ghost use Rattle.buffer_stages.specs.Ready.{IsDone, IsReady};
 ghost use Rattle.script_pauses.specs.Tiles.{is_tile};
 ghost use Rattle.script_pauses.specs.Stretch.{laid_over, tiles_laid};
 
@@ -12,14 +12,14 @@ use crate::copying::copy_tiles;
 use crate::laying::{are_in_range, tiles_of};
 use crate::runs::runs_of;
 use crate::words::is_tile;
-use font_face::Face;
-use glyph_buffer::buffer::hb_buffer_t;
-use glyph_lists::cause::ShapeCause;
-use glyph_lists::info::hb_glyph_info_t;
-use glyph_lists::position::GlyphPosition;
+use buffer_core::buffer::hb_buffer_t;
+use buffer_glyphs::cause::ShapeCause;
+use buffer_glyphs::info::hb_glyph_info_t;
+use buffer_glyphs::position::GlyphPosition;
+use layout_face::Face;
+use script_tiles::placing::places_of;
+use script_tiles::tile::Tile;
 use std::alloc::Global;
-use tile_places::placing::places_of;
-use tile_places::tile::Tile;
 
 /// Lays the tiles of each run over the word in front of it: repeating tiles get copies until they reach as far as the word.
 /// Glyphs stand as they are drawn. It takes linear time in the glyphs that there are then, and memory for them; a text without

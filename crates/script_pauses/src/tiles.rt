@@ -1,20 +1,20 @@
 //! The tiles that a word is stretched over.
 ghost use Rattle.std.specs.Prelude.{◌≡◌};
-ghost use Rattle.glyph_lists.specs.Items.{item_of};
-ghost use Rattle.glyph_lists.specs.Origins.{origin_of};
-ghost use Rattle.glyph_buffer.specs.Readings.{always};
-ghost use Rattle.glyph_buffer.specs.Sides.{items_of};
-ghost use Rattle.stage_rules.specs.Ready.{IsDone, IsReady};
-ghost use Rattle.stage_rules.specs.Pauses.{BringsNoGlyph};
-ghost use Rattle.stage_rules.specs.Stages.{IsFollowed, mapped};
+ghost use Rattle.buffer_glyphs.specs.Items.{item_of};
+ghost use Rattle.buffer_glyphs.specs.Origins.{origin_of};
+ghost use Rattle.buffer_core.specs.Readings.{always};
+ghost use Rattle.buffer_core.specs.Sides.{items_of};
+ghost use Rattle.buffer_stages.specs.Ready.{IsDone, IsReady};
+ghost use Rattle.buffer_stages.specs.Pauses.{BringsNoGlyph};
+ghost use Rattle.buffer_stages.specs.Stages.{IsFollowed, mapped};
 ghost use Rattle.script_pauses.specs.Quiet.{IsQuiet};
 ghost use Rattle.script_pauses.specs.Tiles.{tile_recorded, tiles_recorded};
 
-use glyph_buffer::buffer::hb_buffer_t;
-use glyph_lists::info::hb_glyph_info_t;
-use glyph_lists::ligature_words::{_hb_glyph_info_get_lig_comp, _hb_glyph_info_multiplied};
-use script_constants::arabic_action_t::{STRETCHING_FIXED, STRETCHING_REPEATING};
-use stage_rules::glyphs::map_glyphs;
+use buffer_core::buffer::hb_buffer_t;
+use buffer_glyphs::info::hb_glyph_info_t;
+use buffer_glyphs::ligature_words::{_hb_glyph_info_get_lig_comp, _hb_glyph_info_multiplied};
+use buffer_stages::glyphs::map_glyphs;
+use script_categories::arabic_action_t::{STRETCHING_FIXED, STRETCHING_REPEATING};
 
 /// Where the font stretches words, each glyph that a multiple substitution made is a tile: its `auxiliary` tells whether it
 /// repeats. No glyph comes in. It takes linear time and no memory.
@@ -26,7 +26,7 @@ pub fn record_stch(has_stch: bool, buffer: &mut hb_buffer_t)
     record_if(has_stch, buffer);
 }
 
-#[tactic(auto, using(crate::specs::Lemmas::Quiet::quiet_same))]
+#[tactic(auto, using(crate::proofs::Lemmas::Quiet::quiet_same))]
 fn record_if(has_stch: bool, buffer: &mut hb_buffer_t)
     requires ready { IsReady buffer.old }
     ensures { IsQuiet (tiles_recorded has_stch) buffer.old buffer.new }

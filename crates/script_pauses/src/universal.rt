@@ -1,29 +1,29 @@
 //! The pauses of the universal shaper.
 ghost use Rattle.std.specs.Prelude.{◌≡◌, ◌≢◌, true, false, Ok, Err, IfErr, OnOk};
-ghost use Rattle.glyph_buffer.specs.Readings.{read_of};
-ghost use Rattle.glyph_buffer.specs.Sides.{items_of, run_of};
-ghost use Rattle.stage_rules.specs.Buffers.{are_glyphs};
-ghost use Rattle.stage_rules.specs.Ready.{IsDone, IsReady};
-ghost use Rattle.stage_rules.specs.Pauses.{BringsNoGlyph};
-ghost use Rattle.stage_rules.specs.Settings.{text_settings};
-ghost use Rattle.syllable_stages.specs.Features.{pref_recorded, rphf_recorded};
+ghost use Rattle.buffer_core.specs.Readings.{read_of};
+ghost use Rattle.buffer_core.specs.Sides.{items_of, run_of};
+ghost use Rattle.buffer_stages.specs.Buffers.{are_glyphs};
+ghost use Rattle.buffer_stages.specs.Ready.{IsDone, IsReady};
+ghost use Rattle.buffer_stages.specs.Pauses.{BringsNoGlyph};
+ghost use Rattle.buffer_stages.specs.Settings.{text_settings};
+ghost use Rattle.script_syllabic.specs.Features.{pref_recorded, rphf_recorded};
 ghost use Rattle.script_pauses.specs.Quiet.{IsQuiet};
 ghost use Rattle.script_pauses.specs.Syllables.{forms_set, syllables_by, universal_order, universal_syllables_set};
 
-use font_face::Face;
-use glyph_buffer::buffer::hb_buffer_t;
-use glyph_lists::cause::ShapeCause;
-use glyph_lists::info::hb_mask_t;
-use script_constants::category::{B, R};
-use script_constants::syllable_kinds::universal::BROKEN_CLUSTER;
-use script_syllables::SyllableSpans;
+use buffer_core::buffer::hb_buffer_t;
+use buffer_glyphs::cause::ShapeCause;
+use buffer_glyphs::info::hb_mask_t;
+use layout_face::Face;
+use script_categories::SyllableSpans;
+use script_categories::category::{B, R};
+use script_categories::syllable_kinds::universal::BROKEN_CLUSTER;
+use script_syllabic::circles::insert_dotted_circles;
+use script_syllabic::forms::{FormMasks, setup_topographical_masks};
+use script_syllabic::recording;
+use script_syllabic::rphf::setup_rphf_mask;
+use script_syllabic::spans::find_syllables;
 use script_universal::reorder;
 use std::alloc::Global;
-use syllable_stages::circles::insert_dotted_circles;
-use syllable_stages::forms::{FormMasks, setup_topographical_masks};
-use syllable_stages::recording;
-use syllable_stages::rphf::setup_rphf_mask;
-use syllable_stages::spans::find_syllables;
 
 /// Gives the glyphs of each syllable its byte, marks it as unsafe to break, and gives its glyphs the features rphf and, where
 /// letters of the script don't join, of its form. Answers false: no glyph came in.
@@ -68,7 +68,7 @@ fn set_up<S: SyllableSpans>(
     Ok(())
 }
 
-#[tactic(auto, using(crate::specs::Lemmas::Quiet::quiet_same, crate::specs::Lemmas::Rules::forms_quiet))]
+#[tactic(auto, using(crate::proofs::Lemmas::Quiet::quiet_same, crate::proofs::Lemmas::Rules::forms_quiet))]
 fn setup_forms(forms: Option<FormMasks>, buffer: &mut hb_buffer_t)
     requires ready { IsReady buffer.old }
     ensures { IsQuiet (forms_set forms) buffer.old buffer.new }

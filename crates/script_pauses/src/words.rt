@@ -1,15 +1,15 @@
 //! Tiles, and the words that they are laid over.
 ghost use Rattle.std.specs.Prelude.{◌≡◌};
-ghost use Rattle.glyph_lists.specs.Items.{item_of};
-ghost use Rattle.glyph_buffer.specs.Graphemes.{is_default_ignorable};
+ghost use Rattle.buffer_glyphs.specs.Items.{item_of};
+ghost use Rattle.buffer_core.specs.Graphemes.{is_default_ignorable};
 ghost use Rattle.script_pauses.specs.Tiles.{is_fixed, is_repeating, is_tile};
 ghost use Rattle.script_pauses.specs.Words.{has_word_category, is_of_word, is_word_category};
 
-use glyph_lists::flags::{GlyphPropsFlags, UnicodeProps};
-use glyph_lists::info::hb_glyph_info_t;
-use script_constants::arabic_action_t::{STRETCHING_FIXED, STRETCHING_REPEATING};
+use buffer_glyphs::flags::{GlyphPropsFlags, UnicodeProps};
+use buffer_glyphs::info::hb_glyph_info_t;
+use buffer_unicode::category::GeneralCategoryExt;
+use script_categories::arabic_action_t::{STRETCHING_FIXED, STRETCHING_REPEATING};
 use unicode::properties::GeneralCategory;
-use unicode_chars::category::GeneralCategoryExt;
 
 const WORD_CATEGORIES: [GeneralCategory; 14] = [
     GeneralCategory::Unassigned,

@@ -4,22 +4,22 @@ use Rattle.std.specs.Prelude.{bit_and, not, slice_range}
 use Rattle.std.specs.List.{prefix_len}
 use Rattle.std.proofs.lemmas.Option.{slice_get-get_or}
 use Rattle.std.proofs.lemmas.List.{length-map, drop_all, get_or-take, get_or-drop}
-use Rattle.glyph_lists.specs.declared.info.hb_glyph_info_t.{hb_glyph_info_t}
-use Rattle.script_constants.specs.declared.shaper.hb_ot_script_shaper_t.TheVariants.{UNIVERSAL_SHAPER}
-use Rattle.script_constants.specs.Shapers.{is_reordered}
-use Rattle.glyph_lists.specs.Items.{Item, item_of, strip}
-use Rattle.glyph_lists.specs.Lists.{seen_at}
-use Rattle.glyph_buffer.specs.Sides.{Sides, all_glyphs, items_of}
-use Rattle.stage_rules.specs.Ready.{IsReady}
-use Rattle.stage_rules.specs.Rewriting.{Rewritten, kept, within}
-use Rattle.stage_rules.specs.Parts.{first_to_back}
-use Rattle.stage_rules.specs.SyllableBuffers.{IsRewritten}
-use Rattle.stage_rules.specs.Lemmas.Rewritings.{counted, rewritten_next, rewritten_same}
-use Rattle.stage_rules.specs.Lemmas.Parts.{range_size, rewritten_part, range_seen}
+use Rattle.buffer_glyphs.specs.declared.info.hb_glyph_info_t.{hb_glyph_info_t}
+use Rattle.script_categories.specs.declared.shaper.hb_ot_script_shaper_t.TheVariants.{UNIVERSAL_SHAPER}
+use Rattle.script_categories.specs.Shapers.{is_reordered}
+use Rattle.buffer_glyphs.specs.Items.{Item, item_of, strip}
+use Rattle.buffer_glyphs.specs.Lists.{seen_at}
+use Rattle.buffer_core.specs.Sides.{Sides, all_glyphs, items_of}
+use Rattle.buffer_stages.specs.Ready.{IsReady}
+use Rattle.buffer_stages.specs.Rewriting.{Rewritten, kept, within}
+use Rattle.buffer_stages.specs.Parts.{first_to_back}
+use Rattle.buffer_stages.specs.SyllableBuffers.{IsRewritten}
+use Rattle.buffer_stages.specs.Lemmas.Rewritings.{counted, rewritten_next, rewritten_same}
+use Rattle.buffer_stages.specs.Lemmas.Parts.{range_size, rewritten_part, range_seen}
 use Rattle.script_universal.specs.Reordering.{begins_with_reph, is_halant, left_walk, reph_end, reph_moved, stops_reph, universal_reordered, universal_syllable}
 use Rattle.script_universal.specs.Lemmas.Sizes.{reph_size}
-use Rattle.stage_rules.specs.Lemmas.Elements.{split_at}
-use Rattle.stage_rules.specs.Lemmas.Counts.{rewritten_even}
+use Rattle.buffer_stages.proofs.Lemmas.Elements.{split_at}
+use Rattle.buffer_stages.proofs.Lemmas.Counts.{rewritten_even}
 
 -- ---- items of a part
 

@@ -6,27 +6,27 @@ use Rattle.std.proofs.lemmas.Bool.Decides.{nat_tests}
 use Rattle.std.proofs.lemmas.Grind.{common_steps}
 use Rattle.std.proofs.lemmas.List.{length-append, length-drop, length-map, length-take-le, drop-drop, drop-take}
 use Rattle.std.proofs.lemmas.Option.{slice_get-get_or}
-use Rattle.glyph_lists.specs.declared.info.hb_glyph_info_t.{hb_glyph_info_t}
-use Rattle.glyph_lists.specs.Items.{Item, item_of, strip}
-use Rattle.glyph_lists.specs.Levels.{InList}
-use Rattle.glyph_lists.specs.Events.{Event, Move}
-use Rattle.glyph_buffer.specs.Sides.{Sides, all_glyphs, items_of}
-use Rattle.stage_rules.specs.Ready.{IsReady}
-use Rattle.stage_rules.specs.Moves.{FrontMove, all_moved, move_events, moved, order_of_move, reach}
-use Rattle.stage_rules.specs.Fronts.{front_moves, gathered_after}
-use Rattle.stage_rules.specs.Lemmas.Fronted.{gathered_after_length, moved_one, moves_alone, moves_grow, reach_fits}
-use Rattle.stage_rules.specs.Lemmas.Nested.{reach_grows}
-use Rattle.stage_rules.specs.Rewriting.{Rewritten, kept, shifted, then_rule, within}
-use Rattle.glyph_buffer.specs.Sides.{origins_by, view_of}
-use Rattle.stage_rules.specs.Moves.{IsGrowing}
-use Rattle.stage_rules.specs.SyllableBuffers.{IsRewritten}
-use Rattle.stage_rules.specs.Parts.{first_to_back, fronts_moved}
-use Rattle.stage_rules.specs.Lemmas.Fronts.{part_moves, shift_moves}
-use Rattle.stage_rules.specs.Lemmas.Parts.{moved_range, range_size, rewritten_part, within_size, range_seen}
-use Rattle.stage_rules.specs.Lemmas.Rewritings.{counted, middle, rewritten_count, rewritten_next, rewritten_same, rewritten_slice, whole_cut}
+use Rattle.buffer_glyphs.specs.declared.info.hb_glyph_info_t.{hb_glyph_info_t}
+use Rattle.buffer_glyphs.specs.Items.{Item, item_of, strip}
+use Rattle.buffer_glyphs.specs.Levels.{InList}
+use Rattle.buffer_glyphs.specs.Events.{Event, Move}
+use Rattle.buffer_core.specs.Sides.{Sides, all_glyphs, items_of}
+use Rattle.buffer_stages.specs.Ready.{IsReady}
+use Rattle.buffer_stages.specs.Moves.{FrontMove, all_moved, move_events, moved, order_of_move, reach}
+use Rattle.buffer_stages.specs.Fronts.{front_moves, gathered_after}
+use Rattle.buffer_stages.specs.Lemmas.Fronted.{gathered_after_length, moved_one, moves_alone, moves_grow, reach_fits}
+use Rattle.buffer_stages.specs.Lemmas.Nested.{reach_grows}
+use Rattle.buffer_stages.specs.Rewriting.{Rewritten, kept, shifted, then_rule, within}
+use Rattle.buffer_core.specs.Sides.{origins_by, view_of}
+use Rattle.buffer_stages.specs.Moves.{IsGrowing}
+use Rattle.buffer_stages.specs.SyllableBuffers.{IsRewritten}
+use Rattle.buffer_stages.specs.Parts.{first_to_back, fronts_moved}
+use Rattle.buffer_stages.proofs.Lemmas.Fronts.{part_moves, shift_moves}
+use Rattle.buffer_stages.specs.Lemmas.Parts.{moved_range, range_size, rewritten_part, within_size, range_seen}
+use Rattle.buffer_stages.specs.Lemmas.Rewritings.{counted, middle, rewritten_count, rewritten_next, rewritten_same, rewritten_slice, whole_cut}
 use Rattle.script_universal.specs.Reordering.{Step, is_halant, is_left, left_at, left_walk}
 use Rattle.script_universal.specs.Walked.{IsWalked, together}
-use Rattle.stage_rules.specs.Lemmas.Elements.{split_at}
+use Rattle.buffer_stages.proofs.Lemmas.Elements.{split_at}
 
 -- none of some items is a halant
 abbrev pub NoHalants : List Item → Type 0

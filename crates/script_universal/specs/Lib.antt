@@ -1,3 +1,3 @@
+pub mod Lemmas
 pub mod Reordering
 pub mod Walked
-pub mod Lemmas

@@ -1,14 +1,14 @@
 -- The universal shaper: which items of a syllable change places (OpenType specification, Universal Shaping Engine).
 use Rattle.std.specs.Prelude.{ℕ, zero, suc, ◌+◌, ◌-◌, ◌==◌, ◌&&◌, ◌||◌, not, Bool, false, nat_lt, bit_and, if◌then◌else◌, List, [], ◌∷◌, drop, length, map, slice_get, Option, None, Some}
 use Rattle.std.specs.List.{list_any, prefix_len}
-use Rattle.script_constants.specs.declared.category.TheConstants as category
-use Rattle.script_constants.specs.declared.shaper.hb_ot_script_shaper_t.TheVariants.{UNIVERSAL_SHAPER}
-use Rattle.script_constants.specs.Shapers.{is_reordered}
-use Rattle.glyph_lists.specs.LigatureWords.{is_ligated, lig_comp}
-use Rattle.glyph_lists.specs.Items.{Item}
-use Rattle.syllable_lists.specs.Pieces.{ArePermuted}
-use Rattle.stage_rules.specs.Rewriting.{Rewritten, kept, then_rule, within, in_syllables, by_syllable}
-use Rattle.stage_rules.specs.Parts.{first_to_back}
+use Rattle.script_categories.specs.declared.category.TheConstants as category
+use Rattle.script_categories.specs.declared.shaper.hb_ot_script_shaper_t.TheVariants.{UNIVERSAL_SHAPER}
+use Rattle.script_categories.specs.Shapers.{is_reordered}
+use Rattle.buffer_glyphs.specs.LigatureWords.{is_ligated, lig_comp}
+use Rattle.buffer_glyphs.specs.Items.{Item}
+use Rattle.buffer_stages.specs.Pieces.{ArePermuted}
+use Rattle.buffer_stages.specs.Rewriting.{Rewritten, kept, then_rule, within, in_syllables, by_syllable}
+use Rattle.buffer_stages.specs.Parts.{first_to_back}
 
 -- categories of what stands after a base: finals, medials, vowels, their modifiers and those of finals
 abbrev pub post_base_categories : List ℕ

@@ -1,10 +1,10 @@
 -- A syllable whose indices up to one were walked.
 use Rattle.std.specs.Prelude.{ℕ, ◌≡◌, ◌-◌, Bool, false, length, slice_range}
-use Rattle.glyph_lists.specs.Items.{Item}
-use Rattle.glyph_buffer.specs.Sides.{Sides, all_glyphs, items_of}
-use Rattle.stage_rules.specs.Ready.{IsReady}
-use Rattle.stage_rules.specs.Fronts.{StandApart}
-use Rattle.stage_rules.specs.SyllableBuffers.{IsRewritten}
+use Rattle.buffer_glyphs.specs.Items.{Item}
+use Rattle.buffer_core.specs.Sides.{Sides, all_glyphs, items_of}
+use Rattle.buffer_stages.specs.Ready.{IsReady}
+use Rattle.buffer_stages.specs.Fronts.{StandApart}
+use Rattle.buffer_stages.specs.SyllableBuffers.{IsRewritten}
 use Rattle.script_universal.specs.Reordering.{left_walk}
 
 -- two items never come to the front together

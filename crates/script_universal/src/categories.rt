@@ -1,11 +1,11 @@
 //! What the order of a syllable asks of its glyphs.
 ghost use Rattle.std.specs.Prelude.{◌≡◌};
-ghost use Rattle.glyph_lists.specs.Items.{item_of};
+ghost use Rattle.buffer_glyphs.specs.Items.{item_of};
 ghost use Rattle.script_universal.specs.Reordering.{halant_categories, is_among, is_halant, is_left, left_categories, post_base_categories, stops_reph};
 
-use glyph_lists::info::hb_glyph_info_t;
-use glyph_lists::ligature_words::{_hb_glyph_info_get_lig_comp, _hb_glyph_info_ligated};
-use script_constants::category::{
+use buffer_glyphs::info::hb_glyph_info_t;
+use buffer_glyphs::ligature_words::{_hb_glyph_info_get_lig_comp, _hb_glyph_info_ligated};
+use script_categories::category::{
     FAbv, FBlw, FMAbv, FMBlw, FMPst, FPst, H, HVM, IS, MAbv, MBlw, MPre, MPst, VAbv, VBlw, VMAbv,
     VMBlw, VMPre, VMPst, VPre, VPst,
 };

@@ -1,28 +1,28 @@
 //! A reph and left vowels of a syllable, which change places with the glyphs between.
 ghost use Rattle.std.specs.Prelude.{◌≡◌, ◌≤◌, ◌<◌, ◌+◌, ◌-◌, length, nat_lt, not, ◌&&◌, slice_get, slice_range, false, true, OnOk, Some};
 ghost use Rattle.std.specs.List.{prefix_len};
-ghost use Rattle.glyph_lists.specs.Items.{item_of, strip};
-ghost use Rattle.glyph_buffer.specs.Readings.{always};
-ghost use Rattle.glyph_buffer.specs.Sides.{all_glyphs, items_of};
-ghost use Rattle.stage_rules.specs.Ready.{IsReady};
-ghost use Rattle.stage_rules.specs.Stages.{IsFollowed};
-ghost use Rattle.stage_rules.specs.Rewriting.{by_syllable};
-ghost use Rattle.stage_rules.specs.SyllableBuffers.{IsRewritten, with_rule};
-ghost use Rattle.stage_rules.specs.Moves.{reach};
-ghost use Rattle.stage_rules.specs.Fronts.{front_moves};
-ghost use Rattle.stage_rules.specs.Parts.{fronts_moved};
+ghost use Rattle.buffer_glyphs.specs.Items.{item_of, strip};
+ghost use Rattle.buffer_core.specs.Readings.{always};
+ghost use Rattle.buffer_core.specs.Sides.{all_glyphs, items_of};
+ghost use Rattle.buffer_stages.specs.Ready.{IsReady};
+ghost use Rattle.buffer_stages.specs.Stages.{IsFollowed};
+ghost use Rattle.buffer_stages.specs.Rewriting.{by_syllable};
+ghost use Rattle.buffer_stages.specs.SyllableBuffers.{IsRewritten, with_rule};
+ghost use Rattle.buffer_stages.specs.Moves.{reach};
+ghost use Rattle.buffer_stages.specs.Fronts.{front_moves};
+ghost use Rattle.buffer_stages.specs.Parts.{fronts_moved};
 ghost use Rattle.script_universal.specs.Walked.{IsWalked, together};
 ghost use Rattle.script_universal.specs.Reordering.{begins_with_reph, is_halant, is_left, left_walk, reph_end, reph_moved, stops_reph, universal_reordered, universal_syllable};
 
 use crate::categories::{is_halant, is_left, stops_reph};
-use glyph_buffer::buffer::hb_buffer_t;
-use glyph_lists::info::hb_glyph_info_t;
-use script_constants::category::R;
-use script_constants::hb_ot_script_shaper_t::UNIVERSAL_SHAPER;
-use stage_rules::fronts::FrontRule;
-use stage_rules::parts::first_to_back;
-use stage_rules::syllable_fronts::move_fronts;
-use stage_rules::walk::{SyllableRule, each_syllable};
+use buffer_core::buffer::hb_buffer_t;
+use buffer_glyphs::info::hb_glyph_info_t;
+use buffer_stages::fronts::FrontRule;
+use buffer_stages::parts::first_to_back;
+use buffer_stages::syllable_fronts::move_fronts;
+use buffer_stages::walk::{SyllableRule, each_syllable};
+use script_categories::category::R;
+use script_categories::hb_ot_script_shaper_t::UNIVERSAL_SHAPER;
 use std::alloc::AllocError;
 
 /// Reorders each syllable of a kind that is: a reph in front goes before the first glyph after the base or halant that no

@@ -1,11 +1,11 @@
 -- Where a mark stands at a box, by the place that its class is (Unicode Character Database, Canonical_Combining_Class). Sums are modulo 2^32.
 use Rattle.std.specs.Prelude.{ℕ, ℤ, pos, ◌&&◌, Bool, not, int_lt, if◌then◌else◌, [], ◌∷◌, Option, Some, None}
 use Rattle.std.specs.Int.RustNames.{int_div}
-use Rattle.shaping_text.specs.declared.direction.Direction.{Direction}
-use Rattle.shaping_text.specs.Direction.{is_forward, is_horizontal}
-use Rattle.glyph_lists.specs.declared.names.hb_glyph_extents_t.{hb_glyph_extents_t}
-use Rattle.glyph_lists.specs.Items.{Position}
-use Rattle.position_sums.specs.Sums.{plus, minus}
+use Rattle.buffer_common.specs.declared.direction.Direction.{Direction}
+use Rattle.buffer_common.specs.Direction.{is_forward, is_horizontal}
+use Rattle.buffer_glyphs.specs.declared.names.hb_glyph_extents_t.{hb_glyph_extents_t}
+use Rattle.buffer_glyphs.specs.Items.{Position}
+use Rattle.layout_offsets.specs.Sums.{plus, minus}
 use Rattle.shape_fallback.specs.Classes.{is_one_of}
 use Rattle.shape_fallback.specs.declared.boxes.Stacked.{Stacked}
 use Rattle.shape_fallback.specs.declared.boxes.Marked.{Marked}

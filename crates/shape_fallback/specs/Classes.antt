@@ -1,11 +1,11 @@
 -- The combining classes by which marks are placed where the font does not place them (Unicode Character Database, Canonical_Combining_Class, 200 to 240: each class is a place).
 use Rattle.std.specs.Prelude.{ℕ, ◌==◌, ◌&&◌, ◌||◌, Bool, nat_le, nat_lt, if◌then◌else◌, List, [], ◌∷◌}
 use Rattle.std.specs.List.{list_any}
-use Rattle.shaping_text.specs.declared.constants.TheConstants.{CCC10, CCC11, CCC12, CCC13, CCC14, CCC15, CCC16, CCC17, CCC18, CCC19, CCC20, CCC22, CCC23, CCC24, CCC25, CCC26, CCC27, CCC28, CCC29, CCC30, CCC31, CCC32, CCC33, CCC34, CCC35, CCC36, CCC103, CCC107, CCC118, CCC122, CCC129, CCC130, CCC132}
-use Rattle.glyph_lists.specs.Items.{Item}
-use Rattle.glyph_buffer.specs.Readings.{View, Read}
-use Rattle.glyph_properties.specs.Categories.{is_nonspacing_mark}
-use Rattle.stage_rules.specs.Stages.{mapped}
+use Rattle.buffer_common.specs.declared.constants.TheConstants.{CCC10, CCC11, CCC12, CCC13, CCC14, CCC15, CCC16, CCC17, CCC18, CCC19, CCC20, CCC22, CCC23, CCC24, CCC25, CCC26, CCC27, CCC28, CCC29, CCC30, CCC31, CCC32, CCC33, CCC34, CCC35, CCC36, CCC103, CCC107, CCC118, CCC122, CCC129, CCC130, CCC132}
+use Rattle.buffer_glyphs.specs.Items.{Item}
+use Rattle.buffer_core.specs.Readings.{View, Read}
+use Rattle.buffer_properties.specs.Categories.{is_nonspacing_mark}
+use Rattle.buffer_stages.specs.Stages.{mapped}
 
 abbrev pub is_within : ℕ → ℕ → ℕ → Bool
 is_within first last u = nat_le first u && nat_le u last

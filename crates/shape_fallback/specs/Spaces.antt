@@ -3,15 +3,15 @@ use Rattle.std.specs.Prelude.{ℕ, ℤ, pos, neg_ℤ, ◌+◌, ◌*◌, ◌/◌,
 use Rattle.std.specs.Option.{option_or}
 use Rattle.std.specs.List.{list_any}
 use Rattle.std.specs.Int.RustNames.{int_div}
-use Rattle.shaping_text.specs.declared.direction.Direction.{Direction}
-use Rattle.shaping_text.specs.Direction.{is_horizontal}
-use Rattle.unicode_chars.specs.declared.space.TheConstants.{SPACE_EM, SPACE_EM_2, SPACE_EM_3, SPACE_EM_4, SPACE_EM_5, SPACE_EM_6, SPACE_EM_16, SPACE_4_EM_18, SPACE_FIGURE, SPACE_PUNCTUATION, SPACE_NARROW}
-use Rattle.font_face.specs.declared.parts.FaceParts.{FaceParts}
-use Rattle.font_face.specs.Glyphs.{nominal_glyph, width_of, height_of}
-use Rattle.glyph_lists.specs.Items.{Item, Position}
-use Rattle.glyph_buffer.specs.Readings.{View, Read}
-use Rattle.glyph_properties.specs.Characters.{is_space}
-use Rattle.stage_rules.specs.Places.{placed}
+use Rattle.buffer_common.specs.declared.direction.Direction.{Direction}
+use Rattle.buffer_common.specs.Direction.{is_horizontal}
+use Rattle.buffer_unicode.specs.declared.space.TheConstants.{SPACE_EM, SPACE_EM_2, SPACE_EM_3, SPACE_EM_4, SPACE_EM_5, SPACE_EM_6, SPACE_EM_16, SPACE_4_EM_18, SPACE_FIGURE, SPACE_PUNCTUATION, SPACE_NARROW}
+use Rattle.layout_face.specs.declared.parts.FaceParts.{FaceParts}
+use Rattle.layout_face.specs.Glyphs.{nominal_glyph, width_of, height_of}
+use Rattle.buffer_glyphs.specs.Items.{Item, Position}
+use Rattle.buffer_core.specs.Readings.{View, Read}
+use Rattle.buffer_properties.specs.Characters.{is_space}
+use Rattle.buffer_stages.specs.Places.{placed}
 
 -- another advance along the line: a vertical line goes down
 abbrev pub advanced : Direction → ℤ → Position → Position

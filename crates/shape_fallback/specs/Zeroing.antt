@@ -1,10 +1,10 @@
 -- Marks whose own width the line does not go on by.
 use Rattle.std.specs.Prelude.{Bool, if◌then◌else◌}
-use Rattle.glyph_lists.specs.Items.{Item, Position}
-use Rattle.glyph_buffer.specs.Readings.{View, Read}
-use Rattle.glyph_lists.specs.LigatureWords.{is_mark}
-pub use Rattle.position_sums.specs.Zeroing.{zeroed}
-use Rattle.stage_rules.specs.Places.{placed}
+use Rattle.buffer_glyphs.specs.Items.{Item, Position}
+use Rattle.buffer_core.specs.Readings.{View, Read}
+use Rattle.buffer_glyphs.specs.LigatureWords.{is_mark}
+pub use Rattle.layout_offsets.specs.Zeroing.{zeroed}
+use Rattle.buffer_stages.specs.Places.{placed}
 
 -- glyphs of the class of marks
 abbrev pub mark_zeroed : Bool → Item → Position → Position

@@ -2,10 +2,10 @@
 ghost use Rattle.std.specs.Prelude.{◌≡◌};
 ghost use Rattle.shape_fallback.specs.Boxes.{above, below, double_x, half_up, held_above, held_below, is_above, is_at_left, is_at_right, is_attached, is_below, is_double, is_same_side, left_x, lower, mark_x, marked, middle_x, next_at, raised, right_x, stacked, stacked_by, with_above, with_below};
 
-use glyph_lists::names::hb_glyph_extents_t;
-use glyph_lists::position::GlyphPosition;
-use position_sums::sums::{minus, plus};
-use shaping_text::direction::Direction;
+use buffer_common::direction::Direction;
+use buffer_glyphs::names::hb_glyph_extents_t;
+use buffer_glyphs::position::GlyphPosition;
+use layout_offsets::sums::{minus, plus};
 
 /// How far up a mark is moved, in font units, and the box that it leaves for the next one.
 #[derive(Clone, Copy)]

@@ -1,21 +1,21 @@
 //! The combining classes by which marks are placed.
 ghost use Rattle.std.specs.Prelude.{◌≡◌};
-ghost use Rattle.glyph_lists.specs.Items.{item_of};
-ghost use Rattle.glyph_lists.specs.Origins.{origin_of};
-ghost use Rattle.glyph_buffer.specs.Readings.{always};
-ghost use Rattle.stage_rules.specs.Ready.{IsReady};
-ghost use Rattle.stage_rules.specs.Stages.{IsFollowed};
+ghost use Rattle.buffer_glyphs.specs.Items.{item_of};
+ghost use Rattle.buffer_glyphs.specs.Origins.{origin_of};
+ghost use Rattle.buffer_core.specs.Readings.{always};
+ghost use Rattle.buffer_stages.specs.Ready.{IsReady};
+ghost use Rattle.buffer_stages.specs.Stages.{IsFollowed};
 ghost use Rattle.shape_fallback.specs.Classes.{fallback_class, is_lao_above, is_thai_above, place_of_class, place_of_mark, place_of_unclassed, recategorized, with_places};
 
-use glyph_buffer::buffer::hb_buffer_t;
-use glyph_lists::info::hb_glyph_info_t;
-use glyph_properties::categories::is_nonspacing_mark;
-use shaping_text::constants::{
+use buffer_common::constants::{
     CCC10, CCC11, CCC12, CCC13, CCC14, CCC15, CCC16, CCC17, CCC18, CCC19, CCC20, CCC22, CCC23,
     CCC24, CCC25, CCC26, CCC27, CCC28, CCC29, CCC30, CCC31, CCC32, CCC33, CCC34, CCC35, CCC36,
     CCC103, CCC107, CCC118, CCC122, CCC129, CCC130, CCC132,
 };
-use stage_rules::glyphs::map_glyphs;
+use buffer_core::buffer::hb_buffer_t;
+use buffer_glyphs::info::hb_glyph_info_t;
+use buffer_properties::categories::is_nonspacing_mark;
+use buffer_stages::glyphs::map_glyphs;
 
 const BELOW: u8 = 220;
 

@@ -1,7 +1,7 @@
 //! Kerning for a font that has no rules for it.
 ghost use Rattle.std.specs.Prelude.{◌≡◌};
 
-use glyph_buffer::buffer::hb_buffer_t;
+use buffer_core::buffer::hb_buffer_t;
 
 /// Leaves all as it is: a shaper without the font's rules has none of its own for the space between two letters.
 pub fn _hb_ot_shape_fallback_kern(buffer: &mut hb_buffer_t)

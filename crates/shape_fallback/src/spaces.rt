@@ -1,22 +1,22 @@
 //! The widths of spaces that the font need not have.
 ghost use Rattle.std.specs.Prelude.{◌≡◌, ◌<◌, ◌+◌, ◌*◌, ◌/◌, ◌^◌, true};
-ghost use Rattle.glyph_lists.specs.Items.{item_of};
-ghost use Rattle.glyph_buffer.specs.Readings.{always};
-ghost use Rattle.stage_rules.specs.Ready.{IsDone, IsReady};
+ghost use Rattle.buffer_glyphs.specs.Items.{item_of};
+ghost use Rattle.buffer_core.specs.Readings.{always};
+ghost use Rattle.buffer_stages.specs.Ready.{IsDone, IsReady};
 ghost use Rattle.shape_fallback.specs.Spaces.{advanced, digits, first_glyph, half, is_own_space, is_part_of_em, of_found, of_glyph, of_length, space_position, spaced, stops, with_spaces};
 
-use font_face::Face;
-use glyph_buffer::buffer::hb_buffer_t;
-use glyph_lists::flags::GlyphPropsFlags;
-use glyph_lists::info::hb_glyph_info_t;
-use glyph_lists::position::GlyphPosition;
-use glyph_properties::categories::is_space;
-use shaping_text::direction::Direction;
-use stage_rules::positions::map_positions;
-use unicode_chars::space::{
+use buffer_common::direction::Direction;
+use buffer_core::buffer::hb_buffer_t;
+use buffer_glyphs::flags::GlyphPropsFlags;
+use buffer_glyphs::info::hb_glyph_info_t;
+use buffer_glyphs::position::GlyphPosition;
+use buffer_properties::categories::is_space;
+use buffer_stages::positions::map_positions;
+use buffer_unicode::space::{
     SPACE_4_EM_18, SPACE_EM, SPACE_EM_2, SPACE_EM_3, SPACE_EM_4, SPACE_EM_5, SPACE_EM_6,
     SPACE_EM_16, SPACE_FIGURE, SPACE_NARROW, SPACE_PUNCTUATION, space_t,
 };
+use layout_face::Face;
 
 /// Gives each space that stands for one of a fixed width the advance of that width, in font units along the line. It takes
 /// linear time and no memory.

@@ -1,16 +1,16 @@
 //! Marks whose own width the line does not go on by.
 ghost use Rattle.std.specs.Prelude.{◌≡◌};
-ghost use Rattle.glyph_lists.specs.Items.{item_of};
-ghost use Rattle.glyph_buffer.specs.Readings.{always};
-ghost use Rattle.stage_rules.specs.Ready.{IsDone, IsReady};
+ghost use Rattle.buffer_glyphs.specs.Items.{item_of};
+ghost use Rattle.buffer_core.specs.Readings.{always};
+ghost use Rattle.buffer_stages.specs.Ready.{IsDone, IsReady};
 ghost use Rattle.shape_fallback.specs.Zeroing.{mark_zeroed, with_marks_zeroed};
 
-use glyph_buffer::buffer::hb_buffer_t;
-use glyph_lists::info::hb_glyph_info_t;
-use glyph_lists::ligature_words::_hb_glyph_info_is_mark;
-use glyph_lists::position::GlyphPosition;
-use position_sums::zeroing::zeroed;
-use stage_rules::positions::map_positions;
+use buffer_core::buffer::hb_buffer_t;
+use buffer_glyphs::info::hb_glyph_info_t;
+use buffer_glyphs::ligature_words::_hb_glyph_info_is_mark;
+use buffer_glyphs::position::GlyphPosition;
+use buffer_stages::positions::map_positions;
+use layout_offsets::zeroing::zeroed;
 
 /// Takes their advances from the glyphs of the class of marks. Where offsets are adjusted, which serves forward text that the
 /// font does not place, each goes back by the advance that it had. It takes linear time and no memory.

@@ -2,22 +2,22 @@
 use Rattle.std.proofs.Common.{ℕ, suc, nat_le, ◌≡◌, ◌∷◌, arith, Bool, true, false, not, if◌then◌else◌, List, [], length, map, min, take, refl, sym, ap, ◌∙◌}
 use Rattle.std.proofs.lemmas.List.{length-map}
 use Rattle.std.proofs.lemmas.Bool.{and_parts}
-use Rattle.glyph_lists.specs.declared.info.hb_glyph_info_t.{hb_glyph_info_t}
-use Rattle.glyph_lists.specs.Items.{Item, Position, item_of, item_masked}
-use Rattle.glyph_lists.specs.Events.{Spread}
-use Rattle.glyph_buffer.specs.Readings.{Run, View, always}
-use Rattle.glyph_slices.specs.DeletionWalk.{Passed, all_passed}
-use Rattle.glyph_slices.specs.Events.{deletions}
-use Rattle.glyph_slices.specs.Facts.{items_kept, positions_kept}
-use Rattle.glyph_buffer.specs.Grouping.{with_picked_deleted}
-use Rattle.glyph_buffer.specs.Merging.{telling_flags, with_glyphs as with_all}
-use Rattle.glyph_buffer.specs.Told.{told_telling}
-use Rattle.glyph_buffer.specs.Graphemes.{is_default_ignorable}
-use Rattle.glyph_buffer.specs.Sides.{Sides, all_glyphs, items_of, origins_by, origins_of, settings_of, told_of, view_of}
-use Rattle.stage_rules.specs.Buffers.{are_glyphs}
-use Rattle.stage_rules.specs.Ready.{IsDone, IsReady}
-use Rattle.stage_rules.specs.Stages.{IsFollowed, mapped}
-use Rattle.stage_rules.specs.Lemmas.Written.{happened_followed}
+use Rattle.buffer_glyphs.specs.declared.info.hb_glyph_info_t.{hb_glyph_info_t}
+use Rattle.buffer_glyphs.specs.Items.{Item, Position, item_of, item_masked}
+use Rattle.buffer_glyphs.specs.Events.{Spread}
+use Rattle.buffer_core.specs.Readings.{Run, View, always}
+use Rattle.buffer_groups.specs.DeletionWalk.{Passed, all_passed}
+use Rattle.buffer_groups.specs.Events.{deletions}
+use Rattle.buffer_groups.specs.Facts.{items_kept, positions_kept}
+use Rattle.buffer_core.specs.Grouping.{with_picked_deleted}
+use Rattle.buffer_core.specs.Merging.{telling_flags, with_glyphs as with_all}
+use Rattle.buffer_core.proofs.Told.{told_telling}
+use Rattle.buffer_core.specs.Graphemes.{is_default_ignorable}
+use Rattle.buffer_core.specs.Sides.{Sides, all_glyphs, items_of, origins_by, origins_of, settings_of, told_of, view_of}
+use Rattle.buffer_stages.specs.Buffers.{are_glyphs}
+use Rattle.buffer_stages.specs.Ready.{IsDone, IsReady}
+use Rattle.buffer_stages.specs.Stages.{IsFollowed, mapped}
+use Rattle.buffer_stages.specs.Lemmas.Written.{happened_followed}
 use Rattle.shape_glyphs.specs.Glyphs.{as_glyph}
 use Rattle.shape_glyphs.specs.Flags.{with_flags_spread}
 use Rattle.shape_glyphs.specs.Ignorables.{hidden_item, without_ignorables}

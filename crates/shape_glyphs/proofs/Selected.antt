@@ -1,9 +1,9 @@
 -- Positions that were changed, and then glyphs.
 use Rattle.std.proofs.Common.{ℕ, ap, ◌∙◌}
-use Rattle.glyph_buffer.specs.Readings.{Run, always, run_after}
-use Rattle.glyph_buffer.specs.Sides.{Sides}
-use Rattle.stage_rules.specs.Places.{placed}
-use Rattle.stage_rules.specs.Stages.{IsFollowed, mapped}
+use Rattle.buffer_core.specs.Readings.{Run, always, run_after}
+use Rattle.buffer_core.specs.Sides.{Sides}
+use Rattle.buffer_stages.specs.Places.{placed}
+use Rattle.buffer_stages.specs.Stages.{IsFollowed, mapped}
 use Rattle.shape_glyphs.specs.Selectors.{selector_position, shown_selector, with_selectors_shown}
 
 pub both_followed : (glyph : ℕ) (s t u : Sides) → IsFollowed (always (placed selector_position)) s t → IsFollowed (always (mapped (shown_selector glyph))) t u → IsFollowed (always (with_selectors_shown glyph)) s u

@@ -1,10 +1,10 @@
 -- Classes of glyphs before the first lookup (OpenType, GDEF).
 use Rattle.std.specs.Prelude.{ℕ, nat_le, if◌then◌else◌}
-use Rattle.font_face.specs.declared.parts.FaceParts.{FaceParts}
+use Rattle.layout_face.specs.declared.parts.FaceParts.{FaceParts}
 use Rattle.layout_gsub.specs.Replacements.{glyph_props_of}
-use Rattle.glyph_lists.specs.Items.{Item}
-use Rattle.glyph_buffer.specs.Readings.{View, Read}
-use Rattle.stage_rules.specs.Stages.{mapped}
+use Rattle.buffer_glyphs.specs.Items.{Item}
+use Rattle.buffer_core.specs.Readings.{View, Read}
+use Rattle.buffer_stages.specs.Stages.{mapped}
 
 -- a number that no glyph can have has no class
 abbrev pub first_props : FaceParts → ℕ → ℕ

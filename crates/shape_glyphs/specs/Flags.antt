@@ -1,8 +1,8 @@
 -- Glyph flags at the end of shaping.
 use Rattle.std.specs.Prelude.{[], ◌∷◌, map}
-use Rattle.glyph_lists.specs.Items.{item_masked}
-use Rattle.glyph_lists.specs.Events.{Spread}
-use Rattle.glyph_buffer.specs.Readings.{View, Read, with_events}
+use Rattle.buffer_glyphs.specs.Items.{item_masked}
+use Rattle.buffer_glyphs.specs.Events.{Spread}
+use Rattle.buffer_core.specs.Readings.{View, Read, with_events}
 
 -- the glyphs of each cluster get one set of flags, and a mask has no other bit
 abbrev pub with_flags_spread : View → Read

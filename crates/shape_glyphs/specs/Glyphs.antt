@@ -1,10 +1,10 @@
 -- Characters as glyphs, and the classes of glyphs that a font does not classify.
 use Rattle.std.specs.Prelude.{ℕ, ◌&&◌, not, Bool, nat_le, if◌then◌else◌}
-use Rattle.glyph_lists.specs.Items.{Item}
-use Rattle.glyph_buffer.specs.Readings.{View, Read}
-use Rattle.glyph_buffer.specs.Graphemes.{is_default_ignorable}
-use Rattle.glyph_properties.specs.Categories.{is_nonspacing_mark}
-use Rattle.stage_rules.specs.Stages.{mapped}
+use Rattle.buffer_glyphs.specs.Items.{Item}
+use Rattle.buffer_core.specs.Readings.{View, Read}
+use Rattle.buffer_core.specs.Graphemes.{is_default_ignorable}
+use Rattle.buffer_properties.specs.Categories.{is_nonspacing_mark}
+use Rattle.buffer_stages.specs.Stages.{mapped}
 
 -- a number that no glyph can have stands for the missing glyph, 0
 abbrev pub glyph_or_missing : ℕ → ℕ

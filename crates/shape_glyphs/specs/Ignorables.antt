@@ -2,15 +2,15 @@
 use Rattle.std.specs.Prelude.{ℕ, ◌==◌, Bool, true, nat_le, if◌then◌else◌, [], Option, Some, None}
 use Rattle.std.specs.Option.{option_map_or, option_or}
 use Rattle.std.specs.Int.RustNames.{bit_and}
-use Rattle.shaping_text.specs.declared.constants.BufferFlags.{BufferFlags}
-use Rattle.font_face.specs.declared.parts.FaceParts.{FaceParts}
-use Rattle.font_face.specs.Glyphs.{nominal_glyph}
-use Rattle.glyph_lists.specs.Items.{Item}
-use Rattle.glyph_buffer.specs.Readings.{View, Read, with_events}
-use Rattle.glyph_slices.specs.Events.{deletions}
-use Rattle.glyph_slices.specs.Facts.{items_kept, positions_kept}
-use Rattle.glyph_buffer.specs.Graphemes.{is_default_ignorable}
-use Rattle.stage_rules.specs.Stages.{mapped}
+use Rattle.buffer_common.specs.declared.constants.BufferFlags.{BufferFlags}
+use Rattle.layout_face.specs.declared.parts.FaceParts.{FaceParts}
+use Rattle.layout_face.specs.Glyphs.{nominal_glyph}
+use Rattle.buffer_glyphs.specs.Items.{Item}
+use Rattle.buffer_core.specs.Readings.{View, Read, with_events}
+use Rattle.buffer_groups.specs.Events.{deletions}
+use Rattle.buffer_groups.specs.Facts.{items_kept, positions_kept}
+use Rattle.buffer_core.specs.Graphemes.{is_default_ignorable}
+use Rattle.buffer_stages.specs.Stages.{mapped}
 
 -- whether ignorables keep their glyphs, or are to be taken out
 abbrev pub preserves_ignorables : BufferFlags → Bool

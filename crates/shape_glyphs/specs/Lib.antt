@@ -4,3 +4,4 @@ pub mod Flags
 pub mod Classes
 pub mod Widths
 pub mod Selectors
+pub mod Advances

@@ -2,12 +2,12 @@
 use Rattle.std.specs.Prelude.{ℕ, ◌==◌, not, Bool, if◌then◌else◌, [], map, Option, Some, None}
 use Rattle.std.specs.Int.RustNames.{bit_and}
 use Rattle.ucd_category.specs.declared.GeneralCategory.TheVariants.{NonspacingMark}
-use Rattle.unicode_chars.specs.Category.{category_number}
-use Rattle.glyph_properties.specs.Properties.{without_bits}
-use Rattle.glyph_lists.specs.Items.{Item, Position}
-use Rattle.glyph_buffer.specs.Readings.{View, Read, with_events}
-use Rattle.glyph_properties.specs.Characters.{with_category}
-use Rattle.stage_rules.specs.Places.{placed_by}
+use Rattle.buffer_unicode.specs.Category.{category_number}
+use Rattle.buffer_properties.specs.Properties.{without_bits}
+use Rattle.buffer_glyphs.specs.Items.{Item, Position}
+use Rattle.buffer_core.specs.Readings.{View, Read, with_events}
+use Rattle.buffer_properties.specs.Characters.{with_category}
+use Rattle.buffer_stages.specs.Places.{placed_by}
 use Rattle.shape_glyphs.specs.Widths.{widthless}
 
 -- a selector that normalising marked, since the font has no glyph for it and the character before it

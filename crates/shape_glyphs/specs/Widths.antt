@@ -1,10 +1,10 @@
 -- Positions of glyphs that are not to be seen.
 use Rattle.std.specs.Prelude.{pos, ◌||◌, Bool, if◌then◌else◌, []}
-use Rattle.shaping_text.specs.declared.constants.BufferFlags.{BufferFlags}
-use Rattle.glyph_lists.specs.Items.{Item, Position}
-use Rattle.glyph_buffer.specs.Readings.{View, Read, with_events}
-use Rattle.glyph_buffer.specs.Graphemes.{is_default_ignorable}
-use Rattle.stage_rules.specs.Places.{placed}
+use Rattle.buffer_common.specs.declared.constants.BufferFlags.{BufferFlags}
+use Rattle.buffer_glyphs.specs.Items.{Item, Position}
+use Rattle.buffer_core.specs.Readings.{View, Read, with_events}
+use Rattle.buffer_core.specs.Graphemes.{is_default_ignorable}
+use Rattle.buffer_stages.specs.Places.{placed}
 use Rattle.shape_glyphs.specs.Ignorables.{preserves_ignorables, removes_ignorables}
 
 -- a position without advances and offsets; its link stays

@@ -1,15 +1,15 @@
 //! What layout keeps of glyphs, as it stands before the first lookup.
 ghost use Rattle.std.specs.Prelude.{◌≡◌};
-ghost use Rattle.glyph_buffer.specs.Readings.{always};
-ghost use Rattle.stage_rules.specs.Ready.{IsDone, IsReady};
+ghost use Rattle.buffer_core.specs.Readings.{always};
+ghost use Rattle.buffer_stages.specs.Ready.{IsDone, IsReady};
 ghost use Rattle.shape_glyphs.specs.Classes.{begun, first_props, with_font_classes};
 
-use font_face::Face;
-use glyph_buffer::buffer::hb_buffer_t;
-use glyph_lists::flags::GlyphPropsFlags;
-use glyph_lists::info::hb_glyph_info_t;
+use buffer_core::buffer::hb_buffer_t;
+use buffer_glyphs::flags::GlyphPropsFlags;
+use buffer_glyphs::info::hb_glyph_info_t;
+use buffer_stages::glyphs::map_glyphs;
+use layout_face::Face;
 use layout_gsub::replacement::glyph_props;
-use stage_rules::glyphs::map_glyphs;
 
 /// Begins substitution: each glyph has the class that the font's GDEF table gives it, and is of no ligature. It takes no
 /// memory, and time linear in the glyphs, each with a search in the font's classes.

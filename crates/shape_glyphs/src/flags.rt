@@ -1,9 +1,9 @@
 //! Glyph flags at the end of shaping.
-ghost use Rattle.glyph_buffer.specs.Readings.{always};
-ghost use Rattle.stage_rules.specs.Ready.{IsDone, IsReady};
+ghost use Rattle.buffer_core.specs.Readings.{always};
+ghost use Rattle.buffer_stages.specs.Ready.{IsDone, IsReady};
 ghost use Rattle.shape_glyphs.specs.Flags.{with_flags_spread};
 
-use glyph_buffer::buffer::hb_buffer_t;
+use buffer_core::buffer::hb_buffer_t;
 
 /// Gives the glyphs of each cluster the flags that one of them has; the mask of a glyph of a result has no other bit. It
 /// takes linear time and no memory.

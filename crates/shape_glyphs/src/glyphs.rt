@@ -1,19 +1,19 @@
 //! Characters as glyphs.
 ghost use Rattle.std.specs.Prelude.{◌≡◌, true};
-ghost use Rattle.glyph_lists.specs.Items.{item_of};
-ghost use Rattle.glyph_buffer.specs.Readings.{always};
-ghost use Rattle.glyph_buffer.specs.Graphemes.{is_default_ignorable};
-ghost use Rattle.glyph_buffer.specs.Sides.{items_of};
-ghost use Rattle.stage_rules.specs.Buffers.{are_glyphs};
-ghost use Rattle.stage_rules.specs.Ready.{IsDone, IsReady};
-ghost use Rattle.stage_rules.specs.Stages.{IsFollowed};
+ghost use Rattle.buffer_glyphs.specs.Items.{item_of};
+ghost use Rattle.buffer_core.specs.Readings.{always};
+ghost use Rattle.buffer_core.specs.Graphemes.{is_default_ignorable};
+ghost use Rattle.buffer_core.specs.Sides.{items_of};
+ghost use Rattle.buffer_stages.specs.Buffers.{are_glyphs};
+ghost use Rattle.buffer_stages.specs.Ready.{IsDone, IsReady};
+ghost use Rattle.buffer_stages.specs.Stages.{IsFollowed};
 ghost use Rattle.shape_glyphs.specs.Glyphs.{glyph_or_missing, synthesized_class, with_glyphs, with_synthesized_classes};
 
-use glyph_buffer::buffer::hb_buffer_t;
-use glyph_lists::flags::{GlyphPropsFlags, UnicodeProps};
-use glyph_lists::info::hb_glyph_info_t;
-use glyph_properties::categories::is_nonspacing_mark;
-use stage_rules::glyphs::map_glyphs;
+use buffer_core::buffer::hb_buffer_t;
+use buffer_glyphs::flags::{GlyphPropsFlags, UnicodeProps};
+use buffer_glyphs::info::hb_glyph_info_t;
+use buffer_properties::categories::is_nonspacing_mark;
+use buffer_stages::glyphs::map_glyphs;
 
 /// Puts the glyph that was chosen for each character in its place, and the missing glyph for a number that no glyph can have.
 /// It takes linear time and no memory.

@@ -1,22 +1,22 @@
 //! Default ignorable characters, which show no glyph.
 ghost use Rattle.std.specs.Prelude.{◌≡◌, nat_le, true};
-ghost use Rattle.font_face.specs.Glyphs.{nominal_glyph};
-ghost use Rattle.glyph_buffer.specs.Sides.{items_of};
-ghost use Rattle.stage_rules.specs.Buffers.{are_glyphs};
-ghost use Rattle.glyph_lists.specs.Items.{item_of};
-ghost use Rattle.glyph_lists.specs.Origins.{origin_of};
-ghost use Rattle.glyph_buffer.specs.Readings.{always};
-ghost use Rattle.stage_rules.specs.Ready.{IsReady};
-ghost use Rattle.stage_rules.specs.Stages.{IsFollowed, mapped};
+ghost use Rattle.layout_face.specs.Glyphs.{nominal_glyph};
+ghost use Rattle.buffer_core.specs.Sides.{items_of};
+ghost use Rattle.buffer_stages.specs.Buffers.{are_glyphs};
+ghost use Rattle.buffer_glyphs.specs.Items.{item_of};
+ghost use Rattle.buffer_glyphs.specs.Origins.{origin_of};
+ghost use Rattle.buffer_core.specs.Readings.{always};
+ghost use Rattle.buffer_stages.specs.Ready.{IsReady};
+ghost use Rattle.buffer_stages.specs.Stages.{IsFollowed, mapped};
 ghost use Rattle.shape_glyphs.specs.Ignorables.{hidden, hidden_item, invisible_glyph, is_glyph_if_set, preserves_ignorables, without_ignorables};
 
 use crate::glyphs::is_default_ignorable;
 use bitflags::Flags;
-use font_face::Face;
-use glyph_buffer::buffer::hb_buffer_t;
-use glyph_lists::info::hb_glyph_info_t;
-use shaping_text::constants::BufferFlags;
-use stage_rules::glyphs::map_glyphs;
+use buffer_common::constants::BufferFlags;
+use buffer_core::buffer::hb_buffer_t;
+use buffer_glyphs::info::hb_glyph_info_t;
+use buffer_stages::glyphs::map_glyphs;
+use layout_face::Face;
 
 /// Hides default ignorables, unless they are to be preserved: each becomes the invisible glyph that was set, else the font's
 /// space; where they are to be removed, or there is no such glyph, they go, and their clusters stay with a neighbour. It

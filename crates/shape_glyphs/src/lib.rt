@@ -1,6 +1,7 @@
-// Characters as glyphs before the lookups, and what becomes of glyphs after them.
+// Characters as glyphs before the lookups, their advances by the font's metrics, and what becomes of glyphs after the lookups.
 #![tactic(auto)]
 
+pub mod advances;
 pub mod classes;
 pub mod flags;
 pub mod glyphs;

@@ -1,21 +1,21 @@
 //! Variation selectors that the font doesn't join with the character before them.
 ghost use Rattle.std.specs.Prelude.{◌≡◌};
-ghost use Rattle.glyph_lists.specs.Items.{item_of};
-ghost use Rattle.glyph_lists.specs.Origins.{origin_of};
-ghost use Rattle.glyph_buffer.specs.Readings.{always};
-ghost use Rattle.stage_rules.specs.Ready.{IsReady};
-ghost use Rattle.stage_rules.specs.Places.{placed};
-ghost use Rattle.stage_rules.specs.Stages.{IsFollowed, mapped};
+ghost use Rattle.buffer_glyphs.specs.Items.{item_of};
+ghost use Rattle.buffer_glyphs.specs.Origins.{origin_of};
+ghost use Rattle.buffer_core.specs.Readings.{always};
+ghost use Rattle.buffer_stages.specs.Ready.{IsReady};
+ghost use Rattle.buffer_stages.specs.Places.{placed};
+ghost use Rattle.buffer_stages.specs.Stages.{IsFollowed, mapped};
 ghost use Rattle.shape_glyphs.specs.Selectors.{is_marked_selector, selector_position, shown_selector, with_selectors, with_selectors_shown};
 
 use crate::widths::widthless;
-use glyph_buffer::buffer::hb_buffer_t;
-use glyph_lists::flags::UnicodeProps;
-use glyph_lists::info::hb_glyph_info_t;
-use glyph_lists::position::GlyphPosition;
-use stage_rules::glyphs::map_glyphs;
-use stage_rules::positions::map_positions;
-use unicode_chars::category::RB_UNICODE_GENERAL_CATEGORY_NON_SPACING_MARK;
+use buffer_core::buffer::hb_buffer_t;
+use buffer_glyphs::flags::UnicodeProps;
+use buffer_glyphs::info::hb_glyph_info_t;
+use buffer_glyphs::position::GlyphPosition;
+use buffer_stages::glyphs::map_glyphs;
+use buffer_stages::positions::map_positions;
+use buffer_unicode::category::RB_UNICODE_GENERAL_CATEGORY_NON_SPACING_MARK;
 
 /// Shows variation selectors that the font doesn't join as the glyph that is set for them, without a width, and as nonspacing
 /// marks; they stay where none is set. It takes linear time and no memory.

@@ -1,19 +1,19 @@
 //! Positions of glyphs that are not to be seen.
 ghost use Rattle.std.specs.Prelude.{◌≡◌};
-ghost use Rattle.glyph_lists.specs.Items.{item_of};
-ghost use Rattle.glyph_buffer.specs.Readings.{always};
-ghost use Rattle.stage_rules.specs.Ready.{IsReady};
-ghost use Rattle.stage_rules.specs.Places.{placed};
-ghost use Rattle.stage_rules.specs.Stages.{IsFollowed};
+ghost use Rattle.buffer_glyphs.specs.Items.{item_of};
+ghost use Rattle.buffer_core.specs.Readings.{always};
+ghost use Rattle.buffer_stages.specs.Ready.{IsReady};
+ghost use Rattle.buffer_stages.specs.Places.{placed};
+ghost use Rattle.buffer_stages.specs.Stages.{IsFollowed};
 ghost use Rattle.shape_glyphs.specs.Widths.{ignorable_position, keeps_widths, widthless, zero_widths};
 
 use crate::glyphs::is_default_ignorable;
 use bitflags::Flags;
-use glyph_buffer::buffer::hb_buffer_t;
-use glyph_lists::info::hb_glyph_info_t;
-use glyph_lists::position::GlyphPosition;
-use shaping_text::constants::BufferFlags;
-use stage_rules::positions::map_positions;
+use buffer_common::constants::BufferFlags;
+use buffer_core::buffer::hb_buffer_t;
+use buffer_glyphs::info::hb_glyph_info_t;
+use buffer_glyphs::position::GlyphPosition;
+use buffer_stages::positions::map_positions;
 
 /// Takes their advances and offsets from default ignorables, unless they are to be preserved or taken out. It takes linear
 /// time and no memory.

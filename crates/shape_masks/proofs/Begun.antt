@@ -1,15 +1,15 @@
 -- One mask for all glyphs.
 use Rattle.std.proofs.Common.{ℕ, ◌≡◌, List, [], ◌∷◌, length, map, take, refl, sym, ap, ◌∙◌}
 use Rattle.std.proofs.lemmas.List.{length-map}
-use Rattle.glyph_lists.specs.declared.info.hb_glyph_info_t.{hb_glyph_info_t}
-use Rattle.glyph_lists.specs.Items.{Item, glyph_masked, item_masked, item_of}
-use Rattle.glyph_lists.specs.Events.{Reset}
-use Rattle.glyph_buffer.specs.Readings.{View, always}
-use Rattle.glyph_buffer.specs.Masks.{with_masks}
-use Rattle.glyph_buffer.specs.Sides.{Sides, all_glyphs, items_of, origins_by, origins_of, settings_of, told_of, view_of}
-use Rattle.stage_rules.specs.Buffers.{are_glyphs}
-use Rattle.stage_rules.specs.Ready.{IsDone, IsReady}
-use Rattle.stage_rules.specs.Lemmas.Written.{happened_followed}
+use Rattle.buffer_glyphs.specs.declared.info.hb_glyph_info_t.{hb_glyph_info_t}
+use Rattle.buffer_glyphs.specs.Items.{Item, glyph_masked, item_masked, item_of}
+use Rattle.buffer_glyphs.specs.Events.{Reset}
+use Rattle.buffer_core.specs.Readings.{View, always}
+use Rattle.buffer_core.specs.Masks.{with_masks}
+use Rattle.buffer_core.specs.Sides.{Sides, all_glyphs, items_of, origins_by, origins_of, settings_of, told_of, view_of}
+use Rattle.buffer_stages.specs.Buffers.{are_glyphs}
+use Rattle.buffer_stages.specs.Ready.{IsDone, IsReady}
+use Rattle.buffer_stages.specs.Lemmas.Written.{happened_followed}
 use Rattle.shape_masks.specs.Masks.{with_one_mask}
 
 kept_numbers : (m : ℕ) (xs : List Item) → are_glyphs (map (item_masked m) xs) ≡ are_glyphs xs

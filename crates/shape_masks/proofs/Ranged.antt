@@ -1,17 +1,17 @@
 -- Masks of features with ranges.
 use Rattle.std.proofs.Common.{ℕ, ◌≡◌, List, [], ◌∷◌, ◌+◌, ◌<◌, length, map, take, drop, get_or, Ok, refl, sym, ap, subst, ◌∙◌}
 use Rattle.std.proofs.lemmas.List.{drop_more, length-map}
-use Rattle.glyph_lists.specs.declared.info.hb_glyph_info_t.{hb_glyph_info_t}
-use Rattle.glyph_lists.specs.Items.{Item, clusters}
-use Rattle.glyph_lists.specs.Origins.{Origin, origin_of, origins}
-use Rattle.glyph_buffer.specs.Readings.{View, always, with_events}
-use Rattle.glyph_buffer.specs.Masks.{glyph_set, items_set, with_set_masks}
-use Rattle.glyph_buffer.specs.Sides.{Sides, all_glyphs, items_of, origins_of, settings_of, told_of, view_of}
-use Rattle.stage_rules.specs.Ready.{IsReady}
-use Rattle.stage_rules.specs.Lemmas.Written.{becomes_followed}
-use Rattle.stage_rules.specs.Stages.{Becomes, IsFollowed}
-use Rattle.feature_text.specs.declared.feature.Feature.{Feature}
-use Rattle.map_builder.specs.Compiled.{OtMapValue}
+use Rattle.buffer_glyphs.specs.declared.info.hb_glyph_info_t.{hb_glyph_info_t}
+use Rattle.buffer_glyphs.specs.Items.{Item, clusters}
+use Rattle.buffer_glyphs.specs.Origins.{Origin, origin_of, origins}
+use Rattle.buffer_core.specs.Readings.{View, always, with_events}
+use Rattle.buffer_core.specs.Masks.{glyph_set, items_set, with_set_masks}
+use Rattle.buffer_core.specs.Sides.{Sides, all_glyphs, items_of, origins_of, settings_of, told_of, view_of}
+use Rattle.buffer_stages.specs.Ready.{IsReady}
+use Rattle.buffer_stages.specs.Lemmas.Written.{becomes_followed}
+use Rattle.buffer_stages.specs.Stages.{Becomes, IsFollowed}
+use Rattle.buffer_features.specs.declared.feature.Feature.{Feature}
+use Rattle.layout_map.specs.Compiled.{OtMapValue}
 use Rattle.shape_masks.specs.Ranges.{with_all_ranges, with_range, with_ranges}
 
 abbrev seen_with : List Item → Sides → View

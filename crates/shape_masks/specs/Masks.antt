@@ -1,8 +1,8 @@
 -- Masks as shaping begins.
 use Rattle.std.specs.Prelude.{ℕ, [], ◌∷◌, map}
-use Rattle.glyph_lists.specs.Items.{item_masked}
-use Rattle.glyph_lists.specs.Events.{Reset}
-use Rattle.glyph_buffer.specs.Readings.{View, Read, with_events}
+use Rattle.buffer_glyphs.specs.Items.{item_masked}
+use Rattle.buffer_glyphs.specs.Events.{Reset}
+use Rattle.buffer_core.specs.Readings.{View, Read, with_events}
 
 -- each item has one mask, and no glyph flag is set
 abbrev pub with_one_mask : ℕ → View → Read

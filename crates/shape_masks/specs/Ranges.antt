@@ -1,13 +1,13 @@
 -- The masks of features that are asked for on a part of a text: the one reading that is given cluster numbers.
 use Rattle.std.specs.Prelude.{ℕ, ◌*◌, ◌^◌, ◌%◌, if◌then◌else◌, List, [], ◌∷◌}
 use Rattle.std.specs.Option.{option_map_or}
-use Rattle.feature_text.specs.declared.feature.Feature.{Feature}
-use Rattle.feature_text.specs.Feature.{is_global}
-use Rattle.map_builder.specs.declared.chosen_feature.feature_map_t.{feature_map_t}
-use Rattle.map_builder.specs.Compiled.{OtMapValue, feature_at}
-use Rattle.glyph_lists.specs.Items.{Item}
-use Rattle.glyph_buffer.specs.Readings.{View, Read, with_events}
-use Rattle.glyph_buffer.specs.Masks.{items_set}
+use Rattle.buffer_features.specs.declared.feature.Feature.{Feature}
+use Rattle.buffer_features.specs.Feature.{is_global}
+use Rattle.layout_map.specs.declared.chosen_feature.feature_map_t.{feature_map_t}
+use Rattle.layout_map.specs.Compiled.{OtMapValue, feature_at}
+use Rattle.buffer_glyphs.specs.Items.{Item}
+use Rattle.buffer_core.specs.Readings.{View, Read, with_events}
+use Rattle.buffer_core.specs.Masks.{items_set}
 
 -- the bits of a mask that stand for a feature, and the lowest of them; a map that lacks the feature has none
 abbrev pub bits_of : Feature → OtMapValue → ℕ

@@ -1,5 +1,6 @@
-// The masks of a text's glyphs: which features act on each.
+// The masks of a text's glyphs: which features act on each, in ranges and in fractions.
 #![tactic(auto)]
 
+pub mod fractions;
 pub mod masks;
 pub mod ranges;

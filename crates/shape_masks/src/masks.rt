@@ -1,13 +1,13 @@
 //! Masks as shaping begins.
 ghost use Rattle.std.specs.Prelude.{◌≡◌};
 ghost use Rattle.std.specs.Int.RustNames.{bit_and};
-ghost use Rattle.glyph_buffer.specs.Readings.{always};
-ghost use Rattle.stage_rules.specs.Ready.{IsDone, IsReady};
+ghost use Rattle.buffer_core.specs.Readings.{always};
+ghost use Rattle.buffer_stages.specs.Ready.{IsDone, IsReady};
 ghost use Rattle.shape_masks.specs.Masks.{with_one_mask};
-ghost use Rattle.glyph_lists.specs.declared.info.TheConstants.{DEFINED};
+ghost use Rattle.buffer_glyphs.specs.declared.info.TheConstants.{DEFINED};
 
-use glyph_buffer::buffer::hb_buffer_t;
-use glyph_lists::info::hb_mask_t;
+use buffer_core::buffer::hb_buffer_t;
+use buffer_glyphs::info::hb_mask_t;
 
 /// Gives each glyph the mask of the features that are on for all, and no glyph flag. It takes linear time and no memory.
 #[tactic(auto, using(crate::proofs::Begun::reset_done))]

@@ -1,15 +1,15 @@
 //! Features that are asked for on a part of a text.
 ghost use Rattle.std.specs.Prelude.{◌≡◌};
-ghost use Rattle.glyph_lists.specs.Items.{clusters};
-ghost use Rattle.glyph_buffer.specs.Readings.{always};
-ghost use Rattle.glyph_buffer.specs.Sides.{all_glyphs, items_of};
-ghost use Rattle.stage_rules.specs.Ready.{IsReady};
-ghost use Rattle.stage_rules.specs.Stages.{Becomes, IsFollowed};
+ghost use Rattle.buffer_glyphs.specs.Items.{clusters};
+ghost use Rattle.buffer_core.specs.Readings.{always};
+ghost use Rattle.buffer_core.specs.Sides.{all_glyphs, items_of};
+ghost use Rattle.buffer_stages.specs.Ready.{IsReady};
+ghost use Rattle.buffer_stages.specs.Stages.{Becomes, IsFollowed};
 ghost use Rattle.shape_masks.specs.Ranges.{with_range, with_ranges};
 
-use feature_text::feature::Feature;
-use glyph_buffer::buffer::hb_buffer_t;
-use map_builder::map::hb_ot_map_t;
+use buffer_core::buffer::hb_buffer_t;
+use buffer_features::feature::Feature;
+use layout_map::map::hb_ot_map_t;
 
 /// Gives each glyph whose cluster is in the range of a feature the value of that feature, one feature after another; those
 /// for all glyphs are left out. It takes time linear in the glyphs for each feature, and no memory.

@@ -4,16 +4,16 @@ use Rattle.std.specs.Prelude.{slice_get, slice_set, option_map, Some}
 use Rattle.std.proofs.lemmas.Option.{slice_get-map}
 use Rattle.std.proofs.lemmas.List.{map-append, length-map, length-append, length-drop, take-map, drop-map, length-take-le}
 use Rattle.std.proofs.Math.Seq.{take-append_seam, drop-append_seam}
-use Rattle.glyph_lists.specs.declared.info.hb_glyph_info_t.{hb_glyph_info_t}
-use Rattle.glyph_lists.specs.Items.{Item, item_of, strip}
-use Rattle.glyph_lists.specs.Levels.{InOutput}
-use Rattle.glyph_lists.specs.Origins.{origin_of, origins}
-use Rattle.glyph_lists.specs.Events.{Merge, Replace, origins_after}
-use Rattle.glyph_buffer.specs.Sides.{Sides, all_glyphs, asks_of, items_of, origins_of, origins_by, moved_on}
-use Rattle.glyph_buffer.specs.Merging.{with_output_merged, with_skipped}
-use Rattle.glyph_buffer.specs.Lending.{with_glyph_ahead}
-use Rattle.glyph_buffer.specs.Moving.{moved_to}
-use Rattle.normal_rounds.specs.Brought.{frame_of}
+use Rattle.buffer_glyphs.specs.declared.info.hb_glyph_info_t.{hb_glyph_info_t}
+use Rattle.buffer_glyphs.specs.Items.{Item, item_of, strip}
+use Rattle.buffer_glyphs.specs.Levels.{InOutput}
+use Rattle.buffer_glyphs.specs.Origins.{origin_of, origins}
+use Rattle.buffer_glyphs.specs.Events.{Merge, Replace, origins_after}
+use Rattle.buffer_core.specs.Sides.{Sides, all_glyphs, asks_of, items_of, origins_of, origins_by, moved_on}
+use Rattle.buffer_core.specs.Merging.{with_output_merged, with_skipped}
+use Rattle.buffer_core.specs.Lending.{with_glyph_ahead}
+use Rattle.buffer_core.specs.Moving.{moved_to}
+use Rattle.buffer_stages.specs.Brought.{frame_of}
 use Rattle.shape_normalize.specs.Composed.{composition_events, HasRoom, IsComposed, IsWritten}
 use Rattle.shape_normalize.proofs.Room.{room_kept}
 

@@ -4,15 +4,15 @@ use Rattle.std.specs.Prelude.{not}
 use Rattle.std.proofs.lemmas.Bool.{and_parts, cond-true, cond-false}
 use Rattle.std.proofs.lemmas.Bool.Decides.{nat_tests}
 use Rattle.std.proofs.lemmas.List.{append-nil, map-append, length-map, length-replicate}
-use Rattle.glyph_lists.specs.declared.cause.ShapeCause.{ShapeCause}
-use Rattle.glyph_lists.specs.declared.cause.ShapeCause.TheVariants.{OutOfMemory, TooLong}
-use Rattle.glyph_lists.specs.Items.{item_of, strip, zero_position}
-use Rattle.glyph_buffer.specs.Readings.{Read, View}
-use Rattle.glyph_buffer.specs.Sides.{Sides, all_glyphs, told_of, items_of, view_of, origins_by, settings_of, with_output, synced, fits_joined, has_room, zero_positions}
-use Rattle.stage_rules.specs.Ready.{IsReady}
-use Rattle.glyph_properties.specs.Arranged.{Arranged}
-use Rattle.normal_rounds.specs.Lemmas.Chain.{all_shifted_none}
-use Rattle.normal_rounds.specs.Brought.{Brought, Overfills, with_arranged, within_limit}
+use Rattle.buffer_glyphs.specs.declared.cause.ShapeCause.{ShapeCause}
+use Rattle.buffer_glyphs.specs.declared.cause.ShapeCause.TheVariants.{OutOfMemory, TooLong}
+use Rattle.buffer_glyphs.specs.Items.{item_of, strip, zero_position}
+use Rattle.buffer_core.specs.Readings.{Read, View}
+use Rattle.buffer_core.specs.Sides.{Sides, all_glyphs, told_of, items_of, view_of, origins_by, settings_of, with_output, synced, fits_joined, has_room, zero_positions}
+use Rattle.buffer_stages.specs.Ready.{IsReady}
+use Rattle.buffer_glyphs.specs.Arranged.{Arranged}
+use Rattle.shape_rounds.proofs.Lemmas.Chain.{all_shifted_none}
+use Rattle.buffer_stages.specs.Brought.{Brought, Overfills, with_arranged, within_limit}
 use Rattle.shape_normalize.specs.Rounds.{IsArranged}
 
 further_none : (n : ℕ) → 0 + n ≡ n

@@ -7,23 +7,23 @@ use Rattle.std.proofs.lemmas.List.Folds.{drop_split}
 use Rattle.std.proofs.lemmas.Bool.Decides.{nat_tests}
 use Rattle.std.proofs.lemmas.Option.{slice_get-map}
 use Rattle.std.proofs.Math.Seq.{take-append_seam, drop-append_seam}
-use Rattle.glyph_lists.specs.declared.info.hb_glyph_info_t.{hb_glyph_info_t}
-use Rattle.glyph_lists.specs.Items.{Item, item_of, strip}
-use Rattle.glyph_lists.specs.Events.{Sort}
-use Rattle.glyph_slices.specs.Events.{order_of}
-use Rattle.glyph_slices.specs.Sorting.{Spanned}
-use Rattle.glyph_buffer.specs.Sides.{Sides, all_glyphs, items_of, origins_of, origins_by}
-use Rattle.glyph_buffer.specs.Sorting.{with_spanned}
-use Rattle.glyph_buffer.specs.Told.{told_telling}
-use Rattle.stage_rules.specs.Ready.{IsReady}
-use Rattle.stable_order.specs.Keys.{key_order}
-use Rattle.unicode_tables.specs.ClassOrder.{run_order}
-use Rattle.glyph_properties.specs.Arranged.{Arranged, beside, in_turn, kept, shifted}
-use Rattle.glyph_properties.specs.Characters.{mark_class}
-use Rattle.glyph_properties.specs.Ordering.{arranged_run, arranged_runs, ordered_list, sorted_order}
-use Rattle.normal_rounds.specs.Brought.{frame_of}
-use Rattle.normal_rounds.specs.Rearranged.{IsRearranged, Rearranges}
-use Rattle.normal_rounds.specs.Lemmas.Chain.{all_shifted_none, in_turn_both, items_both}
+use Rattle.buffer_glyphs.specs.declared.info.hb_glyph_info_t.{hb_glyph_info_t}
+use Rattle.buffer_glyphs.specs.Items.{Item, item_of, strip}
+use Rattle.buffer_glyphs.specs.Events.{Sort}
+use Rattle.buffer_groups.specs.Events.{order_of}
+use Rattle.buffer_groups.specs.Sorting.{Spanned}
+use Rattle.buffer_core.specs.Sides.{Sides, all_glyphs, items_of, origins_of, origins_by}
+use Rattle.buffer_core.specs.Sorting.{with_spanned}
+use Rattle.buffer_core.proofs.Told.{told_telling}
+use Rattle.buffer_stages.specs.Ready.{IsReady}
+use Rattle.buffer_stable_order.specs.Keys.{key_order}
+use Rattle.buffer_unicode_tables.specs.ClassOrder.{run_order}
+use Rattle.buffer_glyphs.specs.Arranged.{Arranged, beside, in_turn, kept, shifted}
+use Rattle.buffer_properties.specs.Characters.{mark_class}
+use Rattle.buffer_properties.specs.Ordering.{arranged_run, arranged_runs, ordered_list, sorted_order}
+use Rattle.buffer_stages.specs.Brought.{frame_of}
+use Rattle.buffer_stages.specs.Rearranged.{IsRearranged, Rearranges}
+use Rattle.shape_rounds.proofs.Lemmas.Chain.{all_shifted_none, in_turn_both, items_both}
 use Rattle.shape_normalize.specs.Runs.{in_class_order, RunsOn, Meets}
 use Rattle.shape_normalize.proofs.Sorted.{sorted_order_is}
 use Rattle.shape_normalize.proofs.Walk.{by_frame, get_seam}

@@ -5,15 +5,15 @@ use Rattle.std.proofs.lemmas.Bool.{cond-true, cond-false}
 use Rattle.std.proofs.lemmas.Bool.Decides.{nat_tests}
 use Rattle.std.proofs.lemmas.List.{length-map, length-append}
 use Rattle.std.proofs.lemmas.Option.{slice_get-map}
-use Rattle.glyph_lists.specs.declared.info.hb_glyph_info_t.{hb_glyph_info_t}
-use Rattle.glyph_lists.specs.Items.{Item, item_of, strip}
-use Rattle.glyph_lists.specs.Origins.{origin_of, origins}
-use Rattle.glyph_buffer.specs.Sides.{Sides, all_glyphs, items_of}
-use Rattle.glyph_buffer.specs.Lending.{with_glyph_ahead}
-use Rattle.stage_rules.specs.Ready.{IsReady}
-use Rattle.glyph_properties.specs.Characters.{mark_class, shown}
-use Rattle.glyph_properties.specs.Ordering.{joiner_between, joiners_shown, keeps_nothing_apart, with_joiners_shown}
-use Rattle.normal_rounds.specs.Brought.{frame_of}
+use Rattle.buffer_glyphs.specs.declared.info.hb_glyph_info_t.{hb_glyph_info_t}
+use Rattle.buffer_glyphs.specs.Items.{Item, item_of, strip}
+use Rattle.buffer_glyphs.specs.Origins.{origin_of, origins}
+use Rattle.buffer_core.specs.Sides.{Sides, all_glyphs, items_of}
+use Rattle.buffer_core.specs.Lending.{with_glyph_ahead}
+use Rattle.buffer_stages.specs.Ready.{IsReady}
+use Rattle.buffer_properties.specs.Characters.{mark_class, shown}
+use Rattle.buffer_properties.specs.Ordering.{joiner_between, joiners_shown, keeps_nothing_apart, with_joiners_shown}
+use Rattle.buffer_stages.specs.Brought.{frame_of}
 use Rattle.shape_normalize.specs.Runs.{HasItems, ShowsAt}
 use Rattle.shape_normalize.proofs.Compositions.{length_set, set_seen, set_same}
 use Rattle.shape_normalize.proofs.Walk.{get_seam, set_seam}

@@ -4,10 +4,10 @@ use Rattle.std.specs.Prelude.{slice_index_or, filter}
 use Rattle.std.specs.List.{range_with_len}
 use Rattle.std.proofs.lemmas.Bool.{cases_Bool, cond-true, cond-false}
 use Rattle.std.proofs.lemmas.List.{map-append, length-append}
-use Rattle.glyph_slices.specs.Events.{order_of}
-use Rattle.stable_order.specs.Keys.{of_key, by_key, key_bound, key_order}
-use Rattle.unicode_tables.specs.ClassOrder.{run_order}
-use Rattle.glyph_properties.specs.Ordering.{Indexed, indexed_from, sorted_order}
+use Rattle.buffer_groups.specs.Events.{order_of}
+use Rattle.buffer_stable_order.specs.Keys.{of_key, by_key, key_bound, key_order}
+use Rattle.buffer_unicode_tables.specs.ClassOrder.{run_order}
+use Rattle.buffer_properties.specs.Ordering.{Indexed, indexed_from, sorted_order}
 
 filter_through : {X Y : Type 0} (f : X → Y) (p : Y → Bool) (xs : List X) → filter p (map f xs) ≡ map f (filter (λ x. p (f x)) xs)
 filter_through f p [] = refl

@@ -5,18 +5,18 @@ use Rattle.std.specs.Option.{option_map_or, option_and_then}
 use Rattle.std.proofs.lemmas.Option.{slice_get-map}
 use Rattle.std.proofs.lemmas.Bool.{cond-true, cond-false}
 use Rattle.std.proofs.lemmas.List.{append-nil, map-append, length-map, length-append, take-map, drop-map}
-use Rattle.glyph_lists.specs.declared.info.hb_glyph_info_t.{hb_glyph_info_t}
-use Rattle.glyph_lists.specs.Items.{Item, item_of, strip}
-use Rattle.glyph_lists.specs.Origins.{origins}
-use Rattle.glyph_lists.specs.Events.{Event, origins_after}
-use Rattle.glyph_lists.specs.Lemmas.Origins.{origins_after_both}
-use Rattle.glyph_buffer.specs.Sides.{Sides, all_glyphs, asks_of, origins_of, origins_by, moved_on}
-use Rattle.glyph_properties.specs.Arranged.{Arranged, kept, shifted}
-use Rattle.glyph_properties.specs.Characters.{is_mark, mark_class}
-use Rattle.glyph_properties.specs.Composing.{becoming, composite, composed_from, composed_list, with_composition, is_reaching, last_class}
-use Rattle.glyph_properties.specs.Normalizer.{Normalizer}
-use Rattle.normal_rounds.specs.Brought.{Brought, frame_of}
-use Rattle.normal_rounds.specs.Lemmas.Chain.{all_shifted_none}
+use Rattle.buffer_glyphs.specs.declared.info.hb_glyph_info_t.{hb_glyph_info_t}
+use Rattle.buffer_glyphs.specs.Items.{Item, item_of, strip}
+use Rattle.buffer_glyphs.specs.Origins.{origins}
+use Rattle.buffer_glyphs.specs.Events.{Event, origins_after}
+use Rattle.buffer_glyphs.specs.Lemmas.Origins.{origins_after_both}
+use Rattle.buffer_core.specs.Sides.{Sides, all_glyphs, asks_of, origins_of, origins_by, moved_on}
+use Rattle.buffer_glyphs.specs.Arranged.{Arranged, kept, shifted}
+use Rattle.buffer_properties.specs.Characters.{is_mark, mark_class}
+use Rattle.buffer_properties.specs.Composing.{becoming, composite, composed_from, composed_list, with_composition, is_reaching, last_class}
+use Rattle.buffer_properties.specs.Normalizer.{Normalizer}
+use Rattle.buffer_stages.specs.Brought.{Brought, frame_of}
+use Rattle.shape_rounds.proofs.Lemmas.Chain.{all_shifted_none}
 use Rattle.shape_normalize.specs.Composed.{composition_events, HasRoom}
 use Rattle.shape_normalize.specs.Starters.{IsAt, Joins, Composes}
 use Rattle.shape_normalize.proofs.Room.{room_kept}

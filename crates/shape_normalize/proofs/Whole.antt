@@ -3,26 +3,26 @@ use Rattle.std.proofs.Common.{◌≡◌, ◌≤◌, ◌<◌, ◌==◌, ◌||◌,
 use Rattle.std.specs.Prelude.{bit_and}
 use Rattle.std.specs.List.{list_any}
 use Rattle.std.proofs.lemmas.List.{append-nil, length-map, length-replicate}
-use Rattle.glyph_lists.specs.declared.cause.ShapeCause.{ShapeCause}
-use Rattle.glyph_lists.specs.declared.cause.ShapeCause.TheVariants.{TooLong}
-use Rattle.glyph_lists.specs.declared.info.hb_glyph_info_t.{hb_glyph_info_t}
-use Rattle.glyph_lists.specs.Items.{Item, Position, item_of, strip, zero_position}
-use Rattle.glyph_lists.specs.Events.{Event, origins_after}
-use Rattle.glyph_buffer.specs.Readings.{View, read_of}
-use Rattle.glyph_lists.specs.Lemmas.Origins.{origins_after_both}
-use Rattle.glyph_buffer.specs.Sides.{Sides, Settings, all_glyphs, asks_of, items_of, origins_by, origins_of, run_of, settings_of, view_of, zero_positions}
-use Rattle.stage_rules.specs.Stages.{IsFollowed}
-use Rattle.stage_rules.specs.Lemmas.Written.{happened_followed}
-use Rattle.glyph_properties.specs.Arranged.{Arranged, kept}
-use Rattle.glyph_properties.specs.Characters.{is_mark}
-use Rattle.glyph_properties.specs.Composing.{composed_list}
-use Rattle.glyph_properties.specs.Expanding.{expanded_list}
-use Rattle.glyph_properties.specs.Normalizer.{Normalizer, is_composing}
-use Rattle.glyph_properties.specs.NormalizedList.{arranged_marks, composed_if, has_later_mark, normalized}
-use Rattle.glyph_properties.specs.Ordering.{joiners_shown, ordered_list}
-use Rattle.normal_rounds.specs.Brought.{with_arranged, within_limit}
-use Rattle.normal_rounds.specs.Rearranged.{IsRearranged}
-use Rattle.normal_rounds.specs.Lemmas.Chain.{all_shifted_none}
+use Rattle.buffer_glyphs.specs.declared.cause.ShapeCause.{ShapeCause}
+use Rattle.buffer_glyphs.specs.declared.cause.ShapeCause.TheVariants.{TooLong}
+use Rattle.buffer_glyphs.specs.declared.info.hb_glyph_info_t.{hb_glyph_info_t}
+use Rattle.buffer_glyphs.specs.Items.{Item, Position, item_of, strip, zero_position}
+use Rattle.buffer_glyphs.specs.Events.{Event, origins_after}
+use Rattle.buffer_core.specs.Readings.{View, read_of}
+use Rattle.buffer_glyphs.specs.Lemmas.Origins.{origins_after_both}
+use Rattle.buffer_core.specs.Sides.{Sides, Settings, all_glyphs, asks_of, items_of, origins_by, origins_of, run_of, settings_of, view_of, zero_positions}
+use Rattle.buffer_stages.specs.Stages.{IsFollowed}
+use Rattle.buffer_stages.specs.Lemmas.Written.{happened_followed}
+use Rattle.buffer_glyphs.specs.Arranged.{Arranged, kept}
+use Rattle.buffer_properties.specs.Characters.{is_mark}
+use Rattle.buffer_properties.specs.Composing.{composed_list}
+use Rattle.buffer_properties.specs.Expanding.{expanded_list}
+use Rattle.buffer_properties.specs.Normalizer.{Normalizer, is_composing}
+use Rattle.buffer_properties.specs.NormalizedList.{arranged_marks, composed_if, has_later_mark, normalized}
+use Rattle.buffer_properties.specs.Ordering.{joiners_shown, ordered_list}
+use Rattle.buffer_stages.specs.Brought.{with_arranged, within_limit}
+use Rattle.buffer_stages.specs.Rearranged.{IsRearranged}
+use Rattle.shape_rounds.proofs.Lemmas.Chain.{all_shifted_none}
 use Rattle.shape_normalize.specs.Rounds.{IsArranged, normalization}
 use Rattle.shape_normalize.specs.Runs.{HasItems}
 use Rattle.shape_normalize.proofs.Joined.{has_limit, past_limit}

@@ -1,11 +1,11 @@
 -- A mark and a glyph of the output that become one.
 use Rattle.std.specs.Prelude.{ℕ, ◌≡◌, ◌≤◌, ◌+◌, true, false, List, [], ◌∷◌, length, drop, slice_set}
-use Rattle.glyph_lists.specs.declared.info.hb_glyph_info_t.{hb_glyph_info_t}
-use Rattle.glyph_lists.specs.Items.{Item, strip}
-use Rattle.glyph_lists.specs.Levels.{InOutput}
-use Rattle.glyph_lists.specs.Events.{Event, Merge, Replace}
-use Rattle.glyph_buffer.specs.Sides.{Sides, all_glyphs, origins_of, origins_by}
-use Rattle.normal_rounds.specs.Brought.{frame_of}
+use Rattle.buffer_glyphs.specs.declared.info.hb_glyph_info_t.{hb_glyph_info_t}
+use Rattle.buffer_glyphs.specs.Items.{Item, strip}
+use Rattle.buffer_glyphs.specs.Levels.{InOutput}
+use Rattle.buffer_glyphs.specs.Events.{Event, Merge, Replace}
+use Rattle.buffer_core.specs.Sides.{Sides, all_glyphs, origins_of, origins_by}
+use Rattle.buffer_stages.specs.Brought.{frame_of}
 
 -- an output is open, no call has refused, and either side may hold the whole list
 pub record HasRoom (s : Sides) : Type 0 where

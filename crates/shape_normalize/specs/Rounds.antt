@@ -1,13 +1,13 @@
 -- The normal form of a text as a stage of shaping, and what its rounds leave.
 use Rattle.std.specs.Prelude.{◌≡◌, length}
-use Rattle.glyph_buffer.specs.Readings.{Stage}
-use Rattle.glyph_buffer.specs.Sides.{Sides, origins_by, origins_of, settings_of, view_of}
-use Rattle.stage_rules.specs.Ready.{IsReady}
-use Rattle.glyph_properties.specs.Arranged.{Arranged}
-use Rattle.glyph_properties.specs.Expanding.{expanded_list}
-use Rattle.glyph_properties.specs.NormalizedList.{normalized}
-use Rattle.glyph_properties.specs.Normalizer.{Normalizer}
-use Rattle.normal_rounds.specs.Brought.{with_arranged, within_limit}
+use Rattle.buffer_core.specs.Readings.{Stage}
+use Rattle.buffer_core.specs.Sides.{Sides, origins_by, origins_of, settings_of, view_of}
+use Rattle.buffer_stages.specs.Ready.{IsReady}
+use Rattle.buffer_glyphs.specs.Arranged.{Arranged}
+use Rattle.buffer_properties.specs.Expanding.{expanded_list}
+use Rattle.buffer_properties.specs.NormalizedList.{normalized}
+use Rattle.buffer_properties.specs.Normalizer.{Normalizer}
+use Rattle.buffer_stages.specs.Brought.{with_arranged, within_limit}
 
 -- the normalised list with its events, at positions of nothing; it gives up where the list that the characters expand to has
 -- more than `max_len` items

@@ -1,15 +1,15 @@
 -- Runs of marks on a buffer, as they are met one after another.
 use Rattle.std.specs.Prelude.{ℕ, Bool, ◌≡◌, ◌+◌, ◌==◌, ◌++◌, true, false, List, [], ◌∷◌, length, map}
-use Rattle.glyph_lists.specs.Items.{Item}
-use Rattle.glyph_lists.specs.Events.{Sort}
-use Rattle.glyph_buffer.specs.Sides.{Sides, items_of, origins_of}
-use Rattle.stage_rules.specs.Ready.{IsReady}
-use Rattle.unicode_tables.specs.ClassOrder.{run_order}
-use Rattle.glyph_properties.specs.Arranged.{Arranged}
-use Rattle.glyph_properties.specs.Characters.{mark_class}
-use Rattle.glyph_properties.specs.Ordering.{arranged_run, joiner_between, sorted_order}
-use Rattle.normal_rounds.specs.Brought.{frame_of}
-use Rattle.normal_rounds.specs.Rearranged.{IsRearranged}
+use Rattle.buffer_glyphs.specs.Items.{Item}
+use Rattle.buffer_glyphs.specs.Events.{Sort}
+use Rattle.buffer_core.specs.Sides.{Sides, items_of, origins_of}
+use Rattle.buffer_stages.specs.Ready.{IsReady}
+use Rattle.buffer_unicode_tables.specs.ClassOrder.{run_order}
+use Rattle.buffer_glyphs.specs.Arranged.{Arranged}
+use Rattle.buffer_properties.specs.Characters.{mark_class}
+use Rattle.buffer_properties.specs.Ordering.{arranged_run, joiner_between, sorted_order}
+use Rattle.buffer_stages.specs.Brought.{frame_of}
+use Rattle.buffer_stages.specs.Rearranged.{IsRearranged}
 
 -- items put in the order of their classes
 abbrev pub in_class_order : List Item → Arranged

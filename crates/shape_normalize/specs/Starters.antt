@@ -1,10 +1,10 @@
 -- A walk from starter to starter, in an open output.
 use Rattle.std.specs.Prelude.{ℕ, ◌≡◌, ◌==◌, ◌++◌, if◌then◌else◌, List, ◌∷◌, length, Option, Some, None, option_map}
-use Rattle.glyph_lists.specs.Items.{Item, strip}
-use Rattle.glyph_buffer.specs.Sides.{Sides, all_glyphs, moved_on}
-use Rattle.glyph_properties.specs.Characters.{mark_class, standing_for, with_glyph}
-use Rattle.glyph_properties.specs.Composing.{composite}
-use Rattle.glyph_properties.specs.Normalizer.{Normalizer}
+use Rattle.buffer_glyphs.specs.Items.{Item, strip}
+use Rattle.buffer_core.specs.Sides.{Sides, all_glyphs, moved_on}
+use Rattle.buffer_properties.specs.Characters.{mark_class, standing_for, with_glyph}
+use Rattle.buffer_properties.specs.Composing.{composite}
+use Rattle.buffer_properties.specs.Normalizer.{Normalizer}
 use Rattle.shape_normalize.specs.Composed.{IsComposed}
 
 -- an item that comes to stand for a character, with the font's glyph for it

@@ -1,18 +1,18 @@
 //! The third round: marks are composed with their base.
 ghost use Rattle.std.specs.Prelude.{◌≡◌, ◌<◌, ◌≤◌, length, drop, slice_get, Some, IfErr, OnOk};
-ghost use Rattle.glyph_lists.specs.Items.{Item, strip};
-ghost use Rattle.glyph_buffer.specs.Sides.{all_glyphs, moved_on, origins_by, origins_of};
-ghost use Rattle.glyph_buffer.specs.Lending.{with_glyph_ahead};
-ghost use Rattle.glyph_buffer.specs.Moving.{moved_to};
-ghost use Rattle.glyph_properties.specs.Characters.{standing_for, with_glyph};
-ghost use Rattle.normal_rounds.specs.Brought.{frame_of};
+ghost use Rattle.buffer_glyphs.specs.Items.{Item, strip};
+ghost use Rattle.buffer_core.specs.Sides.{all_glyphs, moved_on, origins_by, origins_of};
+ghost use Rattle.buffer_core.specs.Lending.{with_glyph_ahead};
+ghost use Rattle.buffer_core.specs.Moving.{moved_to};
+ghost use Rattle.buffer_properties.specs.Characters.{standing_for, with_glyph};
+ghost use Rattle.buffer_stages.specs.Brought.{frame_of};
 ghost use Rattle.shape_normalize.specs.Composed.{composition_events, HasRoom, IsComposed, IsWritten};
 
-use glyph_buffer::buffer::hb_buffer_t;
-use glyph_lists::cause::ShapeCause;
-use glyph_lists::info::hb_glyph_info_t;
-use normal_rounds::characters::becoming;
-use normal_rounds::normalizing::Normalizing;
+use buffer_core::buffer::hb_buffer_t;
+use buffer_glyphs::cause::ShapeCause;
+use buffer_glyphs::info::hb_glyph_info_t;
+use shape_rounds::characters::becoming;
+use shape_rounds::normalizing::Normalizing;
 
 /// Takes the cursor past a glyph of a list that the output may hold.
 #[tactic(auto, using(crate::proofs::Room::fits_next_glyph))]

@@ -1,18 +1,18 @@
 //! Grapheme joiners that keep nothing apart are shown.
 ghost use Rattle.std.specs.Prelude.{◌≡◌, ◌<◌, ◌≤◌, ◌+◌, ◌==◌, ◌||◌, nat_le, length};
-ghost use Rattle.glyph_lists.specs.Items.{item_of};
-ghost use Rattle.glyph_lists.specs.Origins.{origin_of};
-ghost use Rattle.glyph_buffer.specs.Sides.{items_of};
-ghost use Rattle.stage_rules.specs.Ready.{IsReady};
-ghost use Rattle.glyph_properties.specs.Characters.{shown};
-ghost use Rattle.glyph_properties.specs.Ordering.{joiners_shown};
+ghost use Rattle.buffer_glyphs.specs.Items.{item_of};
+ghost use Rattle.buffer_glyphs.specs.Origins.{origin_of};
+ghost use Rattle.buffer_core.specs.Sides.{items_of};
+ghost use Rattle.buffer_stages.specs.Ready.{IsReady};
+ghost use Rattle.buffer_properties.specs.Characters.{shown};
+ghost use Rattle.buffer_properties.specs.Ordering.{joiners_shown};
 ghost use Rattle.shape_normalize.specs.Runs.{HasItems, ShowsAt};
 
 use crate::composing::write_ahead;
-use glyph_buffer::buffer::hb_buffer_t;
-use glyph_lists::flags::UnicodeProps;
-use glyph_lists::info::hb_glyph_info_t;
-use normal_rounds::characters::mark_class;
+use buffer_core::buffer::hb_buffer_t;
+use buffer_glyphs::flags::UnicodeProps;
+use buffer_glyphs::info::hb_glyph_info_t;
+use shape_rounds::characters::mark_class;
 
 /// COMBINING GRAPHEME JOINER.
 const JOINER: u32 = 0x034F;

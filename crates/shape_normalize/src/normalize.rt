@@ -1,25 +1,25 @@
 //! The normal form that a text gets for a font.
 ghost use Rattle.std.specs.Prelude.{◌≡◌, ◌≢◌, length, IfErr, OnOk, Err};
 ghost use Rattle.std.specs.List.{list_any};
-ghost use Rattle.glyph_lists.specs.Items.{item_of, strip};
-ghost use Rattle.glyph_buffer.specs.Readings.{read_of};
-ghost use Rattle.glyph_buffer.specs.Sides.{all_glyphs, items_of, run_of, zero_positions};
-ghost use Rattle.stage_rules.specs.Ready.{IsReady};
-ghost use Rattle.stage_rules.specs.Stages.{IsFollowed};
-ghost use Rattle.glyph_properties.specs.Characters.{is_mark};
-ghost use Rattle.glyph_properties.specs.Normalizer.{is_composing};
-ghost use Rattle.glyph_properties.specs.NormalizedList.{arranged_marks, has_later_mark};
+ghost use Rattle.buffer_glyphs.specs.Items.{item_of, strip};
+ghost use Rattle.buffer_core.specs.Readings.{read_of};
+ghost use Rattle.buffer_core.specs.Sides.{all_glyphs, items_of, run_of, zero_positions};
+ghost use Rattle.buffer_stages.specs.Ready.{IsReady};
+ghost use Rattle.buffer_stages.specs.Stages.{IsFollowed};
+ghost use Rattle.buffer_properties.specs.Characters.{is_mark};
+ghost use Rattle.buffer_properties.specs.Normalizer.{is_composing};
+ghost use Rattle.buffer_properties.specs.NormalizedList.{arranged_marks, has_later_mark};
 ghost use Rattle.shape_normalize.specs.Rounds.{IsArranged, normalization};
 
 use crate::joiners::show_joiners;
 use crate::ordering::arrange_runs;
 use crate::rounds::{compose_characters, expand_characters};
-use glyph_buffer::buffer::hb_buffer_t;
-use glyph_lists::cause::ShapeCause;
-use glyph_lists::info::hb_glyph_info_t;
-use glyph_properties::NormalizationMode;
-use glyph_properties::categories::is_mark;
-use normal_rounds::normalizing::Normalizing;
+use buffer_core::buffer::hb_buffer_t;
+use buffer_glyphs::cause::ShapeCause;
+use buffer_glyphs::info::hb_glyph_info_t;
+use buffer_properties::NormalizationMode;
+use buffer_properties::categories::is_mark;
+use shape_rounds::normalizing::Normalizing;
 use std::alloc::Global;
 
 /// Whether marks are composed with their base.

@@ -1,23 +1,23 @@
 //! The second round: each run of marks is put in the order of its classes, and the shaper has its say.
 ghost use Rattle.std.specs.Prelude.{◌≡◌, ◌<◌, ◌≤◌, ◌++◌, ◌∷◌, [], false, length, map, take, drop, slice_get, slice_range, Some, IfErr, IfOk, OnOk};
-ghost use Rattle.glyph_lists.specs.Events.{Sort};
-ghost use Rattle.glyph_lists.specs.Items.{item_of};
-ghost use Rattle.glyph_slices.specs.Events.{order_of};
-ghost use Rattle.glyph_buffer.specs.Sides.{all_glyphs, items_of, origins_by, origins_of};
-ghost use Rattle.glyph_buffer.specs.Sorting.{with_range_sorted};
-ghost use Rattle.stage_rules.specs.Ready.{IsReady};
-ghost use Rattle.stable_order.specs.Keys.{key_order};
-ghost use Rattle.glyph_properties.specs.Characters.{mark_class};
-ghost use Rattle.glyph_properties.specs.Ordering.{arranged_run, ordered_list};
-ghost use Rattle.normal_rounds.specs.Rearranged.{IsRearranged, Rearranges};
+ghost use Rattle.buffer_glyphs.specs.Events.{Sort};
+ghost use Rattle.buffer_glyphs.specs.Items.{item_of};
+ghost use Rattle.buffer_groups.specs.Events.{order_of};
+ghost use Rattle.buffer_core.specs.Sides.{all_glyphs, items_of, origins_by, origins_of};
+ghost use Rattle.buffer_core.specs.Sorting.{with_range_sorted};
+ghost use Rattle.buffer_stages.specs.Ready.{IsReady};
+ghost use Rattle.buffer_stable_order.specs.Keys.{key_order};
+ghost use Rattle.buffer_properties.specs.Characters.{mark_class};
+ghost use Rattle.buffer_properties.specs.Ordering.{arranged_run, ordered_list};
+ghost use Rattle.buffer_stages.specs.Rearranged.{IsRearranged, Rearranges};
 ghost use Rattle.shape_normalize.specs.Runs.{in_class_order, Meets};
 
-use glyph_buffer::buffer::hb_buffer_t;
-use glyph_lists::cause::ShapeCause;
-use glyph_lists::info::hb_glyph_info_t;
-use glyph_properties::MAX_COMBINING_MARKS;
-use normal_rounds::characters::mark_class;
-use normal_rounds::normalizing::Normalizing;
+use buffer_core::buffer::hb_buffer_t;
+use buffer_glyphs::cause::ShapeCause;
+use buffer_glyphs::info::hb_glyph_info_t;
+use buffer_properties::MAX_COMBINING_MARKS;
+use shape_rounds::characters::mark_class;
+use shape_rounds::normalizing::Normalizing;
 use std::alloc::{AllocError, Global};
 
 /// Puts what stands from `start` up to before `end` in the order of its classes, items of one class in the order that they

@@ -1,17 +1,17 @@
 //! The first and the third round, each over an output of its own.
 ghost use Rattle.std.specs.Prelude.{◌≡◌, ◌≢◌, ◌≤◌, ◌<◌, length, IfErr, OnOk};
-ghost use Rattle.glyph_buffer.specs.Sides.{items_of, synced};
-ghost use Rattle.stage_rules.specs.Ready.{IsReady};
-ghost use Rattle.glyph_properties.specs.Composing.{composed_list};
-ghost use Rattle.glyph_properties.specs.Expanding.{expanded_list};
+ghost use Rattle.buffer_core.specs.Sides.{items_of, synced};
+ghost use Rattle.buffer_stages.specs.Ready.{IsReady};
+ghost use Rattle.buffer_properties.specs.Composing.{composed_list};
+ghost use Rattle.buffer_properties.specs.Expanding.{expanded_list};
 ghost use Rattle.shape_normalize.specs.Composed.{HasRoom};
 ghost use Rattle.shape_normalize.specs.Rounds.{IsArranged};
 
 use crate::starters::compose_list;
-use glyph_buffer::buffer::hb_buffer_t;
-use glyph_lists::cause::ShapeCause;
-use normal_rounds::expanding::expand_list;
-use normal_rounds::normalizing::Normalizing;
+use buffer_core::buffer::hb_buffer_t;
+use buffer_glyphs::cause::ShapeCause;
+use shape_rounds::expanding::expand_list;
+use shape_rounds::normalizing::Normalizing;
 
 /// The first round: each character is split as far as the shaper and the font want it, a selector joins the character
 /// before it where the font has the pair, and each gets the font's glyph. It takes linear time.

@@ -1,20 +1,20 @@
 //! The third round's walk: each mark joins the last starter, where it reaches it and the font has what they compose to.
 ghost use Rattle.std.specs.Prelude.{◌≡◌, ◌<◌, List, [], length, IfErr, IfOk, OnOk};
 ghost use Rattle.std.specs.Option.{option_and_then};
-ghost use Rattle.glyph_lists.specs.Items.{Item, item_of, strip};
-ghost use Rattle.glyph_buffer.specs.Sides.{all_glyphs};
-ghost use Rattle.glyph_properties.specs.Composing.{becoming, composed_list, is_reaching};
-ghost use Rattle.normal_rounds.specs.Brought.{Brought};
+ghost use Rattle.buffer_glyphs.specs.Items.{Item, item_of, strip};
+ghost use Rattle.buffer_core.specs.Sides.{all_glyphs};
+ghost use Rattle.buffer_properties.specs.Composing.{becoming, composed_list, is_reaching};
+ghost use Rattle.buffer_stages.specs.Brought.{Brought};
 ghost use Rattle.shape_normalize.specs.Composed.{HasRoom};
 ghost use Rattle.shape_normalize.specs.Starters.{become, Composes, Composites, IsAt, Passes};
 
 use crate::composing::{compose_mark, out_at, pass_glyph};
-use glyph_buffer::buffer::hb_buffer_t;
-use glyph_lists::cause::ShapeCause;
-use glyph_lists::info::hb_glyph_info_t;
-use glyph_properties::categories::is_mark;
-use normal_rounds::characters::mark_class;
-use normal_rounds::normalizing::Normalizing;
+use buffer_core::buffer::hb_buffer_t;
+use buffer_glyphs::cause::ShapeCause;
+use buffer_glyphs::info::hb_glyph_info_t;
+use buffer_properties::categories::is_mark;
+use shape_rounds::characters::mark_class;
+use shape_rounds::normalizing::Normalizing;
 
 /// Whether no item of the class of the item at the cursor, or of a greater one, stands between it and the last starter.
 fn is_reaching(starter: usize, buffer: &hb_buffer_t) -> bool

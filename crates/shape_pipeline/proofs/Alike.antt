@@ -1,13 +1,13 @@
 -- Readings of runs that are seen alike.
 use Rattle.std.proofs.Common.{ℕ, ◌≡◌, ◌&&◌, Bool, true, false, if◌then◌else◌, List, [], ◌∷◌, Ok, Err, refl, sym, ap, ◌∙◌}
-use Rattle.feature_text.specs.declared.feature.Feature.{Feature}
-use Rattle.feature_text.specs.Feature.{is_global}
-use Rattle.glyph_lists.specs.Items.{Item}
-use Rattle.glyph_buffer.specs.Readings.{Reading, Run, Stage, View, and_then, then_reading, with_events}
-use Rattle.glyph_buffer.specs.Masks.{items_set}
-use Rattle.glyph_buffer.specs.Sides.{Settings}
-use Rattle.stage_rules.specs.Settings.{text_flags, text_settings_of}
-use Rattle.map_builder.specs.Compiled.{OtMapValue}
+use Rattle.buffer_features.specs.declared.feature.Feature.{Feature}
+use Rattle.buffer_features.specs.Feature.{is_global}
+use Rattle.buffer_glyphs.specs.Items.{Item}
+use Rattle.buffer_core.specs.Readings.{Reading, Run, Stage, View, and_then, then_reading, with_events}
+use Rattle.buffer_core.specs.Masks.{items_set}
+use Rattle.buffer_core.specs.Sides.{Settings}
+use Rattle.buffer_stages.specs.Settings.{text_flags, text_settings_of}
+use Rattle.layout_map.specs.Compiled.{OtMapValue}
 use Rattle.shape_masks.specs.Ranges.{bits_of, placed_value, with_all_ranges, with_range}
 use Rattle.shape_pipeline.specs.Chains.{in_order}
 use Rattle.shape_pipeline.specs.ReadingLaws.{have_no_ranges}

@@ -1,24 +1,24 @@
 -- A text begun.
 use Rattle.std.proofs.Common.{ℕ, ◌≡◌, true, List, [], ◌∷◌, Err, map, refl, sym, ap, subst, ◌∙◌}
 use Rattle.std.proofs.lemmas.List.{length-map}
-use Rattle.glyph_lists.specs.declared.cause.ShapeCause.{ShapeCause}
-use Rattle.glyph_lists.specs.Items.{Item, item_masked, item_of}
-use Rattle.glyph_buffer.specs.Readings.{Run, Stage, always, read_of}
-use Rattle.glyph_buffer.specs.Steps.{follows_events}
-use Rattle.glyph_buffer.specs.Sides.{Sides, all_glyphs, items_of, run_of, settings_of, view_of}
-use Rattle.glyph_buffer.specs.Settings.{after_enter, length_limit, steps_limit}
-use Rattle.stage_rules.specs.Ready.{IsDone, IsReady}
-use Rattle.stage_rules.specs.Settings.{text_settings}
-use Rattle.stage_rules.specs.Stages.{IsFollowed}
+use Rattle.buffer_glyphs.specs.declared.cause.ShapeCause.{ShapeCause}
+use Rattle.buffer_glyphs.specs.Items.{Item, item_masked, item_of}
+use Rattle.buffer_core.specs.Readings.{Run, Stage, always, read_of}
+use Rattle.buffer_core.specs.Steps.{follows_events}
+use Rattle.buffer_core.specs.Sides.{Sides, all_glyphs, items_of, run_of, settings_of, view_of}
+use Rattle.buffer_core.specs.Settings.{after_enter, length_limit, steps_limit}
+use Rattle.buffer_stages.specs.Ready.{IsDone, IsReady}
+use Rattle.buffer_stages.specs.Settings.{text_settings}
+use Rattle.buffer_stages.specs.Stages.{IsFollowed}
 use Rattle.shape_masks.specs.Masks.{with_one_mask}
 use Rattle.shape_text.specs.Properties.{are_characters, with_properties}
 use Rattle.shape_text.specs.Circle.{first_circle}
 use Rattle.shape_text.specs.Clusters.{with_clusters}
-use Rattle.shape_direction.specs.NativeOrder.{native_order}
+use Rattle.shape_text.specs.NativeOrder.{native_order}
 use Rattle.shape_pipeline.specs.Limits.{begun}
 use Rattle.shape_pipeline.specs.Characters.{text_begun}
 use Rattle.shape_pipeline.specs.Shaping.{Shaping}
-use Rattle.shape_pipeline.specs.Lemmas.Chains.{done_followed, fourth_refused, six_followed}
+use Rattle.shape_pipeline.proofs.Lemmas.Chains.{done_followed, fourth_refused, six_followed}
 use Rattle.shape_pipeline.proofs.Sets.{circle_as_set, circle_refused_as_set, followed_as_set}
 
 pub entered_ready : (s : Sides) → IsReady s → IsReady (after_enter s)

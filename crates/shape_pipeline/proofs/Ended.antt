@@ -2,15 +2,15 @@
 use Rattle.std.proofs.Common.{◌≡◌, max, refl, sym, ap, subst, ◌∙◌}
 use Rattle.std.specs.Prelude.{pos, []}
 use Rattle.std.proofs.lemmas.List.{length-map}
-use Rattle.shaping_text.specs.declared.direction.Direction.{Direction}
-use Rattle.glyph_lists.specs.Items.{item_of}
-use Rattle.glyph_buffer.specs.Readings.{always}
-use Rattle.glyph_buffer.specs.Steps.{follows_events}
-use Rattle.glyph_buffer.specs.Sides.{Sides, all_glyphs, run_of, view_of}
-use Rattle.glyph_buffer.specs.Settings.{after_leave}
-use Rattle.glyph_buffer.specs.Segment.{with_segment}
-use Rattle.stage_rules.specs.Ready.{IsReady}
-use Rattle.stage_rules.specs.Stages.{IsFollowed}
+use Rattle.buffer_common.specs.declared.direction.Direction.{Direction}
+use Rattle.buffer_glyphs.specs.Items.{item_of}
+use Rattle.buffer_core.specs.Readings.{always}
+use Rattle.buffer_core.specs.Steps.{follows_events}
+use Rattle.buffer_core.specs.Sides.{Sides, all_glyphs, run_of, view_of}
+use Rattle.buffer_core.specs.Settings.{after_leave}
+use Rattle.buffer_core.specs.Segment.{with_segment}
+use Rattle.buffer_stages.specs.Ready.{IsReady}
+use Rattle.buffer_stages.specs.Stages.{IsFollowed}
 use Rattle.shape_pipeline.specs.Limits.{ended}
 
 pub left_followed : (d : Direction) (s turned new : Sides) → IsReady s → turned ≡ with_segment d s.script s → new ≡ after_leave turned → IsFollowed (always (ended d)) s new

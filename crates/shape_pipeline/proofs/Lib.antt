@@ -1,3 +1,4 @@
+pub mod Lemmas
 mod Alike
 mod Spread
 mod Sets

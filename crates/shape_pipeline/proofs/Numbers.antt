@@ -2,13 +2,13 @@
 use Rattle.std.proofs.Common.{ℕ, ◌≡◌, ◌&&◌, Bool, true, false, nat_le, if◌then◌else◌, List, [], ◌∷◌, map, refl, sym, ap, subst, ◌∙◌}
 use Rattle.std.specs.Prelude.{Option, Some, None}
 use Rattle.std.proofs.lemmas.Bool.{and_parts}
-use Rattle.shaping_text.specs.declared.direction.Direction.{Direction}
-use Rattle.glyph_lists.specs.Items.{Item}
-use Rattle.glyph_buffer.specs.Readings.{Run, always}
-use Rattle.glyph_buffer.specs.Sides.{Sides, Settings, items_of, settings_of, view_of}
-use Rattle.stage_rules.specs.Buffers.{are_glyphs}
-use Rattle.stage_rules.specs.Settings.{text_settings, text_settings_of}
-use Rattle.stage_rules.specs.Stages.{IsFollowed}
+use Rattle.buffer_common.specs.declared.direction.Direction.{Direction}
+use Rattle.buffer_glyphs.specs.Items.{Item}
+use Rattle.buffer_core.specs.Readings.{Run, always}
+use Rattle.buffer_core.specs.Sides.{Sides, Settings, items_of, settings_of, view_of}
+use Rattle.buffer_stages.specs.Buffers.{are_glyphs}
+use Rattle.buffer_stages.specs.Settings.{text_settings, text_settings_of}
+use Rattle.buffer_stages.specs.Stages.{IsFollowed}
 use Rattle.shape_glyphs.specs.Ignorables.{is_glyph_if_set}
 use Rattle.shape_glyphs.specs.Selectors.{is_marked_selector, shown_selector, with_selectors}
 use Rattle.shape_pipeline.specs.Endings.{sets_glyphs}

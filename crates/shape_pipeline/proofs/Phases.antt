@@ -1,17 +1,17 @@
 -- The parts of shaping, each of some stages.
 use Rattle.std.proofs.Common.{ℕ, ◌≡◌, [], ◌∷◌, Ok, Err, Option, sym, subst, ◌∙◌}
 use Rattle.std.specs.Prelude.{◌≢◌, IfErr, IsErrAnd, Result}
-use Rattle.glyph_lists.specs.declared.cause.ShapeCause.TheVariants.{OutOfMemory}
-use Rattle.glyph_lists.specs.declared.cause.ShapeCause.{ShapeCause}
-use Rattle.glyph_buffer.specs.Readings.{Stage, always, read_of}
-use Rattle.glyph_buffer.specs.Sides.{Sides, run_of, settings_of}
-use Rattle.stage_rules.specs.Ready.{IsDone}
+use Rattle.buffer_glyphs.specs.declared.cause.ShapeCause.TheVariants.{OutOfMemory}
+use Rattle.buffer_glyphs.specs.declared.cause.ShapeCause.{ShapeCause}
+use Rattle.buffer_core.specs.Readings.{Stage, always, read_of}
+use Rattle.buffer_core.specs.Sides.{Sides, run_of, settings_of}
+use Rattle.buffer_stages.specs.Ready.{IsDone}
 use Rattle.layout_links.specs.Finishing.{links_followed}
-use Rattle.stage_rules.specs.Settings.{text_settings}
-use Rattle.layout_stages.specs.Substituting.{substituted_by}
+use Rattle.buffer_stages.specs.Settings.{text_settings}
+use Rattle.layout_substitution.specs.Substituting.{substituted_by}
 use Rattle.layout_positioning.specs.Positioning.{positioned_by}
-use Rattle.stage_rules.specs.Stages.{IsFollowed}
-use Rattle.shape_fractions.specs.Fractions.{with_fractions}
+use Rattle.buffer_stages.specs.Stages.{IsFollowed}
+use Rattle.shape_masks.specs.Fractions.{with_fractions}
 use Rattle.shape_glyphs.specs.Classes.{with_font_classes}
 use Rattle.shape_glyphs.specs.Flags.{with_flags_spread}
 use Rattle.shape_glyphs.specs.Glyphs.{with_synthesized_classes}
@@ -19,7 +19,7 @@ use Rattle.shape_glyphs.specs.Ignorables.{hidden}
 use Rattle.shape_glyphs.specs.Selectors.{with_selectors}
 use Rattle.shape_glyphs.specs.Widths.{zero_widths}
 use Rattle.shape_normalize.specs.Rounds.{normalization}
-use Rattle.shape_plan.specs.declared.planned.TheConstants.{HB_OT_SHAPE_ZERO_WIDTH_MARKS_BY_GDEF_EARLY, HB_OT_SHAPE_ZERO_WIDTH_MARKS_BY_GDEF_LATE}
+use Rattle.script_plan.specs.declared.planned.TheConstants.{HB_OT_SHAPE_ZERO_WIDTH_MARKS_BY_GDEF_EARLY, HB_OT_SHAPE_ZERO_WIDTH_MARKS_BY_GDEF_LATE}
 use Rattle.shape_pipeline.specs.Chains.{only_if}
 use Rattle.shape_pipeline.specs.Limits.{ended}
 use Rattle.shape_pipeline.specs.Characters.{characters_chosen, normalizer, text_begun, turned_to_line}
@@ -29,7 +29,7 @@ use Rattle.shape_pipeline.specs.Places.{drawn_order, marks_placed, marks_zeroed,
 use Rattle.shape_pipeline.specs.Endings.{text_ended}
 use Rattle.shape_pipeline.specs.Reading.{after_ranges, before_ranges, positioned}
 use Rattle.shape_pipeline.specs.Shaping.{Shaping, pauses_of, postprocessed, preprocessed, shaper_masks_set}
-use Rattle.shape_pipeline.specs.Lemmas.Chains.{done_followed, first_refused, five_followed, four_done, four_followed, fourth_refused, second_refused, third_refused, three_done, three_followed, two_followed}
+use Rattle.shape_pipeline.proofs.Lemmas.Chains.{done_followed, first_refused, five_followed, four_done, four_followed, fourth_refused, second_refused, third_refused, three_done, three_followed, two_followed}
 use Rattle.shape_pipeline.proofs.Sets.{done_as_set, followed_as_set, refused_as_set, set_as}
 
 -- a cause that `?` passes on

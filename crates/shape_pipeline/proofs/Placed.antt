@@ -6,22 +6,22 @@ use Rattle.std.proofs.lemmas.Grind.{reverse_onto}
 use Rattle.std.proofs.lemmas.List.{map-append}
 use Rattle.std.proofs.lemmas.List.Folds.{list_all-append}
 use Rattle.std.specs.Prelude.{◌&&◌}
-use Rattle.shaping_text.specs.Direction.{is_backward}
-use Rattle.shaping_text.specs.declared.direction.Direction.{Direction}
-use Rattle.glyph_lists.specs.Items.{item_of, strip, zero_position}
-use Rattle.glyph_lists.specs.Origins.{origin_of, origins}
-use Rattle.glyph_lists.specs.Events.{Reverse}
-use Rattle.glyph_buffer.specs.Readings.{Follows, Run, View, always, with_events}
-use Rattle.glyph_buffer.specs.Steps.{follows_events}
-use Rattle.glyph_buffer.specs.Sides.{Sides, all_glyphs, items_of, reversed, run_of, view_of, with_cleared_positions}
-use Rattle.stage_rules.specs.Buffers.{are_glyphs}
-use Rattle.stage_rules.specs.Ready.{IsDone, IsReady}
-use Rattle.stage_rules.specs.Settings.{text_flags}
-use Rattle.stage_rules.specs.Stages.{IsFollowed}
+use Rattle.buffer_common.specs.Direction.{is_backward}
+use Rattle.buffer_common.specs.declared.direction.Direction.{Direction}
+use Rattle.buffer_glyphs.specs.Items.{item_of, strip, zero_position}
+use Rattle.buffer_glyphs.specs.Origins.{origin_of, origins}
+use Rattle.buffer_glyphs.specs.Events.{Reverse}
+use Rattle.buffer_core.specs.Readings.{Follows, Run, View, always, with_events}
+use Rattle.buffer_core.specs.Steps.{follows_events}
+use Rattle.buffer_core.specs.Sides.{Sides, all_glyphs, items_of, reversed, run_of, view_of, with_cleared_positions}
+use Rattle.buffer_stages.specs.Buffers.{are_glyphs}
+use Rattle.buffer_stages.specs.Ready.{IsDone, IsReady}
+use Rattle.buffer_stages.specs.Settings.{text_flags}
+use Rattle.buffer_stages.specs.Stages.{IsFollowed}
 use Rattle.shape_fallback.specs.Zeroing.{with_marks_zeroed}
-use Rattle.fallback_marks.specs.Marks.{components_direction, with_placed_marks}
+use Rattle.shape_fallback.specs.Marks.{components_direction, with_placed_marks}
 use Rattle.shape_glyphs.specs.Widths.{ignorable_position, keeps_widths, zero_widths}
-use Rattle.stage_rules.specs.Places.{placed}
+use Rattle.buffer_stages.specs.Places.{placed}
 use Rattle.shape_pipeline.specs.Places.{adjusts_marks, drawn_order, marks_placed, marks_zeroed, with_nothing}
 use Rattle.shape_pipeline.specs.Shaping.{Shaping}
 use Rattle.shape_pipeline.proofs.Sets.{widths_followed}

@@ -3,17 +3,17 @@ use Rattle.std.proofs.Common.{ℕ, ◌≡◌, ◌==◌, ◌&&◌, Bool, if◌the
 use Rattle.std.specs.Prelude.{bit_and, is_some, [], Option, None}
 use Rattle.std.specs.Option.{option_or}
 use Rattle.std.proofs.lemmas.Nat.{and_assoc}
-use Rattle.glyph_lists.specs.declared.cause.ShapeCause.{ShapeCause}
-use Rattle.shaping_text.specs.declared.constants.BufferFlags.{BufferFlags}
-use Rattle.unicode_tables.specs.Tables.{Tables}
-use Rattle.font_face.specs.declared.parts.FaceParts.{FaceParts}
-use Rattle.font_face.specs.Glyphs.{nominal_glyph}
-use Rattle.glyph_buffer.specs.Readings.{Read, Stage, View, always, as_it_is, read_of, with_events}
-use Rattle.glyph_buffer.specs.Sides.{Sides, Settings, settings_of, run_of}
-use Rattle.stage_rules.specs.Ready.{IsDone}
-use Rattle.stage_rules.specs.Settings.{TextSettings, text_flags, text_settings, text_settings_of}
-use Rattle.stage_rules.specs.Stages.{IsFollowed}
-use Rattle.stage_rules.specs.Places.{placed}
+use Rattle.buffer_glyphs.specs.declared.cause.ShapeCause.{ShapeCause}
+use Rattle.buffer_common.specs.declared.constants.BufferFlags.{BufferFlags}
+use Rattle.buffer_unicode_tables.specs.Tables.{Tables}
+use Rattle.layout_face.specs.declared.parts.FaceParts.{FaceParts}
+use Rattle.layout_face.specs.Glyphs.{nominal_glyph}
+use Rattle.buffer_core.specs.Readings.{Read, Stage, View, always, as_it_is, read_of, with_events}
+use Rattle.buffer_core.specs.Sides.{Sides, Settings, settings_of, run_of}
+use Rattle.buffer_stages.specs.Ready.{IsDone}
+use Rattle.buffer_stages.specs.Settings.{TextSettings, text_flags, text_settings, text_settings_of}
+use Rattle.buffer_stages.specs.Stages.{IsFollowed}
+use Rattle.buffer_stages.specs.Places.{placed}
 use Rattle.shape_glyphs.specs.Ignorables.{hidden, hidden_by, preserves_ignorables, removes_ignorables}
 use Rattle.shape_glyphs.specs.Widths.{ignorable_position, keeps_widths, zero_widths}
 use Rattle.shape_pipeline.specs.Shaping.{Shaping}

@@ -4,32 +4,32 @@ use Rattle.std.specs.Prelude.{⊤, All, IfErr, IfOk, Option, Result, ◌≢◌}
 use Rattle.std.proofs.lemmas.List.{length-map}
 use Rattle.std.proofs.lemmas.List.Folds.{list_all-map}
 use Rattle.std.proofs.lemmas.List.Sums.{list_all-from_AllPass}
-use Rattle.text_buffers.specs.Wrappers.{IsCharacter}
+use Rattle.buffer_wrappers.specs.Wrappers.{IsCharacter}
 use Rattle.shape_text.specs.Properties.{are_characters, is_character}
 use lib.Utf8.{scalar}
-use Rattle.shaping_text.specs.ScriptTags.{wanted_language_tags}
-use Rattle.shaping_text.specs.declared.direction.Direction.{Direction}
-use Rattle.shaping_text.specs.declared.language.Language.{Language}
-use Rattle.shaping_text.specs.declared.script.Script.{Script}
-use Rattle.shaping_text.specs.declared.tag.Tag.{Tag}
-use Rattle.glyph_lists.specs.declared.cause.ShapeCause.{ShapeCause}
-use Rattle.glyph_lists.specs.declared.cause.ShapeCause.TheVariants.{OutOfMemory}
-use Rattle.glyph_lists.specs.declared.info.hb_glyph_info_t.{hb_glyph_info_t}
-use Rattle.feature_text.specs.declared.feature.Feature.{Feature}
-use Rattle.font_face.specs.declared.parts.FaceParts.{FaceParts}
-use Rattle.unicode_tables.specs.Tables.{Tables}
-use Rattle.glyph_lists.specs.Items.{item_of, strip}
-use Rattle.glyph_buffer.specs.Readings.{Follows, Reading, with_events}
-use Rattle.glyph_buffer.specs.Steps.{follows_same}
-use Rattle.glyph_buffer.specs.Sides.{Sides, all_glyphs, items_of, run_of}
-use Rattle.stage_rules.specs.Settings.{TextSettings, text_settings}
-use Rattle.any_shaper.specs.declared.any_shaper.hb_ot_any_shaper_t.{hb_ot_any_shaper_t}
-use Rattle.shape_plan.specs.declared.plan.hb_ot_shape_plan_t.{hb_ot_shape_plan_t}
-use Rattle.shape_plan.specs.Plans.{IsPlanned, text_plan}
-use Rattle.any_shaper.specs.Requests.{any_kind}
-use Rattle.any_shaper.specs.Shapers.{traits_of}
-use Rattle.shape_plan.specs.Rules.{Spans}
-use Rattle.any_shaper.specs.Rules.{rules_of}
+use Rattle.buffer_common.specs.ScriptTags.{wanted_language_tags}
+use Rattle.buffer_common.specs.declared.direction.Direction.{Direction}
+use Rattle.buffer_common.specs.declared.language.Language.{Language}
+use Rattle.buffer_common.specs.declared.script.Script.{Script}
+use Rattle.buffer_common.specs.declared.tag.Tag.{Tag}
+use Rattle.buffer_glyphs.specs.declared.cause.ShapeCause.{ShapeCause}
+use Rattle.buffer_glyphs.specs.declared.cause.ShapeCause.TheVariants.{OutOfMemory}
+use Rattle.buffer_glyphs.specs.declared.info.hb_glyph_info_t.{hb_glyph_info_t}
+use Rattle.buffer_features.specs.declared.feature.Feature.{Feature}
+use Rattle.layout_face.specs.declared.parts.FaceParts.{FaceParts}
+use Rattle.buffer_unicode_tables.specs.Tables.{Tables}
+use Rattle.buffer_glyphs.specs.Items.{item_of, strip}
+use Rattle.buffer_core.specs.Readings.{Follows, Reading, with_events}
+use Rattle.buffer_core.specs.Steps.{follows_same}
+use Rattle.buffer_core.specs.Sides.{Sides, all_glyphs, items_of, run_of}
+use Rattle.buffer_stages.specs.Settings.{TextSettings, text_settings}
+use Rattle.script_dispatch.specs.declared.any_shaper.hb_ot_any_shaper_t.{hb_ot_any_shaper_t}
+use Rattle.script_plan.specs.declared.plan.hb_ot_shape_plan_t.{hb_ot_shape_plan_t}
+use Rattle.script_plan.specs.Plans.{IsPlanned, text_plan}
+use Rattle.script_dispatch.specs.Requests.{any_kind}
+use Rattle.script_dispatch.specs.Shapers.{traits_of}
+use Rattle.script_plan.specs.Rules.{Spans}
+use Rattle.script_dispatch.specs.Rules.{rules_of}
 use Rattle.shape_pipeline.specs.Reading.{reading}
 use Rattle.shape_pipeline.specs.Shaping.{Shaping}
 use Rattle.shape_pipeline.specs.declared.shape.ShapeFault.{ShapeFault}

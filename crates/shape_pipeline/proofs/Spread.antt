@@ -1,14 +1,14 @@
 -- The spread of flags ends each reading.
 use Rattle.std.proofs.Common.{◌≡◌, ◌++◌, false, List, [], ◌∷◌, Ok, Err, refl, sym, ap, subst, ◌∙◌, append_assoc}
-use Rattle.glyph_lists.specs.declared.level.BufferClusterLevel.{BufferClusterLevel}
-use Rattle.glyph_lists.specs.Events.{Event, Spread, origins_after}
-use Rattle.glyph_lists.specs.EventParts.{AreEvenRuns, HaveNoConcat}
-use Rattle.glyph_lists.specs.Order.{BringsNone}
-use Rattle.glyph_lists.specs.Origins.{Asks, Origin, numbers, origins_spread}
-use Rattle.glyph_buffer.specs.Readings.{Follows, Read, Reading, Run, Stage, View, always, and_then, then_reading}
-use Rattle.glyph_buffer.specs.Steps.{then_as_it_is}
-use Rattle.glyph_lists.specs.Lemmas.Origins.{origins_after_both}
-use Rattle.glyph_lists.specs.Lemmas.EventParts.{origins_keep_numbers, spread_has_no_concat, spread_is_even}
+use Rattle.buffer_glyphs.specs.declared.level.BufferClusterLevel.{BufferClusterLevel}
+use Rattle.buffer_glyphs.specs.Events.{Event, Spread, origins_after}
+use Rattle.buffer_glyphs.specs.EventParts.{AreEvenRuns, HaveNoConcat}
+use Rattle.buffer_glyphs.specs.Order.{BringsNone}
+use Rattle.buffer_glyphs.specs.Origins.{Asks, Origin, numbers, origins_spread}
+use Rattle.buffer_core.specs.Readings.{Follows, Read, Reading, Run, Stage, View, always, and_then, then_reading}
+use Rattle.buffer_core.specs.Steps.{then_as_it_is}
+use Rattle.buffer_glyphs.specs.Lemmas.Origins.{origins_after_both}
+use Rattle.buffer_glyphs.specs.Lemmas.EventParts.{origins_keep_numbers, spread_has_no_concat, spread_is_even}
 use Rattle.shape_glyphs.specs.Flags.{with_flags_spread}
 use Rattle.shape_glyphs.specs.Ignorables.{hidden}
 use Rattle.shape_glyphs.specs.Selectors.{with_selectors}

@@ -3,28 +3,28 @@ use Rattle.std.proofs.Common.{ℕ, ◌≡◌, ◌==◌, Bool, true, false, if◌
 use Rattle.std.specs.Prelude.{IsTrue, Option}
 use Rattle.std.proofs.lemmas.Bool.{eqb-true}
 use Rattle.std.proofs.lemmas.List.{length-map, nil_from_length}
-use Rattle.shaping_text.specs.ScriptTags.{wanted_language_tags}
-use Rattle.shaping_text.specs.declared.direction.Direction.{Direction}
-use Rattle.shaping_text.specs.declared.language.Language.{Language}
-use Rattle.shaping_text.specs.declared.script.Script.{Script}
-use Rattle.shaping_text.specs.declared.tag.Tag.{Tag}
-use Rattle.feature_text.specs.declared.feature.Feature.{Feature}
-use Rattle.font_face.specs.declared.parts.FaceParts.{FaceParts}
-use Rattle.unicode_tables.specs.Tables.{Tables}
-use Rattle.glyph_lists.specs.declared.info.hb_glyph_info_t.{hb_glyph_info_t}
-use Rattle.glyph_lists.specs.EventParts.{AreEvenRuns, HaveNoConcat}
-use Rattle.glyph_lists.specs.Items.{Item, item_of}
-use Rattle.glyph_lists.specs.Order.{BringsNone, has_number}
-use Rattle.glyph_lists.specs.Origins.{Origin, numbers, origins}
-use Rattle.glyph_buffer.specs.Readings.{Follows, Reading, Run, View, as_it_is, run_after, with_events}
-use Rattle.glyph_buffer.specs.Sides.{Sides, all_glyphs, asks_of, items_of, origins_of, run_of, view_of}
-use Rattle.stage_rules.specs.Settings.{TextSettings, text_settings}
-use Rattle.shape_plan.specs.Plans.{planned_shaper, text_plan}
-use Rattle.any_shaper.specs.Requests.{any_kind}
+use Rattle.buffer_common.specs.ScriptTags.{wanted_language_tags}
+use Rattle.buffer_common.specs.declared.direction.Direction.{Direction}
+use Rattle.buffer_common.specs.declared.language.Language.{Language}
+use Rattle.buffer_common.specs.declared.script.Script.{Script}
+use Rattle.buffer_common.specs.declared.tag.Tag.{Tag}
+use Rattle.buffer_features.specs.declared.feature.Feature.{Feature}
+use Rattle.layout_face.specs.declared.parts.FaceParts.{FaceParts}
+use Rattle.buffer_unicode_tables.specs.Tables.{Tables}
+use Rattle.buffer_glyphs.specs.declared.info.hb_glyph_info_t.{hb_glyph_info_t}
+use Rattle.buffer_glyphs.specs.EventParts.{AreEvenRuns, HaveNoConcat}
+use Rattle.buffer_glyphs.specs.Items.{Item, item_of}
+use Rattle.buffer_glyphs.specs.Order.{BringsNone, has_number}
+use Rattle.buffer_glyphs.specs.Origins.{Origin, numbers, origins}
+use Rattle.buffer_core.specs.Readings.{Follows, Reading, Run, View, as_it_is, run_after, with_events}
+use Rattle.buffer_core.specs.Sides.{Sides, all_glyphs, asks_of, items_of, origins_of, run_of, view_of}
+use Rattle.buffer_stages.specs.Settings.{TextSettings, text_settings}
+use Rattle.script_plan.specs.Plans.{planned_shaper, text_plan}
+use Rattle.script_dispatch.specs.Requests.{any_kind}
 use Rattle.shape_pipeline.specs.ReadingLaws.{ReadingKeepsNumbers, ResultsAreEven, ResultsHaveNoConcat, RunsReadAlike, have_no_ranges}
 use Rattle.shape_pipeline.specs.Reading.{reading}
 use Rattle.shape_pipeline.specs.Shaping.{Shaping}
-use Rattle.shape_plan.specs.Rules.{Spans}
+use Rattle.script_plan.specs.Rules.{Spans}
 use Rattle.shape_pipeline.specs.Laws.{AreAlike}
 use Rattle.shape_pipeline.specs.Shaped.{by_shaper, by_text, language_tags, text_reading}
 

@@ -1,20 +1,20 @@
 -- All stages.
 use Rattle.std.proofs.Common.{ℕ, ◌≡◌, ◌+◌, ◌-◌, false, List, [], ◌∷◌, Ok, Err, length, arith, refl, sym, ap, subst, ◌∙◌}
 use Rattle.std.proofs.lemmas.List.{length-append}
-use Rattle.glyph_lists.specs.declared.info.hb_glyph_info_t.{hb_glyph_info_t}
-use Rattle.glyph_lists.specs.declared.cause.ShapeCause.{ShapeCause}
-use Rattle.glyph_lists.specs.Items.{clusters, strip}
-use Rattle.glyph_lists.specs.Origins.{numbers, origins}
-use Rattle.glyph_buffer.specs.Readings.{Follows, Reading, Run, read_of}
-use Rattle.glyph_buffer.specs.Sides.{Sides, all_glyphs, run_of, view_of}
-use Rattle.glyph_buffer.specs.Moving.{moved_to}
-use Rattle.stage_rules.specs.Ready.{IsReady}
-use Rattle.stage_rules.specs.Settings.{text_settings}
-use Rattle.stage_rules.specs.Stages.{IsFollowed}
+use Rattle.buffer_glyphs.specs.declared.info.hb_glyph_info_t.{hb_glyph_info_t}
+use Rattle.buffer_glyphs.specs.declared.cause.ShapeCause.{ShapeCause}
+use Rattle.buffer_glyphs.specs.Items.{clusters, strip}
+use Rattle.buffer_glyphs.specs.Origins.{numbers, origins}
+use Rattle.buffer_core.specs.Readings.{Follows, Reading, Run, read_of}
+use Rattle.buffer_core.specs.Sides.{Sides, all_glyphs, run_of, view_of}
+use Rattle.buffer_core.specs.Moving.{moved_to}
+use Rattle.buffer_stages.specs.Ready.{IsReady}
+use Rattle.buffer_stages.specs.Settings.{text_settings}
+use Rattle.buffer_stages.specs.Stages.{IsFollowed}
 use Rattle.shape_pipeline.specs.Masks.{ranges_set}
 use Rattle.shape_pipeline.specs.Reading.{after_ranges, before_ranges, clusters_after, reading, shaped}
 use Rattle.shape_pipeline.specs.Shaping.{Shaping}
-use Rattle.shape_pipeline.specs.Lemmas.Chains.{first_refused, third_refused, three_followed}
+use Rattle.shape_pipeline.proofs.Lemmas.Chains.{first_refused, third_refused, three_followed}
 use Rattle.shape_pipeline.proofs.Sets.{followed_as_set, refused_as_set, set_as}
 
 -- ---- the cursor in front

@@ -1,16 +1,16 @@
 -- A text's characters, until they are as the font and the shaper want them.
 use Rattle.std.specs.Prelude.{◌&&◌, if◌then◌else◌, [], ◌∷◌, None, codes}
 use lib.Utf8.{scalar}
-use Rattle.font_face.specs.Glyphs.{nominal_glyph, variation_glyph}
-use Rattle.glyph_buffer.specs.Readings.{View, Read, Stage, always}
-use Rattle.glyph_properties.specs.Normalizer.{Normalizer}
-use Rattle.shape_plan.specs.Plans.{mask_at_one}
+use Rattle.layout_face.specs.Glyphs.{nominal_glyph, variation_glyph}
+use Rattle.buffer_core.specs.Readings.{View, Read, Stage, always}
+use Rattle.buffer_properties.specs.Normalizer.{Normalizer}
+use Rattle.script_plan.specs.Plans.{mask_at_one}
 use Rattle.shape_masks.specs.Masks.{with_one_mask}
 use Rattle.shape_text.specs.Properties.{with_properties}
 use Rattle.shape_text.specs.Circle.{first_circle}
 use Rattle.shape_text.specs.Clusters.{with_clusters}
-use Rattle.shape_direction.specs.NativeOrder.{native_order}
-use Rattle.shape_direction.specs.Rotation.{rotated}
+use Rattle.shape_text.specs.NativeOrder.{native_order}
+use Rattle.shape_text.specs.Rotation.{rotated}
 use Rattle.shape_normalize.specs.Rounds.{normalization}
 use Rattle.shape_pipeline.specs.Chains.{in_order}
 use Rattle.shape_pipeline.specs.Limits.{begun}

@@ -1,7 +1,7 @@
 -- The end of shaping.
 use Rattle.std.specs.Prelude.{◌&&◌, Bool, [], ◌∷◌}
-use Rattle.stage_rules.specs.Settings.{TextSettings}
-use Rattle.glyph_buffer.specs.Readings.{Stage, always}
+use Rattle.buffer_stages.specs.Settings.{TextSettings}
+use Rattle.buffer_core.specs.Readings.{Stage, always}
 use Rattle.shape_glyphs.specs.Flags.{with_flags_spread}
 use Rattle.shape_glyphs.specs.Ignorables.{hidden, is_glyph_if_set}
 use Rattle.shape_glyphs.specs.Selectors.{with_selectors}

@@ -1,7 +1,7 @@
 -- Characters become glyphs, and the font substitutes them.
 use Rattle.std.specs.Prelude.{[], ◌∷◌}
-use Rattle.glyph_buffer.specs.Readings.{Stage, always}
-use Rattle.layout_stages.specs.Substituting.{substituted_by}
+use Rattle.buffer_core.specs.Readings.{Stage, always}
+use Rattle.layout_substitution.specs.Substituting.{substituted_by}
 use Rattle.shape_fallback.specs.Classes.{with_places}
 use Rattle.shape_glyphs.specs.Classes.{with_font_classes}
 use Rattle.shape_glyphs.specs.Glyphs.{with_glyphs, with_synthesized_classes}

@@ -1,22 +1,22 @@
 -- What holds of all texts that are shaped, with a plan or without one.
 use Rattle.std.specs.Prelude.{ℕ, ⊤, ◌≡◌, true, false, List, []}
-use Rattle.shaping_text.specs.declared.tag.Tag.{Tag}
-use Rattle.feature_text.specs.declared.feature.Feature.{Feature}
-use Rattle.font_face.specs.declared.parts.FaceParts.{FaceParts}
-use Rattle.unicode_tables.specs.Tables.{Tables}
-use Rattle.glyph_lists.specs.EventParts.{AreEvenRuns, HaveNoConcat}
-use Rattle.glyph_lists.specs.Order.{BringsNone}
-use Rattle.glyph_lists.specs.Origins.{numbers}
-use Rattle.glyph_buffer.specs.Readings.{Follows, Run, as_it_is}
-use Rattle.glyph_buffer.specs.Sides.{Sides, asks_of, origins_of, run_of, view_of}
-use Rattle.stage_rules.specs.Settings.{text_settings}
-use Rattle.shape_plan.specs.declared.plan.hb_ot_shape_plan_t.{hb_ot_shape_plan_t}
-use Rattle.shape_plan.specs.Plans.{IsPlanned}
-use Rattle.shape_plan.specs.Rules.{Spans}
-use Rattle.any_shaper.specs.declared.any_shaper.hb_ot_any_shaper_t.{hb_ot_any_shaper_t}
-use Rattle.any_shaper.specs.Requests.{any_kind}
-use Rattle.any_shaper.specs.Rules.{rules_of}
-use Rattle.any_shaper.specs.Shapers.{traits_of}
+use Rattle.buffer_common.specs.declared.tag.Tag.{Tag}
+use Rattle.buffer_features.specs.declared.feature.Feature.{Feature}
+use Rattle.layout_face.specs.declared.parts.FaceParts.{FaceParts}
+use Rattle.buffer_unicode_tables.specs.Tables.{Tables}
+use Rattle.buffer_glyphs.specs.EventParts.{AreEvenRuns, HaveNoConcat}
+use Rattle.buffer_glyphs.specs.Order.{BringsNone}
+use Rattle.buffer_glyphs.specs.Origins.{numbers}
+use Rattle.buffer_core.specs.Readings.{Follows, Run, as_it_is}
+use Rattle.buffer_core.specs.Sides.{Sides, asks_of, origins_of, run_of, view_of}
+use Rattle.buffer_stages.specs.Settings.{text_settings}
+use Rattle.script_plan.specs.declared.plan.hb_ot_shape_plan_t.{hb_ot_shape_plan_t}
+use Rattle.script_plan.specs.Plans.{IsPlanned}
+use Rattle.script_plan.specs.Rules.{Spans}
+use Rattle.script_dispatch.specs.declared.any_shaper.hb_ot_any_shaper_t.{hb_ot_any_shaper_t}
+use Rattle.script_dispatch.specs.Requests.{any_kind}
+use Rattle.script_dispatch.specs.Rules.{rules_of}
+use Rattle.script_dispatch.specs.Shapers.{traits_of}
 use Rattle.shape_pipeline.specs.ReadingLaws.{have_no_ranges}
 use Rattle.shape_pipeline.specs.Shaping.{Shaping}
 use Rattle.shape_pipeline.specs.Shaped.{by_plan, by_text, language_tags, text_reading}

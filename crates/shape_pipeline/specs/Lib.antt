@@ -8,7 +8,6 @@ pub mod Places
 pub mod Endings
 pub mod Reading
 pub mod ReadingLaws
-pub mod Lemmas
 pub mod Shaped
 pub mod Laws
-pub use Rattle.any_shaper.specs.Dispatch
+pub use Rattle.script_dispatch.specs.Dispatch

@@ -1,8 +1,8 @@
 -- How much a text may grow while it is shaped.
 use Rattle.std.specs.Prelude.{pos, max, length, []}
-use Rattle.shaping_text.specs.declared.direction.Direction.{Direction}
-use Rattle.glyph_buffer.specs.Readings.{View, Read, with_events}
-use Rattle.glyph_buffer.specs.Settings.{length_limit, steps_limit}
+use Rattle.buffer_common.specs.declared.direction.Direction.{Direction}
+use Rattle.buffer_core.specs.Readings.{View, Read, with_events}
+use Rattle.buffer_core.specs.Settings.{length_limit, steps_limit}
 
 -- shaping begins: how many glyphs there may be, and how many nested lookups, goes by the characters; no ligature has a number, and nothing is told of the glyphs
 abbrev pub begun : View → Read

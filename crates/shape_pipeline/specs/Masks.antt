@@ -1,10 +1,10 @@
 -- Which features act on which characters.
 use Rattle.std.specs.Prelude.{ℕ, List, [], ◌∷◌, codes}
-use Rattle.glyph_buffer.specs.Readings.{Stage, always}
-use Rattle.map_builder.specs.Compiled.{OtMapValue}
-use Rattle.shape_plan.specs.Plans.{mask_at_one}
-use Rattle.shape_fractions.specs.Fractions.{with_fractions}
-use Rattle.shape_fractions.specs.declared.fractions.FractionMasks.{FractionMasks}
+use Rattle.buffer_core.specs.Readings.{Stage, always}
+use Rattle.layout_map.specs.Compiled.{OtMapValue}
+use Rattle.script_plan.specs.Plans.{mask_at_one}
+use Rattle.shape_masks.specs.Fractions.{with_fractions}
+use Rattle.shape_masks.specs.declared.fractions.FractionMasks.{FractionMasks}
 use Rattle.shape_masks.specs.Ranges.{with_ranges}
 use Rattle.shape_pipeline.specs.Chains.{in_order, only_if}
 use Rattle.shape_pipeline.specs.Shaping.{Shaping, shaper_masks_set}

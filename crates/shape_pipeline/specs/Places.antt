@@ -1,19 +1,19 @@
 -- Where glyphs stand.
 use Rattle.std.specs.Prelude.{ℕ, ◌==◌, ◌&&◌, Bool, if◌then◌else◌, [], ◌∷◌, length, reverse}
-use Rattle.shaping_text.specs.Direction.{is_backward, is_forward}
-use Rattle.shaping_text.specs.declared.direction.Direction.{Direction}
-use Rattle.glyph_lists.specs.Events.{Reverse}
-use Rattle.glyph_buffer.specs.Readings.{View, Read, Stage, always, with_events}
-use Rattle.glyph_buffer.specs.Sides.{zero_positions}
+use Rattle.buffer_common.specs.Direction.{is_backward, is_forward}
+use Rattle.buffer_common.specs.declared.direction.Direction.{Direction}
+use Rattle.buffer_glyphs.specs.Events.{Reverse}
+use Rattle.buffer_core.specs.Readings.{View, Read, Stage, always, with_events}
+use Rattle.buffer_core.specs.Sides.{zero_positions}
 use Rattle.layout_links.specs.Starting.{links_cleared}
 use Rattle.layout_links.specs.Finishing.{links_followed}
 use Rattle.layout_positioning.specs.Positioning.{positioned_by}
-use Rattle.default_positions.specs.Advances.{with_default_positions}
+use Rattle.shape_glyphs.specs.Advances.{with_default_positions}
 use Rattle.shape_glyphs.specs.Widths.{zero_widths}
 use Rattle.shape_fallback.specs.Spaces.{with_spaces}
 use Rattle.shape_fallback.specs.Zeroing.{with_marks_zeroed}
-use Rattle.fallback_marks.specs.Marks.{components_direction, with_placed_marks}
-use Rattle.shape_plan.specs.declared.planned.TheConstants.{HB_OT_SHAPE_ZERO_WIDTH_MARKS_BY_GDEF_EARLY, HB_OT_SHAPE_ZERO_WIDTH_MARKS_BY_GDEF_LATE}
+use Rattle.shape_fallback.specs.Marks.{components_direction, with_placed_marks}
+use Rattle.script_plan.specs.declared.planned.TheConstants.{HB_OT_SHAPE_ZERO_WIDTH_MARKS_BY_GDEF_EARLY, HB_OT_SHAPE_ZERO_WIDTH_MARKS_BY_GDEF_LATE}
 use Rattle.shape_pipeline.specs.Chains.{in_order, only_if}
 use Rattle.shape_pipeline.specs.Shaping.{Shaping, pauses_of}
 

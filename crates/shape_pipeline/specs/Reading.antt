@@ -1,8 +1,8 @@
 -- The whole reading of a text.
 use Rattle.std.specs.Prelude.{ℕ, List, [], ◌∷◌, Ok, Err}
-use Rattle.glyph_lists.specs.Origins.{numbers}
-use Rattle.glyph_lists.specs.Events.{origins_after}
-use Rattle.glyph_buffer.specs.Readings.{Reading, Run, Stage}
+use Rattle.buffer_glyphs.specs.Origins.{numbers}
+use Rattle.buffer_glyphs.specs.Events.{origins_after}
+use Rattle.buffer_core.specs.Readings.{Reading, Run, Stage}
 use Rattle.shape_pipeline.specs.Chains.{in_order}
 use Rattle.shape_pipeline.specs.Characters.{characters_chosen, text_begun}
 use Rattle.shape_pipeline.specs.Endings.{text_ended}

@@ -1,14 +1,14 @@
 -- What holds of all readings.
 use Rattle.std.specs.Prelude.{◌≡◌, true, false, List, Bool}
 use Rattle.std.specs.List.{list_all}
-use Rattle.feature_text.specs.declared.feature.Feature.{Feature}
-use Rattle.feature_text.specs.Feature.{is_global}
-use Rattle.glyph_lists.specs.Origins.{numbers}
-use Rattle.glyph_lists.specs.EventParts.{AreEvenRuns, HaveNoConcat}
-use Rattle.glyph_lists.specs.Order.{BringsNone}
-use Rattle.glyph_buffer.specs.Readings.{Follows, Run}
-use Rattle.glyph_buffer.specs.Sides.{Settings}
-use Rattle.stage_rules.specs.Settings.{text_flags, text_settings_of}
+use Rattle.buffer_features.specs.declared.feature.Feature.{Feature}
+use Rattle.buffer_features.specs.Feature.{is_global}
+use Rattle.buffer_glyphs.specs.Origins.{numbers}
+use Rattle.buffer_glyphs.specs.EventParts.{AreEvenRuns, HaveNoConcat}
+use Rattle.buffer_glyphs.specs.Order.{BringsNone}
+use Rattle.buffer_core.specs.Readings.{Follows, Run}
+use Rattle.buffer_core.specs.Sides.{Settings}
+use Rattle.buffer_stages.specs.Settings.{text_flags, text_settings_of}
 use Rattle.shape_pipeline.specs.Reading.{reading}
 use Rattle.shape_pipeline.specs.Shaping.{Shaping}
 

@@ -1,22 +1,22 @@
 -- What a text is shaped by, and how it is read.
 use Rattle.std.specs.Prelude.{ℕ, ⊤, ◌==◌, if◌then◌else◌, List, [], length, Ok}
-use Rattle.shaping_text.specs.declared.tag.Tag.{Tag}
-use Rattle.shaping_text.specs.ScriptTags.{wanted_language_tags}
-use Rattle.feature_text.specs.declared.feature.Feature.{Feature}
-use Rattle.font_face.specs.declared.parts.FaceParts.{FaceParts}
-use Rattle.unicode_tables.specs.Tables.{Tables}
-use Rattle.glyph_buffer.specs.Readings.{Reading, Run, with_events}
-use Rattle.glyph_buffer.specs.Sides.{Sides}
-use Rattle.stage_rules.specs.Settings.{TextSettings, text_settings}
-use Rattle.shape_plan.specs.declared.plan.hb_ot_shape_plan_t.{hb_ot_shape_plan_t}
-use Rattle.shape_plan.specs.declared.plan.hb_script_plan_t.{hb_script_plan_t}
-use Rattle.shape_plan.specs.Plans.{planned_shaper, text_plan}
-use Rattle.shape_plan.specs.Traits.{ShaperTraits}
-use Rattle.shape_plan.specs.Rules.{ShaperRules, Spans}
-use Rattle.any_shaper.specs.declared.any_shaper.hb_ot_any_shaper_t.{hb_ot_any_shaper_t}
-use Rattle.any_shaper.specs.Requests.{any_kind}
-use Rattle.any_shaper.specs.Rules.{rules_of}
-use Rattle.any_shaper.specs.Shapers.{traits_of}
+use Rattle.buffer_common.specs.declared.tag.Tag.{Tag}
+use Rattle.buffer_common.specs.ScriptTags.{wanted_language_tags}
+use Rattle.buffer_features.specs.declared.feature.Feature.{Feature}
+use Rattle.layout_face.specs.declared.parts.FaceParts.{FaceParts}
+use Rattle.buffer_unicode_tables.specs.Tables.{Tables}
+use Rattle.buffer_core.specs.Readings.{Reading, Run, with_events}
+use Rattle.buffer_core.specs.Sides.{Sides}
+use Rattle.buffer_stages.specs.Settings.{TextSettings, text_settings}
+use Rattle.script_plan.specs.declared.plan.hb_ot_shape_plan_t.{hb_ot_shape_plan_t}
+use Rattle.script_plan.specs.declared.plan.hb_script_plan_t.{hb_script_plan_t}
+use Rattle.script_plan.specs.Plans.{planned_shaper, text_plan}
+use Rattle.script_plan.specs.Traits.{ShaperTraits}
+use Rattle.script_plan.specs.Rules.{ShaperRules, Spans}
+use Rattle.script_dispatch.specs.declared.any_shaper.hb_ot_any_shaper_t.{hb_ot_any_shaper_t}
+use Rattle.script_dispatch.specs.Requests.{any_kind}
+use Rattle.script_dispatch.specs.Rules.{rules_of}
+use Rattle.script_dispatch.specs.Shapers.{traits_of}
 use Rattle.shape_pipeline.specs.Reading.{reading}
 use Rattle.shape_pipeline.specs.Shaping.{Shaping}
 

@@ -1,17 +1,17 @@
 -- What a text is shaped by.
 use Rattle.std.specs.Prelude.{List, Option}
-use Rattle.shaping_text.specs.declared.direction.Direction.{Direction}
-use Rattle.shaping_text.specs.declared.script.Script.{Script}
-use Rattle.feature_text.specs.declared.feature.Feature.{Feature}
-use Rattle.unicode_tables.specs.Tables.{Tables}
-use Rattle.font_face.specs.declared.parts.FaceParts.{FaceParts}
-use Rattle.glyph_buffer.specs.Readings.{Stage}
-use Rattle.map_builder.specs.Compiled.{OtMapValue}
-use Rattle.stage_rules.specs.Settings.{TextSettings}
-use Rattle.stage_rules.specs.Pauses.{Pauses}
-use Rattle.shape_plan.specs.declared.plan.PlanChoices.{PlanChoices}
-use Rattle.shape_plan.specs.Traits.{ShaperTraits}
-use Rattle.shape_plan.specs.Rules.{ShaperRules, Spans}
+use Rattle.buffer_common.specs.declared.direction.Direction.{Direction}
+use Rattle.buffer_common.specs.declared.script.Script.{Script}
+use Rattle.buffer_features.specs.declared.feature.Feature.{Feature}
+use Rattle.buffer_unicode_tables.specs.Tables.{Tables}
+use Rattle.layout_face.specs.declared.parts.FaceParts.{FaceParts}
+use Rattle.buffer_core.specs.Readings.{Stage}
+use Rattle.layout_map.specs.Compiled.{OtMapValue}
+use Rattle.buffer_stages.specs.Settings.{TextSettings}
+use Rattle.buffer_stages.specs.Pauses.{Pauses}
+use Rattle.script_plan.specs.declared.plan.PlanChoices.{PlanChoices}
+use Rattle.script_plan.specs.Traits.{ShaperTraits}
+use Rattle.script_plan.specs.Rules.{ShaperRules, Spans}
 
 -- all that a text is shaped by: no cluster, no level and no request for flags of glyphs is in it
 pub record Shaping : Type 0 where

@@ -1,10 +1,10 @@
 //! A text's characters, until they are as the font and the shaper want them.
 ghost use Rattle.std.specs.Prelude.{◌≡◌, ◌≢◌, Err, IfErr, OnOk, true};
-ghost use Rattle.glyph_buffer.specs.Readings.{always, read_of};
-ghost use Rattle.glyph_buffer.specs.Sides.{items_of, run_of};
-ghost use Rattle.stage_rules.specs.Ready.{IsReady};
-ghost use Rattle.stage_rules.specs.Settings.{text_settings};
-ghost use Rattle.stage_rules.specs.Stages.{IsFollowed};
+ghost use Rattle.buffer_core.specs.Readings.{always, read_of};
+ghost use Rattle.buffer_core.specs.Sides.{items_of, run_of};
+ghost use Rattle.buffer_stages.specs.Ready.{IsReady};
+ghost use Rattle.buffer_stages.specs.Settings.{text_settings};
+ghost use Rattle.buffer_stages.specs.Stages.{IsFollowed};
 ghost use Rattle.shape_text.specs.Properties.{are_characters};
 ghost use Rattle.shape_normalize.specs.Rounds.{normalization};
 ghost use Rattle.shape_pipeline.specs.Characters.{characters_chosen, normalizer, text_begun, turned_to_line};
@@ -12,17 +12,17 @@ ghost use Rattle.shape_pipeline.specs.Shaping.{preprocessed};
 
 use crate::context::{Shaped, hb_ot_shape_context_t};
 use crate::normalizing::hb_ot_shape_normalize_context_t;
-use glyph_buffer::buffer::hb_buffer_t;
-use glyph_lists::cause::ShapeCause;
-use script_syllables::SyllableSpans;
-use shape_direction::direction::ensure_native_direction;
-use shape_direction::rotation::{self, Rotation};
+use buffer_core::buffer::hb_buffer_t;
+use buffer_glyphs::cause::ShapeCause;
+use script_categories::SyllableSpans;
+use script_plan::hb_ot_shaper_t;
 use shape_masks::masks::initialize_masks;
 use shape_normalize::normalize::_hb_ot_shape_normalize;
-use shape_plan::hb_ot_shaper_t;
 use shape_text::circle::insert_dotted_circle;
 use shape_text::clusters::form_clusters;
+use shape_text::direction::ensure_native_direction;
 use shape_text::properties::set_unicode_props;
+use shape_text::rotation::{self, Rotation};
 
 impl<S: hb_ot_shaper_t, P: SyllableSpans> hb_ot_shape_context_t<'_, S, P> {
     /// Begins with a text: limits, the mask of all glyphs, the characters' properties, a circle before a mark, graphemes, and

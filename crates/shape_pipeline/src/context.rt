@@ -1,11 +1,11 @@
 //! What a text is shaped by.
 
-use font_face::Face;
-use script_syllables::SyllableSpans;
-use shape_plan::hb_ot_shaper_t;
-use shape_plan::plan::hb_ot_shape_plan_t;
+use buffer_unicode_tables::UnicodeTables;
+use layout_face::Face;
+use script_categories::SyllableSpans;
+use script_plan::hb_ot_shaper_t;
+use script_plan::plan::hb_ot_shape_plan_t;
 use std::alloc::Global;
-use unicode_tables::UnicodeTables;
 
 /// A plan with its shaper, a font, tables of characters, and what tells where syllables end.
 #[derive(Drop)]
@@ -19,7 +19,7 @@ pub struct hb_ot_shape_context_t<'a, S: hb_ot_shaper_t, P: SyllableSpans> {
 
 /// What a text is shaped by, as its reading knows it.
 pub trait Shaped {
-    ghost use Rattle.stage_rules.specs.Settings.{TextSettings};
+    ghost use Rattle.buffer_stages.specs.Settings.{TextSettings};
     ghost use Rattle.shape_pipeline.specs.Shaping.{Shaping};
 
     ghost shaping: { Self → TextSettings → Shaping };

@@ -1,8 +1,8 @@
 //! What shaping goes by, beside the font and the text.
 
-use script_syllables::SyllableSpans;
-use shaping_text::language_tags::LanguageTags;
-use unicode_tables::UnicodeTables;
+use buffer_common::language_tags::LanguageTags;
+use buffer_unicode_tables::UnicodeTables;
+use script_categories::SyllableSpans;
 
 /// What is known of characters, what tells where syllables end, and what tells the tags of languages.
 #[derive(Clone, Copy, Drop)]

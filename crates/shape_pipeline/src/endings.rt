@@ -1,26 +1,26 @@
 //! The end of shaping.
 ghost use Rattle.std.specs.Prelude.{◌≡◌, ◌≢◌, Err, IfErr, OnOk, true};
-ghost use Rattle.glyph_buffer.specs.Readings.{always, read_of};
-ghost use Rattle.glyph_buffer.specs.Sides.{items_of, run_of};
-ghost use Rattle.stage_rules.specs.Buffers.{are_glyphs};
-ghost use Rattle.stage_rules.specs.Ready.{IsDone, IsReady};
-ghost use Rattle.stage_rules.specs.Settings.{text_settings};
-ghost use Rattle.stage_rules.specs.Stages.{IsFollowed};
+ghost use Rattle.buffer_core.specs.Readings.{always, read_of};
+ghost use Rattle.buffer_core.specs.Sides.{items_of, run_of};
+ghost use Rattle.buffer_stages.specs.Buffers.{are_glyphs};
+ghost use Rattle.buffer_stages.specs.Ready.{IsDone, IsReady};
+ghost use Rattle.buffer_stages.specs.Settings.{text_settings};
+ghost use Rattle.buffer_stages.specs.Stages.{IsFollowed};
 ghost use Rattle.shape_glyphs.specs.Ignorables.{hidden, is_glyph_if_set};
 ghost use Rattle.shape_pipeline.specs.Endings.{sets_glyphs, text_ended};
 ghost use Rattle.shape_pipeline.specs.Limits.{ended};
 ghost use Rattle.shape_pipeline.specs.Shaping.{postprocessed};
 
 use crate::context::{Shaped, hb_ot_shape_context_t};
-use font_face::Face;
-use glyph_buffer::buffer::hb_buffer_t;
-use glyph_lists::cause::ShapeCause;
-use script_syllables::SyllableSpans;
+use buffer_common::direction::Direction;
+use buffer_core::buffer::hb_buffer_t;
+use buffer_glyphs::cause::ShapeCause;
+use layout_face::Face;
+use script_categories::SyllableSpans;
+use script_plan::hb_ot_shaper_t;
 use shape_glyphs::flags::propagate_flags;
 use shape_glyphs::ignorables::hide_default_ignorables;
 use shape_glyphs::selectors::deal_with_variation_selectors;
-use shape_plan::hb_ot_shaper_t;
-use shaping_text::direction::Direction;
 
 #[tactic(auto, using(crate::proofs::Sets::hidden_as_asked))]
 fn hide_ignorables(face: &Face, buffer: &mut hb_buffer_t)

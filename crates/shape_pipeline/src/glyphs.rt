@@ -1,12 +1,12 @@
 //! Characters become glyphs, and the font substitutes them.
 ghost use Rattle.std.specs.Prelude.{◌≡◌, ◌≢◌, Err, IfErr, OnOk, true};
-ghost use Rattle.glyph_buffer.specs.Readings.{always, read_of};
-ghost use Rattle.glyph_buffer.specs.Sides.{items_of, run_of};
-ghost use Rattle.stage_rules.specs.Buffers.{are_glyphs};
-ghost use Rattle.stage_rules.specs.Ready.{IsDone, IsReady};
-ghost use Rattle.stage_rules.specs.Settings.{text_settings};
-ghost use Rattle.layout_stages.specs.Substituting.{substituted_by};
-ghost use Rattle.stage_rules.specs.Stages.{IsFollowed};
+ghost use Rattle.buffer_core.specs.Readings.{always, read_of};
+ghost use Rattle.buffer_core.specs.Sides.{items_of, run_of};
+ghost use Rattle.buffer_stages.specs.Buffers.{are_glyphs};
+ghost use Rattle.buffer_stages.specs.Ready.{IsDone, IsReady};
+ghost use Rattle.buffer_stages.specs.Settings.{text_settings};
+ghost use Rattle.layout_substitution.specs.Substituting.{substituted_by};
+ghost use Rattle.buffer_stages.specs.Stages.{IsFollowed};
 ghost use Rattle.shape_fallback.specs.Classes.{with_places};
 ghost use Rattle.shape_glyphs.specs.Glyphs.{with_synthesized_classes};
 ghost use Rattle.shape_pipeline.specs.Chains.{only_if};
@@ -14,18 +14,18 @@ ghost use Rattle.shape_pipeline.specs.Glyphs.{glyphs_substituted, glyphs_taken};
 ghost use Rattle.shape_pipeline.specs.Shaping.{pauses_of};
 
 use crate::context::{Shaped, hb_ot_shape_context_t};
-use glyph_buffer::buffer::hb_buffer_t;
-use glyph_lists::cause::ShapeCause;
-use layout_stages::substitute::substitute;
-use script_syllables::SyllableSpans;
+use buffer_core::buffer::hb_buffer_t;
+use buffer_glyphs::cause::ShapeCause;
+use layout_substitution::substitute::substitute;
+use script_categories::SyllableSpans;
+use script_plan::hb_ot_shaper_t;
+use script_plan::plan::PlanChoices;
 use shape_fallback::classes::_hb_ot_shape_fallback_mark_position_recategorize_marks;
 use shape_glyphs::classes::hb_ot_layout_substitute_start;
 use shape_glyphs::glyphs::{hb_synthesize_glyph_classes, map_glyphs_fast};
-use shape_plan::hb_ot_shaper_t;
-use shape_plan::plan::PlanChoices;
 
 /// Gives marks the classes of their places, where they will be placed by their boxes.
-#[tactic(auto, using(crate::specs::Lemmas::Chains::acts_followed, crate::specs::Lemmas::Chains::rests_followed))]
+#[tactic(auto, using(crate::proofs::Lemmas::Chains::acts_followed, crate::proofs::Lemmas::Chains::rests_followed))]
 fn recategorize_marks(choices: PlanChoices, buffer: &mut hb_buffer_t)
     requires { IsReady buffer.old }
     ensures { IsFollowed (only_if choices.fallback_mark_positioning (always with_places)) buffer.old buffer.new }
@@ -36,7 +36,7 @@ fn recategorize_marks(choices: PlanChoices, buffer: &mut hb_buffer_t)
 }
 
 /// Gives glyphs classes by their characters, for a font that gives none.
-#[tactic(auto, using(crate::specs::Lemmas::Chains::acts_done, crate::specs::Lemmas::Chains::rests_done))]
+#[tactic(auto, using(crate::proofs::Lemmas::Chains::acts_done, crate::proofs::Lemmas::Chains::rests_done))]
 fn synthesize_classes(choices: PlanChoices, buffer: &mut hb_buffer_t)
     requires { IsReady buffer.old }
     ensures { IsDone (only_if choices.fallback_glyph_classes (always with_synthesized_classes)) buffer.old buffer.new }
@@ -48,7 +48,7 @@ fn synthesize_classes(choices: PlanChoices, buffer: &mut hb_buffer_t)
 
 impl<S: hb_ot_shaper_t, P: SyllableSpans> hb_ot_shape_context_t<'_, S, P> {
     /// Puts the glyph that was chosen for each character in its place.
-    #[tactic(auto, unfolding(crate::specs::Glyphs::glyphs_taken), using(crate::specs::Lemmas::Chains::two_followed))]
+    #[tactic(auto, unfolding(crate::specs::Glyphs::glyphs_taken), using(crate::proofs::Lemmas::Chains::two_followed))]
     pub(crate) fn take_glyphs(&self, buffer: &mut hb_buffer_t)
         requires { IsReady buffer.old }
         ensures followed { IsFollowed

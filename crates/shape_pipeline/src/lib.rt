@@ -16,5 +16,5 @@ pub mod reading_laws;
 pub mod shape;
 mod stages;
 
-pub use any_shaper::{hb_ot_any_shaper_t, script_waits};
 pub use data::hb_shape_data_t;
+pub use script_dispatch::{hb_ot_any_shaper_t, script_waits};

@@ -1,27 +1,27 @@
 //! Which features act on which characters.
 ghost use Rattle.std.specs.Prelude.{◌≡◌, ◌≢◌, Err, IfErr, OnOk};
-ghost use Rattle.glyph_lists.specs.Items.{clusters};
-ghost use Rattle.glyph_buffer.specs.Readings.{always, read_of};
-ghost use Rattle.glyph_buffer.specs.Sides.{all_glyphs, run_of};
-ghost use Rattle.stage_rules.specs.Ready.{IsReady};
-ghost use Rattle.stage_rules.specs.Settings.{text_settings};
-ghost use Rattle.stage_rules.specs.Stages.{IsFollowed};
-ghost use Rattle.shape_fractions.specs.Fractions.{with_fractions};
+ghost use Rattle.buffer_glyphs.specs.Items.{clusters};
+ghost use Rattle.buffer_core.specs.Readings.{always, read_of};
+ghost use Rattle.buffer_core.specs.Sides.{all_glyphs, run_of};
+ghost use Rattle.buffer_stages.specs.Ready.{IsReady};
+ghost use Rattle.buffer_stages.specs.Settings.{text_settings};
+ghost use Rattle.buffer_stages.specs.Stages.{IsFollowed};
+ghost use Rattle.shape_masks.specs.Fractions.{with_fractions};
 ghost use Rattle.shape_pipeline.specs.Chains.{only_if};
 ghost use Rattle.shape_pipeline.specs.Masks.{fraction_masks, masks_set, ranges_set};
 ghost use Rattle.shape_pipeline.specs.Shaping.{shaper_masks_set};
 
 use crate::context::{Shaped, hb_ot_shape_context_t};
-use glyph_buffer::buffer::hb_buffer_t;
-use glyph_lists::cause::ShapeCause;
-use script_syllables::SyllableSpans;
-use shape_fractions::fractions::{self, FractionMasks};
+use buffer_core::buffer::hb_buffer_t;
+use buffer_glyphs::cause::ShapeCause;
+use script_categories::SyllableSpans;
+use script_plan::hb_ot_shaper_t;
+use script_plan::plan::hb_script_plan_t;
+use shape_masks::fractions::{self, FractionMasks};
 use shape_masks::ranges::set_ranged_masks;
-use shape_plan::hb_ot_shaper_t;
-use shape_plan::plan::hb_script_plan_t;
 
 /// Gives numbers around a fraction slash the masks of fractions, where the font has them.
-#[tactic(auto, using(crate::specs::Lemmas::Chains::acts_followed, crate::specs::Lemmas::Chains::rests_followed))]
+#[tactic(auto, using(crate::proofs::Lemmas::Chains::acts_followed, crate::proofs::Lemmas::Chains::rests_followed))]
 fn setup_masks_fraction<D>(plan: &hb_script_plan_t<D>, buffer: &mut hb_buffer_t)
     requires { IsReady buffer.old }
     ensures { IsFollowed (only_if plan.now.choices.has_frac (always (with_fractions (fraction_masks plan.now.map))))

@@ -1,13 +1,13 @@
 //! What normalising asks, answered by a shaper, a font and tables.
 ghost use Rattle.std.specs.Prelude.{◌≡◌, ◌&&◌, None, if◌then◌else◌};
 
-use font_face::Face;
-use glyph_buffer::buffer::hb_buffer_t;
-use glyph_properties::NormalizationMode;
-use normal_rounds::normalizing::Normalizing;
-use shape_plan::hb_ot_shaper_t;
-use shape_plan::plan::hb_script_plan_t;
-use unicode_tables::UnicodeTables;
+use buffer_core::buffer::hb_buffer_t;
+use buffer_properties::NormalizationMode;
+use buffer_unicode_tables::UnicodeTables;
+use layout_face::Face;
+use script_plan::hb_ot_shaper_t;
+use script_plan::plan::hb_script_plan_t;
+use shape_rounds::normalizing::Normalizing;
 
 /// A shaper with its plan, a font, tables, and the glyphs that a text has for what the font lacks.
 #[derive(Drop)]
@@ -23,7 +23,7 @@ pub struct hb_ot_shape_normalize_context_t<'a, S: hb_ot_shaper_t> {
 impl<S: hb_ot_shaper_t> Normalizing for hb_ot_shape_normalize_context_t<'_, S> {
     ghost use Rattle.std.specs.Prelude.{◌&&◌, None, if◌then◌else◌};
     ghost use lib.Utf8.{scalar};
-    ghost use Rattle.font_face.specs.Glyphs.{nominal_glyph, variation_glyph};
+    ghost use Rattle.layout_face.specs.Glyphs.{nominal_glyph, variation_glyph};
 
     ghost normalizer = { λ n. record {
       tables = n.tables.now;

@@ -1,11 +1,11 @@
 //! A shaper's pauses, between the stages of lookups.
 
 use crate::context::hb_ot_shape_context_t;
-use glyph_buffer::buffer::hb_buffer_t;
-use glyph_lists::cause::ShapeCause;
-use script_syllables::SyllableSpans;
-use shape_plan::hb_ot_shaper_t;
-use stage_rules::pause::Pause;
+use buffer_core::buffer::hb_buffer_t;
+use buffer_glyphs::cause::ShapeCause;
+use buffer_stages::pause::Pause;
+use script_categories::SyllableSpans;
+use script_plan::hb_ot_shaper_t;
 
 impl<S: hb_ot_shaper_t, P: SyllableSpans> Pause for hb_ot_shape_context_t<'_, S, P> {
     ghost stage = { λ c settings n. (S.rules c.plan.now.shaper c.plan.now.script_plan).pauses c.face.now c.tables.now

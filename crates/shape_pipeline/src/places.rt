@@ -1,11 +1,11 @@
 //! Where glyphs stand.
 ghost use Rattle.std.specs.Prelude.{◌≡◌, ◌≢◌, ◌==◌, ◌&&◌, Err, IfErr, OnOk, true};
-ghost use Rattle.shaping_text.specs.Direction.{is_forward};
-ghost use Rattle.glyph_buffer.specs.Readings.{always, read_of};
-ghost use Rattle.glyph_buffer.specs.Sides.{items_of, run_of};
-ghost use Rattle.stage_rules.specs.Buffers.{are_glyphs};
-ghost use Rattle.stage_rules.specs.Ready.{IsDone, IsReady};
-ghost use Rattle.stage_rules.specs.Settings.{text_settings};
+ghost use Rattle.buffer_common.specs.Direction.{is_forward};
+ghost use Rattle.buffer_core.specs.Readings.{always, read_of};
+ghost use Rattle.buffer_core.specs.Sides.{items_of, run_of};
+ghost use Rattle.buffer_stages.specs.Buffers.{are_glyphs};
+ghost use Rattle.buffer_stages.specs.Ready.{IsDone, IsReady};
+ghost use Rattle.buffer_stages.specs.Settings.{text_settings};
 ghost use Rattle.layout_positioning.specs.Positioning.{positioned_by};
 ghost use Rattle.shape_glyphs.specs.Widths.{zero_widths};
 ghost use Rattle.shape_pipeline.specs.Chains.{only_if};
@@ -14,23 +14,23 @@ ghost use Rattle.shape_pipeline.specs.Reading.{positioned};
 ghost use Rattle.shape_pipeline.specs.Shaping.{pauses_of};
 
 use crate::context::{Shaped, hb_ot_shape_context_t};
-use default_positions::advances::position_default;
-use fallback_marks::marks::{components_direction, position_marks};
-use glyph_buffer::buffer::hb_buffer_t;
-use glyph_lists::cause::ShapeCause;
+use buffer_common::direction::Direction;
+use buffer_core::buffer::hb_buffer_t;
+use buffer_glyphs::cause::ShapeCause;
 use layout_links::finish::{position_finish_offsets, position_start};
 use layout_positioning::position;
-use script_syllables::SyllableSpans;
-use shape_fallback::kerning::_hb_ot_shape_fallback_kern;
-use shape_fallback::spaces::_hb_ot_shape_fallback_spaces;
-use shape_fallback::zeroing::zero_mark_widths_by_gdef;
-use shape_glyphs::widths::zero_width_default_ignorables;
-use shape_plan::hb_ot_shaper_t;
-use shape_plan::planned::{
+use script_categories::SyllableSpans;
+use script_plan::hb_ot_shaper_t;
+use script_plan::planned::{
     HB_OT_SHAPE_ZERO_WIDTH_MARKS_BY_GDEF_EARLY, HB_OT_SHAPE_ZERO_WIDTH_MARKS_BY_GDEF_LATE,
     hb_ot_shape_zero_width_marks_type_t,
 };
-use shaping_text::direction::Direction;
+use shape_fallback::kerning::_hb_ot_shape_fallback_kern;
+use shape_fallback::marks::{components_direction, position_marks};
+use shape_fallback::spaces::_hb_ot_shape_fallback_spaces;
+use shape_fallback::zeroing::zero_mark_widths_by_gdef;
+use shape_glyphs::advances::position_default;
+use shape_glyphs::widths::zero_width_default_ignorables;
 
 #[tactic(auto, using(crate::proofs::Placed::cleared_done))]
 fn clear_positions(buffer: &mut hb_buffer_t)
@@ -61,7 +61,7 @@ fn draw(buffer: &mut hb_buffer_t)
 
 impl<S: hb_ot_shaper_t, P: SyllableSpans> hb_ot_shape_context_t<'_, S, P> {
     /// Gives glyphs the font's advances, and spaces their own.
-    #[tactic(auto, unfolding(crate::specs::Places::positions_begun), using(crate::specs::Lemmas::Chains::four_done))]
+    #[tactic(auto, unfolding(crate::specs::Places::positions_begun), using(crate::proofs::Lemmas::Chains::four_done))]
     fn begin_positions(&self, buffer: &mut hb_buffer_t)
         requires { IsReady buffer.old }
         ensures { IsDone (positions_begun (⟦<Self as Shaped>⟧.shaping self.now (text_settings buffer.old)))
@@ -102,7 +102,7 @@ impl<S: hb_ot_shaper_t, P: SyllableSpans> hb_ot_shape_context_t<'_, S, P> {
     }
 
     /// Takes their advances from marks, if now is the time.
-    #[tactic(auto, using(crate::specs::Lemmas::Chains::acts_done, crate::specs::Lemmas::Chains::rests_done))]
+    #[tactic(auto, using(crate::proofs::Lemmas::Chains::acts_done, crate::proofs::Lemmas::Chains::rests_done))]
     fn zero_marks(&self, time: hb_ot_shape_zero_width_marks_type_t, buffer: &mut hb_buffer_t)
         requires { IsReady buffer.old }
         ensures { IsDone
@@ -116,7 +116,7 @@ impl<S: hb_ot_shaper_t, P: SyllableSpans> hb_ot_shape_context_t<'_, S, P> {
     }
 
     /// Does the font's lookups of positioning, if the plan uses them.
-    #[tactic(auto, using(crate::specs::Lemmas::Chains::acts_done, crate::specs::Lemmas::Chains::rests_done, crate::specs::Lemmas::Chains::acts_refused))]
+    #[tactic(auto, using(crate::proofs::Lemmas::Chains::acts_done, crate::proofs::Lemmas::Chains::rests_done, crate::proofs::Lemmas::Chains::acts_refused))]
     fn position_by_lookups(&self, buffer: &mut hb_buffer_t) -> Result<(), ShapeCause>
         requires ready { IsReady buffer.old }
         requires numbers { are_glyphs (items_of buffer.old) ≡ true }
@@ -193,7 +193,7 @@ impl<S: hb_ot_shaper_t, P: SyllableSpans> hb_ot_shape_context_t<'_, S, P> {
     }
 
     /// Places marks by the boxes of their bases, if the plan wants it.
-    #[tactic(auto, using(crate::specs::Lemmas::Chains::acts_done, crate::specs::Lemmas::Chains::rests_done))]
+    #[tactic(auto, using(crate::proofs::Lemmas::Chains::acts_done, crate::proofs::Lemmas::Chains::rests_done))]
     fn place_marks(&self, buffer: &mut hb_buffer_t)
         requires ready { IsReady buffer.old }
         requires numbers { are_glyphs (items_of buffer.old) ≡ true }

@@ -1,26 +1,26 @@
 //! Shaping of a text, with a plan or without one.
 ghost use Rattle.std.specs.Prelude.{◌≡◌, ◌≢◌, Err, IfErr, IfOk, true, false};
-ghost use Rattle.glyph_buffer.specs.Readings.{Follows};
-ghost use Rattle.glyph_buffer.specs.Segment.{guessed};
-ghost use Rattle.glyph_buffer.specs.Sides.{empty_buffer, items_of, run_of};
-ghost use Rattle.stage_rules.specs.Settings.{text_settings};
+ghost use Rattle.buffer_core.specs.Readings.{Follows};
+ghost use Rattle.buffer_core.specs.Segment.{guessed};
+ghost use Rattle.buffer_core.specs.Sides.{empty_buffer, items_of, run_of};
+ghost use Rattle.buffer_stages.specs.Settings.{text_settings};
 ghost use Rattle.shape_text.specs.Properties.{are_characters};
 ghost use Rattle.shape_pipeline.specs.Shaped.{by_plan, by_text, text_reading};
 
 use crate::context::{Shaped, hb_ot_shape_context_t};
 use crate::data::hb_shape_data_t;
-use any_shaper::hb_ot_any_shaper_t;
-use feature_text::feature::Feature;
-use font_face::Face;
-use glyph_buffer::buffer::hb_buffer_t;
-use glyph_lists::cause::ShapeCause;
-use script_syllables::SyllableSpans;
-use shape_plan::hb_ot_shaper_t;
-use shape_plan::plan::hb_ot_shape_plan_t;
-use shaping_text::language_tags::LanguageTags;
+use buffer_common::language_tags::LanguageTags;
+use buffer_core::buffer::hb_buffer_t;
+use buffer_features::feature::Feature;
+use buffer_glyphs::cause::ShapeCause;
+use buffer_wrappers::glyphs::GlyphBuffer;
+use buffer_wrappers::unicode_buffer::UnicodeBuffer;
+use layout_face::Face;
+use script_categories::SyllableSpans;
+use script_dispatch::hb_ot_any_shaper_t;
+use script_plan::hb_ot_shaper_t;
+use script_plan::plan::hb_ot_shape_plan_t;
 use std::alloc::Global;
-use text_buffers::glyphs::GlyphBuffer;
-use text_buffers::unicode_buffer::UnicodeBuffer;
 
 /// Why a text was not shaped, and the buffer for another text.
 #[derive(Drop)]

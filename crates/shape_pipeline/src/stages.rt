@@ -1,20 +1,20 @@
 //! All stages of shaping, in order.
 ghost use Rattle.std.specs.Prelude.{◌≡◌, ◌≢◌, Err, IfErr, OnOk, true, false};
-ghost use Rattle.glyph_buffer.specs.Readings.{Follows, read_of};
-ghost use Rattle.glyph_buffer.specs.Sides.{items_of, run_of, settings_of};
-ghost use Rattle.stage_rules.specs.Buffers.{are_glyphs};
-ghost use Rattle.stage_rules.specs.Ready.{IsReady};
-ghost use Rattle.stage_rules.specs.Settings.{text_settings};
-ghost use Rattle.stage_rules.specs.Stages.{IsFollowed};
+ghost use Rattle.buffer_core.specs.Readings.{Follows, read_of};
+ghost use Rattle.buffer_core.specs.Sides.{items_of, run_of, settings_of};
+ghost use Rattle.buffer_stages.specs.Buffers.{are_glyphs};
+ghost use Rattle.buffer_stages.specs.Ready.{IsReady};
+ghost use Rattle.buffer_stages.specs.Settings.{text_settings};
+ghost use Rattle.buffer_stages.specs.Stages.{IsFollowed};
 ghost use Rattle.shape_text.specs.Properties.{are_characters};
 ghost use Rattle.shape_pipeline.specs.Endings.{sets_glyphs};
 ghost use Rattle.shape_pipeline.specs.Reading.{after_ranges, before_ranges, reading};
 
 use crate::context::{Shaped, hb_ot_shape_context_t};
-use glyph_buffer::buffer::hb_buffer_t;
-use glyph_lists::cause::ShapeCause;
-use script_syllables::SyllableSpans;
-use shape_plan::hb_ot_shaper_t;
+use buffer_core::buffer::hb_buffer_t;
+use buffer_glyphs::cause::ShapeCause;
+use script_categories::SyllableSpans;
+use script_plan::hb_ot_shaper_t;
 
 /// Puts the cursor in front of the text.
 #[tactic(auto, using(crate::proofs::Whole::rewound_ready, crate::proofs::Whole::rewound_run))]

@@ -3,19 +3,19 @@ use Rattle.std.proofs.Common.{◌≡◌, ◌≤◌, ◌<◌, ◌+◌, true, fals
 use Rattle.std.specs.Prelude.{bit_or}
 use Rattle.std.proofs.lemmas.Bool.Decides.{nat_tests}
 use Rattle.std.proofs.lemmas.List.{length-map, length-replicate}
-use Rattle.glyph_lists.specs.declared.cause.ShapeCause.TheVariants.{TooLong}
-use Rattle.glyph_lists.specs.declared.info.hb_glyph_info_t.{hb_glyph_info_t}
-use Rattle.unicode_tables.specs.Tables.{Tables}
-use Rattle.font_face.specs.declared.parts.FaceParts.{FaceParts}
-use Rattle.glyph_properties.specs.Properties.{scratch_flags_of}
-use Rattle.glyph_lists.specs.Items.{item_of, strip, zero_position}
-use Rattle.glyph_lists.specs.Origins.{origins, origins_circled}
-use Rattle.glyph_lists.specs.Events.{Circle}
-use Rattle.glyph_buffer.specs.Readings.{View, with_events, as_it_is}
-use Rattle.glyph_buffer.specs.Sides.{Sides, all_glyphs, items_of, told_of, view_of, zero_positions}
-use Rattle.stage_rules.specs.Ready.{IsReady}
-use Rattle.stage_rules.specs.Stages.{IsFollowed}
-use Rattle.stage_rules.specs.Lemmas.Written.{happened_followed}
+use Rattle.buffer_glyphs.specs.declared.cause.ShapeCause.TheVariants.{TooLong}
+use Rattle.buffer_glyphs.specs.declared.info.hb_glyph_info_t.{hb_glyph_info_t}
+use Rattle.buffer_unicode_tables.specs.Tables.{Tables}
+use Rattle.layout_face.specs.declared.parts.FaceParts.{FaceParts}
+use Rattle.buffer_properties.specs.Properties.{scratch_flags_of}
+use Rattle.buffer_glyphs.specs.Items.{item_of, strip, zero_position}
+use Rattle.buffer_glyphs.specs.Origins.{origins, origins_circled}
+use Rattle.buffer_glyphs.specs.Events.{Circle}
+use Rattle.buffer_core.specs.Readings.{View, with_events, as_it_is}
+use Rattle.buffer_core.specs.Sides.{Sides, all_glyphs, items_of, told_of, view_of, zero_positions}
+use Rattle.buffer_stages.specs.Ready.{IsReady}
+use Rattle.buffer_stages.specs.Stages.{IsFollowed}
+use Rattle.buffer_stages.specs.Lemmas.Written.{happened_followed}
 use Rattle.shape_text.proofs.Prepared.{told_once}
 use Rattle.shape_text.specs.Circle.{DOTTED_CIRCLE, circled, first_circle, glyphs_circled, needs_circle, with_circle, with_circle_put}
 

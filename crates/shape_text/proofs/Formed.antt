@@ -5,19 +5,19 @@ use Rattle.std.specs.List.{prefix_len}
 use Rattle.std.proofs.lemmas.List.{append-nil, drop_all, drop-drop, drop-map, length-map, length-drop}
 use Rattle.std.proofs.lemmas.List.Sums.{prefix_len-le-length}
 use Rattle.std.proofs.lemmas.Nat.{and_assoc}
-use Rattle.glyph_lists.specs.declared.info.hb_glyph_info_t.{hb_glyph_info_t}
-use Rattle.glyph_lists.specs.Items.{Item, item_of, strip}
-use Rattle.glyph_lists.specs.Events.{Event}
-use Rattle.glyph_buffer.specs.Readings.{View, always}
-use Rattle.glyph_buffer.specs.Graphemes.{continues}
-use Rattle.glyph_slices.specs.Groups.{group_length, joined_after}
-use Rattle.glyph_slices.specs.Lemmas.Stretches.{lengths_cut}
-use Rattle.glyph_slices.specs.Runs as Runs
-use Rattle.glyph_buffer.specs.Sides.{Settings, Sides, all_glyphs, items_of, told_of, view_of}
-use Rattle.stage_rules.specs.Ready.{IsReady}
-use Rattle.stage_rules.specs.Stages.{Happens, IsFollowed}
-use Rattle.stage_rules.specs.Lemmas.Happened.{nothing_happens, both_happen}
-use Rattle.stage_rules.specs.Lemmas.Written.{read_followed}
+use Rattle.buffer_glyphs.specs.declared.info.hb_glyph_info_t.{hb_glyph_info_t}
+use Rattle.buffer_glyphs.specs.Items.{Item, item_of, strip}
+use Rattle.buffer_glyphs.specs.Events.{Event}
+use Rattle.buffer_core.specs.Readings.{View, always}
+use Rattle.buffer_core.specs.Graphemes.{continues}
+use Rattle.buffer_groups.specs.Groups.{group_length, joined_after}
+use Rattle.buffer_groups.specs.Lemmas.Stretches.{lengths_cut}
+use Rattle.buffer_groups.specs.Runs as Runs
+use Rattle.buffer_core.specs.Sides.{Settings, Sides, all_glyphs, items_of, told_of, view_of}
+use Rattle.buffer_stages.specs.Ready.{IsReady}
+use Rattle.buffer_stages.specs.Stages.{Happens, IsFollowed}
+use Rattle.buffer_stages.proofs.Lemmas.Happened.{nothing_happens, both_happen}
+use Rattle.buffer_stages.specs.Lemmas.Written.{read_followed}
 use Rattle.shape_text.specs.Clusters.{grapheme_event, grapheme_events, grapheme_lengths, has_non_ascii, with_clusters}
 
 one_more : (n : ℕ) → suc n ≡ 1 + n

@@ -1,23 +1,23 @@
 -- The properties of a text's characters, one after another.
 use Rattle.std.proofs.Common.{ℕ, zero, suc, ◌≡◌, ◌<◌, ◌≤◌, ◌+◌, ◌==◌, Bool, nat_le, true, false, List, [], ◌∷◌, ◌++◌, Option, Some, None, length, take, drop, set, get_or, arith, add-one, refl, sym, ap, ◌∙◌}
 use Rattle.std.specs.Prelude.{bit_and, bit_or}
-use Rattle.glyph_lists.specs.declared.info.hb_glyph_info_t.{hb_glyph_info_t}
-use Rattle.glyph_lists.specs.Items.{item_of, strip}
-use Rattle.glyph_lists.specs.Origins.{origins}
+use Rattle.buffer_glyphs.specs.declared.info.hb_glyph_info_t.{hb_glyph_info_t}
+use Rattle.buffer_glyphs.specs.Items.{item_of, strip}
+use Rattle.buffer_glyphs.specs.Origins.{origins}
 use Rattle.std.proofs.lemmas.List.{at_drop_more, drop-set-lt, drop_all, take_all, append-nil}
 use Rattle.std.proofs.lemmas.Bool.{and_parts}
 use Rattle.std.proofs.lemmas.Nat.Bits.{same_from_bits, bit_at_and, bit_at_or}
-use Rattle.unicode_tables.specs.Tables.{Tables}
+use Rattle.buffer_unicode_tables.specs.Tables.{Tables}
 use Rattle.shape_text.specs.declared.graphemes.Before.{Before}
 use Rattle.shape_text.specs.Graphemes.{continues}
-use Rattle.glyph_buffer.specs.Readings.{View, always}
-use Rattle.glyph_properties.specs.Properties.{scratch_flags_of, bit_if}
-use Rattle.unicode_chars.specs.Character.{is_default_ignorable_character}
-use Rattle.glyph_buffer.specs.Sides.{Sides, all_glyphs, items_of, told_of, view_of, with_scratch_flags}
-use Rattle.glyph_buffer.specs.Lending.{with_refilled}
-use Rattle.stage_rules.specs.Ready.{IsReady}
-use Rattle.stage_rules.specs.Stages.{IsFollowed}
-use Rattle.stage_rules.specs.Lemmas.Written.{written_becomes, happened_followed}
+use Rattle.buffer_core.specs.Readings.{View, always}
+use Rattle.buffer_properties.specs.Properties.{scratch_flags_of, bit_if}
+use Rattle.buffer_unicode.specs.Character.{is_default_ignorable_character}
+use Rattle.buffer_core.specs.Sides.{Sides, all_glyphs, items_of, told_of, view_of, with_scratch_flags}
+use Rattle.buffer_core.specs.Lending.{with_refilled}
+use Rattle.buffer_stages.specs.Ready.{IsReady}
+use Rattle.buffer_stages.specs.Stages.{IsFollowed}
+use Rattle.buffer_stages.specs.Lemmas.Written.{written_becomes, happened_followed}
 use Rattle.shape_text.specs.Properties.{are_characters, is_character, with_properties, glyph_prepared, glyphs_prepared, glyphs_told, met, prepared, told_by}
 
 -- glyphs of which the first so many are prepared

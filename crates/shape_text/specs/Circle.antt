@@ -1,18 +1,18 @@
 -- The dotted circle in front of a text that begins with a mark.
 use Rattle.std.specs.Prelude.{ℕ, ◌+◌, ◌==◌, ◌&&◌, not, Bool, false, nat_le, if◌then◌else◌, is_some, List, [], ◌∷◌, length, Ok, Err}
 use Rattle.std.specs.Int.RustNames.{bit_and, bit_or}
-use Rattle.glyph_lists.specs.declared.cause.ShapeCause.TheVariants.{TooLong}
-use Rattle.shaping_text.specs.declared.constants.BufferFlags.{BufferFlags}
-use Rattle.unicode_tables.specs.Tables.{Tables}
-use Rattle.font_face.specs.declared.parts.FaceParts.{FaceParts}
-use Rattle.font_face.specs.Glyphs.{nominal_glyph}
-use Rattle.glyph_properties.specs.Properties.{text_properties_of, character_class, scratch_flags_of}
-use Rattle.glyph_lists.specs.declared.info.hb_glyph_info_t.{hb_glyph_info_t}
-use Rattle.glyph_lists.specs.Items.{Item}
-use Rattle.glyph_lists.specs.Events.{Circle}
-use Rattle.glyph_buffer.specs.Readings.{Stage, with_events, as_it_is}
-use Rattle.glyph_buffer.specs.Sides.{Sides, all_glyphs, zero_positions}
-use Rattle.glyph_properties.specs.Characters.{is_mark}
+use Rattle.buffer_glyphs.specs.declared.cause.ShapeCause.TheVariants.{TooLong}
+use Rattle.buffer_common.specs.declared.constants.BufferFlags.{BufferFlags}
+use Rattle.buffer_unicode_tables.specs.Tables.{Tables}
+use Rattle.layout_face.specs.declared.parts.FaceParts.{FaceParts}
+use Rattle.layout_face.specs.Glyphs.{nominal_glyph}
+use Rattle.buffer_properties.specs.Properties.{text_properties_of, character_class, scratch_flags_of}
+use Rattle.buffer_glyphs.specs.declared.info.hb_glyph_info_t.{hb_glyph_info_t}
+use Rattle.buffer_glyphs.specs.Items.{Item}
+use Rattle.buffer_glyphs.specs.Events.{Circle}
+use Rattle.buffer_core.specs.Readings.{Stage, with_events, as_it_is}
+use Rattle.buffer_core.specs.Sides.{Sides, all_glyphs, zero_positions}
+use Rattle.buffer_properties.specs.Characters.{is_mark}
 
 -- U+25CC DOTTED CIRCLE
 abbrev pub DOTTED_CIRCLE : ℕ

@@ -1,14 +1,14 @@
 -- The graphemes of a text, as clusters.
 use Rattle.std.specs.Prelude.{ℕ, ◌+◌, ◌==◌, not, Bool, if◌then◌else◌, List, [], ◌∷◌}
 use Rattle.std.specs.Int.RustNames.{bit_and}
-use Rattle.glyph_lists.specs.declared.level.BufferClusterLevel.{BufferClusterLevel}
-use Rattle.glyph_lists.specs.declared.level.BufferClusterLevel.TheVariants.{MonotoneGraphemes, MonotoneCharacters, Characters}
-use Rattle.glyph_lists.specs.Items.{Item}
-use Rattle.glyph_lists.specs.Levels.{InList}
-use Rattle.glyph_lists.specs.Events.{Event, Merge, Break}
-use Rattle.glyph_buffer.specs.Readings.{View, Read}
-use Rattle.glyph_slices.specs.Facts.{group_lengths}
-use Rattle.glyph_buffer.specs.Graphemes.{continues}
+use Rattle.buffer_glyphs.specs.declared.level.BufferClusterLevel.{BufferClusterLevel}
+use Rattle.buffer_glyphs.specs.declared.level.BufferClusterLevel.TheVariants.{MonotoneGraphemes, MonotoneCharacters, Characters}
+use Rattle.buffer_glyphs.specs.Items.{Item}
+use Rattle.buffer_glyphs.specs.Levels.{InList}
+use Rattle.buffer_glyphs.specs.Events.{Event, Merge, Break}
+use Rattle.buffer_core.specs.Readings.{View, Read}
+use Rattle.buffer_groups.specs.Facts.{group_lengths}
+use Rattle.buffer_core.specs.Graphemes.{continues}
 
 -- the characters of each grapheme merge where graphemes are to be clusters; else a break between them is unsafe
 abbrev pub grapheme_event : BufferClusterLevel → ℕ → ℕ → Event

@@ -2,9 +2,9 @@
 use Rattle.std.specs.Prelude.{ℕ, ◌==◌, ◌&&◌, ◌||◌, not, Bool, nat_le, Option, Some, None}
 use Rattle.unicode.specs.GeneralCategory.{general_category}
 use Rattle.ucd_category.specs.declared.GeneralCategory.TheVariants.{ModifierSymbol}
-use Rattle.unicode_chars.specs.Category.{category_number}
-use Rattle.unicode_tables.specs.Tables.{Tables, is_pictographic}
-use Rattle.glyph_properties.specs.Properties.{is_mark_character}
+use Rattle.buffer_unicode.specs.Category.{category_number}
+use Rattle.buffer_unicode_tables.specs.Tables.{Tables, is_pictographic}
+use Rattle.buffer_properties.specs.Properties.{is_mark_character}
 use Rattle.shape_text.specs.declared.graphemes.Before.{Before}
 
 -- the skin tones of Fitzpatrick's scale

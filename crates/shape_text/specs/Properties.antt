@@ -3,11 +3,11 @@ use Rattle.std.specs.Prelude.{ℕ, Bool, if◌then◌else◌, fold, List, [], �
 use Rattle.std.specs.Int.RustNames.{bit_or}
 use Rattle.std.specs.List.{list_all}
 use lib.Utf8.{scalar}
-use Rattle.glyph_lists.specs.declared.info.hb_glyph_info_t.{hb_glyph_info_t}
-use Rattle.unicode_tables.specs.Tables.{Tables}
-use Rattle.glyph_properties.specs.Properties.{CONTINUATION, properties_of, character_class, scratch_flags_of}
-use Rattle.glyph_lists.specs.Items.{Item}
-use Rattle.glyph_buffer.specs.Readings.{View, Read, with_events}
+use Rattle.buffer_glyphs.specs.declared.info.hb_glyph_info_t.{hb_glyph_info_t}
+use Rattle.buffer_unicode_tables.specs.Tables.{Tables}
+use Rattle.buffer_properties.specs.Properties.{CONTINUATION, properties_of, character_class, scratch_flags_of}
+use Rattle.buffer_glyphs.specs.Items.{Item}
+use Rattle.buffer_core.specs.Readings.{View, Read, with_events}
 use Rattle.shape_text.specs.declared.graphemes.Before.{Before}
 use Rattle.shape_text.specs.Graphemes.{continues}
 

@@ -1,23 +1,23 @@
 //! The dotted circle in front of a text that begins with a mark.
 ghost use Rattle.std.specs.Prelude.{◌≡◌, ◌≢◌, ◌<◌, ◌≤◌, ◌+◌, length, bit_or, IfErr, OnOk, Err};
-ghost use Rattle.glyph_lists.specs.Items.{item_of, strip};
-ghost use Rattle.glyph_buffer.specs.Readings.{read_of};
-ghost use Rattle.glyph_buffer.specs.Sides.{items_of, run_of, all_glyphs};
-ghost use Rattle.stage_rules.specs.Ready.{IsReady};
-ghost use Rattle.glyph_properties.specs.Characters.{is_mark};
+ghost use Rattle.buffer_glyphs.specs.Items.{item_of, strip};
+ghost use Rattle.buffer_core.specs.Readings.{read_of};
+ghost use Rattle.buffer_core.specs.Sides.{items_of, run_of, all_glyphs};
+ghost use Rattle.buffer_stages.specs.Ready.{IsReady};
+ghost use Rattle.buffer_properties.specs.Characters.{is_mark};
 ghost use Rattle.shape_text.specs.Circle.{asks_circle, begins_with_mark, first_circle, glyph_circle, needs_circle, with_circle_put};
-ghost use Rattle.glyph_properties.specs.Properties.{scratch_flags_of};
-ghost use Rattle.stage_rules.specs.Stages.{IsFollowed};
+ghost use Rattle.buffer_properties.specs.Properties.{scratch_flags_of};
+ghost use Rattle.buffer_stages.specs.Stages.{IsFollowed};
 
 use bitflags::Flags;
-use font_face::Face;
-use glyph_buffer::buffer::hb_buffer_t;
-use glyph_lists::cause::ShapeCause;
-use glyph_lists::info::hb_glyph_info_t;
-use glyph_properties::categories::is_mark;
-use glyph_properties::info::init_unicode_props;
-use shaping_text::constants::{BufferFlags, hb_buffer_scratch_flags_t};
-use unicode_tables::UnicodeTables;
+use buffer_common::constants::{BufferFlags, hb_buffer_scratch_flags_t};
+use buffer_core::buffer::hb_buffer_t;
+use buffer_glyphs::cause::ShapeCause;
+use buffer_glyphs::info::hb_glyph_info_t;
+use buffer_properties::categories::is_mark;
+use buffer_properties::info::init_unicode_props;
+use buffer_unicode_tables::UnicodeTables;
+use layout_face::Face;
 
 /// U+25CC DOTTED CIRCLE, for a mark that has no letter to stand on.
 pub const DOTTED_CIRCLE: char = '\u{25CC}';

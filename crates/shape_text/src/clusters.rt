@@ -1,14 +1,14 @@
 //! The graphemes of a text, as clusters.
 ghost use Rattle.std.specs.Prelude.{◌≡◌, ◌<◌, ◌≤◌, ◌∷◌, [], length};
-ghost use Rattle.glyph_buffer.specs.Readings.{always};
-ghost use Rattle.glyph_buffer.specs.Sides.{all_glyphs, items_of};
-ghost use Rattle.stage_rules.specs.Ready.{IsReady};
+ghost use Rattle.buffer_core.specs.Readings.{always};
+ghost use Rattle.buffer_core.specs.Sides.{all_glyphs, items_of};
+ghost use Rattle.buffer_stages.specs.Ready.{IsReady};
 ghost use Rattle.shape_text.specs.Clusters.{grapheme_event, grapheme_events, grapheme_lengths, with_clusters};
-ghost use Rattle.stage_rules.specs.Stages.{Happens, IsFollowed};
+ghost use Rattle.buffer_stages.specs.Stages.{Happens, IsFollowed};
 
-use glyph_buffer::buffer::hb_buffer_t;
-use glyph_lists::level::BufferClusterLevel;
-use shaping_text::constants::HB_BUFFER_SCRATCH_FLAG_HAS_NON_ASCII;
+use buffer_common::constants::HB_BUFFER_SCRATCH_FLAG_HAS_NON_ASCII;
+use buffer_core::buffer::hb_buffer_t;
+use buffer_glyphs::level::BufferClusterLevel;
 
 /// Makes each grapheme of the text a cluster, at the level of graphemes; at the others it marks a break within a grapheme
 /// as unsafe. Below U+0080 each character is a grapheme, and the text stays as it is. It takes linear time.
@@ -37,7 +37,7 @@ fn form_graphemes(buffer: &mut hb_buffer_t)
     }
 }
 
-#[tactic(auto, using(stage_rules::specs::Lemmas::Happened::merge_happens, stage_rules::specs::Lemmas::Happened::break_happens, stage_rules::specs::Lemmas::Happened::end_of_input))]
+#[tactic(auto, using(buffer_stages::proofs::Lemmas::Happened::merge_happens, buffer_stages::proofs::Lemmas::Happened::break_happens, buffer_stages::proofs::Lemmas::Happened::end_of_input))]
 /// Merges the characters of a grapheme, or marks a break between them as unsafe.
 fn form_grapheme(buffer: &mut hb_buffer_t, start: usize, end: usize)
     requires ready { IsReady buffer.old }

@@ -3,9 +3,9 @@ ghost use Rattle.std.specs.Prelude.{◌≡◌};
 ghost use Rattle.unicode.specs.GeneralCategory.{general_category};
 ghost use Rattle.shape_text.specs.Graphemes.{continues, is_emoji_modifier, is_extender, is_joined, is_other_extender, is_regional_indicator};
 
+use buffer_unicode::{CharExt, GeneralCategoryExt};
+use buffer_unicode_tables::{CharTablesExt, UnicodeTables};
 use unicode::properties::GeneralCategory;
-use unicode_chars::{CharExt, GeneralCategoryExt};
-use unicode_tables::{CharTablesExt, UnicodeTables};
 
 /// A character that was met, and whether it goes on with the one before it.
 #[derive(Clone, Copy)]

@@ -1,23 +1,23 @@
 //! The properties of a text's characters.
 ghost use Rattle.std.specs.Prelude.{◌≡◌, true, None};
 ghost use Rattle.std.specs.Char.{IsScalar};
-ghost use Rattle.glyph_properties.specs.Properties.{scratch_flags_of};
+ghost use Rattle.buffer_properties.specs.Properties.{scratch_flags_of};
 ghost use Rattle.std.specs.Int.RustNames.{bit_or};
-ghost use Rattle.glyph_lists.specs.Items.{strip};
-ghost use Rattle.glyph_buffer.specs.Readings.{always};
-ghost use Rattle.glyph_buffer.specs.Sides.{items_of};
-ghost use Rattle.stage_rules.specs.Ready.{IsReady};
+ghost use Rattle.buffer_glyphs.specs.Items.{strip};
+ghost use Rattle.buffer_core.specs.Readings.{always};
+ghost use Rattle.buffer_core.specs.Sides.{items_of};
+ghost use Rattle.buffer_stages.specs.Ready.{IsReady};
 ghost use Rattle.shape_text.specs.Properties.{are_characters, glyph_prepared, glyphs_prepared, glyphs_told, with_properties, word_of};
-ghost use Rattle.stage_rules.specs.Stages.{IsFollowed};
+ghost use Rattle.buffer_stages.specs.Stages.{IsFollowed};
 
 use crate::graphemes::{Before, continues};
-use glyph_buffer::buffer::hb_buffer_t;
-use glyph_lists::flags::UnicodeProps;
-use glyph_lists::info::hb_glyph_info_t;
-use glyph_properties::character::properties_of;
-use glyph_properties::info::init_unicode_props;
-use shaping_text::constants::hb_buffer_scratch_flags_t;
-use unicode_tables::UnicodeTables;
+use buffer_common::constants::hb_buffer_scratch_flags_t;
+use buffer_core::buffer::hb_buffer_t;
+use buffer_glyphs::flags::UnicodeProps;
+use buffer_glyphs::info::hb_glyph_info_t;
+use buffer_properties::character::properties_of;
+use buffer_properties::info::init_unicode_props;
+use buffer_unicode_tables::UnicodeTables;
 
 /// Gives each character of the text its property word and its class by Unicode and the tables, and tells the buffer what
 /// they say of the text. The word says whether a character goes on with the one before it.

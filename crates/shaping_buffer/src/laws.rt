@@ -2,37 +2,37 @@
 //! constants that clauses cite by name.
 ghost use Rattle.std.specs.Prelude.{◌≡◌, ◌≢◌, MatchBool, [], ◌∷◌};
 ghost use Rattle.std.specs.Bool.{Decides};
-ghost use Rattle.shaping_text.specs.declared.direction.Direction.TheVariants.{Invalid};
-ghost use Rattle.shaping_text.specs.Language.{language_text};
+ghost use Rattle.buffer_common.specs.declared.direction.Direction.TheVariants.{Invalid};
+ghost use Rattle.buffer_common.specs.Language.{language_text};
 
-use feature_text::feature::{Feature, InvalidFeature};
-use glyph_lists::cause::ShapeCause;
-use glyph_lists::flags::{GlyphPropsFlags, SerializeFlags, UnicodeProps};
-use glyph_lists::info::{
-    DEFINED, SAFE_TO_INSERT_TATWEEL, UNSAFE_TO_BREAK, UNSAFE_TO_CONCAT, hb_glyph_info_t, hb_mask_t,
-};
-use glyph_lists::level::{
-    BufferClusterLevel, HB_BUFFER_CLUSTER_LEVEL_CHARACTERS, HB_BUFFER_CLUSTER_LEVEL_DEFAULT,
-    HB_BUFFER_CLUSTER_LEVEL_MONOTONE_CHARACTERS, HB_BUFFER_CLUSTER_LEVEL_MONOTONE_GRAPHEMES,
-    hb_buffer_cluster_level_t,
-};
-use glyph_lists::names::{GlyphId, hb_glyph_extents_t};
-use glyph_lists::position::GlyphPosition;
-use shaping_text::constants::{
+use buffer_common::constants::{
     BufferFlags, HB_BUFFER_SCRATCH_FLAG_HAS_BROKEN_SYLLABLE, HB_BUFFER_SCRATCH_FLAG_HAS_CGJ,
     HB_BUFFER_SCRATCH_FLAG_HAS_DEFAULT_IGNORABLES, HB_BUFFER_SCRATCH_FLAG_HAS_GLYPH_FLAGS,
     HB_BUFFER_SCRATCH_FLAG_HAS_GPOS_ATTACHMENT, HB_BUFFER_SCRATCH_FLAG_HAS_NON_ASCII,
     HB_BUFFER_SCRATCH_FLAG_HAS_SPACE_FALLBACK, hb_buffer_scratch_flags_t,
 };
-use shaping_text::direction::{Direction, InvalidDirection};
-use shaping_text::language::{Language, LanguageFault};
-use shaping_text::script::{InvalidScript, Script};
-use shaping_text::tag::Tag;
-use unicode_rows::fault::TablesFault;
-use unicode_tables::hangul::{
+use buffer_common::direction::{Direction, InvalidDirection};
+use buffer_common::language::{Language, LanguageFault};
+use buffer_common::script::{InvalidScript, Script};
+use buffer_common::tag::Tag;
+use buffer_features::feature::{Feature, InvalidFeature};
+use buffer_glyphs::cause::ShapeCause;
+use buffer_glyphs::flags::{GlyphPropsFlags, SerializeFlags, UnicodeProps};
+use buffer_glyphs::info::{
+    DEFINED, SAFE_TO_INSERT_TATWEEL, UNSAFE_TO_BREAK, UNSAFE_TO_CONCAT, hb_glyph_info_t, hb_mask_t,
+};
+use buffer_glyphs::level::{
+    BufferClusterLevel, HB_BUFFER_CLUSTER_LEVEL_CHARACTERS, HB_BUFFER_CLUSTER_LEVEL_DEFAULT,
+    HB_BUFFER_CLUSTER_LEVEL_MONOTONE_CHARACTERS, HB_BUFFER_CLUSTER_LEVEL_MONOTONE_GRAPHEMES,
+    hb_buffer_cluster_level_t,
+};
+use buffer_glyphs::names::{GlyphId, hb_glyph_extents_t};
+use buffer_glyphs::position::GlyphPosition;
+use buffer_unicode_rows::fault::TablesFault;
+use buffer_unicode_tables::hangul::{
     L_BASE, L_COUNT, N_COUNT, S_BASE, S_COUNT, T_BASE, T_COUNT, V_BASE, V_COUNT,
 };
-use unicode_tables::law_fault::LawFault;
+use buffer_unicode_tables::law_fault::LawFault;
 
 pub fn directions_are_equal(left: Direction, right: Direction) -> bool
     ensures { MatchBool result (left ≡ right) (left ≢ right) }

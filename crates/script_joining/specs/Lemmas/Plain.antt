@@ -1,10 +1,10 @@
 -- Events that leave no bare order.
 use Rattle.std.proofs.Common.{ℕ, ◌+◌, ◌==◌, true, false, if◌then◌else◌, List, [], ◌∷◌, ◌++◌, Option, Some, None}
-use Rattle.script_constants.specs.declared.joining_types.hb_arabic_joining_type_t.TheVariants.{U}
-use Rattle.glyph_lists.specs.declared.level.BufferClusterLevel.{BufferClusterLevel}
-use Rattle.glyph_lists.specs.Events.{Event, Concat, Tatweel, IsPlain}
-use Rattle.glyph_buffer.specs.Readings.{Read, View, with_events}
-use Rattle.stage_rules.specs.Moves.{with_move}
+use Rattle.script_categories.specs.declared.joining_types.hb_arabic_joining_type_t.TheVariants.{U}
+use Rattle.buffer_glyphs.specs.declared.level.BufferClusterLevel.{BufferClusterLevel}
+use Rattle.buffer_glyphs.specs.Events.{Event, Concat, Tatweel, IsPlain}
+use Rattle.buffer_core.specs.Readings.{Read, View, with_events}
+use Rattle.buffer_stages.specs.Moves.{with_move}
 use Rattle.script_joining.specs.declared.flags.Letter.{Letter}
 use Rattle.script_joining.specs.Types.{JoiningType}
 use Rattle.script_joining.specs.Forms.{letter_form}

@@ -1,9 +1,9 @@
 -- Forms of a coeng and a Ra stand apart.
 use Rattle.std.proofs.Common.{◌≡◌, ◌==◌, ◌&&◌, Bool, true, false, refl, ap}
 use Rattle.std.proofs.lemmas.Bool.{and_parts, eqb-true}
-use Rattle.script_constants.specs.declared.ot_category_t.TheConstants as category
-use Rattle.glyph_lists.specs.Items.{Item}
-use Rattle.stage_rules.specs.Fronts.{StandApart}
+use Rattle.script_categories.specs.declared.ot_category_t.TheConstants as category
+use Rattle.buffer_glyphs.specs.Items.{Item}
+use Rattle.buffer_stages.specs.Fronts.{StandApart}
 use Rattle.script_khmer_myanmar.specs.Runs.{together}
 
 -- a Ra is no coeng

@@ -2,14 +2,14 @@
 use Rattle.std.proofs.Common.{ℕ, zero, suc, ◌≡◌, ◌≤◌, ◌<◌, ◌+◌, ◌-◌, ◌==◌, Bool, true, false, if◌then◌else◌, List, length, Option, Some, None, slice_get, refl, ◌∙◌, arith}
 use Rattle.std.specs.Prelude.{bit_and}
 use Rattle.std.proofs.lemmas.Option.{slice_get_within}
-use Rattle.script_constants.specs.declared.ot_category_t.TheConstants as category
-use Rattle.script_constants.specs.declared.shaper.hb_ot_script_shaper_t.TheVariants.{KHMER_SHAPER}
-use Rattle.script_constants.specs.Shapers.{is_reordered}
-use Rattle.glyph_lists.specs.Items.{Item}
+use Rattle.script_categories.specs.declared.ot_category_t.TheConstants as category
+use Rattle.script_categories.specs.declared.shaper.hb_ot_script_shaper_t.TheVariants.{KHMER_SHAPER}
+use Rattle.script_categories.specs.Shapers.{is_reordered}
+use Rattle.buffer_glyphs.specs.Items.{Item}
 use Rattle.script_khmer_myanmar.specs.declared.khmer.KhmerMasks.{KhmerMasks}
-use Rattle.stage_rules.specs.Rewriting.{Rewritten, kept, then_rule, within}
-use Rattle.stage_rules.specs.Parts.{masked_all, first_to_back}
-use Rattle.stage_rules.specs.Lemmas.Parts.{within_size, masked_size, moved_size}
+use Rattle.buffer_stages.specs.Rewriting.{Rewritten, kept, then_rule, within}
+use Rattle.buffer_stages.specs.Parts.{masked_all, first_to_back}
+use Rattle.buffer_stages.specs.Lemmas.Parts.{within_size, masked_size, moved_size}
 use Rattle.script_khmer_myanmar.specs.Khmer.{Step, coeng_moved, vowel_moved, coeng_met, vowel_met, is_coeng, met, khmer_at, khmer_walk, khmer_reordered, khmer_first, khmer_syllable}
 
 pub coeng_pref_size : (m : KhmerMasks) (place : ℕ) (xs : List Item) → place + 2 ≤ length xs → length (within place (place + 2) (masked_all m.pref) xs).items ≡ length xs

@@ -3,12 +3,12 @@ use Rattle.std.proofs.Common.{ℕ, suc, ◌≡◌, ◌≤◌, ◌==◌, Bool, tr
 use Rattle.std.specs.Prelude.{bit_and}
 use Rattle.std.proofs.lemmas.List.{length-map}
 use Rattle.std.proofs.lemmas.List.Sums.{prefix_len-le-length}
-use Rattle.script_constants.specs.declared.ot_position_t.TheConstants as position
-use Rattle.script_constants.specs.declared.shaper.hb_ot_script_shaper_t.TheVariants.{MYANMAR_SHAPER}
-use Rattle.script_constants.specs.Shapers.{is_reordered}
-use Rattle.glyph_lists.specs.Items.{Item}
-use Rattle.stage_rules.specs.Rewriting.{Rewritten, kept, within}
-use Rattle.stage_rules.specs.Lemmas.Parts.{within_size}
+use Rattle.script_categories.specs.declared.ot_position_t.TheConstants as position
+use Rattle.script_categories.specs.declared.shaper.hb_ot_script_shaper_t.TheVariants.{MYANMAR_SHAPER}
+use Rattle.script_categories.specs.Shapers.{is_reordered}
+use Rattle.buffer_glyphs.specs.Items.{Item}
+use Rattle.buffer_stages.specs.Rewriting.{Rewritten, kept, within}
+use Rattle.buffer_stages.specs.Lemmas.Parts.{within_size}
 use Rattle.script_khmer_myanmar.specs.Myanmar.{all_placed, groups_reversed, has_two_matras, matras_of, matras_reversed, myanmar_first, myanmar_places, myanmar_reordered, myanmar_syllable, same_group, sorted_by_place, with_places}
 use Rattle.script_khmer_myanmar.specs.Lemmas.Sizes.{key_order_size, groups_turned_size, places_size}
 

@@ -5,13 +5,13 @@ use Rattle.std.specs.List.{list_any, position_or_len}
 use Rattle.std.proofs.lemmas.List.{length-append, length-drop, length-replicate, length-take-le}
 use Rattle.std.proofs.lemmas.List.Sums.{prefix_len-le-length}
 use Rattle.std.proofs.lemmas.List.Sorted.{length_permutation}
-use Rattle.stable_order.specs.Keys.{key_bound, key_order}
-use Rattle.glyph_slices.specs.Groups.{group_length, joined_after}
-use Rattle.glyph_slices.specs.Turning.{groups_turned}
-use Rattle.glyph_slices.specs.Lemmas.GroupsTurned.{turned_onto}
-use Rattle.glyph_slices.specs.Lemmas.KeyOrder.{all_below, by_key_moves}
-use Rattle.script_constants.specs.declared.ot_category_t.TheConstants as category
-use Rattle.script_constants.specs.declared.ot_position_t.TheConstants as position
+use Rattle.buffer_stable_order.specs.Keys.{key_bound, key_order}
+use Rattle.buffer_groups.specs.Groups.{group_length, joined_after}
+use Rattle.buffer_groups.specs.Turning.{groups_turned}
+use Rattle.buffer_groups.specs.Lemmas.GroupsTurned.{turned_onto}
+use Rattle.buffer_groups.specs.Lemmas.KeyOrder.{all_below, by_key_moves}
+use Rattle.script_categories.specs.declared.ot_category_t.TheConstants as category
+use Rattle.script_categories.specs.declared.ot_position_t.TheConstants as position
 use Rattle.script_khmer_myanmar.specs.Myanmar.{base_of, based, from_base, is_base, kinzi, myanmar_places, place_after, place_of, places_after}
 
 pub key_order_size : {X : Type 0} (key : X → ℕ) (xs : List X) → length (key_order key xs) ≡ length xs

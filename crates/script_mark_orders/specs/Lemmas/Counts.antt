@@ -3,14 +3,14 @@ use Rattle.std.proofs.Common.{ℕ, suc, ◌≡◌, ◌≤◌, ◌+◌, ◌-◌, 
 use Rattle.std.specs.Prelude.{max, nat_lt, option_map}
 use Rattle.std.proofs.lemmas.List.{length-append, length-drop, length-map, length-take-le}
 use Rattle.std.proofs.lemmas.List.Sums.{prefix_len-le-length}
-use Rattle.glyph_properties.specs.Characters.{mark_class}
-use Rattle.glyph_lists.specs.Items.{Item}
-use Rattle.glyph_lists.specs.Levels.{InList}
-use Rattle.glyph_lists.specs.Events.{Event, IsPlain, Move}
-use Rattle.glyph_lists.specs.Origins.{changed_within}
-use Rattle.glyph_properties.specs.Arranged.{Arranged, kept, shifted}
-use Rattle.stage_rules.specs.Moves.{moved, order_of_move}
-use Rattle.stage_rules.specs.Lemmas.Moved.{moved_length}
+use Rattle.buffer_properties.specs.Characters.{mark_class}
+use Rattle.buffer_glyphs.specs.Items.{Item}
+use Rattle.buffer_glyphs.specs.Levels.{InList}
+use Rattle.buffer_glyphs.specs.Events.{Event, IsPlain, Move}
+use Rattle.buffer_glyphs.specs.Origins.{changed_within}
+use Rattle.buffer_glyphs.specs.Arranged.{Arranged, kept, shifted}
+use Rattle.buffer_stages.specs.Moves.{moved, order_of_move}
+use Rattle.buffer_stages.specs.Lemmas.Moved.{moved_length}
 use Rattle.script_joining.specs.Marks.{classed, count_below, count_leading, is_modifier_of}
 use Rattle.script_hebrew_thai.specs.Hebrew.{begins_with_three, first_three}
 use Rattle.script_mark_orders.specs.Orders.{arabic_order, rest_arranged, hebrew_order, leading_first, led_by, swapped_at, OrdersArePlain, OrdersKeepCount}

@@ -1,14 +1,14 @@
 -- The events of copies.
 use Rattle.std.proofs.Common.{ℕ, zero, suc, ◌≡◌, ◌+◌, Bool, true, false, nat_le, if◌then◌else◌, List, [], ◌∷◌, ◌++◌, Option, Ok, Err, length, subst}
 use Rattle.std.specs.List.{list_all}
-use Rattle.glyph_lists.specs.declared.cause.ShapeCause.TheVariants.{StretchRange, TooLong}
-use Rattle.glyph_lists.specs.declared.level.BufferClusterLevel.{BufferClusterLevel}
-use Rattle.glyph_lists.specs.Events.{Event, IsPlain}
-use Rattle.glyph_buffer.specs.Readings.{Read, Reading, View, with_events}
-use Rattle.tile_places.specs.declared.tile.Tile.{Tile}
+use Rattle.buffer_glyphs.specs.declared.cause.ShapeCause.TheVariants.{StretchRange, TooLong}
+use Rattle.buffer_glyphs.specs.declared.level.BufferClusterLevel.{BufferClusterLevel}
+use Rattle.buffer_glyphs.specs.Events.{Event, IsPlain}
+use Rattle.buffer_core.specs.Readings.{Read, Reading, View, with_events}
+use Rattle.script_tiles.specs.declared.tile.Tile.{Tile}
 use Rattle.script_pauses.specs.Laying.{is_in_range, tiles}
 use Rattle.script_pauses.specs.Copying.{copied, copies_in, copy_events, events_from}
-use Rattle.tile_places.specs.Placing.{laid}
+use Rattle.script_tiles.specs.Placing.{laid}
 use Rattle.script_pauses.specs.Stretch.{laid_over, text_runs}
 use Rattle.script_pauses.specs.TileLaws.{TilesLeavePlain}
 

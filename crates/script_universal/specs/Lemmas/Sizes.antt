@@ -5,12 +5,12 @@ use Rattle.std.proofs.lemmas.Option.{slice_get_within}
 use Rattle.std.proofs.lemmas.List.Sums.{prefix_len-le-length}
 use Rattle.std.proofs.lemmas.Bool.Decides.{nat_tests}
 use Rattle.std.proofs.lemmas.Grind.{common_steps}
-use Rattle.script_constants.specs.declared.shaper.hb_ot_script_shaper_t.TheVariants.{UNIVERSAL_SHAPER}
-use Rattle.script_constants.specs.Shapers.{is_reordered}
-use Rattle.glyph_lists.specs.Items.{Item}
-use Rattle.stage_rules.specs.Rewriting.{Rewritten, kept, within}
-use Rattle.stage_rules.specs.Parts.{first_to_back}
-use Rattle.stage_rules.specs.Lemmas.Parts.{moved_size, within_size}
+use Rattle.script_categories.specs.declared.shaper.hb_ot_script_shaper_t.TheVariants.{UNIVERSAL_SHAPER}
+use Rattle.script_categories.specs.Shapers.{is_reordered}
+use Rattle.buffer_glyphs.specs.Items.{Item}
+use Rattle.buffer_stages.specs.Rewriting.{Rewritten, kept, within}
+use Rattle.buffer_stages.specs.Parts.{first_to_back}
+use Rattle.buffer_stages.specs.Lemmas.Parts.{moved_size, within_size}
 use Rattle.script_universal.specs.Reordering.{Step, begins_with_reph, is_halant, is_left, left_at, left_there, left_walk, reph_end, reph_moved, stops_reph, universal_first, universal_reordered, universal_syllable}
 
 abbrev count_of : Rewritten → ℕ

@@ -1,6 +1,6 @@
 use Rattle.std.proofs.Common.{rules, arith, false, drop}
 use Rattle.std.proofs.lemmas.Grind.{common_steps}
-use Rattle.glyph_lists.specs.Deleting.{Deletes}
+use Rattle.buffer_glyphs.specs.Deleting.{Deletes}
 use Rattle.buffer_lists.proofs.Ordered.{order_gone}
 use Rattle.buffer_lists.proofs.deletion.delete_first.Goals as goal
 

@@ -1,7 +1,7 @@
 use Rattle.std.proofs.Common.{◌≡◌, ◌⊎◌, inl, inr, ap}
-use Rattle.glyph_lists.specs.declared.level.BufferClusterLevel.{BufferClusterLevel}
-use Rattle.glyph_lists.specs.declared.level.BufferClusterLevel.TheVariants.{MonotoneGraphemes, MonotoneCharacters}
-use Rattle.glyph_lists.specs.Levels.{InOutput, Unites, manner}
+use Rattle.buffer_glyphs.specs.declared.level.BufferClusterLevel.{BufferClusterLevel}
+use Rattle.buffer_glyphs.specs.declared.level.BufferClusterLevel.TheVariants.{MonotoneGraphemes, MonotoneCharacters}
+use Rattle.buffer_glyphs.specs.Levels.{InOutput, Unites, manner}
 use Rattle.buffer_lists.proofs.Ordered.{order_united}
 use Rattle.buffer_lists.proofs.merges.merge_output.Goals as goal
 

@@ -1,5 +1,5 @@
 use Rattle.std.proofs.Common.{take}
-use Rattle.glyph_lists.specs.Items.{clusters}
+use Rattle.buffer_glyphs.specs.Items.{clusters}
 use Rattle.buffer_lists.specs.Known.{IsFallingTo}
 use Rattle.buffer_lists.proofs.order.falling_end.Given as goal
 

@@ -1,6 +1,6 @@
 use Rattle.std.proofs.Common.{◌≡◌, ◌+◌, ◌≤◌, ◌++◌, map, take, length, vec_len}
 use Rattle.std.specs.Prelude.{vec_capacity}
-use Rattle.glyph_lists.specs.Replacements.{glyph_numbered}
+use Rattle.buffer_glyphs.specs.Replacements.{glyph_numbered}
 use Rattle.buffer_lists.proofs.replacement.push_numbered.Given as goal
 
 -- so many copies were made

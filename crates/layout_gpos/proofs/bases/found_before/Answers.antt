@@ -1,6 +1,6 @@
 use Rattle.std.proofs.Common.{◌≤◌, [], arith}
-use Rattle.glyph_buffer.specs.Sides.{items_of}
-use Rattle.glyph_lists.specs.Items.{strip}
+use Rattle.buffer_core.specs.Sides.{items_of}
+use Rattle.buffer_glyphs.specs.Items.{strip}
 use Rattle.layout_match.specs.Applied.{applied_of, own_search}
 use Rattle.layout_gpos.specs.Bases.{any_sought, asked}
 use Rattle.layout_gpos.specs.Marks.{without_marks}

@@ -1,5 +1,5 @@
 use Rattle.std.proofs.Common.{ℕ, ◌-◌, ap, arith, ◌∙◌}
-use Rattle.glyph_lists.specs.Items.{strip}
+use Rattle.buffer_glyphs.specs.Items.{strip}
 use Rattle.layout_match.specs.Applied.{Applied, applied_of, own_search}
 use Rattle.layout_match.specs.Searches.{search_of}
 use Rattle.layout_gpos.proofs.Kept.{went_on}

@@ -3,7 +3,7 @@ use Rattle.layout_match.specs.Applied.{applied_of}
 use Rattle.layout_gpos.specs.declared.bases.Sought.TheVariants.{Base}
 use Rattle.layout_gpos.specs.Bases.{any_sought}
 use Rattle.layout_gpos.specs.Marks.{mark_to_base}
-use Rattle.layout_gpos.specs.Lemmas.Left.{base_keeps}
+use Rattle.layout_gpos.proofs.Lemmas.Left.{base_keeps}
 use Rattle.layout_gpos.proofs.Attached.{base_mark}
 use Rattle.layout_gpos.proofs.Kept.{kept_on}
 use Rattle.layout_gpos.proofs.mark.apply_mark_base_pos.Goals as goal

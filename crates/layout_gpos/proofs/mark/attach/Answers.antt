@@ -1,5 +1,5 @@
 use Rattle.std.proofs.Common.{ap, refl, ◌+◌, ◌-◌, ◌∙◌}
-use Rattle.glyph_buffer.specs.Sides.{Sides, moved_on}
+use Rattle.buffer_core.specs.Sides.{Sides, moved_on}
 use Rattle.layout_gpos.specs.Anchors.{told_if}
 use Rattle.layout_gpos.proofs.Attached.{attach_acted}
 use Rattle.layout_gpos.proofs.mark.attach.Goals as goal

@@ -3,7 +3,7 @@ use Rattle.layout_match.specs.Applied.{applied_of}
 use Rattle.layout_gpos.specs.declared.bases.Sought.TheVariants.{Ligature}
 use Rattle.layout_gpos.specs.Bases.{any_sought}
 use Rattle.layout_gpos.specs.Marks.{mark_to_ligature}
-use Rattle.layout_gpos.specs.Lemmas.Left.{ligature_keeps}
+use Rattle.layout_gpos.proofs.Lemmas.Left.{ligature_keeps}
 use Rattle.layout_gpos.proofs.Kept.{kept_on}
 use Rattle.layout_gpos.proofs.MarkLig.{ligature_mark}
 use Rattle.layout_gpos.proofs.mark_lig.apply_mark_lig_pos.Goals as goal

@@ -1,6 +1,6 @@
 use Rattle.std.proofs.Common.{ap, sym, ◌∙◌}
 use Rattle.layout_match.specs.Applied.{Applied, applied_of}
-use Rattle.stage_rules.specs.Buffers.{cut_of}
+use Rattle.buffer_stages.specs.Buffers.{cut_of}
 use Rattle.layout_gpos.specs.Marks.{item_before}
 use Rattle.layout_gpos.proofs.MarkMark.{mark_mark}
 use Rattle.layout_gpos.proofs.mark_mark.apply_mark_mark_pos.Goals as goal

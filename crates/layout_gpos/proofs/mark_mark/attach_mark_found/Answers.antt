@@ -1,5 +1,5 @@
 use Rattle.std.proofs.Common.{rules}
-use Rattle.glyph_lists.specs.Items.{item_of}
+use Rattle.buffer_glyphs.specs.Items.{item_of}
 use Rattle.layout_gpos.proofs.MarkMark.{on_a_mark}
 use Rattle.layout_gpos.proofs.mark_mark.attach_mark_found.Goals as goal
 

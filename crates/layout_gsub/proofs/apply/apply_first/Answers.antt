@@ -1,9 +1,9 @@
 use Rattle.std.proofs.Common.{false, sym, subst, ◌∙◌, ℕ}
 use Rattle.layout_match.specs.Applied.{applied_of}
-use Rattle.stage_rules.specs.Actions.{first_rule}
-use Rattle.stage_rules.specs.Performing.{Performed, cut_with}
-use Rattle.stage_rules.specs.Lemmas.Performed.{passed_all}
-use Rattle.stage_rules.specs.Lemmas.Firsts.{first_acts, first_refuses, first_passes}
+use Rattle.buffer_stages.specs.Actions.{first_rule}
+use Rattle.buffer_stages.specs.Performing.{Performed, cut_with}
+use Rattle.buffer_stages.proofs.Lemmas.Performed.{passed_all}
+use Rattle.buffer_stages.proofs.Lemmas.Firsts.{first_acts, first_refuses, first_passes}
 use Rattle.layout_gsub.proofs.apply.apply_first.Goals as goal
 
 pub returns-in-Ok-true-clause-performs : goal.returns-in-Ok-true-clause-performs

@@ -1,8 +1,8 @@
 use Rattle.std.proofs.Common.{◌≡◌, ◌≤◌, ◌<◌, ◌-◌, ◌==◌, ◌||◌, ◌∷◌, Bool, if◌then◌else◌, ap, subst, ◌∙◌, arith, get_or, length, slice_get}
 use Rattle.std.proofs.lemmas.Option.{slice_get-get_or}
-use Rattle.glyph_lists.specs.Items.{item_of, strip}
-use Rattle.glyph_buffer.specs.Settings.{next_lig_id}
-use Rattle.stage_rules.specs.Actions.{Cut}
+use Rattle.buffer_glyphs.specs.Items.{item_of, strip}
+use Rattle.buffer_core.specs.Settings.{next_lig_id}
+use Rattle.buffer_stages.specs.Actions.{Cut}
 use Rattle.layout_gsub.specs.Ligating.{after_parts, following_items, items_at, last_place, passed_items}
 use Rattle.layout_gsub.specs.Uniting.{IsMerged}
 use Rattle.layout_gsub.proofs.LigatureMade.{after_is, after_small, first_is, last_ends, ligature_made, number_is, passed_is}

@@ -1,5 +1,5 @@
 use Rattle.std.proofs.Common.{ℕ, Bool, if◌then◌else◌, sym, ap, subst, ◌∙◌}
-use Rattle.glyph_buffer.specs.Settings.{next_lig_id}
+use Rattle.buffer_core.specs.Settings.{next_lig_id}
 use Rattle.layout_gsub.specs.Uniting.{IsMerged}
 use Rattle.layout_gsub.proofs.LigatureMade.{parts_merged, number_given, given_of}
 use Rattle.layout_gsub.proofs.ligate.merge_parts.Goals as goal

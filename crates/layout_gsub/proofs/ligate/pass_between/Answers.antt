@@ -1,5 +1,5 @@
 use Rattle.layout_gsub.specs.Ligating.{passed_item}
-use Rattle.glyph_lists.specs.Items.{Item}
+use Rattle.buffer_glyphs.specs.Items.{Item}
 use Rattle.std.proofs.Common.{subst}
 use Rattle.layout_gsub.specs.Uniting.{IsPassedAs}
 use Rattle.layout_gsub.proofs.United.{one_passed}

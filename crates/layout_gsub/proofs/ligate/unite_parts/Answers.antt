@@ -1,7 +1,7 @@
 use Rattle.std.proofs.Common.{ℕ, ◌<◌, ◌+◌, ◌-◌, Bool, refl, sym, ap, subst, ◌∙◌, arith, slice_index_or, length}
 use Rattle.std.proofs.lemmas.List.Elements.{All-get_or}
-use Rattle.glyph_lists.specs.Items.{item_of}
-use Rattle.glyph_lists.specs.LigatureWords.{lig_num_comps}
+use Rattle.buffer_glyphs.specs.Items.{item_of}
+use Rattle.buffer_glyphs.specs.LigatureWords.{lig_num_comps}
 use Rattle.layout_gsub.specs.declared.ligate.PartNumbering.{PartNumbering}
 use Rattle.layout_gsub.specs.Ligating.{passed_item}
 use Rattle.layout_gsub.specs.Uniting.{ArePassedAs}

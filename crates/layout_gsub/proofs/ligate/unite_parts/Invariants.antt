@@ -1,5 +1,5 @@
 use Rattle.std.proofs.Common.{◌≡◌, ◌≤◌, ◌+◌, ◌*◌, ◌^◌}
-use Rattle.glyph_lists.specs.Items.{item_of}
+use Rattle.buffer_glyphs.specs.Items.{item_of}
 use Rattle.layout_gsub.proofs.United.{IsUniting}
 use Rattle.layout_gsub.proofs.ligate.unite_parts.Given as goal
 

@@ -1,5 +1,5 @@
 use Rattle.std.proofs.Common.{map, ◌∙◌}
-use Rattle.glyph_lists.specs.Items.{strip}
+use Rattle.buffer_glyphs.specs.Items.{strip}
 use Rattle.layout_match.specs.Applied.{applied_of, own_search}
 use Rattle.layout_match.specs.Sequences.{is_glyph}
 use Rattle.layout_gsub.proofs.Found.{input_found}

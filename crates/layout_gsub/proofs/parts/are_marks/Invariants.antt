@@ -1,5 +1,5 @@
 use Rattle.std.proofs.Common.{◌≡◌, drop}
-use Rattle.glyph_lists.specs.Items.{strip}
+use Rattle.buffer_glyphs.specs.Items.{strip}
 use Rattle.layout_gsub.specs.Ligating.{are_marks, items_at}
 use Rattle.layout_gsub.proofs.parts.are_marks.Given as goal
 

@@ -1,5 +1,5 @@
 use Rattle.std.proofs.Common.{ℕ, ◌≤◌, Ok, sym, ap, ◌∙◌, arith}
-use Rattle.glyph_buffer.specs.Merging.{with_renumbered}
+use Rattle.buffer_core.specs.Merging.{with_renumbered}
 use Rattle.layout_gsub.proofs.Replaced.{glyph_performed}
 use Rattle.layout_gsub.proofs.replacement.replace_glyph.Goals as goal
 

@@ -1,13 +1,13 @@
 use Rattle.std.proofs.Common.{◌≡◌, List, Some, None, Ok, Err, false, map, refl, sym, ap, subst, ◌∙◌}
-use Rattle.glyph_lists.specs.Items.{strip}
+use Rattle.buffer_glyphs.specs.Items.{strip}
 use Rattle.layout_common.specs.Rows.{value_of}
 use Rattle.layout_common.specs.declared.coverage.Coverage.{Coverage}
 use Rattle.layout_match.specs.Applied.{applied_of, context_search}
 use Rattle.layout_match.specs.Matches.{backtrack_end, lookahead_end}
 use Rattle.layout_match.specs.Sequences.{is_covered_by}
-use Rattle.stage_rules.specs.Buffers.{cut_of}
-use Rattle.stage_rules.specs.Performing.{PerformsInPlace}
-use Rattle.stage_rules.specs.Lemmas.Does.{passed_same}
+use Rattle.buffer_stages.specs.Buffers.{cut_of}
+use Rattle.buffer_stages.specs.Performing.{PerformsInPlace}
+use Rattle.buffer_stages.proofs.Lemmas.Does.{passed_same}
 use Rattle.layout_gsub.specs.Reverses.{put_before}
 use Rattle.layout_gsub.proofs.Around.{reverse_performed, after_performed, attempt_performed}
 use Rattle.layout_gsub.proofs.reverse.apply_reverse_chain_single_subst.Goals as goal

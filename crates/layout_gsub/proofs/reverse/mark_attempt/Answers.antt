@@ -1,4 +1,4 @@
-use Rattle.stage_rules.specs.Lemmas.Around.{concat_around}
+use Rattle.buffer_stages.proofs.Lemmas.Around.{concat_around}
 use Rattle.layout_gsub.proofs.reverse.mark_attempt.Goals as goal
 
 pub returns : goal.returns

@@ -1,4 +1,4 @@
-use Rattle.stage_rules.specs.Lemmas.Around.{break_around}
+use Rattle.buffer_stages.proofs.Lemmas.Around.{break_around}
 use Rattle.layout_gsub.proofs.reverse.mark_match.Goals as goal
 
 pub returns : goal.returns

@@ -1,5 +1,5 @@
 use Rattle.std.proofs.Common.{length, refl, rules}
-use Rattle.shaping_text.specs.declared.direction.Direction.{Direction}
+use Rattle.buffer_common.specs.declared.direction.Direction.{Direction}
 use Rattle.layout_links.specs.Links.{followed}
 use Rattle.layout_links.specs.Sums.{drawn_by_sums}
 use Rattle.layout_links.proofs.Going.{going_first, going_next, going_stopped, going_done, goes_here}

@@ -1,4 +1,4 @@
-use Rattle.layout_links.specs.Summing.{IsSumming}
+use Rattle.layout_links.proofs.Lemmas.Summing.{IsSumming}
 use Rattle.layout_links.proofs.sums.sum_up.Given as goal
 
 abbrev pub invariant-loop-i : goal.invariant-loop-i

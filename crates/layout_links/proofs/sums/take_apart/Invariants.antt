@@ -1,4 +1,4 @@
-use Rattle.layout_links.specs.Summing.{IsParting}
+use Rattle.layout_links.proofs.Lemmas.Summing.{IsParting}
 use Rattle.layout_links.proofs.sums.take_apart.Given as goal
 
 abbrev pub invariant-loop-i : goal.invariant-loop-i

@@ -1,5 +1,5 @@
 use Rattle.std.proofs.Common.{◌≡◌, ◌≤◌, length, drop}
-use Rattle.glyph_lists.specs.Items.{strip}
+use Rattle.buffer_glyphs.specs.Items.{strip}
 use Rattle.layout_match.specs.Matches.{asks_of, reached}
 use Rattle.layout_match.specs.Searches.{search_of}
 use Rattle.layout_match.specs.Sequences.{tests_of}

@@ -1,5 +1,5 @@
 use Rattle.std.proofs.Common.{◌≡◌, ◌+◌, ◌∷◌, Ok, length, sym, ap, ◌∙◌, arith, ◌<◌}
-use Rattle.glyph_lists.specs.Items.{strip}
+use Rattle.buffer_glyphs.specs.Items.{strip}
 use Rattle.layout_match.specs.Searches.{answer, search_of}
 use Rattle.layout_match.specs.Matches.{asks_of, indices, nearest_from}
 use Rattle.layout_match.specs.Sequences.{test_at, tests_of}

@@ -1,5 +1,5 @@
 use Rattle.std.proofs.Common.{◌≡◌}
-use Rattle.glyph_lists.specs.Items.{strip}
+use Rattle.buffer_glyphs.specs.Items.{strip}
 use Rattle.layout_match.specs.Matches.{nearest_from}
 use Rattle.layout_match.specs.Searches.{answer, search_of, test_of}
 use Rattle.layout_match.proofs.matching.nearest_ahead.Given as goal

@@ -1,5 +1,5 @@
 use Rattle.std.proofs.Common.{false}
-use Rattle.map_features.specs.declared.lookup.lookup_map_t.{lookup_map_t}
+use Rattle.layout_map_features.specs.declared.lookup.lookup_map_t.{lookup_map_t}
 use Rattle.layout_positioning.proofs.Ways.{one_done}
 use Rattle.layout_positioning.proofs.apply.apply_lookups.Goals as goal
 

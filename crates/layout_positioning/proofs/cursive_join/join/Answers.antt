@@ -1,8 +1,8 @@
 use Rattle.std.proofs.Common.{Bool, ap, refl, ◌+◌, ◌-◌, ◌∙◌}
-use Rattle.glyph_buffer.specs.Sides.{Sides, moved_on}
+use Rattle.buffer_core.specs.Sides.{Sides, moved_on}
 use Rattle.layout_match.specs.Applied.{applied_of}
 use Rattle.layout_gpos.specs.Anchors.{told_if}
-use Rattle.position_chains.specs.Cursive.{joined}
+use Rattle.layout_offsets.specs.Cursive.{joined}
 use Rattle.layout_positioning.proofs.Joined.{join_acted}
 use Rattle.layout_positioning.proofs.cursive_join.join.Goals as goal
 

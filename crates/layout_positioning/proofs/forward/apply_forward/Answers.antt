@@ -1,9 +1,9 @@
 use Rattle.std.proofs.Common.{◌≡◌, false, length, ap, sym, arith, ◌∙◌}
-use Rattle.glyph_buffer.specs.Sides.{all_glyphs, items_of}
-use Rattle.glyph_buffer.specs.Moving.{moved_to}
+use Rattle.buffer_core.specs.Sides.{all_glyphs, items_of}
+use Rattle.buffer_core.specs.Moving.{moved_to}
 use Rattle.layout_match.specs.Applied.{applied_of}
-use Rattle.stage_rules.specs.Lemmas.Frames.{still_open}
-use Rattle.layout_walks.specs.Lemmas.Passage.{begun, passed_on}
+use Rattle.buffer_stages.proofs.Lemmas.Frames.{still_open}
+use Rattle.layout_match.proofs.Lemmas.Passage.{begun, passed_on}
 use Rattle.layout_positioning.specs.Lookups.{lookup_action}
 use Rattle.layout_positioning.proofs.Over.{looked_over_done, over_next, over_refused}
 use Rattle.layout_positioning.proofs.forward.apply_forward.Goals as goal

@@ -1,8 +1,8 @@
 use Rattle.std.proofs.Common.{◌-◌}
-use Rattle.glyph_buffer.specs.Sides.{items_of}
+use Rattle.buffer_core.specs.Sides.{items_of}
 use Rattle.layout_gpos.specs.Bases.{AreKept}
 use Rattle.layout_match.specs.Applied.{applied_of}
-use Rattle.layout_walks.specs.Lemmas.Passage.{IsUnderway}
+use Rattle.layout_match.proofs.Lemmas.Passage.{IsUnderway}
 use Rattle.layout_positioning.specs.Lookups.{lookup_action}
 use Rattle.layout_positioning.proofs.forward.apply_forward.Given as goal
 

@@ -1,6 +1,6 @@
 use Rattle.std.proofs.Common.{◌<◌, length, arith}
 use Rattle.layout_match.specs.Applied.{applied_of}
-use Rattle.layout_walks.specs.Lemmas.Steps.{step_acted, step_over}
+use Rattle.layout_match.proofs.Lemmas.Steps.{step_acted, step_over}
 use Rattle.layout_positioning.specs.Lookups.{lookup_action}
 use Rattle.layout_positioning.proofs.Over.{room_closed}
 use Rattle.layout_positioning.proofs.forward.apply_next.Goals as goal

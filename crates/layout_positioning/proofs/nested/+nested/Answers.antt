@@ -1,30 +1,30 @@
 use Rattle.std.proofs.Common.{◌≡◌, ◌-◌, Ok, Err, get_or, sym, subst, refl, arith, ℕ}
 use Rattle.std.proofs.lemmas.Option.{get_or_from_slice_get}
-use Rattle.shaping_text.specs.declared.direction.Direction.{Direction}
-use Rattle.layout_contexts.specs.declared.context.ContextSubtable.{ContextSubtable}
-use Rattle.layout_contexts.specs.declared.context.SequenceLookupRecord.{SequenceLookupRecord}
+use Rattle.buffer_common.specs.declared.direction.Direction.{Direction}
+use Rattle.layout_subtables.specs.declared.context.ContextSubtable.{ContextSubtable}
+use Rattle.layout_subtables.specs.declared.context.SequenceLookupRecord.{SequenceLookupRecord}
 use Rattle.layout_match.specs.Applied.{applied_of}
-use Rattle.stage_rules.specs.Actions.{Action, first_rule}
-use Rattle.stage_rules.specs.Performing.{Performed, cut_with}
-use Rattle.stage_rules.specs.Lemmas.Frames.{still_direction}
-use Rattle.stage_rules.specs.Lemmas.Performed.{passed_all}
-use Rattle.stage_rules.specs.Lemmas.Firsts.{first_acts, first_refuses, first_passes}
-use Rattle.layout_chain.specs.Chains.{Chain, chain_rule, context_subtable}
-use Rattle.layout_chain.specs.Fitting.{IsMatched, chain_of}
-use Rattle.layout_chain.specs.Nested.{each_nested}
-use Rattle.layout_chain.specs.Nesting.{Walking}
-use Rattle.layout_chain.specs.Records.{IsBegun}
-use Rattle.layout_chain.specs.Rules.{chains_of}
-use Rattle.layout_chain.specs.Lemmas.Acting.{match_inside, rule_acted, rule_failed}
-use Rattle.layout_chain.specs.Lemmas.Inside.{then_stays}
-use Rattle.layout_chain.specs.Lemmas.Nested.{begun_closed, begun_numbers, begun_some, begun_unrefused, get_or_any, last_walked, matched_closed, matched_numbers, matched_unrefused, next_failed, next_walked, none_nested, not_tried, record_acted, record_inside, record_passed, tried_there}
+use Rattle.buffer_stages.specs.Actions.{Action, first_rule}
+use Rattle.buffer_stages.specs.Performing.{Performed, cut_with}
+use Rattle.buffer_stages.proofs.Lemmas.Frames.{still_direction}
+use Rattle.buffer_stages.proofs.Lemmas.Performed.{passed_all}
+use Rattle.buffer_stages.proofs.Lemmas.Firsts.{first_acts, first_refuses, first_passes}
+use Rattle.layout_contexts.specs.Chains.{Chain, chain_rule, context_subtable}
+use Rattle.layout_contexts.specs.Fitting.{IsMatched, chain_of}
+use Rattle.layout_contexts.specs.Nested.{each_nested}
+use Rattle.layout_contexts.specs.Nesting.{Walking}
+use Rattle.layout_contexts.specs.Records.{IsBegun}
+use Rattle.layout_contexts.specs.Rules.{chains_of}
+use Rattle.layout_contexts.proofs.Lemmas.Acting.{match_inside, rule_acted, rule_failed}
+use Rattle.layout_contexts.proofs.Lemmas.Inside.{then_stays}
+use Rattle.layout_contexts.proofs.Lemmas.Nested.{begun_closed, begun_numbers, begun_some, begun_unrefused, get_or_any, last_walked, matched_closed, matched_numbers, matched_unrefused, next_failed, next_walked, none_nested, not_tried, record_acted, record_inside, record_passed, tried_there}
 use Rattle.layout_positioning.specs.Joins.{cursive_subtable}
 use Rattle.layout_gpos.specs.Marks.{mark_to_mark}
 use Rattle.layout_gpos.specs.Pairs.{pair_subtable}
 use Rattle.layout_gpos.specs.Singles.{single_subtable}
-use Rattle.layout_gpos.specs.Lemmas.Left.{first_left, mark_keeps, pair_keeps, single_keeps}
-use Rattle.layout_positions.specs.declared.cursive.CursivePos.{CursivePos}
-use Rattle.layout_positions.specs.declared.single.SinglePos.{SinglePos}
+use Rattle.layout_gpos.proofs.Lemmas.Left.{first_left, mark_keeps, pair_keeps, single_keeps}
+use Rattle.layout_subtables.specs.declared.cursive.CursivePos.{CursivePos}
+use Rattle.layout_subtables.specs.declared.single_pos.SinglePos.{SinglePos}
 use Rattle.layout_positioning.specs.Lookups.{nested, nested_act}
 use Rattle.layout_positioning.proofs.Kept.{begun_kept, behind_kept, matched_kept, performed_kept, unmatched_kept}
 use Rattle.layout_positioning.proofs.Left.{cursive_keeps}

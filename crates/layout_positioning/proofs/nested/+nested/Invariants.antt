@@ -1,14 +1,14 @@
 use Rattle.std.proofs.Common.{◌+◌, ◌*◌, ◌-◌, drop, length}
-use Rattle.glyph_buffer.specs.Sides.{items_of}
+use Rattle.buffer_core.specs.Sides.{items_of}
 use Rattle.layout_gpos.specs.Bases.{AreKept}
 use Rattle.layout_match.specs.Applied.{applied_of}
-use Rattle.stage_rules.specs.Actions.{whole}
-use Rattle.stage_rules.specs.Buffers.{cut_of}
-use Rattle.stage_rules.specs.Lemmas.Performed.{ArePassed}
-use Rattle.layout_chain.specs.Chains.{chain_rule, context_subtable}
-use Rattle.layout_chain.specs.Inside.{StaysInside}
-use Rattle.layout_chain.specs.Rules.{chains_of}
-use Rattle.layout_chain.specs.Lemmas.Walks.{AreWalked}
+use Rattle.buffer_stages.specs.Actions.{whole}
+use Rattle.buffer_stages.specs.Buffers.{cut_of}
+use Rattle.buffer_stages.proofs.Lemmas.Performed.{ArePassed}
+use Rattle.layout_contexts.specs.Chains.{chain_rule, context_subtable}
+use Rattle.layout_contexts.specs.Inside.{StaysInside}
+use Rattle.layout_contexts.specs.Rules.{chains_of}
+use Rattle.layout_contexts.proofs.Lemmas.Walks.{AreWalked}
 use Rattle.layout_positioning.specs.Lookups.{nested, nested_act}
 use Rattle.layout_positioning.proofs.nested.+nested.Given as goal
 

@@ -1,7 +1,7 @@
 use Rattle.std.proofs.Common.{rules, get_or, None, ap, ◌∙◌}
-use Rattle.map_builder.specs.declared.stages.StageMap.{StageMap}
-use Rattle.stage_rules.specs.Settings.{text_settings}
-use Rattle.stage_rules.specs.Lemmas.Ways.{paused_as_set}
+use Rattle.layout_map.specs.declared.stages.StageMap.{StageMap}
+use Rattle.buffer_stages.specs.Settings.{text_settings}
+use Rattle.buffer_stages.proofs.Lemmas.Ways.{paused_as_set}
 use Rattle.layout_positioning.specs.Positioning.{positioning_lookups}
 use Rattle.layout_positioning.proofs.Ways.{stage_done}
 use Rattle.layout_positioning.proofs.position.apply_layout_table.Goals as goal

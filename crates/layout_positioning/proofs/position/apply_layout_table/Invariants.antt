@@ -1,5 +1,5 @@
 use Rattle.std.proofs.Common.{◌≡◌}
-use Rattle.stage_rules.specs.Settings.{text_settings}
+use Rattle.buffer_stages.specs.Settings.{text_settings}
 use Rattle.layout_positioning.specs.Positioning.{positioning_lookups}
 use Rattle.layout_positioning.proofs.Ways.{AreTableStagesDone}
 use Rattle.layout_positioning.proofs.position.apply_layout_table.Given as goal

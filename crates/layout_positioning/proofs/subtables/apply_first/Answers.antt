@@ -1,8 +1,8 @@
 use Rattle.std.proofs.Common.{refl}
 use Rattle.layout_match.specs.Applied.{applied_of}
-use Rattle.stage_rules.specs.Lemmas.Frames.{still_direction}
-use Rattle.stage_rules.specs.Lemmas.Performed.{passed_all}
-use Rattle.stage_rules.specs.Lemmas.Firsts.{first_acts, first_passes}
+use Rattle.buffer_stages.proofs.Lemmas.Frames.{still_direction}
+use Rattle.buffer_stages.proofs.Lemmas.Performed.{passed_all}
+use Rattle.buffer_stages.proofs.Lemmas.Firsts.{first_acts, first_passes}
 use Rattle.layout_positioning.proofs.subtables.apply_first.Goals as goal
 
 pub returns-then-apply : goal.returns-then-apply

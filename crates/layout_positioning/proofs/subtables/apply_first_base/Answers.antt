@@ -1,7 +1,7 @@
 use Rattle.std.proofs.Common.{refl}
 use Rattle.layout_match.specs.Applied.{applied_of}
-use Rattle.stage_rules.specs.Lemmas.Performed.{passed_all}
-use Rattle.stage_rules.specs.Lemmas.Firsts.{first_acts, first_passes}
+use Rattle.buffer_stages.proofs.Lemmas.Performed.{passed_all}
+use Rattle.buffer_stages.proofs.Lemmas.Firsts.{first_acts, first_passes}
 use Rattle.layout_gpos.specs.Marks.{mark_to_base}
 use Rattle.layout_positioning.proofs.Kept.{base_kept}
 use Rattle.layout_positioning.proofs.subtables.apply_first_base.Goals as goal

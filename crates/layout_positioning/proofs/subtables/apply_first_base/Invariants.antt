@@ -1,7 +1,7 @@
 use Rattle.std.proofs.Common.{drop}
-use Rattle.glyph_buffer.specs.Sides.{items_of}
+use Rattle.buffer_core.specs.Sides.{items_of}
 use Rattle.layout_match.specs.Applied.{applied_of}
-use Rattle.stage_rules.specs.Lemmas.Performed.{ArePassed}
+use Rattle.buffer_stages.proofs.Lemmas.Performed.{ArePassed}
 use Rattle.layout_gpos.specs.Bases.{AreKept}
 use Rattle.layout_gpos.specs.Marks.{mark_to_base}
 use Rattle.layout_positioning.proofs.subtables.apply_first_base.Given as goal

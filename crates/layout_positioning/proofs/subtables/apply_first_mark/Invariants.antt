@@ -1,6 +1,6 @@
 use Rattle.std.proofs.Common.{drop}
 use Rattle.layout_match.specs.Applied.{applied_of}
-use Rattle.stage_rules.specs.Lemmas.Performed.{ArePassed}
+use Rattle.buffer_stages.proofs.Lemmas.Performed.{ArePassed}
 use Rattle.layout_gpos.specs.Marks.{mark_to_mark}
 use Rattle.layout_positioning.proofs.subtables.apply_first_mark.Given as goal
 

@@ -1,6 +1,6 @@
 use Rattle.std.proofs.Common.{length}
 use Rattle.std.proofs.lemmas.List.{length-map}
-use Rattle.glyph_lists.specs.Items.{item_of, strip}
+use Rattle.buffer_glyphs.specs.Items.{item_of, strip}
 use Rattle.script_hangul.proofs.Fits.{front_fits}
 use Rattle.script_hangul.proofs.hangul.pass_other.Goals as goal
 

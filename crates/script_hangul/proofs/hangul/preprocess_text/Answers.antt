@@ -1,10 +1,10 @@
 use Rattle.std.proofs.Common.{Bool, ◌≡◌, ◌+◌, ◌-◌, arith, ap, subst, ◌∙◌}
-use Rattle.glyph_buffer.specs.Sides.{Sides, with_output}
-use Rattle.stage_rules.specs.Lemmas.Walked.{passed_on}
+use Rattle.buffer_core.specs.Sides.{Sides, with_output}
+use Rattle.buffer_stages.proofs.Lemmas.Walked.{passed_on}
 use Rattle.script_hangul.specs.Hangul.{step, wants_circles}
-use Rattle.stage_rules.specs.Walks.{Exceeds}
+use Rattle.buffer_stages.specs.Walks.{Exceeds}
 use Rattle.std.proofs.Common.{length}
-use Rattle.glyph_lists.specs.Items.{strip}
+use Rattle.buffer_glyphs.specs.Items.{strip}
 use Rattle.script_hangul.proofs.Walk.{IsUnderway, more, too_long}
 use Rattle.script_hangul.proofs.hangul.preprocess_text.Goals as goal
 

@@ -1,5 +1,5 @@
 use Rattle.std.proofs.Common.{◌-◌}
-use Rattle.glyph_buffer.specs.Sides.{with_output}
+use Rattle.buffer_core.specs.Sides.{with_output}
 use Rattle.script_hangul.proofs.Walk.{IsUnderway}
 use Rattle.script_hangul.proofs.hangul.preprocess_text.Given as goal
 

@@ -1,5 +1,5 @@
 use Rattle.std.proofs.Common.{ℕ, subst}
-use Rattle.glyph_lists.specs.Items.{strip}
+use Rattle.buffer_glyphs.specs.Items.{strip}
 use Rattle.script_hangul.specs.Steps.{composed}
 use Rattle.script_hangul.specs.Stepped.{Stepped}
 use Rattle.script_hangul.proofs.Put.{composed_stepped}

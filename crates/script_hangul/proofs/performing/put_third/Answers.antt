@@ -1,5 +1,5 @@
 use Rattle.std.proofs.Common.{◌++◌, take, drop, []}
-use Rattle.glyph_lists.specs.Items.{strip}
+use Rattle.buffer_glyphs.specs.Items.{strip}
 use Rattle.script_hangul.specs.Steps.{letters_from}
 use Rattle.script_hangul.proofs.Put.{then_merged}
 use Rattle.script_hangul.proofs.performing.put_third.Goals as goal

@@ -1,5 +1,5 @@
 use Rattle.std.proofs.Common.{ℕ, ◌-◌, length, arith, ap}
-use Rattle.stage_rules.specs.Lemmas.Walked.{passed_on}
+use Rattle.buffer_stages.proofs.Lemmas.Walked.{passed_on}
 use Rattle.script_hangul.proofs.Fits.{joined_there, split_there}
 use Rattle.script_hangul.proofs.Put.{joined_exceeds, parts_ahead, parts_behind, split_alone, split_joined, two_long}
 use Rattle.script_hangul.proofs.performing.split.Goals as goal

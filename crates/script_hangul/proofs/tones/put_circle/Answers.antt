@@ -1,5 +1,5 @@
 use Rattle.std.proofs.Common.{◌∷◌, []}
-use Rattle.glyph_lists.specs.Items.{strip}
+use Rattle.buffer_glyphs.specs.Items.{strip}
 use Rattle.script_hangul.proofs.Put.{circle_stepped, thin_circled, wide_circled}
 use Rattle.script_hangul.proofs.tones.put_circle.Goals as goal
 

@@ -1,5 +1,5 @@
 use Rattle.std.proofs.Common.{◌≡◌, ◌+◌, ◌-◌, length, take}
-use Rattle.glyph_lists.specs.Items.{strip}
+use Rattle.buffer_glyphs.specs.Items.{strip}
 use Rattle.script_hebrew_thai.specs.ThaiVowel.{count_above}
 use Rattle.script_hebrew_thai.proofs.thai_vowel.count_above.Given as goal
 

@@ -1,5 +1,5 @@
 use Rattle.std.proofs.Common.{sym, ◌∙◌}
-use Rattle.stage_rules.specs.Lemmas.Walked.{passed_on}
+use Rattle.buffer_stages.proofs.Lemmas.Walked.{passed_on}
 use Rattle.script_hebrew_thai.proofs.Vowel.{vowel_is, other_is, vowel_exceeds, other_exceeds}
 use Rattle.script_hebrew_thai.proofs.thai_vowel.pass.Goals as goal
 

@@ -1,6 +1,6 @@
 use Rattle.std.proofs.Common.{◌≡◌, ◌+◌, ◌-◌, arith, subst}
-use Rattle.glyph_buffer.specs.Sides.{Sides, with_output}
-use Rattle.stage_rules.specs.Lemmas.Walked.{passed_on}
+use Rattle.buffer_core.specs.Sides.{Sides, with_output}
+use Rattle.buffer_stages.proofs.Lemmas.Walked.{passed_on}
 use Rattle.script_hebrew_thai.proofs.Vowels.{IsUnderway, more, too_long}
 use Rattle.script_hebrew_thai.proofs.thai_vowel.preprocess_text.Goals as goal
 

@@ -1,5 +1,5 @@
 use Rattle.std.proofs.Common.{◌-◌}
-use Rattle.glyph_buffer.specs.Sides.{with_output}
+use Rattle.buffer_core.specs.Sides.{with_output}
 use Rattle.script_hebrew_thai.proofs.Vowels.{IsUnderway}
 use Rattle.script_hebrew_thai.proofs.thai_vowel.preprocess_text.Given as goal
 

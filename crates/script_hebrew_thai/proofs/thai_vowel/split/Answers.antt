@@ -1,6 +1,6 @@
 use Rattle.std.proofs.Common.{List, ◌∷◌, [], length, arith, refl, ap, ap₂, ◌∙◌}
-use Rattle.glyph_lists.specs.declared.info.hb_glyph_info_t.{hb_glyph_info_t}
-use Rattle.glyph_lists.specs.Items.{strip}
+use Rattle.buffer_glyphs.specs.declared.info.hb_glyph_info_t.{hb_glyph_info_t}
+use Rattle.buffer_glyphs.specs.Items.{strip}
 use Rattle.script_hebrew_thai.specs.ThaiVowel.{count_above}
 use Rattle.script_hebrew_thai.proofs.Vowel.{vowel_walked}
 use Rattle.script_hebrew_thai.proofs.thai_vowel.split.Goals as goal

@@ -1,5 +1,5 @@
 use Rattle.std.proofs.Common.{◌≡◌, length}
-use Rattle.glyph_buffer.specs.Sides.{all_glyphs}
+use Rattle.buffer_core.specs.Sides.{all_glyphs}
 use Rattle.script_joining.proofs.Marked.{AreFlagged}
 use Rattle.script_joining.proofs.flags.flag_neighbours.Given as goal
 

@@ -1,14 +1,14 @@
 use Rattle.std.proofs.Common.{ap, arith, refl, subst, sym, ◌≡◌, ◌+◌, ◌-◌, ℕ, List, length, ◌∙◌}
-use Rattle.glyph_lists.specs.declared.info.hb_glyph_info_t.{hb_glyph_info_t}
-use Rattle.glyph_lists.specs.Items.{clusters}
-use Rattle.glyph_lists.specs.Origins.{changed_within}
-use Rattle.glyph_lists.specs.Lemmas.Origins.{within_kept}
-use Rattle.glyph_buffer.specs.Readings.{always}
+use Rattle.buffer_glyphs.specs.declared.info.hb_glyph_info_t.{hb_glyph_info_t}
+use Rattle.buffer_glyphs.specs.Items.{clusters}
+use Rattle.buffer_glyphs.specs.Origins.{changed_within}
+use Rattle.buffer_glyphs.specs.Lemmas.Origins.{within_kept}
+use Rattle.buffer_core.specs.Readings.{always}
 use Rattle.buffer_lists.specs.Known.{HasOrder}
-use Rattle.glyph_buffer.specs.Sides.{Sides, all_glyphs}
-use Rattle.stage_rules.specs.Stages.{IsFollowed}
-use Rattle.stage_rules.specs.Moves.{with_move}
-use Rattle.stage_rules.specs.Lemmas.Ordered.{order_written}
+use Rattle.buffer_core.specs.Sides.{Sides, all_glyphs}
+use Rattle.buffer_stages.specs.Stages.{IsFollowed}
+use Rattle.buffer_stages.specs.Moves.{with_move}
+use Rattle.buffer_stages.specs.Lemmas.Ordered.{order_written}
 use Rattle.script_joining.specs.Marks.{led}
 use Rattle.script_joining.specs.Classed.{glyph_classed}
 use Rattle.script_joining.proofs.Reordered.{changed_length, led_followed, some_leading}

@@ -1,6 +1,6 @@
 use Rattle.std.proofs.Common.{sym, ap, ◌∙◌}
 use Rattle.std.specs.Prelude.{option_map}
-use Rattle.glyph_lists.specs.Items.{item_of}
+use Rattle.buffer_glyphs.specs.Items.{item_of}
 use Rattle.script_khmer_myanmar.proofs.KhmerMoves.{at_none_does}
 use Rattle.script_khmer_myanmar.proofs.khmer.reorder_at.Goals as goal
 

@@ -1,6 +1,6 @@
 use Rattle.std.proofs.Common.{◌+◌, Bool, nat_le, subst, arith}
 use Rattle.std.specs.Prelude.{slice_range}
-use Rattle.glyph_buffer.specs.Sides.{items_of}
+use Rattle.buffer_core.specs.Sides.{items_of}
 use Rattle.script_khmer_myanmar.specs.Runs.{IsRun}
 use Rattle.script_khmer_myanmar.proofs.KhmerWalk.{forms_two, forms_walked_at, vowels_walked_at}
 use Rattle.script_khmer_myanmar.proofs.khmer.reorder_run.Goals as goal

@@ -1,5 +1,5 @@
 use Rattle.std.proofs.Common.{rules, arith}
-use Rattle.glyph_lists.specs.Items.{item_of}
+use Rattle.buffer_glyphs.specs.Items.{item_of}
 use Rattle.script_khmer_myanmar.proofs.KhmerMoves.{vowel_met_does, vowel_not_met_does}
 use Rattle.script_khmer_myanmar.proofs.khmer.reorder_vowel.Goals as goal
 

@@ -1,5 +1,5 @@
 use Rattle.std.proofs.Common.{◌≡◌, drop}
-use Rattle.glyph_lists.specs.Items.{strip}
+use Rattle.buffer_glyphs.specs.Items.{strip}
 use Rattle.script_khmer_myanmar.specs.Myanmar.{has_two_matras}
 use Rattle.script_khmer_myanmar.proofs.MyanmarSteps.{are_two}
 use Rattle.script_khmer_myanmar.proofs.myanmar.has_two_matras.Given as goal

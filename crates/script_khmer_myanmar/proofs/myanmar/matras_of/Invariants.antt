@@ -1,5 +1,5 @@
 use Rattle.std.proofs.Common.{◌≡◌}
-use Rattle.glyph_lists.specs.Items.{strip}
+use Rattle.buffer_glyphs.specs.Items.{strip}
 use Rattle.script_khmer_myanmar.specs.Myanmar.{matras_of}
 use Rattle.script_khmer_myanmar.proofs.MyanmarSteps.{matras_from}
 use Rattle.script_khmer_myanmar.proofs.myanmar.matras_of.Given as goal

@@ -1,12 +1,12 @@
 use Rattle.std.proofs.Common.{◌++◌, List, ap, subst, sym, ◌∙◌, map, take, drop}
 use Rattle.std.specs.Prelude.{slice_range}
-use Rattle.glyph_lists.specs.declared.info.hb_glyph_info_t.{hb_glyph_info_t}
-use Rattle.glyph_lists.specs.Items.{clusters}
+use Rattle.buffer_glyphs.specs.declared.info.hb_glyph_info_t.{hb_glyph_info_t}
+use Rattle.buffer_glyphs.specs.Items.{clusters}
 use Rattle.buffer_lists.specs.Known.{HasOrder}
-use Rattle.glyph_buffer.specs.Sides.{Sides, all_glyphs, items_of}
-use Rattle.glyph_buffer.specs.Lending.{with_refilled}
-use Rattle.stage_rules.specs.SyllableBuffers.{IsRewritten}
-use Rattle.stage_rules.specs.Lemmas.Parts.{order_kept}
+use Rattle.buffer_core.specs.Sides.{Sides, all_glyphs, items_of}
+use Rattle.buffer_core.specs.Lending.{with_refilled}
+use Rattle.buffer_stages.specs.SyllableBuffers.{IsRewritten}
+use Rattle.buffer_stages.specs.Lemmas.Parts.{order_kept}
 use Rattle.script_khmer_myanmar.specs.Myanmar.{all_placed, myanmar_places}
 use Rattle.script_khmer_myanmar.specs.Turned.{glyphs_at}
 use Rattle.script_khmer_myanmar.proofs.MyanmarSteps.{placed_clusters, syllable_placed}

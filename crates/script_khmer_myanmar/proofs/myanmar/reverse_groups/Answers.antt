@@ -1,12 +1,12 @@
 use Rattle.std.proofs.Common.{◌≡◌, [], ◌++◌, List, arith, ap, length, subst, sym, ◌∙◌, take, drop}
 use Rattle.std.specs.Prelude.{slice_range}
-use Rattle.glyph_lists.specs.declared.info.hb_glyph_info_t.{hb_glyph_info_t}
-use Rattle.glyph_lists.specs.Items.{Item, item_of}
-use Rattle.glyph_buffer.specs.Sides.{Sides, all_glyphs, items_of}
-use Rattle.glyph_buffer.specs.Lending.{with_refilled}
-use Rattle.stage_rules.specs.Lemmas.Happened.{merge_happens}
-use Rattle.stage_rules.specs.SyllableBuffers.{IsRewritten}
-use Rattle.stage_rules.specs.Lemmas.Rewritings.{counted}
+use Rattle.buffer_glyphs.specs.declared.info.hb_glyph_info_t.{hb_glyph_info_t}
+use Rattle.buffer_glyphs.specs.Items.{Item, item_of}
+use Rattle.buffer_core.specs.Sides.{Sides, all_glyphs, items_of}
+use Rattle.buffer_core.specs.Lending.{with_refilled}
+use Rattle.buffer_stages.proofs.Lemmas.Happened.{merge_happens}
+use Rattle.buffer_stages.specs.SyllableBuffers.{IsRewritten}
+use Rattle.buffer_stages.specs.Lemmas.Rewritings.{counted}
 use Rattle.script_khmer_myanmar.specs.Myanmar.{groups_reversed, is_left_matra}
 use Rattle.script_khmer_myanmar.specs.Turned.{leading_turned}
 use Rattle.script_khmer_myanmar.proofs.MyanmarSteps.{reversed_order, reversed_rewrites}

@@ -1,6 +1,6 @@
 use Rattle.std.proofs.Common.{arith}
-use Rattle.glyph_lists.specs.declared.info.hb_glyph_info_t.{hb_glyph_info_t}
-use Rattle.glyph_lists.specs.Items.{item_of}
+use Rattle.buffer_glyphs.specs.declared.info.hb_glyph_info_t.{hb_glyph_info_t}
+use Rattle.buffer_glyphs.specs.Items.{item_of}
 use Rattle.script_khmer_myanmar.specs.Myanmar.{is_left_matra}
 use Rattle.script_khmer_myanmar.proofs.TurnedBack.{all_back}
 use Rattle.script_khmer_myanmar.proofs.myanmar.turn_groups.Goals as goal

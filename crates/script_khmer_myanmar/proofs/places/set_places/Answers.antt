@@ -1,6 +1,6 @@
 use Rattle.std.proofs.Common.{◌++◌, ap, ◌∙◌, drop}
 use Rattle.std.specs.Prelude.{replicate}
-use Rattle.script_constants.specs.declared.ot_position_t.TheConstants as position
+use Rattle.script_categories.specs.declared.ot_position_t.TheConstants as position
 use Rattle.script_khmer_myanmar.specs.Myanmar.{based}
 use Rattle.script_khmer_myanmar.specs.Turned.{glyphs_at}
 use Rattle.script_khmer_myanmar.proofs.Placing.{kinds, two_stretches}

@@ -1,6 +1,6 @@
 use Rattle.std.proofs.Common.{◌≡◌, ◌≤◌, length}
-use Rattle.glyph_lists.specs.Items.{strip}
-use Rattle.stage_rules.specs.Moves.{reach}
+use Rattle.buffer_glyphs.specs.Items.{strip}
+use Rattle.buffer_stages.specs.Moves.{reach}
 use Rattle.script_khmer_myanmar.proofs.KhmerScan.{moves_from}
 use Rattle.script_khmer_myanmar.proofs.runs.merged_length.Given as goal
 

@@ -1,4 +1,4 @@
-use Rattle.glyph_buffer.specs.Sides.{all_glyphs}
+use Rattle.buffer_core.specs.Sides.{all_glyphs}
 use Rattle.script_khmer_myanmar.proofs.KhmerScan.{merged_told}
 use Rattle.script_khmer_myanmar.proofs.runs.move_run.Goals as goal
 

@@ -1,5 +1,5 @@
 use Rattle.std.proofs.Common.{◌≡◌}
-use Rattle.glyph_lists.specs.Items.{strip}
+use Rattle.buffer_glyphs.specs.Items.{strip}
 use Rattle.script_khmer_myanmar.specs.Runs.{run_length}
 use Rattle.script_khmer_myanmar.proofs.KhmerScan.{run_from}
 use Rattle.script_khmer_myanmar.proofs.runs.run_length.Given as goal

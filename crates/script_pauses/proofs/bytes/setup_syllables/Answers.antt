@@ -1,6 +1,6 @@
-use Rattle.syllable_stages.specs.Bytes.{syllables_set}
-use Rattle.script_pauses.specs.Lemmas.Quiet.{quiet_brings_none, quiet_done}
-use Rattle.script_pauses.specs.Lemmas.Rules.{syllables_set_quiet}
+use Rattle.script_syllabic.specs.Bytes.{syllables_set}
+use Rattle.script_pauses.proofs.Lemmas.Quiet.{quiet_brings_none, quiet_done}
+use Rattle.script_pauses.proofs.Lemmas.Rules.{syllables_set_quiet}
 use Rattle.script_pauses.proofs.bytes.setup_syllables.Goals as goal
 
 pub returns-clause-ok : goal.returns-clause-ok

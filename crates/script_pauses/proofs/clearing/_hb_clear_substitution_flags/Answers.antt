@@ -1,6 +1,6 @@
 use Rattle.std.proofs.Common.{refl}
 use Rattle.script_pauses.specs.Syllables.{unsubstituted, substitutions_forgotten}
-use Rattle.script_pauses.specs.Lemmas.Quiet.{mapped_quiet, quiet_brings_none, quiet_done}
+use Rattle.script_pauses.proofs.Lemmas.Quiet.{mapped_quiet, quiet_brings_none, quiet_done}
 use Rattle.script_pauses.proofs.clearing._hb_clear_substitution_flags.Goals as goal
 
 pub returns-clause-ok : goal.returns-clause-ok

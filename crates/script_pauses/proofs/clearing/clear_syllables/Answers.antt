@@ -1,6 +1,6 @@
 use Rattle.std.proofs.Common.{refl}
 use Rattle.script_pauses.specs.Syllables.{without_syllable, syllables_cleared}
-use Rattle.script_pauses.specs.Lemmas.Quiet.{mapped_quiet, quiet_brings_none, quiet_done}
+use Rattle.script_pauses.proofs.Lemmas.Quiet.{mapped_quiet, quiet_brings_none, quiet_done}
 use Rattle.script_pauses.proofs.clearing.clear_syllables.Goals as goal
 
 pub returns-clause-ok : goal.returns-clause-ok

@@ -1,6 +1,6 @@
 use Rattle.std.proofs.Common.{subst}
-use Rattle.glyph_buffer.specs.Sides.{Sides, with_output}
-use Rattle.stage_rules.specs.Lemmas.Walked.{passed_on}
+use Rattle.buffer_core.specs.Sides.{Sides, with_output}
+use Rattle.buffer_stages.proofs.Lemmas.Walked.{passed_on}
 use Rattle.script_pauses.proofs.Underway.{IsUnderway, more, too_long}
 use Rattle.script_pauses.proofs.copying.copy_tiles.Goals as goal
 

@@ -1,11 +1,11 @@
 use Rattle.std.proofs.Common.{None, Some}
-use Rattle.script_constants.specs.declared.ot_category_t.TheConstants as category
-use Rattle.script_constants.specs.declared.syllable_kinds.khmer.TheConstants as khmer
+use Rattle.script_categories.specs.declared.ot_category_t.TheConstants as category
+use Rattle.script_categories.specs.declared.syllable_kinds.khmer.TheConstants as khmer
 use Rattle.script_khmer_myanmar.specs.Khmer.{khmer_syllable}
-use Rattle.script_khmer_myanmar.specs.Lemmas.KhmerPermuted.{syllable_permutes}
-use Rattle.syllable_stages.specs.Rules.{circle_rule}
-use Rattle.stage_rules.specs.Lemmas.Walked.{passed_on}
-use Rattle.script_pauses.specs.Lemmas.Quiet.{circles_refused, ordered_brings_none, ordered_done, ok_is}
+use Rattle.script_khmer_myanmar.proofs.Lemmas.KhmerPermuted.{syllable_permutes}
+use Rattle.script_syllabic.specs.Rules.{circle_rule}
+use Rattle.buffer_stages.proofs.Lemmas.Walked.{passed_on}
+use Rattle.script_pauses.proofs.Lemmas.Quiet.{circles_refused, ordered_brings_none, ordered_done, ok_is}
 use Rattle.script_pauses.proofs.khmer.reorder_khmer.Goals as goal
 
 pub returns-clause-ok : goal.returns-clause-ok

@@ -1,11 +1,11 @@
 use Rattle.std.proofs.Common.{None}
-use Rattle.script_constants.specs.declared.ot_category_t.TheConstants as category
-use Rattle.script_constants.specs.declared.syllable_kinds.myanmar.TheConstants as myanmar
+use Rattle.script_categories.specs.declared.ot_category_t.TheConstants as category
+use Rattle.script_categories.specs.declared.syllable_kinds.myanmar.TheConstants as myanmar
 use Rattle.script_khmer_myanmar.specs.Myanmar.{myanmar_syllable}
-use Rattle.script_khmer_myanmar.specs.Lemmas.MyanmarPermuted.{syllable_permutes}
-use Rattle.syllable_stages.specs.Rules.{circle_rule}
-use Rattle.stage_rules.specs.Lemmas.Walked.{passed_on}
-use Rattle.script_pauses.specs.Lemmas.Quiet.{circles_refused, ordered_brings_none, ordered_done, ok_is}
+use Rattle.script_khmer_myanmar.proofs.Lemmas.MyanmarPermuted.{syllable_permutes}
+use Rattle.script_syllabic.specs.Rules.{circle_rule}
+use Rattle.buffer_stages.proofs.Lemmas.Walked.{passed_on}
+use Rattle.script_pauses.proofs.Lemmas.Quiet.{circles_refused, ordered_brings_none, ordered_done, ok_is}
 use Rattle.script_pauses.proofs.myanmar.reorder_myanmar.Goals as goal
 
 pub returns-clause-ok : goal.returns-clause-ok

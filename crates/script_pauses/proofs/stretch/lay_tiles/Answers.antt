@@ -1,5 +1,5 @@
 use Rattle.std.proofs.Common.{ap, rules, ◌∙◌}
-use Rattle.tile_places.specs.Placing.{laid}
+use Rattle.script_tiles.specs.Placing.{laid}
 use Rattle.script_pauses.proofs.Laid.{laid_done}
 use Rattle.script_pauses.proofs.stretch.lay_tiles.Goals as goal
 

@@ -1,5 +1,5 @@
 use Rattle.script_pauses.specs.Tiles.{tiles_recorded}
-use Rattle.script_pauses.specs.Lemmas.Quiet.{quiet_brings_none, quiet_done}
+use Rattle.script_pauses.proofs.Lemmas.Quiet.{quiet_brings_none, quiet_done}
 use Rattle.script_pauses.proofs.tiles.record_stch.Goals as goal
 
 pub returns-clause-ok : goal.returns-clause-ok

@@ -1,7 +1,7 @@
-use Rattle.syllable_stages.specs.Features.{rphf_recorded}
+use Rattle.script_syllabic.specs.Features.{rphf_recorded}
 use Rattle.script_pauses.specs.Syllables.{syllables_by}
-use Rattle.script_pauses.specs.Lemmas.Quiet.{quiet_brings_none, quiet_done, syllables_quiet}
-use Rattle.script_pauses.specs.Lemmas.Rules.{rphf_recorded_permutes}
+use Rattle.script_pauses.proofs.Lemmas.Quiet.{quiet_brings_none, quiet_done, syllables_quiet}
+use Rattle.script_pauses.proofs.Lemmas.Rules.{rphf_recorded_permutes}
 use Rattle.script_pauses.proofs.universal.record_rphf.Goals as goal
 
 pub returns-clause-ok : goal.returns-clause-ok

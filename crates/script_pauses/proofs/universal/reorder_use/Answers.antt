@@ -1,11 +1,11 @@
 use Rattle.std.proofs.Common.{None, Some}
-use Rattle.script_constants.specs.declared.category.TheConstants as category
-use Rattle.script_constants.specs.declared.syllable_kinds.universal.TheConstants as universal
+use Rattle.script_categories.specs.declared.category.TheConstants as category
+use Rattle.script_categories.specs.declared.syllable_kinds.universal.TheConstants as universal
 use Rattle.script_universal.specs.Reordering.{universal_syllable}
-use Rattle.script_universal.specs.Lemmas.Permuted.{syllable_permutes}
-use Rattle.syllable_stages.specs.Rules.{circle_rule}
-use Rattle.stage_rules.specs.Lemmas.Walked.{passed_on}
-use Rattle.script_pauses.specs.Lemmas.Quiet.{circles_refused, ordered_brings_none, ordered_done, ok_is}
+use Rattle.script_universal.proofs.Lemmas.Permuted.{syllable_permutes}
+use Rattle.script_syllabic.specs.Rules.{circle_rule}
+use Rattle.buffer_stages.proofs.Lemmas.Walked.{passed_on}
+use Rattle.script_pauses.proofs.Lemmas.Quiet.{circles_refused, ordered_brings_none, ordered_done, ok_is}
 use Rattle.script_pauses.proofs.universal.reorder_use.Goals as goal
 
 pub returns-clause-ok : goal.returns-clause-ok

@@ -1,5 +1,5 @@
 use Rattle.script_pauses.specs.Syllables.{universal_syllables_set}
-use Rattle.script_pauses.specs.Lemmas.Quiet.{quiet_brings_none, quiet_done}
+use Rattle.script_pauses.proofs.Lemmas.Quiet.{quiet_brings_none, quiet_done}
 use Rattle.script_pauses.proofs.universal.setup_syllables.Goals as goal
 
 pub returns-clause-ok : goal.returns-clause-ok

@@ -1,5 +1,5 @@
 use Rattle.std.proofs.Common.{◌≡◌}
-use Rattle.glyph_lists.specs.Items.{strip}
+use Rattle.buffer_glyphs.specs.Items.{strip}
 use Rattle.script_universal.proofs.Steps.{before_halant, halant_from}
 use Rattle.script_universal.proofs.reorder.before_halant.Given as goal
 

@@ -1,4 +1,4 @@
-use Rattle.glyph_buffer.specs.Sides.{all_glyphs}
+use Rattle.buffer_core.specs.Sides.{all_glyphs}
 use Rattle.script_universal.proofs.Stretches.{reach_told, stretch_stays}
 use Rattle.script_universal.proofs.reorder.move_stretch.Goals as goal
 

@@ -1,5 +1,5 @@
 use Rattle.std.proofs.Common.{◌≡◌}
-use Rattle.glyph_lists.specs.Items.{strip}
+use Rattle.buffer_glyphs.specs.Items.{strip}
 use Rattle.script_universal.proofs.Steps.{passed, passed_from}
 use Rattle.script_universal.proofs.reorder.passed_by_reph.Given as goal
 

@@ -1,8 +1,8 @@
 use Rattle.std.proofs.Common.{rules, ap, ◌∙◌}
-use Rattle.glyph_buffer.specs.Sides.{items_of}
-use Rattle.stage_rules.specs.Buffers.{are_glyphs}
-use Rattle.glyph_lists.specs.Items.{item_of}
-use Rattle.glyph_buffer.specs.Graphemes.{is_default_ignorable}
+use Rattle.buffer_core.specs.Sides.{items_of}
+use Rattle.buffer_stages.specs.Buffers.{are_glyphs}
+use Rattle.buffer_glyphs.specs.Items.{item_of}
+use Rattle.buffer_core.specs.Graphemes.{is_default_ignorable}
 use Rattle.shape_glyphs.proofs.Ended.{deleted_followed, kept_glyphs}
 use Rattle.shape_glyphs.proofs.ignorables.delete_ignorables.Goals as goal
 

@@ -1,6 +1,6 @@
 use Rattle.std.proofs.Common.{ap, ◌∙◌}
-use Rattle.glyph_lists.specs.Items.{Item}
-use Rattle.glyph_properties.specs.Characters.{standing_for, with_glyph}
+use Rattle.buffer_glyphs.specs.Items.{Item}
+use Rattle.buffer_properties.specs.Characters.{standing_for, with_glyph}
 use Rattle.shape_normalize.proofs.Compositions.{composed_is, item_same}
 use Rattle.shape_normalize.proofs.composing.compose_mark.Goals as goal
 

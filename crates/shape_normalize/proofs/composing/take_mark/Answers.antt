@@ -1,5 +1,5 @@
 use Rattle.std.proofs.Common.{ap, ◌∙◌}
-use Rattle.glyph_buffer.specs.Moving.{moved_to}
+use Rattle.buffer_core.specs.Moving.{moved_to}
 use Rattle.shape_normalize.proofs.Compositions.{mark_behind, mark_ahead}
 use Rattle.shape_normalize.proofs.composing.take_mark.Goals as goal
 

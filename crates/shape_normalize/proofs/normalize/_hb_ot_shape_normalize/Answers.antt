@@ -1,6 +1,6 @@
 use Rattle.std.proofs.Common.{ap, ◌∙◌}
-use Rattle.glyph_lists.specs.Items.{strip}
-use Rattle.glyph_properties.specs.NormalizedList.{has_later_mark}
+use Rattle.buffer_glyphs.specs.Items.{strip}
+use Rattle.buffer_properties.specs.NormalizedList.{has_later_mark}
 use Rattle.shape_normalize.proofs.Whole.{all_followed}
 use Rattle.shape_normalize.proofs.normalize._hb_ot_shape_normalize.Goals as goal
 

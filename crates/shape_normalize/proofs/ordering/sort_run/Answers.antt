@@ -1,8 +1,8 @@
-use Rattle.glyph_lists.specs.declared.info.hb_glyph_info_t.{hb_glyph_info_t}
-use Rattle.glyph_lists.specs.Items.{item_of}
-use Rattle.glyph_slices.specs.Sorting.{range_sorted}
-use Rattle.glyph_buffer.specs.Sides.{all_glyphs}
-use Rattle.glyph_properties.specs.Characters.{mark_class}
+use Rattle.buffer_glyphs.specs.declared.info.hb_glyph_info_t.{hb_glyph_info_t}
+use Rattle.buffer_glyphs.specs.Items.{item_of}
+use Rattle.buffer_groups.specs.Sorting.{range_sorted}
+use Rattle.buffer_core.specs.Sides.{all_glyphs}
+use Rattle.buffer_properties.specs.Characters.{mark_class}
 use Rattle.shape_normalize.proofs.Runs.{sort_rearranges, sort_ready}
 use Rattle.shape_normalize.proofs.ordering.sort_run.Goals as goal
 

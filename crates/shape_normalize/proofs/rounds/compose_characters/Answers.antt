@@ -1,8 +1,8 @@
 use Rattle.std.proofs.Common.{[], length, ap, sym, subst, ◌∙◌, ◌≤◌}
-use Rattle.glyph_lists.specs.Items.{strip}
-use Rattle.glyph_buffer.specs.Sides.{Sides, items_of}
-use Rattle.glyph_properties.specs.Composing.{composed_list}
-use Rattle.normal_rounds.specs.Brought.{Brought}
+use Rattle.buffer_glyphs.specs.Items.{strip}
+use Rattle.buffer_core.specs.Sides.{Sides, items_of}
+use Rattle.buffer_properties.specs.Composing.{composed_list}
+use Rattle.buffer_stages.specs.Brought.{Brought}
 use Rattle.shape_normalize.proofs.Joined.{list_arranged}
 use Rattle.shape_normalize.proofs.Room.{opened_room}
 use Rattle.shape_normalize.proofs.rounds.compose_characters.Goals as goal

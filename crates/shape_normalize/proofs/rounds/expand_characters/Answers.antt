@@ -1,8 +1,8 @@
 use Rattle.std.proofs.Common.{[], Ok, ap, sym, subst, ◌∙◌}
-use Rattle.glyph_lists.specs.Items.{strip}
-use Rattle.glyph_buffer.specs.Sides.{Sides, items_of}
-use Rattle.glyph_properties.specs.Expanding.{expanded_list}
-use Rattle.normal_rounds.specs.Brought.{Brought}
+use Rattle.buffer_glyphs.specs.Items.{strip}
+use Rattle.buffer_core.specs.Sides.{Sides, items_of}
+use Rattle.buffer_properties.specs.Expanding.{expanded_list}
+use Rattle.buffer_stages.specs.Brought.{Brought}
 use Rattle.shape_normalize.proofs.Joined.{list_arranged, list_fits}
 use Rattle.shape_normalize.proofs.rounds.expand_characters.Goals as goal
 

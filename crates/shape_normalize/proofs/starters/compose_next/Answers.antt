@@ -1,6 +1,6 @@
 use Rattle.std.proofs.Common.{ℕ, refl, ap, sym, subst, ◌∙◌}
 use Rattle.std.specs.Prelude.{Option}
-use Rattle.glyph_lists.specs.Items.{Item}
+use Rattle.buffer_glyphs.specs.Items.{Item}
 use Rattle.shape_normalize.specs.Starters.{become, Joins, Composes, Passes}
 use Rattle.shape_normalize.proofs.Walk.{if_ok, starter_there}
 use Rattle.shape_normalize.proofs.starters.compose_next.Goals as goal

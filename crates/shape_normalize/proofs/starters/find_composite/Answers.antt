@@ -1,8 +1,8 @@
 use Rattle.std.proofs.Common.{ap, ap₂, sym, ◌∙◌}
 use Rattle.std.specs.Option.{option_and_then}
-use Rattle.glyph_lists.specs.Items.{Item}
-use Rattle.glyph_properties.specs.Characters.{is_mark}
-use Rattle.glyph_properties.specs.Composing.{becoming}
+use Rattle.buffer_glyphs.specs.Items.{Item}
+use Rattle.buffer_properties.specs.Characters.{is_mark}
+use Rattle.buffer_properties.specs.Composing.{becoming}
 use Rattle.shape_normalize.specs.Starters.{become}
 use Rattle.shape_normalize.proofs.Walk.{current_item, starter_item, no_mark, out_of_reach, in_reach}
 use Rattle.shape_normalize.proofs.starters.find_composite.Goals as goal

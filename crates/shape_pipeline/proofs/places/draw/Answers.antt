@@ -1,5 +1,5 @@
 use Rattle.std.proofs.Common.{sym, ap, ◌∙◌}
-use Rattle.shaping_text.specs.Direction.{is_backward}
+use Rattle.buffer_common.specs.Direction.{is_backward}
 use Rattle.shape_pipeline.proofs.Placed.{turned_drawn}
 use Rattle.shape_pipeline.proofs.places.draw.Goals as goal
 

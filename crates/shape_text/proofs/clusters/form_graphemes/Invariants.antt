@@ -1,5 +1,5 @@
 use Rattle.std.proofs.Common.{◌≡◌, ◌-◌, length}
-use Rattle.glyph_buffer.specs.Sides.{all_glyphs}
+use Rattle.buffer_core.specs.Sides.{all_glyphs}
 use Rattle.shape_text.proofs.Formed.{AreFormed}
 use Rattle.shape_text.proofs.clusters.form_graphemes.Given as goal
 

@@ -1,7 +1,7 @@
 use Rattle.std.proofs.Common.{arith}
 use Rattle.std.proofs.lemmas.Bool.Decides.{nat_tests}
-use Rattle.glyph_lists.specs.Items.{clusters}
-use Rattle.glyph_lists.specs.Order.{IsFalling, IsRising}
+use Rattle.buffer_glyphs.specs.Items.{clusters}
+use Rattle.buffer_glyphs.specs.Order.{IsFalling, IsRising}
 use Rattle.buffer_lists.proofs.Falling.{falls_front}
 use Rattle.buffer_lists.proofs.Known.{rises_front}
 use Rattle.buffer_lists.proofs.Known.{no_glyph}

@@ -1,4 +1,4 @@
-use Rattle.glyph_lists.specs.Items.{clusters}
+use Rattle.buffer_glyphs.specs.Items.{clusters}
 use Rattle.buffer_lists.proofs.Between.{known_between, known_first, known_second}
 use Rattle.buffer_lists.proofs.order.KnownOrder.with_between.Goals as goal
 

@@ -2,7 +2,7 @@ use Rattle.std.proofs.Common.{◌≡◌, ◌∙◌, List, ℕ, ap, rules}
 use Rattle.std.specs.Ordering.{nat_cmp}
 use Rattle.std.specs.List.Sorted.{IsSorted}
 use Rattle.layout_common.specs.Coverage.{is_covered}
-use Rattle.layout_common.specs.CoverageSearch.{search_covers}
+use Rattle.layout_common.proofs.CoverageSearch.{search_covers}
 use Rattle.layout_common.proofs.coverage.Coverage.contains.Goals as goal
 
 pub returns : goal.returns

@@ -1,5 +1,5 @@
-use Rattle.layout_common.specs.CoverageSearch.{covered_after_sort}
-use Rattle.layout_common.specs.CoverageOrder.{sorted_is_in_order}
+use Rattle.layout_common.proofs.CoverageSearch.{covered_after_sort}
+use Rattle.layout_common.proofs.CoverageOrder.{sorted_is_in_order}
 use Rattle.layout_common.proofs.coverage.Coverage.new.Goals as goal
 
 pub returns-clause-order : goal.returns-clause-order

@@ -1,4 +1,4 @@
-use Rattle.glyph_buffer.specs.Sides.{items_of}
+use Rattle.buffer_core.specs.Sides.{items_of}
 use Rattle.layout_match.specs.Applied.{applied_of}
 use Rattle.layout_gpos.specs.Bases.{any_sought}
 use Rattle.layout_gpos.specs.declared.bases.Sought.TheVariants.{Base}

@@ -1,9 +1,9 @@
 use Rattle.std.proofs.Common.{◌≡◌, Some, None, Ok, List, false, refl, sym, subst}
-use Rattle.layout_font.specs.Layout.{LigatureTable, ligature_set_of}
+use Rattle.layout_tables.specs.Layout.{LigatureTable, ligature_set_of}
 use Rattle.layout_match.specs.Applied.{applied_of}
-use Rattle.stage_rules.specs.Actions.{first_rule}
-use Rattle.stage_rules.specs.Performing.{Performs, cut_with}
-use Rattle.stage_rules.specs.Lemmas.Does.{passed_same}
+use Rattle.buffer_stages.specs.Actions.{first_rule}
+use Rattle.buffer_stages.specs.Performing.{Performs, cut_with}
+use Rattle.buffer_stages.proofs.Lemmas.Does.{passed_same}
 use Rattle.layout_gsub.specs.Ligating.{ligature_over}
 use Rattle.layout_gsub.proofs.Found.{ligatures_perform}
 use Rattle.layout_gsub.proofs.ligature.LigatureSubstApply.apply.Goals as goal

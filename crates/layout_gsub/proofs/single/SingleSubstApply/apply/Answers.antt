@@ -1,6 +1,6 @@
 use Rattle.std.proofs.Common.{◌≡◌, Some, None, Ok, false, refl, sym}
 use Rattle.layout_common.specs.Rows.{value_of}
-use Rattle.stage_rules.specs.Lemmas.Does.{passed_same}
+use Rattle.buffer_stages.proofs.Lemmas.Does.{passed_same}
 use Rattle.layout_gsub.proofs.Tested.{single_performs}
 use Rattle.layout_gsub.proofs.single.SingleSubstApply.apply.Goals as goal
 

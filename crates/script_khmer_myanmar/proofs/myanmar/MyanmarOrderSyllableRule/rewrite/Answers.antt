@@ -1,6 +1,6 @@
 use Rattle.std.proofs.Common.{arith, sym, ap, ◌∙◌}
 use Rattle.std.specs.Prelude.{option_map}
-use Rattle.glyph_lists.specs.Items.{item_of}
+use Rattle.buffer_glyphs.specs.Items.{item_of}
 use Rattle.script_khmer_myanmar.proofs.MyanmarSteps.{kept_does, none_does, ordered_does}
 use Rattle.script_khmer_myanmar.proofs.myanmar.MyanmarOrderSyllableRule.rewrite.Goals as goal
 

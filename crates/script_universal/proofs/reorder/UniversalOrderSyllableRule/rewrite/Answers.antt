@@ -1,5 +1,5 @@
 use Rattle.std.proofs.Common.{arith, sym, ◌∙◌}
-use Rattle.glyph_lists.specs.Items.{item_of}
+use Rattle.buffer_glyphs.specs.Items.{item_of}
 use Rattle.script_universal.proofs.Steps.{kept_does, all_does}
 use Rattle.script_universal.proofs.reorder.UniversalOrderSyllableRule.rewrite.Goals as goal
 

@@ -1,7 +1,7 @@
 use Rattle.std.proofs.Common.{refl, subst}
-use Rattle.glyph_buffer.specs.Readings.{always}
-use Rattle.glyph_buffer.specs.Sides.{Sides}
-use Rattle.stage_rules.specs.Ready.{IsDone}
+use Rattle.buffer_core.specs.Readings.{always}
+use Rattle.buffer_core.specs.Sides.{Sides}
+use Rattle.buffer_stages.specs.Ready.{IsDone}
 use Rattle.shape_masks.specs.Masks.{with_one_mask}
 use Rattle.shape_pipeline.proofs.Begun.{characters_masked, text_begun_followed, text_begun_refused}
 use Rattle.shape_pipeline.proofs.Phases.{passed_on}

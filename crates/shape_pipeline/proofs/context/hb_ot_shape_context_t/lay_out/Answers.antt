@@ -1,5 +1,5 @@
 use Rattle.std.proofs.Common.{◌≡◌, refl, ◌∙◌}
-use Rattle.glyph_buffer.specs.Sides.{settings_of}
+use Rattle.buffer_core.specs.Sides.{settings_of}
 use Rattle.shape_pipeline.proofs.Numbers.{sets_as}
 use Rattle.shape_pipeline.proofs.Phases.{after_followed, after_refused_last, after_refused_later, after_refused_then, passed_on}
 use Rattle.shape_pipeline.proofs.context.hb_ot_shape_context_t.lay_out.Goals as goal

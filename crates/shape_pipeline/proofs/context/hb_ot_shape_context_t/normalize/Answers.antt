@@ -1,4 +1,4 @@
-use Rattle.stage_rules.specs.Settings.{text_settings}
+use Rattle.buffer_stages.specs.Settings.{text_settings}
 use Rattle.shape_pipeline.specs.Shaping.{Shaping}
 use Rattle.shape_pipeline.proofs.Phases.{normal_refused_as_set}
 use Rattle.shape_pipeline.proofs.context.hb_ot_shape_context_t.normalize.Goals as goal

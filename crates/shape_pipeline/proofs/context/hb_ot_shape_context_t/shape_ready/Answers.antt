@@ -1,5 +1,5 @@
 use Rattle.std.proofs.Common.{◌≡◌, refl, ◌∙◌}
-use Rattle.glyph_buffer.specs.Sides.{settings_of}
+use Rattle.buffer_core.specs.Sides.{settings_of}
 use Rattle.shape_pipeline.proofs.Numbers.{sets_as}
 use Rattle.shape_pipeline.proofs.Whole.{reading_followed, reading_refused, reading_refused_late}
 use Rattle.shape_pipeline.proofs.Phases.{passed_on}

@@ -1,9 +1,0 @@
-pub mod Masks
-pub mod Shapers
-pub mod Dispatch
-pub mod Requests
-pub mod Hooks
-pub mod Present
-pub mod Plain
-pub mod Rules
-pub mod Lemmas

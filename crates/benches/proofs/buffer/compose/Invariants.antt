@@ -1,5 +1,0 @@
-use Rattle.std.proofs.Common.{◌≡◌, true}
-use Rattle.benches.proofs.buffer.compose.Given as goal
-
-abbrev pub invariant-loop : goal.invariant-loop
-invariant-loop l = l.buffer.is_open ≡ true

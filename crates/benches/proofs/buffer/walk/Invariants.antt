@@ -1,9 +1,0 @@
-use Rattle.std.proofs.Common.{◌≡◌, true, length}
-use Rattle.glyph_buffer.specs.Sides.{all_glyphs}
-use Rattle.benches.proofs.buffer.walk.Given as goal
-
-abbrev pub invariant-loop-buffer : goal.invariant-loop-buffer
-invariant-loop-buffer l = (l.buffer.is_open ≡ true) × (all_glyphs l.buffer ≡ all_glyphs l.fn.buffer)
-
-abbrev pub decreases-loop-buffer : goal.decreases-loop-buffer
-decreases-loop-buffer l = length l.buffer.ahead

@@ -1,0 +1,151 @@
+-- What happens to a range that begins in the output, over both sides.
+use Rattle.std.specs.Global.{Vec}
+use Rattle.std.specs.Prelude.{slice_range}
+use Rattle.std.proofs.Common.{ℕ, ◌≡◌, ◌≤◌, ◌+◌, ◌-◌, true, nat_lt, List, ◌++◌, length, map, take, drop, refl, arith, ap, sym, append_assoc, ◌∙◌}
+use Rattle.std.proofs.lemmas.List.{map-append, take-append-drop, take-append-le, drop-append-le, take_at, drop_at, drop-drop, length-map, length-append, length-drop}
+use Rattle.std.proofs.Math.Seq.{take-append-add, drop-append-add}
+use Rattle.buffer_glyphs.specs.declared.info.hb_glyph_info_t.{hb_glyph_info_t}
+use Rattle.buffer_glyphs.specs.declared.level.BufferClusterLevel.TheVariants.{MonotoneGraphemes, MonotoneCharacters, Characters}
+use Rattle.buffer_glyphs.specs.declared.level.BufferClusterLevel.{BufferClusterLevel}
+use Rattle.buffer_glyphs.specs.Items.{strip, clusters}
+use Rattle.buffer_glyphs.specs.Parts.{stretch}
+use Rattle.buffer_glyphs.specs.Merges.{least_number, merged}
+use Rattle.buffer_glyphs.specs.Levels.{InOutput, manner}
+use Rattle.buffer_glyphs.specs.Glyphs.{beside_merged_as, flagged, glyphs_flagged, glyphs_marked, glyphs_merged, in_cluster, marked_outside, tells_apart}
+use Rattle.buffer_glyphs.specs.Lemmas.Glyphs.{stretch_is, strip_merged}
+use Rattle.buffer_core.specs.declared.buffer.hb_buffer_t.TheInside.{Inside}
+use Rattle.buffer_lists.specs.declared.order.ClusterOrder.{ClusterOrder}
+use Rattle.buffer_core.specs.Inside.{sides_of}
+use Rattle.buffer_core.specs.Sides.{Sides, all_glyphs, items_of}
+use Rattle.buffer_core.specs.Merging.{output_merged_at, index_in_all, telling_flags, with_glyphs, with_output_merged}
+use Rattle.buffer_core.specs.Marking.{with_marked, with_flagged}
+
+-- a range that goes over the end of the first of two lists
+slice_across : {X : Type 0} (xs ys : List X) (start n : ℕ) → start ≤ length xs → slice_range (xs ++ ys) start (length xs + n) ≡ drop start xs ++ take n ys
+slice_across xs ys start n le =
+    let long = length-drop start xs in
+    let wide : length xs + n - start ≡ length (drop start xs) + n = omega (arith, long, le) in
+    rw (drop-append-le start xs ys le, wide) (take-append-add (drop start xs) ys n)
+
+stretch_across : (xs ys : List hb_glyph_info_t) (start n : ℕ) → start ≤ length xs → stretch start (length xs + n) (clusters (xs ++ ys)) ≡ clusters (drop start xs) ++ clusters (take n ys)
+stretch_across xs ys start n le =
+    let cluster_of : hb_glyph_info_t → ℕ = λ g. g.cluster in
+    stretch_is (xs ++ ys) start (length xs + n) ∙ ap clusters (slice_across xs ys start n le) ∙ map-append cluster_of (drop start xs) (take n ys)
+
+-- each glyph of such a range is changed alike
+changed_across : (f : hb_glyph_info_t → hb_glyph_info_t) (xs ys : List hb_glyph_info_t) (start n : ℕ) → start ≤ length xs
+    → take start (xs ++ ys) ++ map f (slice_range (xs ++ ys) start (length xs + n)) ++ drop (length xs + n) (xs ++ ys) ≡ (take start xs ++ map f (drop start xs)) ++ (map f (take n ys) ++ drop n ys)
+changed_across f xs ys start n le =
+    rw (slice_across xs ys start n le, take-append-le start xs ys le, drop-append-add xs ys n, map-append f (drop start xs) (take n ys))
+    (ap (λ zs. zs ++ drop n ys) (sym (append_assoc (take start xs) (map f (drop start xs)) (map f (take n ys)))) ∙ append_assoc (take start xs ++ map f (drop start xs)) (map f (take n ys)) (drop n ys))
+
+-- other glyphs on both sides of an open buffer
+both_view : (b : Inside) (info out : Vec hb_glyph_info_t) (order : ClusterOrder) (flags : ℕ) (gs : List hb_glyph_info_t) → b.have_output ≡ true → length out.items ≡ length b.out_info.items
+    → gs ≡ out.items ++ drop b.idx info.items
+    → sides_of (record b { info = info; out_info = out; scratch_flags = flags; order = order }) ≡ record (with_glyphs gs (sides_of b)) { scratch_flags = flags }
+both_view b info out order flags gs h long e =
+    rw (h, e, take_at out.items (drop b.idx info.items) (length b.out_info.items) long, drop_at out.items (drop b.idx info.items) (length b.out_info.items) long) refl
+
+changed_length : (f : hb_glyph_info_t → hb_glyph_info_t) (xs : List hb_glyph_info_t) (start : ℕ) → length (take start xs ++ map f (drop start xs)) ≡ length xs
+changed_length f xs start =
+    let whole = ap length (take-append-drop start xs) in
+    omega (arith, whole, length-append (take start xs) (drop start xs), length-append (take start xs) (map f (drop start xs)), length-map (drop start xs) f)
+
+pub drop_on : {X : Type 0} (gs : List X) (from end : ℕ) → from ≤ end → drop (end - from) (drop from gs) ≡ drop end gs
+drop_on gs from end le = let there : from + (end - from) ≡ end = omega arith in drop-drop (end - from) from gs ∙ ap (λ n. drop n gs) there
+
+ahead_is : (gs : List hb_glyph_info_t) (from end : ℕ) → from ≤ end → drop end gs ≡ drop (end - from) (drop from gs)
+ahead_is gs from end le = let there : from + (end - from) ≡ end = omega arith in sym (drop-drop (end - from) from gs ∙ ap (λ n. drop n gs) there)
+
+pub marked_across_view : (b : Inside) (info out : Vec hb_glyph_info_t) (order : ClusterOrder) (bits start end flags : ℕ) → b.have_output ≡ true → start ≤ length b.out_info.items → b.idx ≤ end
+    → out.items ≡ take start b.out_info.items ++ map (marked_outside bits (least_number (clusters (drop start b.out_info.items) ++ clusters (slice_range b.info.items b.idx end)))) (drop start b.out_info.items)
+    → drop b.idx info.items ≡ map (marked_outside bits (least_number (clusters (drop start b.out_info.items) ++ clusters (slice_range b.info.items b.idx end)))) (slice_range b.info.items b.idx end) ++ drop end b.info.items
+    → flags ≡ telling_flags (tells_apart (clusters (drop start b.out_info.items) ++ clusters (slice_range b.info.items b.idx end))) b.scratch_flags
+    → sides_of (record b { info = info; out_info = out; scratch_flags = flags; order = order }) ≡ with_marked bits start (index_in_all end (sides_of b)) (sides_of b)
+marked_across_view b info out order bits start end flags h le begins o i f =
+    let behind = b.out_info.items in
+    let ahead = drop b.idx b.info.items in
+    let n = end - b.idx in
+    let range = stretch_across behind ahead start n le in
+    let mark = marked_outside bits (least_number (clusters (drop start behind) ++ clusters (take n ahead))) in
+    let place : index_in_all end (sides_of b) ≡ length behind + n = rw h (omega (arith, begins)) in
+    let all : all_glyphs (sides_of b) ≡ behind ++ ahead = rw h refl in
+    let long = ap length o ∙ changed_length mark behind start in
+    let glyphs : glyphs_marked bits start (length behind + n) (behind ++ ahead) ≡ out.items ++ drop b.idx info.items =
+    rw (range, o, i, ahead_is b.info.items b.idx end begins) (changed_across mark behind ahead start n le) in
+    both_view b info out order flags (glyphs_marked bits start (length behind + n) (behind ++ ahead)) h long glyphs
+    ∙ rw (place, all, range, f) refl
+
+pub flagged_across_view : (b : Inside) (info out : Vec hb_glyph_info_t) (order : ClusterOrder) (bits start end flags : ℕ) → b.have_output ≡ true → start ≤ length b.out_info.items → b.idx ≤ end
+    → out.items ≡ take start b.out_info.items ++ map (flagged bits) (drop start b.out_info.items)
+    → drop b.idx info.items ≡ map (flagged bits) (slice_range b.info.items b.idx end) ++ drop end b.info.items
+    → flags ≡ telling_flags (nat_lt start (length b.out_info.items + (end - b.idx))) b.scratch_flags
+    → sides_of (record b { info = info; out_info = out; scratch_flags = flags; order = order }) ≡ with_flagged bits start (index_in_all end (sides_of b)) (sides_of b)
+flagged_across_view b info out order bits start end flags h le begins o i f =
+    let behind = b.out_info.items in
+    let ahead = drop b.idx b.info.items in
+    let n = end - b.idx in
+    let place : index_in_all end (sides_of b) ≡ length behind + n = rw h (omega (arith, begins)) in
+    let all : all_glyphs (sides_of b) ≡ behind ++ ahead = rw h refl in
+    let long = ap length o ∙ changed_length (flagged bits) behind start in
+    let glyphs : glyphs_flagged bits start (length behind + n) (behind ++ ahead) ≡ out.items ++ drop b.idx info.items =
+    rw (o, i, ahead_is b.info.items b.idx end begins) (changed_across (flagged bits) behind ahead start n le) in
+    both_view b info out order flags (glyphs_flagged bits start (length behind + n) (behind ++ ahead)) h long glyphs
+    ∙ rw (place, all, f) refl
+
+pub place_within : (start end : ℕ) (s : Sides) → start ≤ length s.behind → s.read ≤ end → start ≤ index_in_all end s
+place_within start end s le begins = omega arith
+
+-- a range within the first of two lists
+stretch_first : (xs ys : List hb_glyph_info_t) (start end : ℕ) → start ≤ end → end ≤ length xs → stretch start end (clusters (xs ++ ys)) ≡ stretch start end (clusters xs)
+stretch_first xs ys start end le within =
+    let long = length-drop start xs in
+    let few : end - start ≤ length (drop start xs) = omega (arith, long) in
+    let inner : slice_range (xs ++ ys) start end ≡ slice_range xs start end = rw (drop-append-le start xs ys (omega (arith, le, within))) (take-append-le (end - start) (drop start xs) ys few) in
+    stretch_is (xs ++ ys) start end ∙ ap clusters inner ∙ sym (stretch_is xs start end)
+
+united_both : (xs ys : List hb_glyph_info_t) (start end : ℕ) → start ≤ end → end ≤ length xs
+    → glyphs_merged (stretch start end (clusters (xs ++ ys))) (xs ++ ys) ≡ glyphs_merged (stretch start end (clusters xs)) xs ++ glyphs_merged (stretch start end (clusters xs)) ys
+united_both xs ys start end le within =
+    let range = stretch start end (clusters xs) in
+    rw (stretch_first xs ys start end le within) (map-append (λ (g : hb_glyph_info_t). in_cluster (merged range g.cluster) g) xs ys)
+
+both_merged : (level : BufferClusterLevel) (xs ys : List hb_glyph_info_t) (start end : ℕ) → start ≤ end → end ≤ length xs
+    → output_merged_at level start end (xs ++ ys) ≡ output_merged_at level start end xs ++ beside_merged_as (manner InOutput level) (stretch start end (clusters xs)) ys
+both_merged MonotoneGraphemes xs ys start end le within = united_both xs ys start end le within
+both_merged MonotoneCharacters xs ys start end le within = united_both xs ys start end le within
+both_merged Characters xs ys start end le within = refl
+
+-- as many glyphs as before
+pub length_output_merged : (level : BufferClusterLevel) (start end : ℕ) (gs : List hb_glyph_info_t) → length (output_merged_at level start end gs) ≡ length gs
+length_output_merged MonotoneGraphemes start end gs = length-map gs _
+length_output_merged MonotoneCharacters start end gs = length-map gs _
+length_output_merged Characters start end gs = refl
+
+pub length_beside_output : (level : BufferClusterLevel) (range : List ℕ) (gs : List hb_glyph_info_t) → length (beside_merged_as (manner InOutput level) range gs) ≡ length gs
+length_beside_output MonotoneGraphemes range gs = length-map gs _
+length_beside_output MonotoneCharacters range gs = length-map gs _
+length_beside_output Characters range gs = refl
+
+pub output_merged_view : (b : Inside) (info out : Vec hb_glyph_info_t) (order : ClusterOrder) (start end : ℕ) → b.have_output ≡ true → start ≤ end → end ≤ length b.out_info.items
+    → out.items ≡ output_merged_at b.cluster_level start end b.out_info.items → drop b.idx info.items ≡ beside_merged_as (manner InOutput b.cluster_level) (stretch start end (clusters b.out_info.items)) (drop b.idx b.info.items)
+    → sides_of (record b { info = info; out_info = out; order = order }) ≡ with_output_merged start end (sides_of b)
+output_merged_view b info out order start end h le within o i =
+    let behind = b.out_info.items in
+    let ahead = drop b.idx b.info.items in
+    let all : all_glyphs (sides_of b) ≡ behind ++ ahead = rw h refl in
+    let long = ap length o ∙ length_output_merged b.cluster_level start end behind in
+    let gs = output_merged_at b.cluster_level start end (behind ++ ahead) in
+    let glyphs : gs ≡ out.items ++ drop b.idx info.items = rw (o, i) (both_merged b.cluster_level behind ahead start end le within) in
+    both_view b info out order b.scratch_flags gs h long glyphs ∙ rw all refl
+
+pub all_output_merged : (start end : ℕ) (s : Sides) → all_glyphs (with_output_merged start end s) ≡ output_merged_at s.level start end (all_glyphs s)
+all_output_merged start end s = take-append-drop (length s.behind) (output_merged_at s.level start end (all_glyphs s))
+
+strip_output_merged : (level : BufferClusterLevel) (start end : ℕ) (gs : List hb_glyph_info_t) → strip (output_merged_at level start end gs) ≡ strip gs
+strip_output_merged MonotoneGraphemes start end gs = strip_merged (stretch start end (clusters gs)) gs
+strip_output_merged MonotoneCharacters start end gs = strip_merged (stretch start end (clusters gs)) gs
+strip_output_merged Characters start end gs = refl
+
+pub output_items : (start end : ℕ) (s : Sides) → items_of (with_output_merged start end s) ≡ items_of s
+output_items start end s = ap strip (all_output_merged start end s) ∙ strip_output_merged s.level start end (all_glyphs s)

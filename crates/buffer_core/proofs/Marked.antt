@@ -1,0 +1,146 @@
+-- What flags set on a range of the input do to the sides.
+use Rattle.std.specs.Global.{Vec}
+use Rattle.std.proofs.Common.{ℕ, ◌≡◌, ◌≤◌, ◌<◌, ◌+◌, ◌-◌, Bool, true, false, nat_lt, List, ◌++◌, length, take, drop, if◌then◌else◌, refl, arith, ap, sym, ◌∙◌}
+use Rattle.std.proofs.lemmas.Bool.Decides.{nat_tests}
+use Rattle.std.proofs.lemmas.Grind.{common_steps}
+use Rattle.std.proofs.lemmas.List.{take-append-drop, length-take-le, length-map, drop_at}
+use Rattle.std.proofs.Math.Seq.{take-append_seam, drop-append_seam}
+use Rattle.buffer_glyphs.specs.declared.info.hb_glyph_info_t.{hb_glyph_info_t}
+use Rattle.buffer_glyphs.specs.Items.{strip, clusters}
+use Rattle.buffer_glyphs.specs.Parts.{stretch}
+use Rattle.buffer_glyphs.specs.Glyphs.{glyphs_marked, glyphs_flagged, tells_apart}
+use Rattle.buffer_glyphs.specs.Lemmas.Glyphs.{marked_beyond, flagged_beyond, stretch_beyond, strip_marked, strip_flagged, clusters_marked, clusters_flagged}
+use Rattle.buffer_core.specs.declared.buffer.hb_buffer_t.TheInside.{Inside}
+use Rattle.buffer_lists.specs.declared.order.ClusterOrder.{ClusterOrder}
+use Rattle.buffer_core.specs.Inside.{sides_of, start_of}
+use Rattle.buffer_core.specs.Sides.{Sides, all_glyphs, items_of}
+use Rattle.buffer_core.specs.Merging.{index_in_all, telling_flags}
+use Rattle.buffer_core.specs.Marking.{with_marked, with_flagged}
+
+pub marked_view : (b : Inside) (info : Vec hb_glyph_info_t) (order : ClusterOrder) (bits from start end flags : ℕ) → b.idx ≤ length b.info.items → start ≤ end → (b.have_output ≡ true → b.idx ≤ start)
+    → from ≡ start_of b
+    → drop from info.items ≡ glyphs_marked bits (start - from) (end - from) (drop from b.info.items)
+    → flags ≡ telling_flags (tells_apart (stretch (start - from) (end - from) (clusters (drop from b.info.items)))) b.scratch_flags
+    → sides_of (record b { info = info; scratch_flags = flags; order = order }) ≡ with_marked bits (index_in_all start (sides_of b)) (index_in_all end (sides_of b)) (sides_of b)
+marked_view b info order bits from start end flags le before unread begins i f = by_test b.have_output refl
+  where
+    by_test : (t : Bool) → b.have_output ≡ t → sides_of (record b { info = info; scratch_flags = flags; order = order }) ≡ with_marked bits (index_in_all start (sides_of b)) (index_in_all end (sides_of b)) (sides_of b)
+    by_test true e =
+        let here : from ≡ b.idx = rw e at begins in
+        let first = unread e in
+        let out = b.out_info.items in
+        let ahead = drop b.idx b.info.items in
+        let at : length out + start - b.idx ≡ length out + (start - b.idx) = omega arith in
+        let to : length out + end - b.idx ≡ length out + (end - b.idx) = omega arith in
+        let input = rw here at i in
+        let marks = rw here at f in
+        rw (e, input, marks, at, to, marked_beyond bits out ahead (start - b.idx) (end - b.idx), stretch_beyond out ahead (start - b.idx) (end - b.idx), take-append_seam out (glyphs_marked bits (start - b.idx) (end - b.idx) ahead), drop-append_seam out (glyphs_marked bits (start - b.idx) (end - b.idx) ahead)) refl
+    by_test false e =
+        let here : from ≡ 0 = rw e at begins in
+        let long : length (take b.idx b.info.items) ≡ b.idx = length-take-le b.idx b.info.items le in
+        let one : start - 0 ≡ start = omega arith in
+        let two : end - 0 ≡ end = omega arith in
+        let at : b.idx + start - b.idx ≡ start = omega arith in
+        let to : b.idx + end - b.idx ≡ end = omega arith in
+        let input : info.items ≡ glyphs_marked bits start end b.info.items = rw (here, one, two) at i in
+        let marks = rw (here, one, two) at f in
+        rw (e, input, long, at, to, take-append-drop b.idx b.info.items, marks) refl
+
+same_lengths : (p q i j : ℕ) → p ≤ q → i ≤ j → q - p ≡ j - i → nat_lt i j ≡ nat_lt p q
+same_lengths p q i j le lt e = grind (arith, nat_tests, common_steps, e)
+
+pub flagged_view : (b : Inside) (info : Vec hb_glyph_info_t) (order : ClusterOrder) (bits from start end flags : ℕ) → b.idx ≤ length b.info.items → start ≤ end → (b.have_output ≡ true → b.idx ≤ start)
+    → from ≡ start_of b
+    → drop from info.items ≡ glyphs_flagged bits (start - from) (end - from) (drop from b.info.items)
+    → flags ≡ telling_flags (nat_lt start end) b.scratch_flags
+    → sides_of (record b { info = info; scratch_flags = flags; order = order }) ≡ with_flagged bits (index_in_all start (sides_of b)) (index_in_all end (sides_of b)) (sides_of b)
+flagged_view b info order bits from start end flags le before unread begins i f = by_test b.have_output refl
+  where
+    by_test : (t : Bool) → b.have_output ≡ t → sides_of (record b { info = info; scratch_flags = flags; order = order }) ≡ with_flagged bits (index_in_all start (sides_of b)) (index_in_all end (sides_of b)) (sides_of b)
+    by_test true e =
+        let here : from ≡ b.idx = rw e at begins in
+        let first = unread e in
+        let out = b.out_info.items in
+        let ahead = drop b.idx b.info.items in
+        let at : length out + start - b.idx ≡ length out + (start - b.idx) = omega arith in
+        let to : length out + end - b.idx ≡ length out + (end - b.idx) = omega arith in
+        let input = rw here at i in
+        let less : nat_lt start end ≡ nat_lt (length out + (start - b.idx)) (length out + (end - b.idx)) = same_lengths (length out + (start - b.idx)) (length out + (end - b.idx)) start end (omega arith) before (omega arith) in
+        rw (e, input, f, at, to, flagged_beyond bits out ahead (start - b.idx) (end - b.idx), less, take-append_seam out (glyphs_flagged bits (start - b.idx) (end - b.idx) ahead), drop-append_seam out (glyphs_flagged bits (start - b.idx) (end - b.idx) ahead)) refl
+    by_test false e =
+        let here : from ≡ 0 = rw e at begins in
+        let long : length (take b.idx b.info.items) ≡ b.idx = length-take-le b.idx b.info.items le in
+        let one : start - 0 ≡ start = omega arith in
+        let two : end - 0 ≡ end = omega arith in
+        let at : b.idx + start - b.idx ≡ start = omega arith in
+        let to : b.idx + end - b.idx ≡ end = omega arith in
+        let input : info.items ≡ glyphs_flagged bits start end b.info.items = rw (here, one, two) at i in
+        rw (e, input, long, at, to, take-append-drop b.idx b.info.items, f) refl
+
+-- with no output open as many glyphs stand behind the cursor as it has passed, and indices are those of the list
+pub closed_behind : (b : Inside) → b.have_output ≡ false → b.idx ≤ length b.info.items → length (sides_of b).behind ≡ (sides_of b).read
+closed_behind b h le = rw h (length-take-le b.idx b.info.items le)
+
+pub closed_index : (i : ℕ) (b : Inside) → b.have_output ≡ false → b.idx ≤ length b.info.items → index_in_all i (sides_of b) ≡ i
+closed_index i b h le = let long = closed_behind b h le in omega (arith, long)
+
+-- where the glyphs ahead, or with no output open all glyphs, begin
+pub start_within : (b : Inside) → b.idx ≤ length b.info.items → start_of b ≤ length b.info.items
+start_within b le = elim b.have_output as (λ t. (if t then b.idx else 0) ≤ length b.info.items) [ true ↦ le | false ↦ omega arith ]
+
+pub start_before : (b : Inside) (start : ℕ) → (b.have_output ≡ true → b.idx ≤ start) → start_of b ≤ start
+start_before b start unread = by_test b.have_output refl
+  where
+    by_test : (t : Bool) → b.have_output ≡ t → (if t then b.idx else 0) ≤ start
+    by_test true e = unread e
+    by_test false e = omega arith
+
+-- what a range of a list is in those from an index on
+pub stretch_rest : (start end n : ℕ) (gs : List hb_glyph_info_t) → n ≤ length gs → n ≤ start → start ≤ end → stretch start end (clusters gs) ≡ stretch (start - n) (end - n) (clusters (drop n gs))
+stretch_rest start end n gs le before ordered =
+    let long : length (take n gs) ≡ n = length-take-le n gs le in
+    let at : start ≡ length (take n gs) + (start - n) = omega (arith, long, before) in
+    let to : end ≡ length (take n gs) + (end - n) = omega (arith, long, before, ordered) in
+    ap (λ hs. stretch start end (clusters hs)) (sym (take-append-drop n gs)) ∙ ap (λ i. stretch i end (clusters (take n gs ++ drop n gs))) at ∙ ap (λ j. stretch (length (take n gs) + (start - n)) j (clusters (take n gs ++ drop n gs))) to
+    ∙ stretch_beyond (take n gs) (drop n gs) (start - n) (end - n)
+
+pub marked_rest : (bits start end n : ℕ) (gs : List hb_glyph_info_t) → n ≤ length gs → n ≤ start → start ≤ end → drop n (glyphs_marked bits start end gs) ≡ glyphs_marked bits (start - n) (end - n) (drop n gs)
+marked_rest bits start end n gs le before ordered =
+    let long : length (take n gs) ≡ n = length-take-le n gs le in
+    let at : start ≡ length (take n gs) + (start - n) = omega (arith, long, before) in
+    let to : end ≡ length (take n gs) + (end - n) = omega (arith, long, before, ordered) in
+    ap (drop n) (ap (glyphs_marked bits start end) (sym (take-append-drop n gs)) ∙ ap (λ i. glyphs_marked bits i end (take n gs ++ drop n gs)) at ∙ ap (λ j. glyphs_marked bits (length (take n gs) + (start - n)) j (take n gs ++ drop n gs)) to ∙ marked_beyond bits (take n gs) (drop n gs) (start - n) (end - n))
+    ∙ drop_at (take n gs) (glyphs_marked bits (start - n) (end - n) (drop n gs)) n long
+
+pub flagged_rest : (bits start end n : ℕ) (gs : List hb_glyph_info_t) → n ≤ length gs → n ≤ start → start ≤ end → drop n (glyphs_flagged bits start end gs) ≡ glyphs_flagged bits (start - n) (end - n) (drop n gs)
+flagged_rest bits start end n gs le before ordered =
+    let long : length (take n gs) ≡ n = length-take-le n gs le in
+    let at : start ≡ length (take n gs) + (start - n) = omega (arith, long, before) in
+    let to : end ≡ length (take n gs) + (end - n) = omega (arith, long, before, ordered) in
+    ap (drop n) (ap (glyphs_flagged bits start end) (sym (take-append-drop n gs)) ∙ ap (λ i. glyphs_flagged bits i end (take n gs ++ drop n gs)) at ∙ ap (λ j. glyphs_flagged bits (length (take n gs) + (start - n)) j (take n gs ++ drop n gs)) to ∙ flagged_beyond bits (take n gs) (drop n gs) (start - n) (end - n))
+    ∙ drop_at (take n gs) (glyphs_flagged bits (start - n) (end - n) (drop n gs)) n long
+
+pub marked_length : (bits start end : ℕ) (gs : List hb_glyph_info_t) → start ≤ end → length (glyphs_marked bits start end gs) ≡ length gs
+marked_length bits start end gs le =
+    let v : hb_glyph_info_t → ℕ = λ g. g.cluster in
+    sym (length-map (glyphs_marked bits start end gs) v) ∙ ap length (clusters_marked bits start end gs le) ∙ length-map gs v
+
+pub flagged_length : (bits start end : ℕ) (gs : List hb_glyph_info_t) → start ≤ end → length (glyphs_flagged bits start end gs) ≡ length gs
+flagged_length bits start end gs le =
+    let v : hb_glyph_info_t → ℕ = λ g. g.cluster in
+    sym (length-map (glyphs_flagged bits start end gs) v) ∙ ap length (clusters_flagged bits start end gs le) ∙ length-map gs v
+
+pub all_marked : (bits from to : ℕ) (s : Sides) → all_glyphs (with_marked bits from to s) ≡ glyphs_marked bits from to (all_glyphs s)
+all_marked bits from to s = take-append-drop (length s.behind) (glyphs_marked bits from to (all_glyphs s))
+
+pub all_flagged : (bits from to : ℕ) (s : Sides) → all_glyphs (with_flagged bits from to s) ≡ glyphs_flagged bits from to (all_glyphs s)
+all_flagged bits from to s = take-append-drop (length s.behind) (glyphs_flagged bits from to (all_glyphs s))
+
+pub places_order : (start end : ℕ) (s : Sides) → start ≤ end → index_in_all start s ≤ index_in_all end s
+places_order start end s le = omega arith
+
+pub marked_items : (bits from to : ℕ) (s : Sides) → bits < 8 → from ≤ to → items_of (with_marked bits from to s) ≡ items_of s
+marked_items bits from to s lt le = ap strip (all_marked bits from to s) ∙ strip_marked bits from to (all_glyphs s) lt le
+
+pub flagged_items : (bits from to : ℕ) (s : Sides) → bits < 8 → from ≤ to → items_of (with_flagged bits from to s) ≡ items_of s
+flagged_items bits from to s lt le = ap strip (all_flagged bits from to s) ∙ strip_flagged bits from to (all_glyphs s) lt le

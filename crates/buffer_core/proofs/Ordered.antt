@@ -1,0 +1,115 @@
+-- What is known of the order of clusters, after each call.
+use Rattle.std.proofs.Common.{take, Option, None, ℕ, ◌≡◌, ◌≤◌, ◌<◌, ◌+◌, ◌-◌, arith, Bool, true, false, if◌then◌else◌, List, [], ◌∷◌, ◌++◌, length, map, drop, reverse, get_or, set, refl, ap, sym, subst, ◌∙◌}
+use Rattle.std.proofs.lemmas.List.{map-append, drop-map, drop-drop, take-append-drop, drop_more, append_assoc, map-set, set-set, set-get_or, get_or-map}
+use Rattle.buffer_glyphs.specs.declared.info.hb_glyph_info_t.{hb_glyph_info_t}
+use Rattle.buffer_glyphs.specs.Items.{clusters}
+use Rattle.buffer_glyphs.specs.Parts.{stretch}
+use Rattle.buffer_glyphs.specs.Order.{IsOrdered}
+use Rattle.buffer_glyphs.specs.Lemmas.Drawn.{IsDrawn, past, drawn_second, drawn_drop, drawn_take}
+use Rattle.buffer_glyphs.specs.Lemmas.Parts.{order_drawn}
+use Rattle.std.specs.Bool.{OnFalse}
+use Rattle.buffer_core.specs.declared.buffer.hb_buffer_t.TheInside.{Inside}
+use Rattle.buffer_core.specs.Inside.{sides_of, start_of}
+use Rattle.buffer_core.specs.Sides.{all_glyphs}
+use Rattle.buffer_lists.specs.declared.order.KnownOrder.{KnownOrder}
+use Rattle.buffer_lists.specs.declared.order.KnownOrder.TheVariants.{Unknown, Rising, Falling}
+use Rattle.buffer_lists.specs.declared.order.Lent.{Lent}
+use Rattle.buffer_lists.specs.Known.{HasOrder, is_known, put_back_ahead, put_back_behind}
+use Rattle.buffer_lists.proofs.Ordered.{known_ordered}
+use Rattle.buffer_lists.specs.Masks.{glyph_masked}
+use Rattle.buffer_core.proofs.Kept.{map-reverse}
+
+cluster_of : hb_glyph_info_t → ℕ
+cluster_of g = g.cluster
+
+-- a glyph went from the input behind the output
+pub order_moved : (o : KnownOrder) (out info new : List hb_glyph_info_t) (n : ℕ) (d : hb_glyph_info_t) → n < length info → new ≡ out ++ get_or info n d ∷ [] → HasOrder o (clusters out ++ drop n (clusters info)) → HasOrder o (clusters new ++ drop (n + 1) (clusters info))
+order_moved o out info new n d lt e h =
+    let first : drop n (clusters info) ≡ (get_or info n d).cluster ∷ drop (n + 1) (clusters info) =
+    drop-map (λ (g : hb_glyph_info_t). g.cluster) n info ∙ ap clusters (drop_more info n d lt) ∙ ap (λ ns. (get_or info n d).cluster ∷ ns) (sym (drop-map (λ (g : hb_glyph_info_t). g.cluster) (n + 1) info)) in
+    let seen : clusters new ≡ clusters out ++ (get_or info n d).cluster ∷ [] = ap clusters e ∙ map-append (λ (g : hb_glyph_info_t). g.cluster) out (get_or info n d ∷ []) in
+    subst (HasOrder o) (ap (λ ns. clusters out ++ ns) first ∙ sym (append_assoc (clusters out) ((get_or info n d).cluster ∷ []) (drop (n + 1) (clusters info))) ∙ ap (λ ns. ns ++ drop (n + 1) (clusters info)) (sym seen)) h
+
+-- both sides became one list
+pub order_joined : (o : KnownOrder) (out info new : List hb_glyph_info_t) (n : ℕ) → new ≡ out ++ drop n info → HasOrder o (clusters out ++ drop n (clusters info)) → HasOrder o (clusters new)
+order_joined o out info new n e h =
+    subst (HasOrder o) (ap (λ ns. clusters out ++ ns) (drop-map (λ (g : hb_glyph_info_t). g.cluster) n info) ∙ sym (map-append (λ (g : hb_glyph_info_t). g.cluster) out (drop n info)) ∙ ap clusters (sym e)) h
+
+pub clusters_reversed : (gs : List hb_glyph_info_t) → reverse (clusters gs) ≡ clusters (reverse gs)
+clusters_reversed gs = sym (map-reverse (λ (g : hb_glyph_info_t). g.cluster) gs)
+
+pub clusters_masked : (m : ℕ) (gs : List hb_glyph_info_t) → clusters (map (glyph_masked m) gs) ≡ clusters gs
+clusters_masked m [] = refl
+clusters_masked m (g ∷ gs) = ap (λ ns. g.cluster ∷ ns) (clusters_masked m gs)
+
+-- a glyph that was lent and came back, and then its cluster put back
+pub clusters_back : (gs : List hb_glyph_info_t) (i : ℕ) (g d : hb_glyph_info_t) → i < length gs → clusters gs ≡ set (clusters (set gs i g)) i (get_or gs i d).cluster
+clusters_back gs i g d lt =
+    let f : hb_glyph_info_t → ℕ = λ h. h.cluster in
+    let seen : get_or (clusters gs) i (f d) ≡ (get_or gs i d).cluster = get_or-map f gs i d (f d) lt in
+    sym (ap (λ ns. set ns i (get_or gs i d).cluster) (map-set f gs i g) ∙ set-set (clusters gs) i (f g) (get_or gs i d).cluster ∙ ap (set (clusters gs) i) (sym seen) ∙ set-get_or (clusters gs) i (f d))
+
+-- the clusters of what is left, and what is left of the clusters
+pub known_ahead : (o : KnownOrder) (out info : List hb_glyph_info_t) (n m : ℕ) → n ≡ m → HasOrder o (clusters out ++ drop m (clusters info)) → HasOrder o (clusters out ++ clusters (drop n info))
+known_ahead o out info n m e h = rw e (subst (λ ns. HasOrder o (clusters out ++ ns)) (drop-map (λ (g : hb_glyph_info_t). g.cluster) m info) h)
+
+pub known_back : (o : KnownOrder) (out info : List hb_glyph_info_t) (n m : ℕ) → n ≡ m → HasOrder o (clusters out ++ clusters (drop n info)) → HasOrder o (clusters out ++ drop m (clusters info))
+known_back o out info n m e h = subst (λ ns. HasOrder o (clusters out ++ ns)) (sym (drop-map (λ (g : hb_glyph_info_t). g.cluster) m info)) (rw e at h)
+
+-- a glyph of the same cluster went from the input behind the output
+pub order_renumbered : (o : KnownOrder) (out info new : List hb_glyph_info_t) (n : ℕ) (g d : hb_glyph_info_t) → n < length info → new ≡ out ++ g ∷ [] → g.cluster ≡ (get_or info n d).cluster → HasOrder o (clusters out ++ drop n (clusters info)) → HasOrder o (clusters new ++ drop (n + 1) (clusters info))
+order_renumbered o out info new n g d lt e same h =
+    let moved = order_moved o out info (out ++ get_or info n d ∷ []) n d lt refl h in
+    let f : hb_glyph_info_t → ℕ = λ k. k.cluster in
+    let seen : clusters (out ++ get_or info n d ∷ []) ≡ clusters new = map-append f out (get_or info n d ∷ []) ∙ ap (λ c. clusters out ++ c ∷ []) (sym same) ∙ sym (map-append f out (g ∷ [])) ∙ ap clusters (sym e) in
+    subst (λ ns. HasOrder o (ns ++ drop (n + 1) (clusters info))) seen moved
+
+-- some glyphs went from the input behind the output
+pub order_moved_on : (o : KnownOrder) (out info new : List hb_glyph_info_t) (n k : ℕ) → new ≡ out ++ take k (drop n info) → HasOrder o (clusters out ++ drop n (clusters info)) → HasOrder o (clusters new ++ drop (n + k) (clusters info))
+order_moved_on o out info new n k e h =
+    let f : hb_glyph_info_t → ℕ = λ g. g.cluster in
+    let cut : drop n (clusters info) ≡ clusters (take k (drop n info)) ++ drop (n + k) (clusters info) =
+    drop-map f n info ∙ ap clusters (sym (take-append-drop k (drop n info))) ∙ map-append f (take k (drop n info)) (drop k (drop n info)) ∙ ap (λ gs. clusters (take k (drop n info)) ++ clusters gs) (drop-drop k n info) ∙ ap (λ ns. clusters (take k (drop n info)) ++ ns) (sym (drop-map f (n + k) info)) in
+    let seen : clusters new ≡ clusters out ++ clusters (take k (drop n info)) = ap clusters e ∙ map-append f out (take k (drop n info)) in
+    subst (HasOrder o) (ap (λ ns. clusters out ++ ns) cut ∙ sym (append_assoc (clusters out) (clusters (take k (drop n info))) (drop (n + k) (clusters info))) ∙ ap (λ ns. ns ++ drop (n + k) (clusters info)) (sym seen)) h
+
+order_drawn_known : (o : KnownOrder) (xs ys : List ℕ) → IsDrawn xs ys → HasOrder o xs → HasOrder o ys
+order_drawn_known Unknown xs ys d h = tt
+order_drawn_known Rising xs ys d h = order_drawn false d h
+order_drawn_known Falling xs ys d h = order_drawn true d h
+
+-- a glyph of the input went
+pub order_skipped : (o : KnownOrder) (front ns : List ℕ) (n : ℕ) → HasOrder o (front ++ drop n ns) → HasOrder o (front ++ drop (n + 1) ns)
+order_skipped o front ns n h = rw (← drop-drop 1 n ns) (order_drawn_known o (front ++ drop n ns) (front ++ drop 1 (drop n ns)) (drawn_second front (drawn_drop 1 (drop n ns))) h)
+
+-- a glyph was put between the output and what is left of the input
+pub order_put : (o : KnownOrder) (out info new : List hb_glyph_info_t) (n : ℕ) (g : hb_glyph_info_t) → new ≡ out ++ g ∷ [] → HasOrder o (clusters out ++ g.cluster ∷ clusters (drop n info)) → HasOrder o (clusters new ++ drop n (clusters info))
+order_put o out info new n g e h =
+    let f : hb_glyph_info_t → ℕ = λ k. k.cluster in
+    let seen : clusters new ≡ clusters out ++ g.cluster ∷ [] = ap clusters e ∙ map-append f out (g ∷ []) in
+    subst (HasOrder o) (ap (λ ns. clusters out ++ g.cluster ∷ ns) (sym (drop-map f n info)) ∙ sym (append_assoc (clusters out) (g.cluster ∷ []) (drop n (clusters info))) ∙ ap (λ ns. ns ++ drop n (clusters info)) (sym seen)) h
+
+-- where no glyph is lent
+pub none_lent : (o : KnownOrder) (l : Option Lent) (out info : List hb_glyph_info_t) (n : ℕ) → l ≡ None → HasOrder o (clusters out ++ drop n (clusters info)) → HasOrder o (put_back_behind l (clusters out) ++ drop n (put_back_ahead l (clusters info)))
+none_lent o l out info n e h = rw e h
+
+drawn_pass : (xs ys : List ℕ) → IsDrawn (xs ++ ys) ys
+drawn_pass [] ys = drawn_drop 0 ys
+drawn_pass (x ∷ xs) ys = past x (xs ++ ys) ys (drawn_pass xs ys)
+
+-- a stretch of what is left of the input stands in order
+pub range_ordered : (o : KnownOrder) (start end n : ℕ) (out info : List hb_glyph_info_t) → n ≤ start → is_known o ≡ true → HasOrder o (clusters out ++ drop n (clusters info)) → IsOrdered (stretch start end (clusters info))
+range_ordered o start end n out info le is h =
+    let ns = clusters info in
+    let left : HasOrder o (drop n ns) = order_drawn_known o (clusters out ++ drop n ns) (drop n ns) (drawn_pass (clusters out) (drop n ns)) h in
+    let there : n + (start - n) ≡ start = omega (arith, le) in
+    let from : HasOrder o (drop start ns) = subst (HasOrder o) (drop-drop (start - n) n ns ∙ ap (λ (k : ℕ). drop k ns) there) (order_drawn_known o (drop n ns) (drop (start - n) (drop n ns)) (drawn_drop (start - n) (drop n ns)) left) in
+    known_ordered o (stretch start end ns) is (order_drawn_known o (drop start ns) (take (end - start) (drop start ns)) (drawn_take (end - start) (drop start ns)) from)
+
+-- the clusters of all glyphs, where both lists have them
+all_clusters_of : (is_open : Bool) (out info : List hb_glyph_info_t) (n : ℕ) → OnFalse is_open (out ≡ []) → clusters ((if is_open then out else take n info) ++ drop n info) ≡ clusters out ++ drop (if is_open then n else 0) (clusters info)
+all_clusters_of true out info n h = map-append (λ (g : hb_glyph_info_t). g.cluster) out (drop n info) ∙ ap (λ ns. clusters out ++ ns) (sym (drop-map (λ (g : hb_glyph_info_t). g.cluster) n info))
+all_clusters_of false out info n h = rw h (ap clusters (take-append-drop n info))
+
+pub all_clusters : (b : Inside) → OnFalse b.have_output (b.out_info.items ≡ []) → clusters (all_glyphs (sides_of b)) ≡ clusters b.out_info.items ++ drop (start_of b) (clusters b.info.items)
+all_clusters b h = all_clusters_of b.have_output b.out_info.items b.info.items b.idx h

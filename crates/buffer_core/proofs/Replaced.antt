@@ -1,0 +1,83 @@
+-- What a replacement does to the sides.
+use Rattle.std.specs.Global.{Vec}
+use Rattle.std.proofs.Common.{ℕ, ◌≡◌, ◌≤◌, ◌+◌, ◌==◌, ◌||◌, ◌⊎◌, inl, inr, nat_le, Bool, true, false, Option, Some, None, List, [], ◌∷◌, ◌++◌, length, drop, refl, arith, ap, ◌∙◌}
+use Rattle.std.proofs.lemmas.Grind.{common_steps}
+use Rattle.std.proofs.lemmas.Bool.Decides.{nat_tests}
+use Rattle.std.proofs.lemmas.List.{append-nil, length-map, drop-drop, length-take-le, length-append}
+use Rattle.std.proofs.Math.Seq.{take-append_seam, drop-append_seam, drop-append-add}
+use Rattle.buffer_glyphs.specs.declared.info.hb_glyph_info_t.{hb_glyph_info_t}
+use Rattle.buffer_glyphs.specs.Items.{strip, clusters}
+use Rattle.buffer_glyphs.specs.Parts.{first_of, last_of, or, stretch}
+use Rattle.buffer_glyphs.specs.Glyphs.{glyphs_merged_at, beside_merged, is_marked_at}
+use Rattle.buffer_glyphs.specs.Replacements.{copied, glyph_numbered, glyphs_replaced, items_replaced}
+use Rattle.buffer_glyphs.specs.Lemmas.Glyphs.{strip_merged_at, length_merged_at}
+use Rattle.buffer_glyphs.specs.Lemmas.Replacements.{strip_replaced}
+use Rattle.buffer_core.specs.declared.buffer.hb_buffer_t.TheInside.{Inside}
+use Rattle.buffer_lists.specs.declared.order.ClusterOrder.{ClusterOrder}
+use Rattle.buffer_core.specs.Inside.{sides_of}
+use Rattle.buffer_core.specs.Sides.{Sides, all_glyphs, items_of}
+use Rattle.buffer_core.specs.Merging.{telling_flags, with_merged, with_copied, with_replaced}
+use Rattle.buffer_core.proofs.Merged.{merged_sides, same_marks, all_merged}
+
+pub replaced_view : (b : Inside) (info out : Vec hb_glyph_info_t) (order : ClusterOrder) (taken flags : ℕ) (numbers : List ℕ) → b.have_output ≡ true
+    → drop b.idx info.items ≡ glyphs_merged_at b.cluster_level 0 taken (drop b.idx b.info.items)
+    → out.items ≡ beside_merged b.cluster_level (stretch 0 taken (clusters (drop b.idx b.info.items))) b.out_info.items ++ copied glyph_numbered (or (first_of (drop b.idx info.items)) (last_of (beside_merged b.cluster_level (stretch 0 taken (clusters (drop b.idx b.info.items))) b.out_info.items))) numbers
+    → flags ≡ telling_flags (is_marked_at b.cluster_level 0 taken (clusters (drop b.idx b.info.items))) b.scratch_flags
+    → sides_of (record b { info = info; out_info = out; idx = b.idx + taken; scratch_flags = flags; order = order }) ≡ with_replaced taken numbers (sides_of b)
+replaced_view b info out order taken flags numbers h i o f =
+    let m = merged_sides b.cluster_level 0 taken (length b.out_info.items) (length b.out_info.items + taken) b.out_info.items (drop b.idx b.info.items) (omega arith) refl in
+    let marks = f ∙ ap (λ any. telling_flags any b.scratch_flags) (same_marks b.cluster_level 0 taken (length b.out_info.items) (length b.out_info.items + taken) (clusters (drop b.idx b.info.items)) (clusters (b.out_info.items ++ drop b.idx b.info.items)) m.range_is) in
+    rw (h, o, ← drop-drop taken b.idx info.items, i, m.ahead_is, m.behind_is, marks) refl
+
+pub all_copied : (taken : ℕ) (numbers : List ℕ) (s : Sides) → all_glyphs (with_copied taken numbers s) ≡ glyphs_replaced (length s.behind) taken numbers (all_glyphs s)
+all_copied taken numbers s = rw (take-append_seam s.behind s.ahead, drop-append_seam s.behind s.ahead, drop-append-add s.behind s.ahead taken) refl
+
+length_behind : (taken : ℕ) (s : Sides) → length (with_merged (length s.behind) (length s.behind + taken) s).behind ≡ length s.behind
+length_behind taken s =
+    let gs = glyphs_merged_at s.level (length s.behind) (length s.behind + taken) (all_glyphs s) in
+    let long = length_merged_at s.level (length s.behind) (length s.behind + taken) (all_glyphs s) (omega arith) in
+    let sides = length-append s.behind s.ahead in
+    length-take-le (length s.behind) gs (omega (arith, long, sides))
+
+pub all_replaced : (taken : ℕ) (numbers : List ℕ) (s : Sides)
+    → all_glyphs (with_replaced taken numbers s) ≡ glyphs_replaced (length s.behind) taken numbers (glyphs_merged_at s.level (length s.behind) (length s.behind + taken) (all_glyphs s))
+all_replaced taken numbers s =
+    let mid = with_merged (length s.behind) (length s.behind + taken) s in
+    all_copied taken numbers mid ∙ ap (λ n. glyphs_replaced n taken numbers (all_glyphs mid)) (length_behind taken s)
+    ∙ ap (glyphs_replaced (length s.behind) taken numbers) (all_merged (length s.behind) (length s.behind + taken) s)
+
+pub replaced_items : (taken : ℕ) (numbers : List ℕ) (s : Sides) → items_of (with_replaced taken numbers s) ≡ items_replaced (length s.behind) taken numbers (items_of s)
+replaced_items taken numbers s =
+    let gs = glyphs_merged_at s.level (length s.behind) (length s.behind + taken) (all_glyphs s) in
+    ap strip (all_replaced taken numbers s) ∙ strip_replaced (length s.behind) taken numbers gs
+    ∙ ap (items_replaced (length s.behind) taken numbers) (strip_merged_at s.level (length s.behind) (length s.behind + taken) (all_glyphs s) (omega arith))
+
+length_copied : (o : Option hb_glyph_info_t) (numbers : List ℕ) → length (copied glyph_numbered o numbers) ≤ length numbers
+length_copied None numbers = omega arith
+length_copied (Some g) numbers = omega (arith, length-map numbers (glyph_numbered g))
+
+no_glyph : (gs hs : List hb_glyph_info_t) → length gs ≡ 0 → length hs ≡ 0 → or (first_of gs) (last_of hs) ≡ None
+no_glyph [] [] e d = refl
+no_glyph [] (h ∷ hs) e d = cc
+no_glyph (g ∷ gs) hs e d = cc
+
+or_cases : (s t : Bool) → (s || t) ≡ true → (s ≡ true) ⊎ (t ≡ true)
+or_cases true t e = inl refl
+or_cases false t e = inr e
+
+-- the output with its copies is within the limit
+pub replaced_within : (max_len n : ℕ) (behind ahead new_behind new_ahead : List hb_glyph_info_t) (numbers : List ℕ) → n ≡ length numbers → ((length (behind ++ ahead) == 0) || nat_le (length behind + n) max_len) ≡ true
+    → length new_behind ≡ length behind → length new_ahead ≡ length ahead → length behind ≤ max_len
+    → length (new_behind ++ copied glyph_numbered (or (first_of new_ahead) (last_of new_behind)) numbers) ≤ max_len
+replaced_within max_len n behind ahead new_behind new_ahead numbers given fits bl al le = elim (or_cases (length (behind ++ ahead) == 0) (nat_le (length behind + n) max_len) fits) [
+  | inl none ↦
+      let zero_all : length (behind ++ ahead) ≡ 0 = grind (arith, nat_tests, common_steps, none) in
+      let sides = length-append behind ahead in
+      let model = no_glyph new_ahead new_behind (omega (arith, zero_all, sides, al)) (omega (arith, zero_all, sides, bl)) in
+      rw (model, append-nil new_behind, bl) le
+  | inr room ↦
+      let fit : length behind + n ≤ max_len = grind (arith, nat_tests, room) in
+      let new = length-append new_behind (copied glyph_numbered (or (first_of new_ahead) (last_of new_behind)) numbers) in
+      let few = length_copied (or (first_of new_ahead) (last_of new_behind)) numbers in
+      omega (arith, fit, new, few, bl, given)
+]

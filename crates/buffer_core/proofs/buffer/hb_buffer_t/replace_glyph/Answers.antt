@@ -1,0 +1,7 @@
+use Rattle.std.proofs.Common.{ap, ◌∙◌}
+use Rattle.buffer_core.specs.Sides.{items_of}
+use Rattle.buffer_core.proofs.Apart.{renumbered_items}
+use Rattle.buffer_core.proofs.buffer.hb_buffer_t.replace_glyph.Goals as goal
+
+pub returns-clause-items : goal.returns-clause-items
+returns-clause-items c e = ap items_of c.in_ok-push_renumbered.ensures.replaced ∙ renumbered_items c.args.glyph_index c.args.self.now c.requires.there

@@ -1,0 +1,30 @@
+use Rattle.std.proofs.Common.{[], ◌≡◌, false, rules, arith, ap, ◌∙◌}
+use Rattle.std.proofs.lemmas.Grind.{common_steps}
+use Rattle.buffer_core.specs.Sides.{items_of, origins_of}
+use Rattle.buffer_core.specs.Settings.{with_counted}
+use Rattle.buffer_core.proofs.Counted.{clusters_counted, counted_view, counted_items, counted_rises, counted_origins}
+use Rattle.buffer_core.proofs.buffer.hb_buffer_t.reset_clusters.Goals as goal
+
+pub returns-clause-counted : goal.returns-clause-counted
+returns-clause-counted c =
+    let closed : c.self.inside.have_output ≡ false = rw (← c.self.view_is) at c.requires in
+    counted_view c.self.inside c.number_all.new.glyphs c.of-self-inside.result closed c.self.invariant.cursor c.number_all.ensures.items ∙ ap with_counted c.self.view_is
+
+pub returns-clause-items : goal.returns-clause-items
+returns-clause-items c = ap items_of (returns-clause-counted c) ∙ counted_items c.args.self.now
+
+pub returns-clause-origins : goal.returns-clause-origins
+returns-clause-origins c = ap origins_of (returns-clause-counted c) ∙ counted_origins c.args.self.now
+
+pub invariant_of-self : goal.invariant_of-self
+invariant_of-self c =
+    let closed : c.self.inside.have_output ≡ false = rw (← c.self.view_is) at c.requires in
+    let none : c.self.inside.out_info.items ≡ [] = rw closed at c.self.invariant.closed in
+    record {
+      cursor = first_of (search rules, grind (arith, common_steps));
+      input_within = first_of (search rules, grind (arith, common_steps));
+      output_within = first_of (search rules, grind (arith, common_steps));
+      closed = first_of (search rules, grind (arith, common_steps));
+      placed = first_of (search rules, grind (arith, common_steps));
+      ordered = rw (closed, none, c.number_all.ensures.items, c.of-self-inside.ensures.known, c.of-self-inside.ensures.lent, clusters_counted 0 c.self.inside.info.items) (counted_rises 0 c.self.inside.info.items);
+    }

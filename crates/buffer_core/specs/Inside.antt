@@ -1,0 +1,46 @@
+-- How the vectors of a buffer give its sides.
+use Rattle.std.specs.Prelude.{ℕ, ◌≤◌, ◌≡◌, ◌++◌, if◌then◌else◌, List, [], length, take, drop, not}
+use Rattle.std.specs.Bool.{OnFalse}
+use Rattle.buffer_core.specs.declared.buffer.hb_buffer_t.TheInside.{Inside}
+use Rattle.buffer_glyphs.specs.Items.{clusters}
+use Rattle.buffer_lists.specs.Known.{HasOrder, put_back_ahead, put_back_behind}
+use Rattle.buffer_core.specs.Sides.{Sides}
+
+abbrev pub sides_of : Inside → Sides
+sides_of b = record {
+  behind = if b.have_output then b.out_info.items else take b.idx b.info.items;
+  ahead = drop b.idx b.info.items;
+  positions = if b.have_output then [] else b.pos.items;
+  is_open = b.have_output;
+  read = b.idx;
+  has_refused = not b.successful;
+  max_len = b.max_len;
+  max_ops = b.max_ops;
+  lig_id = b.lig_id;
+  level = b.cluster_level;
+  direction = b.direction;
+  script = b.script;
+  language = b.language;
+  pre_context = b.pre_context.items;
+  post_context = b.post_context.items;
+  invisible = b.invisible;
+  not_found_variation_selector = b.not_found_variation_selector;
+  scratch_flags = b.scratch_flags;
+  flags = b.flags;
+}
+
+-- where in the input the glyphs ahead, or with no output open all glyphs, begin
+abbrev pub start_of : Inside → ℕ
+start_of b = if b.have_output then b.idx else 0
+
+-- the clusters of all glyphs, with that of a lent glyph as it was
+abbrev pub known_clusters : Inside → List ℕ
+known_clusters b = put_back_behind b.order.lent (clusters b.out_info.items) ++ drop (start_of b) (put_back_ahead b.order.lent (clusters b.info.items))
+
+pub record IsSound (b : Inside) : Type 0 where
+  pub cursor : b.idx ≤ length b.info.items
+  pub input_within : length b.info.items ≤ b.max_len
+  pub output_within : length b.out_info.items ≤ b.max_len
+  pub closed : OnFalse b.have_output (b.out_info.items ≡ [])
+  pub placed : OnFalse b.have_output (length b.pos.items ≡ length b.info.items)
+  pub ordered : HasOrder b.order.known (known_clusters b)

@@ -1,0 +1,57 @@
+-- What a buffer is once a glyph or a place that it lent comes back.
+use Rattle.std.specs.Prelude.{ℕ, ◌-◌, ◌++◌, if◌then◌else◌, List, length, take, drop, slice_set}
+use Rattle.std.specs.Borrow.{Lends, MutBor, Fml, Array}
+use Rattle.buffer_glyphs.specs.declared.info.hb_glyph_info_t.{hb_glyph_info_t}
+use Rattle.buffer_glyphs.specs.declared.position.GlyphPosition.{GlyphPosition}
+use Rattle.buffer_glyphs.specs.contracts.info.hb_glyph_info_t.{the_row as info_row}
+use Rattle.buffer_glyphs.specs.contracts.position.GlyphPosition.{the_row as place_row}
+use Rattle.buffer_core.specs.contracts.buffer.hb_buffer_t.{the_row}
+use Rattle.buffer_glyphs.specs.Items.{Position}
+use Rattle.buffer_core.specs.Merging.{with_glyphs}
+use Rattle.buffer_core.specs.Sides.{Sides, all_glyphs}
+
+-- another glyph at the i-th place from the cursor on
+abbrev pub with_glyph_ahead : ℕ → hb_glyph_info_t → Sides → Sides
+with_glyph_ahead i g s = record s { ahead = slice_set s.ahead i g }
+
+-- another place for the glyph at the cursor
+abbrev pub with_current_position : GlyphPosition → Sides → Sides
+with_current_position p s = record s { positions = slice_set s.positions s.read p }
+
+-- another glyph at the end of the output
+abbrev pub with_last_behind : hb_glyph_info_t → Sides → Sides
+with_last_behind g s = record s { behind = slice_set s.behind (length s.behind - 1) g }
+
+-- as many elements as there were: those that come back, and where they are fewer the old ones behind them
+abbrev pub refilled : {X : Type 0} → List X → List X → List X
+refilled new old = take (length old) (new ++ drop (length new) old)
+
+-- other glyphs
+abbrev pub with_refilled : List hb_glyph_info_t → Sides → Sides
+with_refilled gs s = with_glyphs (refilled gs (all_glyphs s)) s
+
+-- of the glyphs behind the cursor as many come back as there were; with no output open they stand at the front of all glyphs
+abbrev pub with_output_refilled : List hb_glyph_info_t → Sides → Sides
+with_output_refilled gs s = if s.is_open then record s { behind = refilled gs s.behind } else with_refilled gs s
+
+-- other positions
+abbrev pub with_positions_refilled : List Position → Sides → Sides
+with_positions_refilled ps s = record s { positions = refilled ps s.positions }
+
+abbrev pub LendsGlyph : ℕ → MutBor Sides → MutBor hb_glyph_info_t → Fml
+LendsGlyph i s r = Lends the_row info_row s r (λ g. with_glyph_ahead i g s.now)
+
+abbrev pub LendsPlace : MutBor Sides → MutBor GlyphPosition → Fml
+LendsPlace s r = Lends the_row place_row s r (λ p. with_current_position p s.now)
+
+abbrev pub LendsLast : MutBor Sides → MutBor hb_glyph_info_t → Fml
+LendsLast s r = Lends the_row info_row s r (λ g. with_last_behind g s.now)
+
+abbrev pub LendsGlyphs : MutBor Sides → MutBor (List hb_glyph_info_t) → Fml
+LendsGlyphs s r = Lends the_row (Array info_row 0) s r (λ gs. with_refilled gs s.now)
+
+abbrev pub LendsOutput : MutBor Sides → MutBor (List hb_glyph_info_t) → Fml
+LendsOutput s r = Lends the_row (Array info_row 0) s r (λ gs. with_output_refilled gs s.now)
+
+abbrev pub LendsPlaces : MutBor Sides → MutBor (List GlyphPosition) → Fml
+LendsPlaces s r = Lends the_row (Array place_row 0) s r (λ ps. with_positions_refilled ps s.now)

@@ -1,0 +1,17 @@
+pub mod Sides
+pub mod Merging
+pub mod Settings
+pub mod Grouping
+pub mod Marking
+pub mod Masks
+pub mod Inside
+pub mod Text
+pub mod Moving
+pub mod Lending
+pub mod Appended
+pub mod Segment
+pub mod Sorting
+pub mod Laws
+pub mod Graphemes
+pub mod Readings
+pub mod Steps

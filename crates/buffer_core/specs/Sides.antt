@@ -1,0 +1,191 @@
+-- A buffer as its clients see it: the glyphs behind the cursor and the glyphs ahead of it.
+use Rattle.std.specs.Prelude.{ℕ, ℤ, pos, ◌+◌, ◌==◌, bit_and, Bool, true, false, nat_le, not, ◌&&◌, if◌then◌else◌, List, [], ◌++◌, length, take, drop, reverse, replicate, Option, None}
+use Rattle.buffer_glyphs.specs.declared.info.hb_glyph_info_t.{hb_glyph_info_t}
+use Rattle.buffer_glyphs.specs.declared.level.BufferClusterLevel.{BufferClusterLevel}
+use Rattle.buffer_glyphs.specs.declared.level.BufferClusterLevel.TheVariants.{MonotoneGraphemes}
+pub use Rattle.buffer_glyphs.specs.Items.{flags_of}
+use Rattle.buffer_glyphs.specs.Items.{Item, Position, strip, zero_position}
+use Rattle.buffer_glyphs.specs.Origins.{Origin, origins, Asks}
+use Rattle.buffer_glyphs.specs.Events.{Event, origins_after}
+use Rattle.buffer_core.specs.Readings.{View, Run}
+use Rattle.buffer_common.specs.declared.constants.BufferFlags.{BufferFlags}
+use Rattle.buffer_common.specs.declared.direction.Direction.{Direction}
+use Rattle.buffer_common.specs.declared.direction.Direction.TheVariants.{Invalid}
+use Rattle.buffer_common.specs.declared.language.Language.{Language}
+use Rattle.buffer_common.specs.declared.script.Script.{Script}
+
+pub record Sides : Type 0 where
+  -- the output while one is open, else what the cursor has passed
+  pub behind : List hb_glyph_info_t
+  pub ahead : List hb_glyph_info_t
+  -- a place for each glyph; an open output has none
+  pub positions : List Position
+  pub is_open : Bool
+  -- how many glyphs were read since the output was opened, or stand behind the cursor
+  pub read : ℕ
+  pub has_refused : Bool
+  pub max_len : ℕ
+  pub max_ops : ℤ
+  -- the ligature number that was given last, 0 for none
+  pub lig_id : ℕ
+  pub level : BufferClusterLevel
+  pub direction : Direction
+  pub script : Option Script
+  pub language : Option Language
+  -- the characters before the text and after it, nearest first
+  pub pre_context : List ℕ
+  pub post_context : List ℕ
+  -- the glyphs that stand for what is not to be seen, and for a selector that the font does not know
+  pub invisible : Option ℕ
+  pub not_found_variation_selector : Option ℕ
+  -- what the stages of shaping tell each other of the glyphs
+  pub scratch_flags : ℕ
+  -- what is asked of the shaping
+  pub flags : BufferFlags
+
+-- all glyphs, in order
+abbrev pub all_glyphs : Sides → List hb_glyph_info_t
+all_glyphs s = s.behind ++ s.ahead
+
+-- the glyphs without their clusters
+abbrev pub items_of : Sides → List Item
+items_of s = strip (all_glyphs s)
+
+-- the scratch flags but the one that there are glyph flags
+abbrev pub told_of : ℕ → ℕ
+told_of flags = bit_and flags 0xFFFF_FFDF
+
+-- what the stages of shaping see of a buffer; it has no random state of its own, and each draws from 1
+abbrev pub view_of : Sides → View
+view_of s = record { items = items_of s; positions = s.positions; lig_id = s.lig_id; max_ops = s.max_ops; random = 1; max_len = s.max_len; direction = s.direction; told = told_of s.scratch_flags }
+
+-- what is asked of glyph flags
+abbrev pub asks_of : Sides → Asks
+asks_of s = record { concat = bit_and s.flags.0 64 == 64; tatweel = bit_and s.flags.0 128 == 128 }
+
+-- where the glyphs come from
+abbrev pub origins_of : Sides → List Origin
+origins_of s = origins (all_glyphs s)
+
+-- where they come from after events
+abbrev pub origins_by : List Event → Sides → List Origin
+origins_by es s = origins_after (asks_of s) s.level es (origins_of s)
+
+-- a buffer as the stages of shaping know it
+abbrev pub run_of : Sides → Run
+run_of s = record { view = view_of s; origins = origins_of s; level = s.level; asks = asks_of s }
+
+-- what is set for a text, and no stage of shaping changes
+pub record Settings : Type 0 where
+  pub level : BufferClusterLevel
+  pub script : Option Script
+  pub language : Option Language
+  pub pre_context : List ℕ
+  pub post_context : List ℕ
+  pub invisible : Option ℕ
+  pub not_found_variation_selector : Option ℕ
+  pub flags : BufferFlags
+
+abbrev pub settings_of : Sides → Settings
+settings_of s = record {
+  level = s.level;
+  script = s.script;
+  language = s.language;
+  pre_context = s.pre_context;
+  post_context = s.post_context;
+  invisible = s.invisible;
+  not_found_variation_selector = s.not_found_variation_selector;
+  flags = s.flags;
+}
+
+-- so many positions of nothing
+abbrev pub zero_positions : ℕ → List Position
+zero_positions n = replicate n zero_position
+
+-- what `new` leaves
+abbrev pub empty_buffer : Sides
+empty_buffer = record {
+  behind = [];
+  ahead = [];
+  positions = [];
+  is_open = false;
+  read = 0;
+  has_refused = false;
+  max_len = 0x3FFF_FFFF;
+  max_ops = pos 0x1FFF_FFFF;
+  lig_id = 0;
+  level = MonotoneGraphemes;
+  direction = Invalid;
+  script = None;
+  language = None;
+  pre_context = [];
+  post_context = [];
+  invisible = None;
+  not_found_variation_selector = None;
+  scratch_flags = 0;
+  flags = record { 0 = 0 };
+}
+
+-- more glyphs at the end, with positions of nothing
+abbrev pub with_added : List hb_glyph_info_t → Sides → Sides
+with_added gs s = record s { ahead = s.ahead ++ gs; positions = s.positions ++ zero_positions (length gs) }
+
+-- whether so many more glyphs may stand in the list
+abbrev pub has_room : ℕ → Sides → Bool
+has_room n s = nat_le (length (all_glyphs s) + n) s.max_len
+
+-- the cursor stands in front of all glyphs, and an empty output is open
+abbrev pub with_output : Sides → Sides
+with_output s = record s { behind = []; ahead = all_glyphs s; positions = []; is_open = true; read = 0 }
+
+-- the first n glyphs ahead go behind the cursor
+abbrev pub moved_on : ℕ → Sides → Sides
+moved_on n s = record s { behind = s.behind ++ take n s.ahead; ahead = drop n s.ahead; read = s.read + n }
+
+-- whether the output may have so many more glyphs
+abbrev pub has_output_room : ℕ → Sides → Bool
+has_output_room n s = nat_le (length s.behind + n) s.max_len
+
+-- whether the cursor may move on over n glyphs: an open output has to hold them
+abbrev pub fits_next : ℕ → Sides → Bool
+fits_next n s = if s.is_open then has_output_room n s else true
+
+-- a side would have grown past the limit: no later `sync` succeeds
+abbrev pub refused : Sides → Sides
+refused s = record s { has_refused = true }
+
+-- whether both sides fit in one list, after no refusal
+abbrev pub fits_joined : Sides → Bool
+fits_joined s = not s.has_refused && has_room 0 s
+
+-- both sides become one list with positions of nothing, and the cursor stands at its front
+abbrev pub synced : Sides → Sides
+synced s = record s { behind = []; ahead = all_glyphs s; positions = zero_positions (length (all_glyphs s)); is_open = false; read = 0 }
+
+-- other glyphs and positions, as many as before; the cursor stays
+abbrev pub with_list : List hb_glyph_info_t → List Position → Sides → Sides
+with_list gs ps s = record s { behind = take s.read gs; ahead = drop s.read gs; positions = ps }
+
+-- glyphs and positions turned round
+abbrev pub reversed : Sides → Sides
+reversed s = with_list (reverse (all_glyphs s)) (reverse s.positions) s
+
+-- another cluster level
+abbrev pub with_level : BufferClusterLevel → Sides → Sides
+with_level l s = record s { level = l }
+
+-- other scratch flags
+abbrev pub with_scratch_flags : ℕ → Sides → Sides
+with_scratch_flags f s = record s { scratch_flags = f }
+
+-- other requests
+abbrev pub with_flags : BufferFlags → Sides → Sides
+with_flags f s = record s { flags = f }
+
+-- another limit of the length
+abbrev pub with_max_len : ℕ → Sides → Sides
+with_max_len n s = record s { max_len = n }
+
+-- each place nothing
+abbrev pub with_cleared_positions : Sides → Sides
+with_cleared_positions s = record s { positions = zero_positions (length s.positions) }

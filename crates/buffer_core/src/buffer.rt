@@ -1,0 +1,154 @@
+ghost use Rattle.std.specs.Prelude.{◌≡◌};
+ghost use Rattle.buffer_core.specs.Sides.{empty_buffer};
+
+mod across;
+mod context;
+mod cursor;
+mod deletion;
+mod flags;
+mod graphemes;
+mod groups;
+mod known;
+mod lending;
+mod limits;
+mod marks;
+mod masks;
+mod merges;
+mod moves;
+mod numbering;
+mod output;
+mod replacement;
+mod reversal;
+mod room;
+pub mod segment;
+mod settings;
+mod sorting;
+mod storage;
+
+use arrayvec::ArrayVec;
+use buffer_common::constants::{
+    BufferFlags, HB_BUFFER_SCRATCH_FLAG_DEFAULT, hb_buffer_scratch_flags_t,
+};
+use buffer_common::direction::Direction;
+use buffer_common::language::Language;
+use buffer_common::script::Script;
+use buffer_glyphs::info::hb_glyph_info_t;
+use buffer_glyphs::level::BufferClusterLevel;
+use buffer_glyphs::position::GlyphPosition;
+use buffer_lists::order::{ClusterOrder, KnownOrder};
+use std::alloc::Global;
+use std::marker::Model;
+
+/// A buffer of characters, later of glyphs: a list with a cursor, or while an output is open two lists, of which calls
+/// take glyphs from the one and put others behind the other.
+#[derive(Drop)]
+pub struct hb_buffer_t {
+    info: Vec<hb_glyph_info_t>,
+    pos: Vec<GlyphPosition>,
+    out_info: Vec<hb_glyph_info_t>,
+    idx: usize,
+    have_output: bool,
+    successful: bool,
+    max_len: usize,
+    max_ops: i32,
+    // The ligature number that was given last, 0 for none.
+    lig_id: u8,
+    cluster_level: BufferClusterLevel,
+    direction: Direction,
+    script: Option<Script>,
+    language: Option<Language>,
+    pre_context: ArrayVec<char, 5>,
+    post_context: ArrayVec<char, 5>,
+    invisible: Option<u32>,
+    not_found_variation_selector: Option<u32>,
+    scratch_flags: hb_buffer_scratch_flags_t,
+    flags: BufferFlags,
+    // So a merge need not walk the whole list.
+    order: ClusterOrder,
+}
+
+impl Model for hb_buffer_t {
+    ghost use Rattle.buffer_core.specs.Sides.{Sides};
+
+    ghost Value = { Sides };
+
+    ghost use Rattle.buffer_core.specs.Inside.{sides_of, IsSound};
+
+    ghost view = { sides_of };
+
+    ghost invariant = { IsSound };
+}
+
+impl hb_buffer_t {
+    /// How many glyphs a list may have where nothing else was said.
+    pub const MAX_LEN_DEFAULT: usize = 0x3FFF_FFFF;
+
+    /// How many glyphs a list may have for each that there is when shaping begins.
+    pub const MAX_LEN_FACTOR: usize = 64;
+
+    /// How many glyphs a list may have at least while it is shaped.
+    pub const MAX_LEN_MIN: usize = 16384;
+
+    /// How many steps may be taken where nothing else was said.
+    pub const MAX_OPS_DEFAULT: i32 = 0x1FFF_FFFF;
+
+    /// How many steps may be taken for each glyph that there is when shaping begins.
+    pub const MAX_OPS_FACTOR: i32 = 1024;
+
+    /// How many steps may be taken at least while a list is shaped.
+    pub const MAX_OPS_MIN: i32 = 16384;
+
+    /// An empty buffer with no direction and no script.
+    pub fn new(alloc: Global) -> hb_buffer_t
+        ensures { result ≡ empty_buffer }
+    {
+        hb_buffer_t {
+            info: Vec::new(alloc),
+            pos: Vec::new(alloc),
+            out_info: Vec::new(alloc),
+            idx: 0,
+            have_output: false,
+            successful: true,
+            max_len: Self::MAX_LEN_DEFAULT,
+            max_ops: Self::MAX_OPS_DEFAULT,
+            lig_id: 0,
+            cluster_level: BufferClusterLevel::MonotoneGraphemes,
+            direction: Direction::Invalid,
+            script: None,
+            language: None,
+            pre_context: ArrayVec::new(),
+            post_context: ArrayVec::new(),
+            invisible: None,
+            not_found_variation_selector: None,
+            scratch_flags: HB_BUFFER_SCRATCH_FLAG_DEFAULT,
+            flags: BufferFlags::default(),
+            order: ClusterOrder::of(KnownOrder::Rising),
+        }
+    }
+
+    /// Leaves what `new` makes.
+    pub fn clear(&mut self)
+        ensures { self.new ≡ empty_buffer }
+    {
+        self.info.clear();
+        self.pos.clear();
+        self.out_info.clear();
+        self.idx = 0;
+        self.have_output = false;
+        self.successful = true;
+        self.max_len = Self::MAX_LEN_DEFAULT;
+        self.max_ops = Self::MAX_OPS_DEFAULT;
+        self.lig_id = 0;
+        self.cluster_level = BufferClusterLevel::MonotoneGraphemes;
+        self.direction = Direction::Invalid;
+        self.script = None;
+        self.language = None;
+        self.pre_context.clear();
+        self.post_context.clear();
+        self.invisible = None;
+        self.not_found_variation_selector = None;
+        self.scratch_flags = HB_BUFFER_SCRATCH_FLAG_DEFAULT;
+        self.flags = BufferFlags::default();
+        self.order = ClusterOrder::of(KnownOrder::Rising);
+    }
+}

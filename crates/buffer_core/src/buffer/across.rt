@@ -1,0 +1,115 @@
+ghost use Rattle.std.specs.Prelude.{◌≡◌, ◌+◌, ◌-◌, ◌≤◌, ◌<◌, if◌then◌else◌, nat_lt, true, length, ◌∷◌, []};
+ghost use Rattle.buffer_core.specs.Sides.{items_of, origins_of, origins_by};
+ghost use Rattle.buffer_core.specs.Merging.{index_in_all, with_output_merged};
+ghost use Rattle.buffer_core.specs.Marking.{asks_concat, concat_marked_across, end_or, marked_across, start_or, with_flagged, with_marked, end_in_all};
+ghost use Rattle.buffer_glyphs.specs.Levels.{InOutput};
+ghost use Rattle.buffer_glyphs.specs.Events.{Merge, Break, Concat};
+
+use super::hb_buffer_t;
+use super::merges::telling_flags;
+use buffer_glyphs::info::{UNSAFE_TO_BREAK, UNSAFE_TO_CONCAT, hb_mask_t};
+use buffer_glyphs::marks::{flag_all, mark_across};
+use buffer_lists::merges::merge_output;
+
+// Ranges that begin in the output.
+impl hb_buffer_t {
+    /// Merges the clusters of the glyphs of the output from `start` up to before `end`, as `merge_clusters` does those of the
+    /// input; at the level that keeps characters apart it does nothing at all. It takes no memory.
+    pub fn merge_out_clusters(&mut self, start: usize, end: usize)
+        requires open { self.old.is_open ≡ true }
+        requires ordered { start ≤ end }
+        requires within { end ≤ length self.old.behind }
+        ensures merged { self.new ≡ with_output_merged start end self.old }
+        ensures items { items_of self.new ≡ items_of self.old }
+        ensures origins { origins_of self.new ≡ origins_by (Merge InOutput start end ∷ []) self.old }
+    {
+        self.order.settle(&self.out_info, &self.info);
+        self.order.known = merge_output(
+            &mut self.out_info,
+            &mut self.info[self.idx..],
+            start,
+            end,
+            self.cluster_level,
+            self.order.known,
+        );
+    }
+
+    /// Marks the glyphs from `start` of the output, over its end, up to before `end` of the input that are outside the least
+    /// cluster among them as unsafe to break and to concat; with no output open, those of the list, as `unsafe_to_break`.
+    /// Where they are not told, the range begins at 0 and ends at the length of the input.
+    pub fn unsafe_to_break_from_outbuffer(&mut self, start: Option<usize>, end: Option<usize>)
+        requires begins { start_or start ≤ length self.old.behind }
+        requires unread { self.old.read ≤ end_or end self.old }
+        requires within { end_or end self.old ≤ self.old.read + length self.old.ahead }
+        ensures marked { self.new ≡ marked_across 3 start end self.old }
+        ensures items { items_of self.new ≡ items_of self.old }
+        ensures origins { origins_of self.new
+            ≡ origins_by (Break (start_or start) (end_in_all end self.old) ∷ []) self.old }
+    {
+        if !self.have_output {
+            return self.unsafe_to_break(start, end);
+        }
+        let count = self.info.len();
+        self.mark_both(
+            start.unwrap_or(0),
+            end.unwrap_or(count),
+            UNSAFE_TO_BREAK | UNSAFE_TO_CONCAT,
+        );
+    }
+
+    /// Marks the glyphs from `start` of the output, over its end, up to before `end` of the input as unsafe to concat, where
+    /// that is asked for; with no output open, those of the list.
+    pub fn unsafe_to_concat_from_outbuffer(&mut self, start: Option<usize>, end: Option<usize>)
+        requires begins { start_or start ≤ length self.old.behind }
+        requires unread { self.old.read ≤ end_or end self.old }
+        requires within { end_or end self.old ≤ self.old.read + length self.old.ahead }
+        ensures marked { self.new ≡ concat_marked_across start end self.old }
+        ensures items { items_of self.new ≡ items_of self.old }
+        ensures origins { origins_of self.new
+            ≡ origins_by (Concat (start_or start) (end_in_all end self.old) ∷ []) self.old }
+    {
+        if !self.have_output {
+            return self.unsafe_to_concat(start, end);
+        }
+        if self.asks_concat() {
+            let count = self.info.len();
+            self.flag_both(start.unwrap_or(0), end.unwrap_or(count), UNSAFE_TO_CONCAT);
+        }
+    }
+
+    fn mark_both(&mut self, start: usize, end: usize, flags: hb_mask_t)
+        requires open { self.old.is_open ≡ true }
+        requires glyph_flags { flags < 8 }
+        requires begins { start ≤ length self.old.behind }
+        requires unread { self.old.read ≤ end }
+        requires within { end ≤ self.old.read + length self.old.ahead }
+        ensures marked { self.new ≡ with_marked flags start (index_in_all end self.old) self.old }
+    {
+        let input = &mut self.info[self.idx..end];
+        let any = mark_across(&mut self.out_info[start..], input, flags);
+        self.scratch_flags = telling_flags(any, self.scratch_flags);
+    }
+
+    fn flag_both(&mut self, start: usize, end: usize, flags: hb_mask_t)
+        requires open { self.old.is_open ≡ true }
+        requires glyph_flags { flags < 8 }
+        requires begins { start ≤ length self.old.behind }
+        requires unread { self.old.read ≤ end }
+        requires within { end ≤ self.old.read + length self.old.ahead }
+        ensures marked { self.new ≡ with_flagged flags start (index_in_all end self.old) self.old }
+    {
+        flag_all(&mut self.out_info[start..], flags);
+        flag_all(&mut self.info[self.idx..end], flags);
+        let any = any_within(start, self.out_info.len(), self.idx, end);
+        self.scratch_flags = telling_flags(any, self.scratch_flags);
+    }
+}
+
+/// Whether there are elements from `start` up to before `count`, or from `from` up to before `end`.
+fn any_within(start: usize, count: usize, from: usize, end: usize) -> bool
+    requires begins { start ≤ count }
+    requires ordered { from ≤ end }
+    ensures { result ≡ nat_lt start (count + (end - from)) }
+{
+    start < count || from < end
+}

@@ -1,0 +1,224 @@
+ghost use Rattle.std.specs.Prelude.{◌≡◌, ◌<◌, ◌≤◌, ◌+◌, ◌-◌, ◌^◌, ◌++◌, [], drop, length, vec_len, true, false, Some, OnOk, OnErr, IfOk, slice_get};
+ghost use Rattle.std.specs.Borrow.{sem};
+ghost use Rattle.buffer_core.specs.Sides.{all_glyphs, has_output_room, with_output, moved_on, fits_next, fits_joined, synced, refused, zero_positions};
+ghost use Rattle.buffer_core.specs.Lending.{LendsGlyph, LendsLast, LendsPlace};
+
+use super::hb_buffer_t;
+use buffer_glyphs::info::hb_glyph_info_t;
+use buffer_glyphs::position::GlyphPosition;
+use buffer_lists::order::Lent;
+use std::alloc::AllocError;
+use std::mem;
+
+impl hb_buffer_t {
+    /// Opens an empty output, with the cursor in front of all glyphs. It takes no memory.
+    pub fn clear_output(&mut self) -> Result<bool, AllocError>
+        requires { self.old.is_open ≡ false }
+        ensures opened { result ≡ Ok true }
+        ensures after { self.new ≡ with_output self.old }
+        ensures kept { all_glyphs self.new ≡ all_glyphs self.old }
+    {
+        self.have_output = true;
+        self.idx = 0;
+        Ok(true)
+    }
+
+    /// How many glyphs stand behind the cursor: those of the output while one is open.
+    pub fn out_len(&self) -> usize
+        ensures { result ≡ length self.now.behind }
+    {
+        if self.have_output {
+            self.out_info.len()
+        } else {
+            self.idx
+        }
+    }
+
+    /// How many glyphs stand from the cursor on. What a list takes of memory bounds it.
+    pub fn lookahead_len(&self) -> usize
+        ensures count { result ≡ length self.now.ahead }
+        ensures small { result < 2 ^ 59 }
+    {
+        self.info[self.idx..].len()
+    }
+
+    /// The glyph behind the cursor: the last of the output while one is open.
+    pub fn prev(&self) -> &hb_glyph_info_t
+        requires { 0 < length self.now.behind }
+        ensures { slice_get self.now.behind (length self.now.behind - 1) ≡ Some result.now }
+    {
+        let behind = self.out_info();
+        &behind[behind.len() - 1]
+    }
+
+    /// The glyph behind the cursor, to be written.
+    pub fn prev_mut(&mut self) -> &mut hb_glyph_info_t
+        requires { 0 < length self.old.behind }
+        ensures value { slice_get self.old.behind (length self.old.behind - 1) ≡ Some result.now }
+        ensures* writes_back { sem 𝓛 (LendsLast self.entry result) }
+    {
+        self.order.settle(&self.out_info, &self.info);
+        if !self.have_output {
+            let last = self.idx - 1;
+            self.order.lent = Some(Lent {
+                in_output: false,
+                at: last,
+                cluster: self.info[last].cluster,
+            });
+            return &mut self.info[last];
+        }
+        let last = self.out_info.len() - 1;
+        self.order.lent = Some(Lent {
+            in_output: true,
+            at: last,
+            cluster: self.out_info[last].cluster,
+        });
+        &mut self.out_info[last]
+    }
+
+    /// The glyphs behind the cursor: those of the output while one is open.
+    pub fn out_info(&self) -> &[hb_glyph_info_t]
+        ensures { result.now ≡ self.now.behind }
+    {
+        if self.have_output {
+            return &self.out_info;
+        }
+        &self.info[..self.idx]
+    }
+
+    /// The i-th glyph from the cursor on.
+    pub fn cur(&self, i: usize) -> &hb_glyph_info_t
+        requires { i < length self.now.ahead }
+        ensures { slice_get self.now.ahead i ≡ Some result.now }
+    {
+        &self.info[self.idx + i]
+    }
+
+    /// The i-th glyph from the cursor on, to be written.
+    #[tactic(auto, using(crate::proofs::Written::glyph_written))]
+    pub fn cur_mut(&mut self, i: usize) -> &mut hb_glyph_info_t
+        requires { i < length self.old.ahead }
+        ensures value { slice_get self.old.ahead i ≡ Some result.now }
+        ensures* writes_back { sem 𝓛 (LendsGlyph i self.entry result) }
+    {
+        let at = self.idx + i;
+        self.order.settle(&self.out_info, &self.info);
+        self.order.lent = Some(Lent {
+            in_output: false,
+            at,
+            cluster: self.info[at].cluster,
+        });
+        &mut self.info[at]
+    }
+
+    /// The place of the glyph at the cursor, to be written, while no output is open.
+    pub fn cur_pos_mut(&mut self) -> &mut GlyphPosition
+        requires closed { self.old.is_open ≡ false }
+        requires there { 0 < length self.old.ahead }
+        ensures value { slice_get self.old.positions self.old.read ≡ Some result.now }
+        ensures* writes_back { sem 𝓛 (LendsPlace self.entry result) }
+    {
+        &mut self.pos[self.idx]
+    }
+
+    /// Moves the cursor over a glyph, which goes behind the output where one is open; answers false, and moves nothing,
+    /// where the output has as many as it may.
+    #[tactic(auto, using(crate::proofs::Kept::moved_all))]
+    pub fn next_glyph(&mut self) -> Result<bool, AllocError>
+        requires { 0 < length self.old.ahead }
+        ensures held { IfOk result (λ b. b ≡ fits_next 1 self.old) }
+        ensures moved { result ≡ Ok true → self.new ≡ moved_on 1 self.old }
+        ensures kept { all_glyphs self.new ≡ all_glyphs self.old }
+        ensures full { result ≡ Ok false → self.new ≡ refused self.old }
+        ensures err { OnErr result (self.new ≡ self.old) }
+        ensures in_place { self.old.is_open ≡ false → result ≡ Ok true }
+    {
+        if !self.have_output {
+            self.idx += 1;
+            return Ok(true);
+        }
+        if !self.has_output_room(1) {
+            return Ok(self.refuse());
+        }
+        self.push_current()?;
+        Ok(true)
+    }
+
+    fn push_current(&mut self) -> Result<(), AllocError>
+        requires open { self.old.is_open ≡ true }
+        requires there { 0 < length self.old.ahead }
+        requires room { has_output_room 1 self.old ≡ true }
+        ensures moved { OnOk result (self.new ≡ moved_on 1 self.old) }
+        ensures err { OnErr result (self.new ≡ self.old) }
+    {
+        self.order.settle(&self.out_info, &self.info);
+        self.out_info.push(self.info[self.idx])?;
+        self.idx += 1;
+        Ok(())
+    }
+
+    /// Puts what is ahead of the cursor behind the output, which becomes the list, with positions of nothing and the cursor
+    /// at its front; answers false, and joins nothing, where the list would have more than it may or a call before was
+    /// refused for length.
+    pub fn sync(&mut self) -> Result<bool, AllocError>
+        requires { self.old.is_open ≡ true }
+        ensures held { IfOk result (λ b. b ≡ fits_joined self.old) }
+        ensures joined { result ≡ Ok true → self.new ≡ synced self.old }
+        ensures kept { all_glyphs self.new ≡ all_glyphs self.old }
+        ensures full { result ≡ Ok false → self.new ≡ refused self.old }
+        ensures err { OnErr result (self.new ≡ self.old) }
+    {
+        if !self.fits_joined() {
+            return Ok(self.refuse());
+        }
+        self.join()?;
+        Ok(true)
+    }
+
+    fn fits_joined(&self) -> bool
+        requires { self.now.is_open ≡ true }
+        ensures { result ≡ fits_joined self.now }
+    {
+        self.successful && self.info.len() - self.idx <= self.max_len - self.out_info.len()
+    }
+
+    fn join(&mut self) -> Result<(), AllocError>
+        requires open { self.old.is_open ≡ true }
+        requires fits { fits_joined self.old ≡ true }
+        ensures joined { OnOk result (self.new ≡ synced self.old) }
+        ensures err { OnErr result (self.new ≡ self.old) }
+    {
+        self.order.settle(&self.out_info, &self.info);
+        join_lists(&mut self.info, self.idx, &mut self.out_info, &mut self.pos)?;
+        self.have_output = false;
+        self.idx = 0;
+        Ok(())
+    }
+}
+
+/// Puts what the input has from an index on behind the output, which takes its place, with positions of nothing.
+fn join_lists(
+    info: &mut Vec<hb_glyph_info_t>,
+    from: usize,
+    output: &mut Vec<hb_glyph_info_t>,
+    positions: &mut Vec<GlyphPosition>,
+) -> Result<(), AllocError>
+    requires there { from ≤ vec_len info.old }
+    requires small { vec_len output.old + (vec_len info.old - from) < 2 ^ 64 }
+    ensures joined { OnOk result (info.new.items ≡ output.old.items ++ drop from info.old.items) }
+    ensures emptied { OnOk result (output.new.items ≡ []) }
+    ensures placed { OnOk result
+        (positions.new.items ≡ zero_positions (length output.old.items + (length info.old.items - from))) }
+    ensures input_err { OnErr result (info.new.items ≡ info.old.items) }
+    ensures output_err { OnErr result (output.new.items ≡ output.old.items) }
+{
+    let rest = info.len() - from;
+    let count = output.len() + rest;
+    output.reserve(rest)?;
+    positions.clear();
+    positions.resize(count, GlyphPosition::default())?;
+    output.extend_from_slice(&info[from..]).unwrap();
+    mem::swap(info, output);
+    output.clear();
+    Ok(())
+}

@@ -1,0 +1,36 @@
+ghost use Rattle.std.specs.Prelude.{◌≡◌, ◌+◌, ◌<◌, ◌++◌, ◌∷◌, true, List, length, drop, []};
+ghost use Rattle.buffer_glyphs.specs.declared.info.hb_glyph_info_t.{hb_glyph_info_t as Glyph};
+ghost use Rattle.buffer_glyphs.specs.Items.{strip};
+ghost use Rattle.buffer_glyphs.specs.Deletions.{deleted};
+ghost use Rattle.buffer_core.specs.Sides.{items_of, origins_of, origins_by};
+ghost use Rattle.buffer_core.specs.Grouping.{with_deleted};
+ghost use Rattle.buffer_glyphs.specs.Events.{Delete};
+
+use super::hb_buffer_t;
+use super::merges::telling_flags;
+use buffer_lists::deletion::delete_first;
+
+impl hb_buffer_t {
+    /// The glyph at the cursor goes. Where neither neighbour is of its cluster, the run before it takes its cluster and its
+    /// three flags if that is less; with none before it, it is merged with the next, as by `merge_clusters`. It takes no
+    /// memory.
+    pub fn delete_glyph(&mut self)
+        requires open { self.old.is_open ≡ true }
+        requires there { 0 < length self.old.ahead }
+        ensures deleted { (g : Glyph) (back : List Glyph) → self.old.ahead ≡ g ∷ back →
+            self.new ≡ with_deleted g back self.old }
+        ensures open { self.new.is_open ≡ true }
+        ensures read { self.new.read ≡ self.old.read + 1 }
+        ensures behind { length self.new.behind ≡ length self.old.behind }
+        ensures ahead { length self.new.ahead + 1 ≡ length self.old.ahead }
+        ensures items { items_of self.new ≡ strip self.old.behind ++ drop 1 (strip self.old.ahead) }
+        ensures origins { origins_of self.new ≡ origins_by (Delete (length self.old.behind) ∷ []) self.old }
+    {
+        self.order.settle(&self.out_info, &self.info);
+        let known = self.order.known;
+        let input = &mut self.info[self.idx..];
+        let marked = delete_first(&mut self.out_info, input, self.cluster_level, known);
+        self.idx += 1;
+        self.scratch_flags = telling_flags(marked, self.scratch_flags);
+    }
+}

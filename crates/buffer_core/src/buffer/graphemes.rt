@@ -1,0 +1,97 @@
+ghost use Rattle.std.specs.Prelude.{◌≡◌, ◌≤◌, ◌==◌, ◌++◌, ◌∷◌, [], false, map, take, drop, length, slice_range, OnOk, OnErr};
+ghost use Rattle.buffer_glyphs.specs.Items.{item_of};
+ghost use Rattle.buffer_glyphs.specs.Events.{Sort};
+ghost use Rattle.buffer_stable_order.specs.Keys.{key_order};
+ghost use Rattle.buffer_groups.specs.Events.{deletions, groups_reversed, order_of};
+ghost use Rattle.buffer_groups.specs.Facts.{items_kept, positions_kept, positions_turned};
+ghost use Rattle.buffer_groups.specs.Turning.{groups_turned};
+ghost use Rattle.buffer_core.specs.Graphemes.{continues, is_default_ignorable};
+ghost use Rattle.buffer_core.specs.Grouping.{with_groups_turned, with_picked_deleted};
+ghost use Rattle.buffer_core.specs.Sides.{all_glyphs, items_of, origins_by, origins_of};
+ghost use Rattle.buffer_core.specs.Sorting.{with_range_sorted};
+
+use super::hb_buffer_t;
+use buffer_glyphs::flags::{GlyphPropsFlags, UnicodeProps};
+use buffer_glyphs::info::hb_glyph_info_t;
+use std::alloc::{AllocError, Global};
+
+// Calls that shaping makes of the groups, the deletion and the sort of a buffer.
+impl hb_buffer_t {
+    /// Reverses the order of the graphemes, each in its own order; positions go with their glyphs. Where `merge` is told,
+    /// the glyphs of each grapheme are merged before.
+    pub fn reverse_graphemes(&mut self, merge: bool)
+        requires { self.old.is_open ≡ false }
+        ensures turned { self.new ≡ with_groups_turned merge (λ g h. continues (item_of h)) self.old }
+        ensures items { items_of self.new ≡ groups_turned (λ x y. continues y) (items_of self.old) }
+        ensures positions { self.new.positions
+            ≡ positions_turned (λ x y. continues y) (items_of self.old) self.old.positions }
+        ensures origins { origins_of self.new
+            ≡ origins_by (groups_reversed merge (λ x y. continues y) (items_of self.old)) self.old }
+    {
+        self.reverse_groups(|_before, glyph| continues_grapheme(glyph), merge);
+    }
+
+    /// Reverses the order of the clusters, each in its own order; positions go with their glyphs.
+    pub fn reverse_clusters(&mut self)
+        requires { self.old.is_open ≡ false }
+        ensures turned { self.new ≡ with_groups_turned false (λ g h. g.cluster == h.cluster) self.old }
+        ensures glyphs { all_glyphs self.new ≡ groups_turned (λ g h. g.cluster == h.cluster) (all_glyphs self.old) }
+    {
+        self.reverse_groups(|before, glyph| before.cluster == glyph.cluster, false);
+    }
+
+    /// Takes out the default ignorable characters that no substitution made into glyphs, and their positions.
+    pub fn delete_default_ignorables(&mut self)
+        requires { self.old.is_open ≡ false }
+        ensures deleted { self.new ≡ with_picked_deleted (λ g. is_default_ignorable (item_of g)) self.old }
+        ensures items { items_of self.new ≡ items_kept is_default_ignorable (items_of self.old) }
+        ensures positions { self.new.positions
+            ≡ positions_kept is_default_ignorable (items_of self.old) self.old.positions }
+        ensures origins { origins_of self.new
+            ≡ origins_by (deletions is_default_ignorable (items_of self.old)) self.old }
+    {
+        self.delete_glyphs_inplace(|glyph| is_ignorable_glyph(glyph));
+    }
+
+    /// Puts the marks from `start` up to before `end` in stable order by their modified combining classes, and merges each
+    /// smallest span that the order permutes.
+    pub fn sort_by_class(
+        &mut self,
+        alloc: Global,
+        start: usize,
+        end: usize,
+    ) -> Result<(), AllocError>
+        requires closed { self.old.is_open ≡ false }
+        requires ordered { start ≤ end }
+        requires within { end ≤ length (all_glyphs self.old) }
+        ensures sorted { OnOk result
+            (self.new ≡ with_range_sorted start end (λ g. g.modified_combining_class) self.old) }
+        ensures items { OnOk result (items_of self.new
+            ≡ take start (items_of self.old) ++ key_order (λ x. x.class) (slice_range (items_of self.old) start end)
+            ++ drop end (items_of self.old)) }
+        ensures origins { OnOk result (origins_of self.new
+            ≡ origins_by (Sort start (order_of (map (λ x. x.class) (slice_range (items_of self.old) start end))) ∷ [])
+            self.old) }
+        ensures err { OnErr result (self.new ≡ self.old) }
+    {
+        self.sort(
+            alloc,
+            start,
+            end,
+            |glyph| u32::from(glyph.modified_combining_class),
+        )
+    }
+}
+
+fn continues_grapheme(glyph: &hb_glyph_info_t) -> bool
+    ensures { result ≡ continues (item_of glyph.now) }
+{
+    glyph.unicode_props.0 & UnicodeProps::CONTINUATION.0 != 0
+}
+
+fn is_ignorable_glyph(glyph: &hb_glyph_info_t) -> bool
+    ensures { result ≡ is_default_ignorable (item_of glyph.now) }
+{
+    glyph.unicode_props.0 & UnicodeProps::IGNORABLE.0 != 0
+        && glyph.glyph_props.0 & GlyphPropsFlags::SUBSTITUTED.0 == 0
+}

@@ -1,0 +1,62 @@
+ghost use Rattle.std.specs.Prelude.{◌≡◌, false, true};
+ghost use Rattle.std.specs.Borrow.{sem};
+ghost use Rattle.buffer_core.specs.Sides.{all_glyphs};
+ghost use Rattle.buffer_core.specs.Lending.{LendsGlyphs, LendsOutput, LendsPlaces};
+
+use super::hb_buffer_t;
+use buffer_glyphs::info::hb_glyph_info_t;
+use buffer_glyphs::position::GlyphPosition;
+use buffer_lists::order::{ClusterOrder, KnownOrder};
+
+// Whole lists, to be written. As many glyphs come back as were lent.
+impl hb_buffer_t {
+    /// All glyphs, to be written, while no output is open.
+    pub fn info_slice_mut(&mut self) -> &mut [hb_glyph_info_t]
+        requires { self.old.is_open ≡ false }
+        ensures value { result.now ≡ all_glyphs self.old }
+        ensures* writes_back { sem 𝓛 (LendsGlyphs self.entry result) }
+    {
+        self.order = ClusterOrder::of(KnownOrder::Unknown);
+        &mut self.info
+    }
+
+    /// The glyphs behind the cursor, to be written: those of the output while one is open.
+    pub fn out_info_mut(&mut self) -> &mut [hb_glyph_info_t]
+        ensures value { result.now ≡ self.old.behind }
+        ensures* writes_back { sem 𝓛 (LendsOutput self.entry result) }
+    {
+        if self.have_output {
+            return self.output_mut();
+        }
+        self.passed_mut()
+    }
+
+    fn output_mut(&mut self) -> &mut [hb_glyph_info_t]
+        requires { self.old.is_open ≡ true }
+        ensures value { result.now ≡ self.old.behind }
+        ensures* writes_back { sem 𝓛 (LendsOutput self.entry result) }
+    {
+        self.order = ClusterOrder::of(KnownOrder::Unknown);
+        &mut self.out_info
+    }
+
+    /// The glyphs that the cursor has passed.
+    fn passed_mut(&mut self) -> &mut [hb_glyph_info_t]
+        requires { self.old.is_open ≡ false }
+        ensures value { result.now ≡ self.old.behind }
+        ensures* writes_back { sem 𝓛 (LendsOutput self.entry result) }
+    {
+        let end = self.idx;
+        self.order = ClusterOrder::of(KnownOrder::Unknown);
+        self.info.slice_mut(..end)
+    }
+
+    /// The glyphs' positions, to be written, while no output is open.
+    pub fn pos_slice_mut(&mut self) -> &mut [GlyphPosition]
+        requires { self.old.is_open ≡ false }
+        ensures value { result.now ≡ self.old.positions }
+        ensures* writes_back { sem 𝓛 (LendsPlaces self.entry result) }
+    {
+        &mut self.pos
+    }
+}

@@ -1,0 +1,107 @@
+ghost use Rattle.std.specs.Prelude.{◌≡◌, ◌+◌, ◌-◌, ◌≤◌, ◌<◌, if◌then◌else◌, true, length, ◌∷◌, []};
+ghost use Rattle.buffer_core.specs.Sides.{items_of, origins_of, origins_by};
+ghost use Rattle.buffer_core.specs.Merging.{index_in_all};
+ghost use Rattle.buffer_core.specs.Marking.{asks_concat, concat_marked, end_or, marked_range, start_or, tatweel_marked, with_flagged, with_marked, start_in_all, end_in_all};
+ghost use Rattle.buffer_glyphs.specs.Events.{Break, Concat, Tatweel};
+
+use super::hb_buffer_t;
+use super::merges::telling_flags;
+use bitflags::Flags;
+use buffer_common::constants::BufferFlags;
+use buffer_glyphs::info::{SAFE_TO_INSERT_TATWEEL, UNSAFE_TO_BREAK, UNSAFE_TO_CONCAT, hb_mask_t};
+use buffer_glyphs::marks::{flag_within, mark_within};
+
+impl hb_buffer_t {
+    /// Marks the glyphs of a range of the input that are outside its least cluster as unsafe to break and to concat. Where
+    /// they are not told, the range begins at 0 and ends at the length of the input.
+    pub fn unsafe_to_break(&mut self, start: Option<usize>, end: Option<usize>)
+        requires ordered { start_or start ≤ end_or end self.old }
+        requires within { end_or end self.old ≤ self.old.read + length self.old.ahead }
+        requires unread { self.old.is_open ≡ true → self.old.read ≤ start_or start }
+        ensures marked { self.new ≡ marked_range 3 start end self.old }
+        ensures items { items_of self.new ≡ items_of self.old }
+        ensures origins { origins_of self.new
+            ≡ origins_by (Break (start_in_all start self.old) (end_in_all end self.old) ∷ []) self.old }
+    {
+        let count = self.info.len();
+        self.mark_range(
+            start.unwrap_or(0),
+            end.unwrap_or(count),
+            UNSAFE_TO_BREAK | UNSAFE_TO_CONCAT,
+        );
+    }
+
+    /// Marks the glyphs of a range of the input as unsafe to concat, where that is asked for.
+    pub fn unsafe_to_concat(&mut self, start: Option<usize>, end: Option<usize>)
+        requires ordered { start_or start ≤ end_or end self.old }
+        requires within { end_or end self.old ≤ self.old.read + length self.old.ahead }
+        requires unread { self.old.is_open ≡ true → self.old.read ≤ start_or start }
+        ensures marked { self.new ≡ concat_marked start end self.old }
+        ensures items { items_of self.new ≡ items_of self.old }
+        ensures origins { origins_of self.new
+            ≡ origins_by (Concat (start_in_all start self.old) (end_in_all end self.old) ∷ []) self.old }
+    {
+        if self.asks_concat() {
+            let count = self.info.len();
+            self.flag_range(start.unwrap_or(0), end.unwrap_or(count), UNSAFE_TO_CONCAT);
+        }
+    }
+
+    /// Marks the glyphs of a range of the input that are outside its least cluster: a tatweel may stand in front of them,
+    /// where that is asked for; else they are unsafe to break.
+    pub fn safe_to_insert_tatweel(&mut self, start: Option<usize>, end: Option<usize>)
+        requires ordered { start_or start ≤ end_or end self.old }
+        requires within { end_or end self.old ≤ self.old.read + length self.old.ahead }
+        requires unread { self.old.is_open ≡ true → self.old.read ≤ start_or start }
+        ensures marked { self.new ≡ tatweel_marked start end self.old }
+        ensures items { items_of self.new ≡ items_of self.old }
+        ensures origins { origins_of self.new
+            ≡ origins_by (Tatweel (start_in_all start self.old) (end_in_all end self.old) ∷ []) self.old }
+    {
+        if self
+            .flags
+            .contains(BufferFlags::PRODUCE_SAFE_TO_INSERT_TATWEEL)
+        {
+            let count = self.info.len();
+            self.mark_range(
+                start.unwrap_or(0),
+                end.unwrap_or(count),
+                SAFE_TO_INSERT_TATWEEL,
+            );
+        } else {
+            self.unsafe_to_break(start, end);
+        }
+    }
+
+    pub(super) fn asks_concat(&self) -> bool
+        ensures { result ≡ asks_concat self.now }
+    {
+        self.flags.contains(BufferFlags::PRODUCE_UNSAFE_TO_CONCAT)
+    }
+
+    fn mark_range(&mut self, start: usize, end: usize, flags: hb_mask_t)
+        requires glyph_flags { flags < 8 }
+        requires ordered { start ≤ end }
+        requires within { end ≤ self.old.read + length self.old.ahead }
+        requires unread { self.old.is_open ≡ true → self.old.read ≤ start }
+        ensures marked { self.new
+            ≡ with_marked flags (index_in_all start self.old) (index_in_all end self.old) self.old }
+    {
+        self.order.settle(&self.out_info, &self.info);
+        let in_order = self.order.known.is_known();
+        let any = mark_within(&mut self.info, start, end, flags, in_order);
+        self.scratch_flags = telling_flags(any, self.scratch_flags);
+    }
+
+    fn flag_range(&mut self, start: usize, end: usize, flags: hb_mask_t)
+        requires glyph_flags { flags < 8 }
+        requires ordered { start ≤ end }
+        requires within { end ≤ self.old.read + length self.old.ahead }
+        requires unread { self.old.is_open ≡ true → self.old.read ≤ start }
+        ensures marked { self.new
+            ≡ with_flagged flags (index_in_all start self.old) (index_in_all end self.old) self.old }
+    {
+        flag_within(&mut self.info, start, end, flags);
+        self.scratch_flags = telling_flags(start < end, self.scratch_flags);
+    }
+}

@@ -1,0 +1,69 @@
+ghost use Rattle.std.specs.Prelude.{◌≡◌, ◌+◌, ◌-◌, ◌≤◌, if◌then◌else◌, true, length, ◌∷◌, []};
+ghost use Rattle.buffer_glyphs.specs.Deleting.{recast};
+ghost use Rattle.buffer_core.specs.Sides.{items_of, origins_of, origins_by};
+ghost use Rattle.buffer_core.specs.Merging.{index_in_all, telling_flags, with_merged};
+ghost use Rattle.buffer_glyphs.specs.Levels.{InList};
+ghost use Rattle.buffer_glyphs.specs.Events.{Merge};
+
+use super::hb_buffer_t;
+use buffer_common::constants::{HB_BUFFER_SCRATCH_FLAG_HAS_GLYPH_FLAGS, hb_buffer_scratch_flags_t};
+use buffer_glyphs::deletion::set_cluster;
+use buffer_glyphs::info::{hb_glyph_info_t, hb_mask_t};
+use buffer_lists::merges::merge_input;
+
+impl hb_buffer_t {
+    /// Merges the clusters of the glyphs from `start` up to before `end`, indices of the input. At the monotone levels each
+    /// cluster that occurs among them becomes the least of them, wherever it is, and a glyph whose cluster changes loses
+    /// its three flags. At the level that keeps characters apart those outside the least cluster are marked as unsafe to
+    /// break and to concat. It takes no memory. Where clusters rise or fall it costs the range and the runs at its ends; in
+    /// no order each glyph is compared with the range.
+    pub fn merge_clusters(&mut self, start: usize, end: usize)
+        requires ordered { start ≤ end }
+        requires within { end ≤ self.old.read + length self.old.ahead }
+        requires unread { self.old.is_open ≡ true → self.old.read ≤ start }
+        ensures merged { self.new ≡ with_merged (index_in_all start self.old) (index_in_all end self.old) self.old }
+        ensures items { items_of self.new ≡ items_of self.old }
+        ensures origins { origins_of self.new
+            ≡ origins_by (Merge InList (index_in_all start self.old) (index_in_all end self.old) ∷ []) self.old }
+    {
+        let from = self.first_of_input();
+        self.order.settle(&self.out_info, &self.info);
+        let (marked, known) = merge_input(
+            &mut self.out_info,
+            &mut self.info[from..],
+            start - from,
+            end - from,
+            self.cluster_level,
+            self.order.known,
+        );
+        self.order.known = known;
+        self.scratch_flags = telling_flags(marked, self.scratch_flags);
+    }
+
+    /// Puts the glyph into the cluster; where it was in another, the three glyph flags of `mask` take the place of its own.
+    pub fn set_cluster(info: &mut hb_glyph_info_t, cluster: u32, mask: hb_mask_t)
+        ensures { info.new ≡ recast cluster mask info.old }
+    {
+        set_cluster(info, cluster, mask);
+    }
+
+    /// Where in the input the glyphs ahead, or with no output open all glyphs, begin.
+    pub(super) fn first_of_input(&self) -> usize
+        ensures { result ≡ (if self.now.is_open then self.now.read else 0) }
+    {
+        if self.have_output { self.idx } else { 0 }
+    }
+}
+
+pub(super) fn telling_flags(
+    any: bool,
+    flags: hb_buffer_scratch_flags_t,
+) -> hb_buffer_scratch_flags_t
+    ensures { result ≡ telling_flags any flags }
+{
+    if any {
+        flags | HB_BUFFER_SCRATCH_FLAG_HAS_GLYPH_FLAGS
+    } else {
+        flags
+    }
+}

@@ -1,0 +1,129 @@
+ghost use Rattle.std.specs.Prelude.{◌≡◌, ◌<◌, ◌≤◌, ◌+◌, ◌-◌, ◌++◌, length, drop, true, false, Ok, OnOk, OnErr, IfOk, ◌∷◌, []};
+ghost use Rattle.buffer_glyphs.specs.Items.{strip};
+ghost use Rattle.buffer_core.specs.Sides.{all_glyphs, fits_next, has_output_room, items_of, moved_on, refused, origins_of, origins_by};
+ghost use Rattle.buffer_core.specs.Merging.{with_skipped};
+ghost use Rattle.buffer_core.specs.Moving.{fits_moved, has_room_back, moved_to};
+ghost use Rattle.buffer_glyphs.specs.Events.{Replace};
+
+use super::hb_buffer_t;
+use buffer_lists::moves::put_in_front;
+use std::alloc::AllocError;
+
+impl hb_buffer_t {
+    /// Moves the cursor over so many glyphs, which go behind the output where one is open; answers false, and moves nothing,
+    /// where the output would have more than it may.
+    #[tactic(auto, using(crate::proofs::Kept::moved_all))]
+    pub fn next_glyphs(&mut self, count: usize) -> Result<bool, AllocError>
+        requires { count ≤ length self.old.ahead }
+        ensures held { IfOk result (λ b. b ≡ fits_next count self.old) }
+        ensures moved { result ≡ Ok true → self.new ≡ moved_on count self.old }
+        ensures kept { all_glyphs self.new ≡ all_glyphs self.old }
+        ensures full { result ≡ Ok false → self.new ≡ refused self.old }
+        ensures err { OnErr result (self.new ≡ self.old) }
+        ensures in_place { self.old.is_open ≡ false → result ≡ Ok true }
+    {
+        if !self.have_output {
+            self.idx += count;
+            return Ok(true);
+        }
+        if !self.has_output_room(count) {
+            return Ok(self.refuse());
+        }
+        self.push_next(count)?;
+        Ok(true)
+    }
+
+    fn push_next(&mut self, count: usize) -> Result<(), AllocError>
+        requires open { self.old.is_open ≡ true }
+        requires there { count ≤ length self.old.ahead }
+        requires room { has_output_room count self.old ≡ true }
+        ensures moved { OnOk result (self.new ≡ moved_on count self.old) }
+        ensures err { OnErr result (self.new ≡ self.old) }
+    {
+        self.order.settle(&self.out_info, &self.info);
+        self.out_info
+            .extend_from_slice(&self.info[self.idx..self.idx + count])?;
+        self.idx += count;
+        Ok(())
+    }
+
+    /// The glyph at the cursor goes. It takes no memory.
+    #[tactic(auto, using(buffer_glyphs::specs::Lists::drop_next))]
+    pub fn skip_glyph(&mut self)
+        requires open { self.old.is_open ≡ true }
+        requires there { 0 < length self.old.ahead }
+        ensures skipped { self.new ≡ with_skipped self.old }
+        ensures items { items_of self.new ≡ strip self.old.behind ++ drop 1 (strip self.old.ahead) }
+        ensures origins { origins_of self.new ≡ origins_by (Replace (length self.old.behind) 1 0 ∷ []) self.old }
+    {
+        self.idx += 1;
+    }
+
+    /// Moves the cursor in front of the i-th of all glyphs. While an output is open, glyphs go from the one side to the other;
+    /// it answers false, and moves nothing, where a call before was refused for length, or the side that grows would have
+    /// more than it may.
+    pub fn move_to(&mut self, i: usize) -> Result<bool, AllocError>
+        requires { i ≤ length (all_glyphs self.old) }
+        ensures held { IfOk result (λ b. b ≡ fits_moved i self.old) }
+        ensures moved { result ≡ Ok true → self.new ≡ moved_to i self.old }
+        ensures kept { all_glyphs self.new ≡ all_glyphs self.old }
+        ensures full { result ≡ Ok false → self.new ≡ refused self.old }
+        ensures err { OnErr result (self.new ≡ self.old) }
+        ensures in_place { self.old.is_open ≡ false → result ≡ Ok true }
+    {
+        if !self.have_output {
+            self.idx = i;
+            return Ok(true);
+        }
+        if !self.successful {
+            return Ok(false);
+        }
+        let count = self.out_info.len();
+        if i > count {
+            return self.next_glyphs(i - count);
+        }
+        self.move_back(i)
+    }
+
+    /// Takes the glyphs of the output from the i-th on back in front of the input.
+    #[tactic(auto, using(crate::proofs::Moved::moved_to_all))]
+    fn move_back(&mut self, i: usize) -> Result<bool, AllocError>
+        requires open { self.old.is_open ≡ true }
+        requires there { i ≤ length self.old.behind }
+        ensures held { IfOk result (λ b. b ≡ has_room_back i self.old) }
+        ensures moved { result ≡ Ok true → self.new ≡ moved_to i self.old }
+        ensures kept { all_glyphs self.new ≡ all_glyphs self.old }
+        ensures full { result ≡ Ok false → self.new ≡ refused self.old }
+        ensures err { OnErr result (self.new ≡ self.old) }
+    {
+        if !self.has_room_back(i) {
+            return Ok(self.refuse());
+        }
+        self.take_back(i)?;
+        Ok(true)
+    }
+
+    /// Whether the input may have the glyphs of the output from the i-th on too.
+    fn has_room_back(&self, i: usize) -> bool
+        requires open { self.now.is_open ≡ true }
+        requires there { i ≤ length self.now.behind }
+        ensures { result ≡ has_room_back i self.now }
+    {
+        let rest = self.info.len() - self.idx;
+        self.out_info.len() - i <= self.max_len - rest
+    }
+
+    fn take_back(&mut self, i: usize) -> Result<(), AllocError>
+        requires open { self.old.is_open ≡ true }
+        requires there { i ≤ length self.old.behind }
+        requires room { has_room_back i self.old ≡ true }
+        ensures moved { OnOk result (self.new ≡ moved_to i self.old) }
+        ensures err { OnErr result (self.new ≡ self.old) }
+    {
+        self.order.settle(&self.out_info, &self.info);
+        let first = put_in_front(&mut self.info, self.idx, &self.out_info[i..])?;
+        self.idx = first;
+        self.out_info.truncate(i);
+        Ok(())
+    }
+}

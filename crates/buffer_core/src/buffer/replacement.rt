@@ -1,0 +1,72 @@
+ghost use Rattle.std.specs.Prelude.{◌≡◌, ◌+◌, ◌≤◌, length, true, false, Ok, OnOk, OnErr, IfOk, ◌∷◌, []};
+ghost use Rattle.buffer_glyphs.specs.Parts.{replaced};
+ghost use Rattle.buffer_glyphs.specs.Replacements.{items_replaced};
+ghost use Rattle.buffer_core.specs.Sides.{items_of, refused, origins_of, origins_by};
+ghost use Rattle.buffer_core.specs.Merging.{fits_copies, with_replaced};
+ghost use Rattle.buffer_glyphs.specs.Events.{Replace};
+
+use super::hb_buffer_t;
+use super::merges::telling_flags;
+use buffer_lists::replacement::replace_first;
+use std::alloc::AllocError;
+
+impl hb_buffer_t {
+    /// Merges the `num_in` glyphs at the cursor and takes them out; a copy of the glyph at the cursor goes behind the output
+    /// for each of the `num_out` numbers. Where the cursor is past the end the copies are of the output's last, and with
+    /// neither none is made. It answers false, and changes neither list, where the output would have more than it may.
+    pub fn replace_glyphs(
+        &mut self,
+        num_in: usize,
+        num_out: usize,
+        glyph_data: &[u32],
+    ) -> Result<bool, AllocError>
+        requires open { self.old.is_open ≡ true }
+        requires taken { num_in ≤ length self.old.ahead }
+        requires given { num_out ≡ length glyph_data.now }
+        ensures held { IfOk result (λ b. b ≡ fits_copies num_out self.old) }
+        ensures replaced { result ≡ Ok true → self.new ≡ with_replaced num_in glyph_data.now self.old }
+        ensures items { result ≡ Ok true →
+            items_of self.new ≡ items_replaced (length self.old.behind) num_in glyph_data.now (items_of self.old) }
+        ensures origins { result ≡ Ok true →
+            origins_of self.new ≡ origins_by (Replace (length self.old.behind) num_in num_out ∷ []) self.old }
+        ensures full { result ≡ Ok false → self.new ≡ refused self.old }
+        ensures err { OnErr result (self.new ≡ self.old) }
+    {
+        if !self.fits_copies(num_out) {
+            return Ok(self.refuse());
+        }
+        self.replace_taken(num_in, glyph_data)?;
+        Ok(true)
+    }
+
+    fn replace_taken(&mut self, num_in: usize, glyph_data: &[u32]) -> Result<(), AllocError>
+        requires open { self.old.is_open ≡ true }
+        requires taken { num_in ≤ length self.old.ahead }
+        requires room { fits_copies (length glyph_data.now) self.old ≡ true }
+        ensures replaced { OnOk result (self.new ≡ with_replaced num_in glyph_data.now self.old) }
+        ensures err { OnErr result (self.new ≡ self.old) }
+    {
+        self.out_info.reserve(glyph_data.len())?;
+        self.order.settle(&self.out_info, &self.info);
+        let (marked, known) = replace_first(
+            &mut self.out_info,
+            &mut self.info[self.idx..],
+            num_in,
+            glyph_data,
+            self.cluster_level,
+            self.order.known,
+        );
+        self.idx += num_in;
+        self.order.known = known;
+        self.scratch_flags = telling_flags(marked, self.scratch_flags);
+        Ok(())
+    }
+
+    /// Whether so many copies may be put behind the output.
+    pub(super) fn fits_copies(&self, count: usize) -> bool
+        requires { self.now.is_open ≡ true }
+        ensures { result ≡ fits_copies count self.now }
+    {
+        self.is_empty() || self.has_output_room(count)
+    }
+}

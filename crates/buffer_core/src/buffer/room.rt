@@ -1,0 +1,23 @@
+ghost use Rattle.std.specs.Prelude.{◌≡◌, false, true};
+ghost use Rattle.buffer_core.specs.Sides.{has_output_room, refused};
+
+use super::hb_buffer_t;
+
+impl hb_buffer_t {
+    /// Whether the output may have so many more glyphs.
+    pub(super) fn has_output_room(&self, count: usize) -> bool
+        requires { self.now.is_open ≡ true }
+        ensures { result ≡ has_output_room count self.now }
+    {
+        count <= self.max_len - self.out_info.len()
+    }
+
+    /// A list would have more glyphs than it may: no later `sync` succeeds.
+    pub(super) fn refuse(&mut self) -> bool
+        ensures answer { result ≡ false }
+        ensures after { self.new ≡ refused self.old }
+    {
+        self.successful = false;
+        false
+    }
+}

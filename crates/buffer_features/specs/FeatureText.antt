@@ -1,0 +1,111 @@
+-- The text of a request, from its start on: a sign, a tag, a range in brackets, a value; white space between them.
+use Rattle.std.specs.Prelude.{◌==◌, if◌then◌else◌, ℕ, ◌+◌, ◌-◌, ◌^◌, List, [], ◌∷◌, Option, Some, None, Result, min, ℤ}
+use Rattle.std.specs.Int.{w32, cast_unsigned}
+use Rattle.std.specs.Option.{option_map, option_map_or, option_and_then, ok_or}
+use Rattle.buffer_common.specs.declared.tag.Tag.{Tag}
+use Rattle.buffer_features.specs.declared.feature.Feature.{Feature}
+use Rattle.buffer_features.specs.declared.feature.InvalidFeature.{InvalidFeature}
+use Rattle.buffer_features.specs.TextParser.{after_spaces, is_quote, tag_in, natural_in, integer_in, bool_in}
+
+-- the end of a range that has none
+abbrev pub no_end : ℕ
+no_end = 2 ^ 32 - 1
+
+-- the value without one in the text: 0 after a minus, else 1
+abbrev pub sign_in : List ℕ → ℕ × List ℕ
+sign_in [] = (1, [])
+sign_in (byte ∷ rest) =
+    if byte == 45 then (0, rest)
+    else if byte == 43 then (1, rest)
+    else (1, byte ∷ rest)
+
+-- the text after that byte, which it begins with
+abbrev pub text_after : ℕ → List ℕ → Option (List ℕ)
+text_after byte [] = None
+text_after byte (first ∷ rest) = if first == byte then Some rest else None
+
+-- a tag, bare or between two equal quotes
+abbrev pub quoted_tag_in : List ℕ → Option (Tag × List ℕ)
+quoted_tag_in [] = None
+quoted_tag_in (first ∷ rest) =
+    if is_quote first then option_and_then (λ found. option_map (λ left. (found.0, left)) (text_after first found.1)) (tag_in rest)
+    else tag_in (first ∷ rest)
+
+-- a number of a range, modulo 2 ^ 32
+abbrev pub place_of_integer : ℤ → ℕ
+place_of_integer number = cast_unsigned w32 number
+
+-- `]`
+abbrev pub closed : ℕ → ℕ → List ℕ → Option ((ℕ × ℕ) × List ℕ)
+closed start end text = option_map (λ left. ((start, end), left)) (text_after 93 text)
+
+-- `b]`
+abbrev pub ended : ℕ → List ℕ → Option ((ℕ × ℕ) × List ℕ)
+ended start text = option_and_then (λ found. closed start (place_of_integer found.0) found.1) (integer_in text)
+
+-- `b]` or `]`
+abbrev pub maybe_ended : ℕ → List ℕ → Option ((ℕ × ℕ) × List ℕ)
+maybe_ended start text =
+    option_map_or (λ found. closed start (place_of_integer found.0) found.1) (integer_in text) (closed start no_end text)
+
+-- after the start: `]` for that place alone, `:` with an end or none, `;` with an end
+abbrev pub started : ℕ → List ℕ → Option ((ℕ × ℕ) × List ℕ)
+started start [] = None
+started start (byte ∷ rest) =
+    if byte == 93 then Some ((start, min (start + 1) no_end), rest)
+    else if byte == 58 then maybe_ended start rest
+    else if byte == 59 then ended start rest
+    else None
+
+-- with no start: `]`, or `:` with an end or none
+abbrev pub unstarted : List ℕ → Option ((ℕ × ℕ) × List ℕ)
+unstarted [] = None
+unstarted (byte ∷ rest) =
+    if byte == 93 then Some ((0, no_end), rest)
+    else if byte == 58 then maybe_ended 0 rest
+    else None
+
+-- after `[`
+abbrev pub bracketed : List ℕ → Option ((ℕ × ℕ) × List ℕ)
+bracketed text = option_map_or (λ found. started (place_of_integer found.0) found.1) (integer_in text) (unstarted text)
+
+-- a range in brackets, or none for every place
+abbrev pub range_in : List ℕ → Option ((ℕ × ℕ) × List ℕ)
+range_in [] = Some ((0, no_end), [])
+range_in (byte ∷ rest) = if byte == 91 then bracketed rest else Some ((0, no_end), byte ∷ rest)
+
+-- a number, or `on` for 1, or `off` for 0
+abbrev pub setting_in : List ℕ → Option (ℕ × List ℕ)
+setting_in text =
+    option_map_or Some (natural_in no_end text) (option_map (λ found. ((if found.0 then 1 else 0), found.1)) (bool_in text))
+
+-- a value, with `=` or without; after `=` there has to be one
+abbrev pub value_in : ℕ → List ℕ → Option (ℕ × List ℕ)
+value_in default [] = Some (default, [])
+value_in default (byte ∷ rest) =
+    if byte == 61 then setting_in (after_spaces rest)
+    else option_map_or Some (setting_in (byte ∷ rest)) (Some (default, byte ∷ rest))
+
+-- the request, where nothing else stands after its value
+abbrev pub whole_request : Tag → ℕ × ℕ → ℕ × List ℕ → Option Feature
+whole_request tag range (value, []) = Some (record { tag = tag; value = value; start = range.0; end = range.1 })
+whole_request tag range (value, (byte ∷ rest)) = None
+
+abbrev pub valued : Tag → ℕ × ℕ → ℕ × List ℕ → Option Feature
+valued tag range found = whole_request tag range (found.0, after_spaces found.1)
+
+abbrev pub ranged : Tag → ℕ → (ℕ × ℕ) × List ℕ → Option Feature
+ranged tag default found = option_and_then (valued tag found.0) (value_in default (after_spaces found.1))
+
+abbrev pub tagged : ℕ → Tag × List ℕ → Option Feature
+tagged default found = option_and_then (ranged found.0 default) (range_in (after_spaces found.1))
+
+abbrev pub signed : ℕ × List ℕ → Option Feature
+signed found = option_and_then (tagged found.0) (quoted_tag_in (after_spaces found.1))
+
+-- the request that the text writes
+abbrev pub feature_of : List ℕ → Option Feature
+feature_of text = signed (sign_in (after_spaces text))
+
+abbrev pub feature_of_text : List ℕ → Result Feature InvalidFeature
+feature_of_text text = ok_or (feature_of text) (record {})

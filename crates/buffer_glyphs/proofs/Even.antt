@@ -1,0 +1,73 @@
+-- Glyphs of one cluster, outside of which a range has none.
+use Rattle.std.specs.Prelude.{slice_range}
+use Rattle.std.specs.List.{list_any}
+use Rattle.std.proofs.Common.{ℕ, ◌≡◌, ◌≤◌, ◌<◌, ◌-◌, ◌==◌, ◌||◌, not, Bool, true, false, List, [], ◌∷◌, length, map, get_or, arith, refl, ap, sym, subst, ◌∙◌}
+use Rattle.std.proofs.lemmas.Grind.{common_steps}
+use Rattle.buffer_glyphs.specs.declared.info.hb_glyph_info_t.{hb_glyph_info_t}
+use Rattle.buffer_glyphs.specs.Items.{clusters}
+use Rattle.buffer_glyphs.specs.Parts.{stretch, last_from}
+use Rattle.buffer_glyphs.specs.Order.{IsOrdered}
+use Rattle.buffer_glyphs.specs.Merges.{least_number}
+use Rattle.buffer_glyphs.specs.Glyphs.{marked_outside, glyphs_marked, tells_apart}
+use Rattle.buffer_glyphs.specs.Lemmas.Parts.{Stands, stands_self}
+use Rattle.buffer_glyphs.specs.Lemmas.Ends.{from_first, to_last}
+use Rattle.buffer_glyphs.specs.Lemmas.Glyphs.{cut_out, stretch_is}
+use Rattle.buffer_glyphs.specs.Lemmas.Merges.{least_number_is}
+use Rattle.buffer_glyphs.specs.Lemmas.Numbers.{Has, has_here, has_more}
+use Rattle.buffer_glyphs.proofs.Ends.{stands_anti, by_order}
+use Rattle.buffer_glyphs.proofs.Joined.{by_range, first_cluster_is, last_cluster_is}
+
+none_any : (low : ℕ) (ns : List ℕ) → ((n : ℕ) → Has ns n → n ≡ low) → list_any (λ n. not (n == low)) ns ≡ false
+none_any low [] all = refl
+none_any low (n ∷ ns) all =
+    let same : (n == low) ≡ true = let is = all n (has_here n ns) in grind (arith, common_steps, is) in
+    let rest = none_any low ns (λ m h. all m (has_more n m ns h)) in
+    rw (same, rest) refl
+
+-- in order, numbers that end as they begin are all the same
+all_alike : (x : ℕ) (xs : List ℕ) → IsOrdered (x ∷ xs) → x ≡ last_from x xs → (n : ℕ) → Has (x ∷ xs) n → n ≡ x
+all_alike x xs o e n h = by_order (x ∷ xs) o (λ falls chain.
+    let from = from_first (Stands falls) (stands_self falls) x n xs chain.0 h in
+    let to = subst (Stands falls n) (sym e) (to_last (Stands falls) (stands_self falls) x n xs chain h) in
+    stands_anti falls n x to from)
+
+alike_even : (x : ℕ) (xs : List ℕ) → IsOrdered (x ∷ xs) → x ≡ last_from x xs → tells_apart (x ∷ xs) ≡ false
+alike_even x xs o e =
+    let low = least_number (x ∷ xs) in
+    let least : low ≡ x = all_alike x xs o e low (least_number_is x xs).among in
+    none_any low (x ∷ xs) (λ n h. all_alike x xs o e n h ∙ sym least)
+
+equal_test : (m n : ℕ) → (m == n) ≡ true → m ≡ n
+equal_test m n e = grind (arith, common_steps, e)
+
+pub ends_even : (gs : List hb_glyph_info_t) (d : hb_glyph_info_t) → 0 < length gs → IsOrdered (clusters gs) → ((get_or gs 0 d).cluster == (get_or gs (length gs - 1) d).cluster) ≡ true → tells_apart (clusters gs) ≡ false
+ends_even gs d some o same_ends =
+    let same : (get_or gs 0 d).cluster ≡ (get_or gs (length gs - 1) d).cluster = equal_test (get_or gs 0 d).cluster (get_or gs (length gs - 1) d).cluster same_ends in
+    by_range (clusters gs) (get_or gs 0 d).cluster (get_or gs (length gs - 1) d).cluster (first_cluster_is gs d some) (last_cluster_is gs d some) (λ xs is end.
+    let first = (get_or gs 0 d).cluster in
+    subst (λ (ns : List ℕ). tells_apart ns ≡ false) (sym is) (alike_even first xs (subst IsOrdered is o) (same ∙ end)))
+
+pub none_even : (gs : List hb_glyph_info_t) → length gs ≡ 0 → tells_apart (clusters gs) ≡ false
+none_even [] e = refl
+none_even (g ∷ gs) e = absurd (omega (arith, e))
+
+unmarked : (bits low : ℕ) (gs : List hb_glyph_info_t) → list_any (λ n. not (n == low)) (clusters gs) ≡ false → map (marked_outside bits low) gs ≡ gs
+unmarked bits low [] e = refl
+unmarked bits low (g ∷ gs) e = by_test (g.cluster == low) refl (λ f. unmarked bits low gs f)
+  where
+    by_test : (t : Bool) → (g.cluster == low) ≡ t → (list_any (λ n. not (n == low)) (clusters gs) ≡ false → map (marked_outside bits low) gs ≡ gs) → marked_outside bits low g ∷ map (marked_outside bits low) gs ≡ g ∷ gs
+    by_test true is rest =
+        let here : marked_outside bits low g ≡ g = rw is refl in
+        let left : list_any (λ n. not (n == low)) (clusters gs) ≡ false = sym (ap (λ (b : Bool). not b || list_any (λ n. not (n == low)) (clusters gs)) is) ∙ e in
+        rw (here, rest left) refl
+    by_test false is rest = let no : true ≡ false = sym (ap (λ (b : Bool). not b || list_any (λ n. not (n == low)) (clusters gs)) is) ∙ e in cc
+
+-- a range of one cluster stays as it is
+pub even_marked : (bits i j : ℕ) (gs : List hb_glyph_info_t) → i ≤ j → tells_apart (clusters (slice_range gs i j)) ≡ false → gs ≡ glyphs_marked bits i j gs
+even_marked bits i j gs le e =
+    let low = least_number (clusters (slice_range gs i j)) in
+    let same = unmarked bits low (slice_range gs i j) e in
+    rw (stretch_is gs i j, same) (sym (cut_out i j gs le))
+
+pub even_range : (i j : ℕ) (gs : List hb_glyph_info_t) → tells_apart (clusters (slice_range gs i j)) ≡ false → false ≡ tells_apart (stretch i j (clusters gs))
+even_range i j gs e = rw (stretch_is gs i j) (sym e)

@@ -1,0 +1,11 @@
+pub mod OneDeleted
+pub mod Least
+mod Examples
+pub mod Parts
+pub mod Ends
+pub mod Joined
+pub mod Even
+pub mod Across
+pub mod EndRuns
+pub mod FirstDeleted
+pub mod RunFlags

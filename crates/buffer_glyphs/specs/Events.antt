@@ -1,0 +1,82 @@
+-- What one call of a buffer does to where its glyphs come from.
+use Rattle.std.specs.Prelude.{ℕ, ◌≡◌, ◌≤◌, ◌+◌, Bool, true, false, List, [], ◌∷◌, Some, fold, length, reverse, slice_get}
+use Rattle.buffer_glyphs.specs.declared.level.BufferClusterLevel.{BufferClusterLevel}
+use Rattle.buffer_glyphs.specs.Parts.{replaced_among}
+use Rattle.buffer_glyphs.specs.Origins.{Origin, Merging, InList, manner, merged_as, origins_deleted, arranged, is_seam, spans, spans_merged, origins_circled, origins_marked, origins_flagged, Asks, origins_spread, without_marks}
+
+-- one call, by indices of the whole list before it
+pub data Event : Type 0 where
+  -- the indices from `from` up to before `to` merge
+  Merge : (how : Merging) → (from to : ℕ) → Event
+  -- so many glyphs at a place merge and make room for copies of the first, past the end of the one before; none may be taken, or none given
+  Replace : (at taken given : ℕ) → Event
+  -- a glyph comes in before or after that at an index, of its cluster, with the flags of another
+  Circle : (after : Bool) → (beside like : ℕ) → Event
+  -- the glyph at a place goes, and its cluster stays somewhere
+  Delete : (at : ℕ) → Event
+  -- the glyphs from a place on merge, as many as the order has, and come to stand in that order
+  Move : (how : Merging) → (from : ℕ) → (order : List ℕ) → Event
+  -- they come to stand in that order, and no more
+  Arrange : (from : ℕ) → (order : List ℕ) → Event
+  -- the glyphs from an index on are sorted into that order: each smallest span that it permutes merges first
+  Sort : (from : ℕ) → (order : List ℕ) → Event
+  -- the list is reversed
+  Reverse : Event
+  -- such indices are unsafe to break, where texts may not be put together, or safe for a tatweel
+  Break : (from to : ℕ) → Event
+  Concat : (from to : ℕ) → Event
+  Tatweel : (from to : ℕ) → Event
+  -- the glyphs of each cluster get one set of flags
+  Spread : Event
+  -- all flags go
+  Reset : Event
+
+-- flags that are set only where that is asked for
+abbrev pub concat_marked : Bool → ℕ → ℕ → List Origin → List Origin
+concat_marked true from to os = origins_flagged 2 from to os
+concat_marked false from to os = os
+
+abbrev pub tatweel_marked : Bool → ℕ → ℕ → List Origin → List Origin
+tatweel_marked true from to os = origins_marked 4 from to os
+tatweel_marked false from to os = origins_marked 3 from to os
+
+abbrev pub origins_after_event : Asks → BufferClusterLevel → List Origin → Event → List Origin
+origins_after_event asks level os (Merge how from to) = merged_as (manner how level) from to os
+origins_after_event asks level os (Replace at taken given) = replaced_among at taken given (merged_as (manner InList level) at (at + taken) os)
+origins_after_event asks level os (Circle after beside like) = origins_circled after beside like os
+origins_after_event asks level os (Delete at) = origins_deleted level at os
+origins_after_event asks level os (Move how from order) = arranged from order (merged_as (manner how level) from (from + length order) os)
+origins_after_event asks level os (Arrange from order) = arranged from order os
+origins_after_event asks level os (Sort from order) = arranged from order (spans_merged (manner InList level) from (spans order) os)
+origins_after_event asks level os Reverse = reverse os
+origins_after_event asks level os (Break from to) = origins_marked 3 from to os
+origins_after_event asks level os (Concat from to) = concat_marked asks.concat from to os
+origins_after_event asks level os (Tatweel from to) = tatweel_marked asks.tatweel from to os
+origins_after_event asks level os Spread = origins_spread asks os
+origins_after_event asks level os Reset = without_marks os
+
+-- where the glyphs come from after a list of events, at every level and for clusters in any order
+abbrev pub origins_after : Asks → BufferClusterLevel → List Event → List Origin → List Origin
+origins_after asks level es os = fold (origins_after_event asks level) os es
+
+-- no element of an order crosses a seam: none that stands from a seam on stood before it
+pub record StaysInSpans (order : List ℕ) : Type 0 where
+  pub whole : is_seam order (length order) ≡ true
+  pub stays : (i j k : ℕ) → slice_get order i ≡ Some j → is_seam order k ≡ true → k ≤ i → k ≤ j
+
+-- a reversal of the list is the only order that a list without this gets
+abbrev pub IsPlain : List Event → Type 0
+IsPlain [] = Unit {0}
+IsPlain (Arrange from order ∷ es) = ⊥
+IsPlain (Merge how from to ∷ es) = IsPlain es
+IsPlain (Replace at taken given ∷ es) = IsPlain es
+IsPlain (Circle after beside like ∷ es) = IsPlain es
+IsPlain (Delete at ∷ es) = IsPlain es
+IsPlain (Move how from order ∷ es) = IsPlain es
+IsPlain (Sort from order ∷ es) = StaysInSpans order × IsPlain es
+IsPlain (Reverse ∷ es) = IsPlain es
+IsPlain (Break from to ∷ es) = IsPlain es
+IsPlain (Concat from to ∷ es) = IsPlain es
+IsPlain (Tatweel from to ∷ es) = IsPlain es
+IsPlain (Spread ∷ es) = IsPlain es
+IsPlain (Reset ∷ es) = IsPlain es

@@ -1,0 +1,62 @@
+-- What holds of all lists of events, of merges and of deletions.
+use Rattle.std.specs.Prelude.{ℕ, ◌≡◌, ◌≢◌, Bool, false, List, [], ◌∷◌, ◌++◌, length}
+use Rattle.buffer_glyphs.specs.declared.level.BufferClusterLevel.{BufferClusterLevel}
+use Rattle.buffer_glyphs.specs.Parts.{PartEvent, DeletePart, joined, after_part_event, after_part_events}
+use Rattle.buffer_glyphs.specs.Deletions.{deleted}
+use Rattle.buffer_glyphs.specs.Levels.{IsMonotone}
+use Rattle.buffer_glyphs.specs.Origins.{Origin, Asks, numbers, origins_spread}
+use Rattle.buffer_glyphs.specs.Events.{Event, IsPlain, origins_after}
+use Rattle.buffer_glyphs.specs.EventParts.{parts_of, AreEvenRuns, HaveNoConcat}
+use Rattle.buffer_glyphs.specs.Order.{IsOrdered}
+use Rattle.buffer_glyphs.specs.Merges.{merged, merged_numbers, IsLeastCoarsening}
+use Rattle.buffer_glyphs.specs.Order.{IsInOrder, IsLeast, BringsNone, IsGiving, falls_after}
+
+-- parts in order stay in order, in the other direction after each reversal of the list
+abbrev pub KeepsOrder : Type 0
+KeepsOrder = (es : List PartEvent) (falls : Bool) (ns : List ℕ) → IsInOrder falls ns → IsInOrder (falls_after falls es) (after_part_events es ns)
+
+-- the least number of parts in order stays while an item is left
+abbrev pub KeepsLeast : Type 0
+KeepsLeast = (es : List PartEvent) (falls : Bool) (ns : List ℕ) (m : ℕ) → IsGiving es ns → IsInOrder falls ns → IsLeast m ns → after_part_events es ns ≢ [] → IsLeast m (after_part_events es ns)
+
+-- no number is new
+abbrev pub KeepsNumbers : Type 0
+KeepsNumbers = (es : List PartEvent) (ns : List ℕ) → BringsNone ns (after_part_events es ns)
+
+-- a merge unites the numbers of its range, and no more
+abbrev pub MergeUnites : Type 0
+MergeUnites = (range : List ℕ) → IsLeastCoarsening range (merged range)
+
+-- in order, a merge of what occurs in a range is the join of its stretch
+abbrev pub MergeIsJoin : Type 0
+MergeIsJoin = (falls : Bool) (front range back : List ℕ) → IsInOrder falls (front ++ range ++ back) → merged_numbers range (front ++ range ++ back) ≡ joined range (front ++ range ++ back)
+
+-- in order, at a monotone level, a deletion is the event: a part that loses its last item unites with a neighbour's
+abbrev pub DeletionIsEvent : Type 0
+DeletionIsEvent = (level : BufferClusterLevel) (falls : Bool) (front : List ℕ) (n : ℕ) (back : List ℕ) → IsMonotone level → IsInOrder falls (front ++ n ∷ back) → deleted level front n back ≡ after_part_event (front ++ n ∷ back) (DeletePart (length front))
+
+-- no event brings a cluster number, at whatever level
+abbrev pub OriginsKeepNumbers : Type 0
+OriginsKeepNumbers = (asks : Asks) (level : BufferClusterLevel) (es : List Event) (os : List Origin) → BringsNone (numbers os) (numbers (origins_after asks level es os))
+
+-- at a monotone level, on clusters in order, events do to clusters what they do to the parts of the text
+abbrev pub OriginsAreParts : Type 0
+OriginsAreParts = (asks : Asks) (level : BufferClusterLevel) (es : List Event) (os : List Origin) → IsMonotone level → IsPlain es → IsOrdered (numbers os) → numbers (origins_after asks level es os) ≡ after_part_events (parts_of level es) (numbers os)
+
+-- clusters in order stay in order at a monotone level, in the other direction after each reversal
+abbrev pub OriginsKeepOrder : Type 0
+OriginsKeepOrder = (asks : Asks) (level : BufferClusterLevel) (es : List Event) (falls : Bool) (os : List Origin) → IsMonotone level → IsPlain es → IsInOrder falls (numbers os)
+    → IsInOrder (falls_after falls (parts_of level es)) (numbers (origins_after asks level es os))
+
+-- their least stays while a glyph is left, where no replacement drops the last glyph of a part
+abbrev pub OriginsKeepLeast : Type 0
+OriginsKeepLeast = (asks : Asks) (level : BufferClusterLevel) (es : List Event) (falls : Bool) (os : List Origin) (m : ℕ) → IsMonotone level → IsPlain es → IsGiving (parts_of level es) (numbers os)
+    → IsInOrder falls (numbers os) → IsLeast m (numbers os) → origins_after asks level es os ≢ [] → IsLeast m (numbers (origins_after asks level es os))
+
+-- once flags were spread, neighbours of one cluster have the same
+abbrev pub SpreadIsEven : Type 0
+SpreadIsEven = (asks : Asks) (os : List Origin) → AreEvenRuns (origins_spread asks os)
+
+-- and no glyph tells where texts may not be put together but where that was asked for
+abbrev pub SpreadHasNoConcat : Type 0
+SpreadHasNoConcat = (tatweel : Bool) (os : List Origin) → HaveNoConcat (origins_spread (record { concat = false; tatweel = tatweel }) os)

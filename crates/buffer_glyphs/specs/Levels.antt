@@ -1,0 +1,35 @@
+-- What a cluster level makes of each kind of merge: the one table that tells levels apart.
+use Rattle.buffer_glyphs.specs.declared.level.BufferClusterLevel.{BufferClusterLevel}
+use Rattle.buffer_glyphs.specs.declared.level.BufferClusterLevel.TheVariants.{MonotoneGraphemes, MonotoneCharacters, Characters}
+
+-- the calls that merge: in the list, or within the output
+pub data Merging : Type 0 where
+  InList : Merging
+  InOutput : Merging
+
+-- what becomes of a range that is to merge
+pub data Manner : Type 0 where
+  -- its clusters become the least of them
+  Unites : Manner
+  -- it is marked as unsafe to break and to concat outside its least cluster
+  Marks : Manner
+  -- nothing
+  Keeps : Manner
+
+-- what such a call does at a level
+abbrev pub manner : Merging → BufferClusterLevel → Manner
+manner InList MonotoneGraphemes = Unites
+manner InList MonotoneCharacters = Unites
+manner InList Characters = Marks
+manner InOutput MonotoneGraphemes = Unites
+manner InOutput MonotoneCharacters = Unites
+manner InOutput Characters = Keeps
+
+abbrev pub IsUniting : Manner → Type 0
+IsUniting Unites = Unit {0}
+IsUniting Marks = ⊥
+IsUniting Keeps = ⊥
+
+-- the levels at which clusters stay in order: merges in the list unite
+abbrev pub IsMonotone : BufferClusterLevel → Type 0
+IsMonotone level = IsUniting (manner InList level)

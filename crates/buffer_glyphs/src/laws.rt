@@ -1,0 +1,71 @@
+ghost use Rattle.buffer_glyphs.specs.Laws.{DeletionIsEvent, KeepsLeast, KeepsNumbers, KeepsOrder, MergeIsJoin, MergeUnites, OriginsAreParts, OriginsKeepLeast, OriginsKeepNumbers, OriginsKeepOrder, SpreadHasNoConcat, SpreadIsEven};
+
+/// Parts in order stay in order through all events, falls_after as often as the list is.
+#[tactic(auto, using(crate::specs::Lemmas::Parts::keeps_order))]
+pub fn keeps_order()
+    ensures { KeepsOrder }
+{}
+
+/// The least number of parts in order stays while an item is left.
+pub fn keeps_least()
+    ensures { KeepsLeast }
+{}
+
+/// No event brings a number that was not there.
+#[tactic(auto, using(crate::specs::Lemmas::Parts::keeps_numbers))]
+pub fn keeps_numbers()
+    ensures { KeepsNumbers }
+{}
+
+/// A merge unites the numbers that occur in its range, and no more.
+pub fn merge_unites()
+    ensures { MergeUnites }
+{}
+
+/// In order, a merge of the numbers that occur in a range is the join of its stretch.
+#[tactic(auto, using(crate::specs::Lemmas::Merges::merge_is_join))]
+pub fn merge_is_join()
+    ensures { MergeIsJoin }
+{}
+
+/// In order, at a monotone level, the deletion of a glyph is the event of that name.
+#[tactic(auto, using(crate::specs::Lemmas::Deletions::deletion_is_event))]
+pub fn deletion_is_event()
+    ensures { DeletionIsEvent }
+{}
+
+/// No event brings a cluster number, at whatever level.
+#[tactic(auto, using(crate::specs::Lemmas::EventParts::origins_keep_numbers))]
+pub fn origins_keep_numbers()
+    ensures { OriginsKeepNumbers }
+{}
+
+/// At a monotone level, on clusters in order, events do to clusters what they do to the parts of the text.
+#[tactic(auto, using(crate::specs::Lemmas::EventParts::origins_are_parts))]
+pub fn origins_are_parts()
+    ensures { OriginsAreParts }
+{}
+
+/// At a monotone level clusters in order stay in order.
+#[tactic(auto, using(crate::proofs::Least::origins_keep_order))]
+pub fn origins_keep_order()
+    ensures { OriginsKeepOrder }
+{}
+
+/// Their least stays while a glyph is left.
+#[tactic(auto, using(crate::proofs::Least::origins_keep_least))]
+pub fn origins_keep_least()
+    ensures { OriginsKeepLeast }
+{}
+
+/// Once flags were spread, neighbours of one cluster have the same.
+#[tactic(auto, using(crate::specs::Lemmas::EventParts::spread_is_even))]
+pub fn spread_is_even()
+    ensures { SpreadIsEven }
+{}
+
+/// Once flags were spread, none tells where texts may not be put together but where that was asked for.
+#[tactic(auto, using(crate::specs::Lemmas::EventParts::spread_has_no_concat))]
+pub fn spread_has_no_concat()
+    ensures { SpreadHasNoConcat }
+{}

@@ -1,0 +1,127 @@
+ghost use Rattle.std.specs.Prelude.{◌≡◌, ◌≤◌, ◌<◌, ◌++◌, ◌∷◌, [], Some, true, length};
+ghost use Rattle.buffer_glyphs.specs.Items.{clusters};
+ghost use Rattle.buffer_glyphs.specs.Parts.{first_of, last_of, stretch};
+ghost use Rattle.buffer_glyphs.specs.Order.{IsOrdered};
+ghost use Rattle.buffer_glyphs.specs.Glyphs.{glyphs_merged, renamed};
+
+use crate::info::hb_glyph_info_t;
+use crate::merges::{least_cluster, set_clusters, spread, spread_within};
+
+/// The clusters that occur from `start` up to before `end` become the least of them, wherever they are. Where all clusters
+/// are known to stand in order it costs the range and the runs at its ends.
+pub fn merge_within(glyphs: &mut [hb_glyph_info_t], start: usize, end: usize, in_order: bool)
+    requires ordered { start ≤ end }
+    requires within { end ≤ length glyphs.old }
+    requires known { in_order ≡ true → IsOrdered (clusters glyphs.old) }
+    ensures { glyphs.new ≡ glyphs_merged (stretch start end (clusters glyphs.old)) glyphs.old }
+{
+    if start == end {
+        return;
+    }
+    if in_order {
+        merge_in_order(glyphs, start, end);
+    } else {
+        spread_within(glyphs, start, end);
+    }
+}
+
+/// The clusters that occur in `range` become the least of them, wherever they are among the glyphs. Where these and the
+/// range are known to stand in order it costs the range and the run at the end.
+#[tactic(auto, using(crate::proofs::Joined::order_beside))]
+pub fn merge_beside(glyphs: &mut [hb_glyph_info_t], range: &[hb_glyph_info_t], in_order: bool)
+    requires { in_order ≡ true → IsOrdered (clusters glyphs.old ++ clusters range.now) }
+    ensures { glyphs.new ≡ glyphs_merged (clusters range.now) glyphs.old }
+{
+    if range.is_empty() {
+        return;
+    }
+    let low = least_cluster(range);
+    if in_order {
+        rename_back(glyphs, first_cluster(range), low);
+    } else {
+        spread(glyphs, range, low);
+    }
+}
+
+/// The clusters that occur in `range` become the least of them, wherever they are among the glyphs. Where the range and
+/// these after it are known to stand in order it costs the range and the run at the front.
+#[tactic(auto, using(crate::proofs::Joined::order_after))]
+pub fn merge_after(glyphs: &mut [hb_glyph_info_t], range: &[hb_glyph_info_t], in_order: bool)
+    requires { in_order ≡ true → IsOrdered (clusters range.now ++ clusters glyphs.old) }
+    ensures { glyphs.new ≡ glyphs_merged (clusters range.now) glyphs.old }
+{
+    if range.is_empty() {
+        return;
+    }
+    let low = least_cluster(range);
+    if !in_order {
+        return spread(glyphs, range, low);
+    }
+    rename_front(glyphs, last_cluster(range), low);
+}
+
+#[tactic(auto, using(crate::proofs::Joined::joined_parts, crate::proofs::Joined::order_front, crate::proofs::Joined::order_back))]
+fn merge_in_order(glyphs: &mut [hb_glyph_info_t], start: usize, end: usize)
+    requires some { start < end }
+    requires within { end ≤ length glyphs.old }
+    requires known { IsOrdered (clusters glyphs.old) }
+    ensures { glyphs.new ≡ glyphs_merged (stretch start end (clusters glyphs.old)) glyphs.old }
+{
+    let (front, rest) = glyphs.split_at_mut(start);
+    let (range, back) = rest.split_at_mut(end - start);
+    let low = least_cluster(range);
+    let first = first_cluster(range);
+    let last = last_cluster(range);
+    rename_back(front, first, low);
+    rename_front(back, last, low);
+    set_clusters(range, low);
+}
+
+#[tactic(auto, using(crate::proofs::Joined::first_cluster_is))]
+fn first_cluster(glyphs: &[hb_glyph_info_t]) -> u32
+    requires { 0 < length glyphs.now }
+    ensures { first_of (clusters glyphs.now) ≡ Some result }
+{
+    glyphs[0].cluster
+}
+
+/// The cluster of the last glyph.
+#[tactic(auto, using(crate::proofs::Joined::last_cluster_is))]
+pub fn last_cluster(glyphs: &[hb_glyph_info_t]) -> u32
+    requires { 0 < length glyphs.now }
+    ensures { last_of (clusters glyphs.now) ≡ Some result }
+{
+    glyphs[glyphs.len() - 1].cluster
+}
+
+/// The glyphs of the cluster go to another. In order, with the cluster after all, they stand at the end.
+#[tactic(auto, using(crate::proofs::Ends::passed_back))]
+fn rename_back(glyphs: &mut [hb_glyph_info_t], cluster: u32, low: u32)
+    requires { IsOrdered (clusters glyphs.old ++ cluster ∷ []) }
+    ensures { glyphs.new ≡ renamed cluster low glyphs.old }
+{
+    if cluster == low {
+        return;
+    }
+    let mut at = glyphs.len();
+    while at > 0 && glyphs[at - 1].cluster == cluster {
+        at -= 1;
+    }
+    set_clusters(&mut glyphs[at..], low);
+}
+
+/// The glyphs of the cluster go to another. In order, with the cluster in front of all, they stand at the front.
+#[tactic(auto, using(crate::proofs::Ends::passed_front))]
+fn rename_front(glyphs: &mut [hb_glyph_info_t], cluster: u32, low: u32)
+    requires { IsOrdered (cluster ∷ clusters glyphs.old) }
+    ensures { glyphs.new ≡ renamed cluster low glyphs.old }
+{
+    if cluster == low {
+        return;
+    }
+    let mut at = 0;
+    while at < glyphs.len() && glyphs[at].cluster == cluster {
+        at += 1;
+    }
+    set_clusters(&mut glyphs[..at], low);
+}

@@ -1,0 +1,73 @@
+-- A walk that deletes the glyphs that a test picks.
+use Rattle.std.specs.Prelude.{ℕ, zero, suc, ◌≡◌, ◌<◌, ◌≤◌, ◌||◌, Bool, true, false, if◌then◌else◌, List, [], ◌∷◌, ◌++◌, Option, Some, None, length, take, drop}
+use Rattle.std.specs.Fn.{Shared, FnReturnsAt}
+use denote.Ref.{Bor}
+use Rattle.buffer_glyphs.specs.declared.info.hb_glyph_info_t.{hb_glyph_info_t}
+use Rattle.buffer_glyphs.specs.declared.level.BufferClusterLevel.{BufferClusterLevel}
+use Rattle.buffer_glyphs.specs.Items.{Position, clusters}
+use Rattle.buffer_glyphs.specs.Order.{IsOrdered}
+use Rattle.buffer_glyphs.specs.Lemmas.Numbers.{Has}
+use Rattle.buffer_groups.specs.declared.deletion.walk.Walk.{Walk}
+use Rattle.buffer_glyphs.specs.Deleting.{end_recast, glyphs_deleted, deletion_marks}
+
+-- each answer that a test of a glyph may give is that of p
+abbrev pub Tells : {F : Type 0} → Shared F (Bor hb_glyph_info_t × Unit {0}) Bool → F → (hb_glyph_info_t → Bool) → Type 0
+Tells calls f p = (g : hb_glyph_info_t) (b : Bool) → FnReturnsAt calls f g b → b ≡ p g
+
+-- glyphs and positions that stay, those ahead, and whether a merge marked a glyph
+pub record Passed : Type 0 where
+  pub kept : List hb_glyph_info_t
+  pub kept_positions : List Position
+  pub ahead : List hb_glyph_info_t
+  pub positions_ahead : List Position
+  pub is_marked : Bool
+
+-- a glyph goes
+abbrev pub without_glyph : BufferClusterLevel → Passed → hb_glyph_info_t → List hb_glyph_info_t → Passed
+without_glyph level w g back = record {
+  kept = (glyphs_deleted level w.kept g back).front;
+  kept_positions = w.kept_positions;
+  ahead = (glyphs_deleted level w.kept g back).back;
+  positions_ahead = drop 1 w.positions_ahead;
+  is_marked = w.is_marked || deletion_marks level (clusters w.kept) g.cluster (clusters back);
+}
+
+-- a glyph stays
+abbrev pub with_glyph : Passed → hb_glyph_info_t → List hb_glyph_info_t → Passed
+with_glyph w g back = record w { kept = w.kept ++ g ∷ []; kept_positions = w.kept_positions ++ take 1 w.positions_ahead; ahead = back; positions_ahead = drop 1 w.positions_ahead }
+
+abbrev pub passed_of : BufferClusterLevel → (hb_glyph_info_t → Bool) → Passed → List hb_glyph_info_t → Passed
+passed_of level p w [] = w
+passed_of level p w (g ∷ back) = if p g then without_glyph level w g back else with_glyph w g back
+
+-- the first glyph ahead goes where the test picks it, else it stays
+abbrev pub first_passed : BufferClusterLevel → (hb_glyph_info_t → Bool) → Passed → Passed
+first_passed level p w = passed_of level p w w.ahead
+
+-- so many glyphs, one after another
+abbrev pub many_passed : BufferClusterLevel → (hb_glyph_info_t → Bool) → ℕ → Passed → Passed
+many_passed level p zero w = w
+many_passed level p (suc n) w = many_passed level p n (first_passed level p w)
+
+-- all of them
+abbrev pub all_passed : BufferClusterLevel → (hb_glyph_info_t → Bool) → List hb_glyph_info_t → List Position → Passed
+all_passed level p gs ps = many_passed level p (length gs) (record { kept = []; kept_positions = []; ahead = gs; positions_ahead = ps; is_marked = false })
+
+-- glyphs whose last run is still to take what a glyph has
+abbrev pub settled : Option hb_glyph_info_t → List hb_glyph_info_t → List hb_glyph_info_t
+settled None gs = gs
+settled (Some d) gs = end_recast d gs
+
+-- what the walk has passed as it stands at a place
+abbrev pub passed_at : ℕ → Walk → List hb_glyph_info_t → List Position → Passed
+passed_at at w gs ps = record { kept = settled w.due (take w.kept gs); kept_positions = take w.kept ps; ahead = drop at gs; positions_ahead = drop at ps; is_marked = w.marked }
+
+-- what is still to be taken is of a cluster less than all that stand there, and only where these are in order
+abbrev pub IsDue : Bool → Option hb_glyph_info_t → List hb_glyph_info_t → Type 0
+IsDue in_order None gs = Unit {0}
+IsDue in_order (Some d) gs = (in_order ≡ true) × (0 < length gs) × ((n : ℕ) → Has (clusters gs) n → d.cluster < n)
+
+pub record IsWalk (in_order : Bool) (at : ℕ) (w : Walk) (gs : List hb_glyph_info_t) : Type 0 where
+  pub few : w.kept ≤ at
+  pub due : IsDue in_order w.due (take w.kept gs)
+  pub known : in_order ≡ true → IsOrdered (clusters (settled w.due (take w.kept gs)) ++ clusters (drop at gs))

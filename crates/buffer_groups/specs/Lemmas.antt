@@ -1,0 +1,14 @@
+-- Lemmas.
+pub mod GroupsTurned
+pub mod Kept
+pub mod Neighbours
+pub mod Regrouped
+pub mod SortedItems
+pub mod Stretches
+pub mod Turned
+pub mod KeyOrder
+pub mod Picked
+pub mod DeletedEvents
+pub mod ReversedEvents
+pub mod SortedEvents
+pub mod OrderSpans

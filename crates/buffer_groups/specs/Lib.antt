@@ -1,0 +1,13 @@
+pub mod Lemmas
+pub mod Groups
+pub mod Runs
+pub mod Falling
+pub mod Turning
+pub mod DeletionWalk
+pub mod Sorting
+pub mod Due
+pub mod Laws
+pub mod Facts
+pub mod Places
+pub mod Events
+pub mod Flags

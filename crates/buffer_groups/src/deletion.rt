@@ -1,0 +1,46 @@
+ghost use Rattle.std.specs.Prelude.{◌≡◌, ◌≤◌, true, Bool, length, take};
+ghost use Rattle.buffer_glyphs.specs.declared.info.hb_glyph_info_t.{hb_glyph_info_t as Glyph};
+ghost use Rattle.buffer_glyphs.specs.Items.{clusters};
+ghost use Rattle.buffer_glyphs.specs.Order.{IsOrdered};
+ghost use Rattle.buffer_groups.specs.DeletionWalk.{Tells, all_passed};
+
+mod walk;
+
+use self::walk::{Walk, pass_glyph, settle};
+use buffer_glyphs::info::hb_glyph_info_t;
+use buffer_glyphs::level::BufferClusterLevel;
+use buffer_glyphs::position::GlyphPosition;
+
+/// Deletes the glyphs that `filter` picks, from the left, and answers how many stay and whether a merge marked one. Those
+/// that stay stand at the front of both slices, positions beside their glyphs; what is after them has no meaning. A glyph
+/// is tested as it stands when the walk reaches it. It takes no memory, and linear time where all clusters are known to
+/// stand in order.
+pub fn delete_within<F: Fn(&hb_glyph_info_t) -> bool>(
+    glyphs: &mut [hb_glyph_info_t],
+    positions: &mut [GlyphPosition],
+    level: BufferClusterLevel,
+    in_order: bool,
+    filter: F,
+) -> (usize, bool)
+    requires callable { F.IsAlwaysCallable filter }
+    requires placed { length positions.old ≡ length glyphs.old }
+    requires known { in_order ≡ true → IsOrdered (clusters glyphs.old) }
+    ensures within { result.0 ≤ length glyphs.old }
+    ensures glyphs { (goes : Glyph → Bool) → Tells F.Fn filter goes →
+        take result.0 glyphs.new ≡ (all_passed level goes glyphs.old positions.old).kept }
+    ensures positions { (goes : Glyph → Bool) → Tells F.Fn filter goes →
+        take result.0 positions.new ≡ (all_passed level goes glyphs.old positions.old).kept_positions }
+    ensures marked { (goes : Glyph → Bool) → Tells F.Fn filter goes →
+        result.1 ≡ (all_passed level goes glyphs.old positions.old).is_marked }
+{
+    let mut walk = Walk {
+        kept: 0,
+        due: None,
+        marked: false,
+    };
+    for at in 0..glyphs.len() {
+        walk = pass_glyph(glyphs, positions, at, walk, level, in_order, &filter);
+    }
+    settle(glyphs, walk.kept, walk.due);
+    (walk.kept, walk.marked)
+}

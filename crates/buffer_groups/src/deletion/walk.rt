@@ -1,0 +1,179 @@
+ghost use Rattle.std.specs.Prelude.{◌≡◌, ◌+◌, ◌<◌, ◌≤◌, ◌++◌, ◌||◌, ◌∷◌, [], None, true, false, Bool, List, Some, length, take, drop};
+ghost use Rattle.buffer_glyphs.specs.declared.info.hb_glyph_info_t.{hb_glyph_info_t as Glyph};
+ghost use Rattle.buffer_glyphs.specs.declared.level.BufferClusterLevel.{BufferClusterLevel as Level};
+ghost use Rattle.buffer_glyphs.specs.Items.{Position, clusters};
+ghost use Rattle.buffer_glyphs.specs.Parts.{first_of, last_of, is_number};
+ghost use Rattle.buffer_glyphs.specs.Order.{IsOrdered};
+ghost use Rattle.buffer_glyphs.specs.Deleting.{Deletes, Left, deletion_marks, end_recast, glyphs_deleted};
+ghost use Rattle.buffer_groups.specs.DeletionWalk.{IsDue, IsWalk, Tells, first_passed, passed_at, settled, without_glyph};
+
+use buffer_glyphs::deletion::{delete_at_front, next_has, recast_end};
+use buffer_glyphs::info::hb_glyph_info_t;
+use buffer_glyphs::level::BufferClusterLevel;
+use buffer_glyphs::position::GlyphPosition;
+use buffer_glyphs::runs::last_cluster;
+
+/// How far a walk of deletions has come. Where clusters are in order the run at the end of the glyphs that stay takes a
+/// cluster only once another glyph stays after it, so that it is written once.
+#[derive(Clone, Copy)]
+pub(super) struct Walk {
+    /// How many glyphs stay.
+    pub(super) kept: usize,
+    /// The glyph whose cluster and flags the run at their end is still to take.
+    pub(super) due: Option<hb_glyph_info_t>,
+    /// Whether a merge marked a glyph.
+    pub(super) marked: bool,
+}
+
+/// The run at the end of the first `kept` glyphs takes what is due.
+#[tactic(auto, using(crate::proofs::Walking::settled_put))]
+pub(super) fn settle(glyphs: &mut [hb_glyph_info_t], kept: usize, due: Option<hb_glyph_info_t>)
+    requires { kept ≤ length glyphs.old }
+    ensures { glyphs.new ≡ settled due (take kept glyphs.old) ++ drop kept glyphs.old }
+{
+    if let Some(glyph) = due {
+        recast_end(&mut glyphs[..kept], &glyph);
+    }
+}
+
+/// The glyph at `at` stays.
+#[tactic(auto, using(crate::proofs::Walking::keep_front, crate::proofs::Walking::keep_ahead))]
+fn keep_glyph(
+    glyphs: &mut [hb_glyph_info_t],
+    positions: &mut [GlyphPosition],
+    at: usize,
+    walk: Walk,
+) -> Walk
+    requires within { at < length glyphs.old }
+    requires placed { length positions.old ≡ length glyphs.old }
+    requires few { walk.kept ≤ at }
+    ensures glyphs { take (walk.kept + 1) glyphs.new
+        ≡ settled walk.due (take walk.kept glyphs.old) ++ take 1 (drop at glyphs.old) }
+    ensures ahead { drop (at + 1) glyphs.new ≡ drop (at + 1) glyphs.old }
+    ensures positions { take (walk.kept + 1) positions.new
+        ≡ take walk.kept positions.old ++ take 1 (drop at positions.old) }
+    ensures positions_ahead { drop (at + 1) positions.new ≡ drop (at + 1) positions.old }
+    ensures walk { result ≡ record { kept = walk.kept + 1; due = None; marked = walk.marked } }
+{
+    settle(glyphs, walk.kept, walk.due);
+    move_glyph(glyphs, walk.kept, at);
+    move_position(positions, walk.kept, at);
+    Walk {
+        kept: walk.kept + 1,
+        due: None,
+        marked: walk.marked,
+    }
+}
+
+#[tactic(auto, using(crate::proofs::Walking::moved_front, crate::proofs::Walking::moved_back))]
+fn move_glyph(glyphs: &mut [hb_glyph_info_t], to: usize, from: usize)
+    requires ordered { to ≤ from }
+    requires within { from < length glyphs.old }
+    ensures front { take (to + 1) glyphs.new ≡ take to glyphs.old ++ take 1 (drop from glyphs.old) }
+    ensures back { drop (from + 1) glyphs.new ≡ drop (from + 1) glyphs.old }
+{
+    glyphs[to] = glyphs[from];
+}
+
+#[tactic(auto, using(crate::proofs::Walking::moved_front, crate::proofs::Walking::moved_back))]
+fn move_position(positions: &mut [GlyphPosition], to: usize, from: usize)
+    requires ordered { to ≤ from }
+    requires within { from < length positions.old }
+    ensures front { take (to + 1) positions.new ≡ take to positions.old ++ take 1 (drop from positions.old) }
+    ensures back { drop (from + 1) positions.new ≡ drop (from + 1) positions.old }
+{
+    positions[to] = positions[from];
+}
+
+/// The cluster of the last glyph that stays, once it took what is due.
+#[tactic(auto, using(crate::proofs::Walking::last_settled))]
+fn last_kept(glyphs: &[hb_glyph_info_t], kept: usize, due: Option<hb_glyph_info_t>) -> u32
+    requires some { 0 < kept }
+    requires within { kept ≤ length glyphs.now }
+    ensures { last_of (clusters (settled due (take kept glyphs.now))) ≡ Some result }
+{
+    match due {
+        Some(glyph) => glyph.cluster,
+        None => last_cluster(&glyphs[..kept]),
+    }
+}
+
+/// The glyph at `at` goes, with others before it that stay.
+fn delete_behind(glyphs: &mut [hb_glyph_info_t], at: usize, walk: Walk, in_order: bool) -> Walk
+    requires some { 0 < walk.kept }
+    requires within { at < length glyphs.old }
+    requires sound { IsWalk in_order at walk glyphs.old }
+    ensures deletes { (level : Level) →
+        Deletes level (settled walk.due (take walk.kept glyphs.old)) (drop at glyphs.old)
+        (settled result.due (take result.kept glyphs.new)) (drop (at + 1) glyphs.new) false }
+    ensures due { IsDue in_order result.due (take result.kept glyphs.new) }
+    ensures kept { result.kept ≡ walk.kept }
+    ensures marked { result.marked ≡ walk.marked }
+{
+    let glyph = glyphs[at];
+    let last = last_kept(glyphs, walk.kept, walk.due);
+    if last <= glyph.cluster {
+        return walk;
+    }
+    if next_has(glyphs, at + 1, glyph.cluster) {
+        return walk;
+    }
+    if in_order {
+        return Walk {
+            due: Some(glyph),
+            ..walk
+        };
+    }
+    settle(glyphs, walk.kept, Some(glyph));
+    Walk { due: None, ..walk }
+}
+
+/// The glyph at `at` goes.
+pub(super) fn delete_glyph(
+    glyphs: &mut [hb_glyph_info_t],
+    at: usize,
+    walk: Walk,
+    level: BufferClusterLevel,
+    in_order: bool,
+) -> Walk
+    requires within { at < length glyphs.old }
+    requires sound { IsWalk in_order at walk glyphs.old }
+    ensures passed { (ps : List Position) (g : Glyph) (back : List Glyph) → drop at glyphs.old ≡ g ∷ back →
+        passed_at (at + 1) result glyphs.new ps ≡ without_glyph level (passed_at at walk glyphs.old ps) g back }
+    ensures sound { IsWalk in_order (at + 1) result glyphs.new }
+{
+    if walk.kept == 0 {
+        let marked = delete_at_front(glyphs, at, level, in_order);
+        return Walk {
+            kept: 0,
+            due: None,
+            marked: walk.marked | marked,
+        };
+    }
+    delete_behind(glyphs, at, walk, in_order)
+}
+
+/// The glyph at `at` goes where the test picks it, else it stays.
+pub(super) fn pass_glyph<F: Fn(&hb_glyph_info_t) -> bool>(
+    glyphs: &mut [hb_glyph_info_t],
+    positions: &mut [GlyphPosition],
+    at: usize,
+    walk: Walk,
+    level: BufferClusterLevel,
+    in_order: bool,
+    filter: &F,
+) -> Walk
+    requires callable { F.IsAlwaysCallable filter.now }
+    requires within { at < length glyphs.old }
+    requires placed { length positions.old ≡ length glyphs.old }
+    requires sound { IsWalk in_order at walk glyphs.old }
+    ensures passed { (goes : Glyph → Bool) → Tells F.Fn filter.now goes →
+        passed_at (at + 1) result glyphs.new positions.new
+        ≡ first_passed level goes (passed_at at walk glyphs.old positions.old) }
+    ensures sound { IsWalk in_order (at + 1) result glyphs.new }
+{
+    if filter(&glyphs[at]) {
+        return delete_glyph(glyphs, at, walk, level, in_order);
+    }
+    keep_glyph(glyphs, positions, at, walk)
+}

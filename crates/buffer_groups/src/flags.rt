@@ -1,0 +1,95 @@
+ghost use Rattle.std.specs.Prelude.{◌≡◌, ◌<◌, length, map};
+ghost use Rattle.std.specs.Int.RustNames.{bit_and};
+ghost use Rattle.buffer_glyphs.specs.declared.info.TheConstants.{DEFINED};
+ghost use Rattle.buffer_glyphs.specs.Items.{glyph_masked, item_masked, strip};
+ghost use Rattle.buffer_glyphs.specs.Origins.{concat_settled, origins, origins_spread, settled, tatweel_settled};
+ghost use Rattle.buffer_groups.specs.Flags.{asks_of, cluster_flags};
+
+use buffer_glyphs::info::{
+    DEFINED, SAFE_TO_INSERT_TATWEEL, UNSAFE_TO_BREAK, UNSAFE_TO_CONCAT, hb_glyph_info_t, hb_mask_t,
+};
+use buffer_glyphs::run_flags::flags_of_run;
+
+/// Which of the glyph flags are asked for.
+#[derive(Clone, Copy)]
+pub struct AskedFlags {
+    /// Where text may not be put together.
+    pub concat: bool,
+    /// Where a tatweel may stand.
+    pub tatweel: bool,
+}
+
+/// Gives the glyphs of each run of one cluster the same glyph flags: those that one of them has. Where tatweels are asked
+/// for, none may stand where a break is unsafe, and where one may stand a break is. The flag of texts that may not be put
+/// together stays only where it is asked for. A mask has no other bit then: those of features go. All else of a glyph
+/// stays. It takes linear time.
+pub fn propagate_flags(glyphs: &mut [hb_glyph_info_t], asked: AskedFlags)
+    ensures items { strip glyphs.new ≡ map (item_masked 0) (strip glyphs.old) }
+    ensures origins { origins glyphs.new ≡ origins_spread (asks_of asked) (origins glyphs.old) }
+{
+    let mut before = None;
+    for at in 0..glyphs.len() {
+        let flags = flags_of_cluster(&glyphs[at..], before, asked);
+        let glyph = with_flags(glyphs[at], flags);
+        glyphs[at] = glyph;
+        before = Some(glyph);
+    }
+}
+
+/// The flags of the first glyph's cluster: those of the glyph before it where that is of the cluster.
+fn flags_of_cluster(
+    glyphs: &[hb_glyph_info_t],
+    before: Option<hb_glyph_info_t>,
+    asked: AskedFlags,
+) -> hb_mask_t
+    requires { 0 < length glyphs.now }
+    ensures { result ≡ cluster_flags (asks_of asked) before glyphs.now }
+{
+    let cluster = glyphs[0].cluster;
+    match before {
+        Some(glyph) if glyph.cluster == cluster => glyph.mask & DEFINED,
+        _ => settled(flags_of_run(glyphs, cluster), asked),
+    }
+}
+
+fn settled(flags: hb_mask_t, asked: AskedFlags) -> hb_mask_t
+    ensures { result ≡ settled (asks_of asked) flags }
+{
+    concat_settled(tatweel_settled(flags, asked.tatweel), asked.concat)
+}
+
+/// Where a break is unsafe no tatweel may stand, and where one may stand a break is unsafe.
+fn tatweel_settled(flags: hb_mask_t, asked: bool) -> hb_mask_t
+    ensures { result ≡ tatweel_settled asked flags }
+{
+    if !asked {
+        return flags;
+    }
+    if flags & UNSAFE_TO_BREAK == UNSAFE_TO_BREAK {
+        return flags & (UNSAFE_TO_BREAK | UNSAFE_TO_CONCAT);
+    }
+    if flags & SAFE_TO_INSERT_TATWEEL == SAFE_TO_INSERT_TATWEEL {
+        return flags | (UNSAFE_TO_BREAK | UNSAFE_TO_CONCAT);
+    }
+    flags
+}
+
+fn concat_settled(flags: hb_mask_t, asked: bool) -> hb_mask_t
+    ensures { result ≡ concat_settled asked flags }
+{
+    if asked {
+        flags
+    } else {
+        flags & (UNSAFE_TO_BREAK | SAFE_TO_INSERT_TATWEEL)
+    }
+}
+
+/// The glyph with a mask of glyph flags alone.
+fn with_flags(glyph: hb_glyph_info_t, flags: hb_mask_t) -> hb_glyph_info_t
+    ensures { result ≡ glyph_masked (bit_and flags DEFINED) glyph }
+{
+    hb_glyph_info_t {
+        mask: flags & DEFINED,
+        ..glyph
+    }
+}

@@ -1,0 +1,49 @@
+ghost use Rattle.buffer_groups.specs.Laws.{DeletesOneItem, DeletionIsEvent, DeletionsAreEvents, EventsArePlain, GroupsAreAll, GroupsAreEvents, SeamParts, SortIsEvent, TurnsGroups};
+
+/// The deletion of a glyph is the event of that name.
+#[tactic(auto, using(buffer_glyphs::specs::DeletedOrigins::deleted_behind))]
+pub fn deletion_is_event()
+    ensures { DeletionIsEvent }
+{}
+
+/// A deletion changes no other item.
+pub fn deletes_one_item()
+    ensures { DeletesOneItem }
+{}
+
+/// The groups of a list, one after another, are the list.
+pub fn groups_are_all()
+    ensures { GroupsAreAll }
+{}
+
+/// Where the order of groups was turned round, the list has them the last first, each in its own order.
+pub fn turns_groups()
+    ensures { TurnsGroups }
+{}
+
+/// A place is a seam of the order by a key exactly where no key before it is greater than one from it on.
+pub fn seam_parts()
+    ensures { SeamParts }
+{}
+
+/// Deletions in place are events, one for each glyph that goes.
+#[tactic(auto, using(crate::specs::Lemmas::DeletedEvents::deletions_are_events))]
+pub fn deletions_are_events()
+    ensures { DeletionsAreEvents }
+{}
+
+/// A reversal of groups is a list of events, one for each group and one for the list.
+#[tactic(auto, using(crate::specs::Lemmas::ReversedEvents::groups_are_events))]
+pub fn groups_are_events()
+    ensures { GroupsAreEvents }
+{}
+
+/// A sort of a range is one event.
+pub fn sort_is_event()
+    ensures { SortIsEvent }
+{}
+
+/// None of these events puts glyphs in another order without a merge, but a reversal of groups that does not merge them.
+pub fn events_are_plain()
+    ensures { EventsArePlain }
+{}

@@ -1,0 +1,167 @@
+ghost use Rattle.std.specs.Prelude.{◌≡◌, ◌+◌, ◌-◌, ◌<◌, ◌≤◌, ◌↔◌, ◌++◌, ℕ, Bool, IsTrue, true, take, drop, length, map, vec_len, IfOk, OnOk, OnErr, slice_range};
+ghost use Rattle.std.specs.List.{All};
+ghost use Rattle.buffer_glyphs.specs.declared.info.hb_glyph_info_t.{hb_glyph_info_t as Glyph};
+ghost use Rattle.buffer_glyphs.specs.Items.{clusters};
+ghost use Rattle.buffer_glyphs.specs.Order.{IsInOrder, IsOrdered};
+ghost use Rattle.buffer_stable_order.specs.Keys.{key_order};
+ghost use Rattle.buffer_groups.specs.Due.{MayBeDue, with_due};
+ghost use Rattle.buffer_groups.specs.Sorting.{Gives, Spanned, glyph_at, keyed_from, put_in_order, range_merged, range_sorted, range_spanned, span_merged};
+
+use crate::due::{Merges, merge_next, no_merges, settle};
+use buffer_glyphs::info::hb_glyph_info_t;
+use buffer_glyphs::level::BufferClusterLevel;
+use std::alloc::{AllocError, Global};
+
+/// Puts the glyphs from `start` up to before `end` in stable order by the keys that they have, and merges each smallest
+/// span that the order permutes: one of more than one glyph, between places before which all came from before them. The
+/// merges come first, on the glyphs as they stood, so that where all clusters are known to stand in order they take linear
+/// time in all; else each compares all glyphs with its span. Where memory is short for the sort the slice stays as it was.
+pub fn sort<F: Fn(&hb_glyph_info_t) -> u32>(
+    alloc: Global,
+    glyphs: &mut [hb_glyph_info_t],
+    level: BufferClusterLevel,
+    in_order: bool,
+    start: usize,
+    end: usize,
+    key: F,
+) -> Result<Sorted, AllocError>
+    requires callable { F.IsAlwaysCallable key }
+    requires ordered { start ≤ end }
+    requires within { end ≤ length glyphs.old }
+    requires known { in_order ≡ true → IsOrdered (clusters glyphs.old) }
+    ensures sorted { (k : Glyph → ℕ) → Gives F.Fn key k →
+        OnOk result (glyphs.new ≡ (range_sorted level start end k glyphs.old).glyphs) }
+    ensures marked { (k : Glyph → ℕ) → Gives F.Fn key k →
+        IfOk result (λ s. s.marked ≡ (range_sorted level start end k glyphs.old).is_marked) }
+    ensures order { (falls : Bool) →
+        IfOk result (λ s. s.in_order ≡ true → IsInOrder falls (clusters glyphs.old) →
+        IsInOrder falls (clusters glyphs.new)) }
+    ensures err { OnErr result (glyphs.new ≡ glyphs.old) }
+{
+    let mut order = keyed_places(alloc, &glyphs[start..end], &key)?;
+    sort_places(&mut order)?;
+    let mut copy = glyphs[start..end].to_vec(alloc)?;
+    let marked = merge_spans(glyphs, level, in_order, start, &order);
+    let range = &mut glyphs[start..end];
+    copy.copy_from_slice(range);
+    let in_order = put_in_order(range, &copy, &order);
+    Ok(Sorted { marked, in_order })
+}
+
+/// What a sort did to clusters.
+#[derive(Clone, Copy)]
+pub struct Sorted {
+    /// Whether a merge marked a glyph.
+    pub marked: bool,
+    /// Whether each place has the cluster that the merges left there: then clusters that stood in order still do.
+    pub in_order: bool,
+}
+
+/// A glyph's key, and its place in a range.
+#[derive(Clone, Copy)]
+struct Keyed {
+    key: u32,
+    place: usize,
+}
+
+/// The key and the place of each glyph.
+fn keyed_places<F: Fn(&hb_glyph_info_t) -> u32>(
+    alloc: Global,
+    glyphs: &[hb_glyph_info_t],
+    key: &F,
+) -> Result<Vec<Keyed>, AllocError>
+    requires { F.IsAlwaysCallable key.now }
+    ensures keys { (k : Glyph → ℕ) → Gives F.Fn key.now k → IfOk result (λ v. v.items ≡ keyed_from k 0 glyphs.now) }
+    ensures within { IfOk result (λ v. All (λ e. e.place < length glyphs.now) v.items) }
+    ensures len { IfOk result (λ v. vec_len v ≡ length glyphs.now) }
+{
+    let mut places = Vec::new(alloc);
+    for (place, glyph) in glyphs.iter().enumerate() {
+        let keyed = Keyed {
+            key: key(glyph),
+            place,
+        };
+        places.push(keyed)?;
+    }
+    Ok(places)
+}
+
+/// Puts places in the order of their keys, those of one key in the order that they have.
+fn sort_places(places: &mut Vec<Keyed>) -> Result<(), AllocError>
+    ensures sorted { OnOk result (places.new.items ≡ key_order (λ e. e.key) places.old.items) }
+    ensures len { OnOk result (vec_len places.new ≡ vec_len places.old) }
+{
+    places.sort_by_key(|keyed| keyed.key)?;
+    Ok(())
+}
+
+/// Merges the glyphs from `start` up to before `end` where there are several.
+#[tactic(auto, using(crate::proofs::Meant::due_later))]
+fn merge_span(
+    glyphs: &mut [hb_glyph_info_t],
+    level: BufferClusterLevel,
+    in_order: bool,
+    start: usize,
+    end: usize,
+    merges: Merges,
+) -> Merges
+    requires ordered { start ≤ end }
+    requires within { end ≤ length glyphs.old }
+    requires known { in_order ≡ true → IsOrdered (clusters (with_due merges.due glyphs.old)) }
+    requires due { MayBeDue level start merges.due glyphs.old }
+    ensures merged { record { glyphs = with_due result.due glyphs.new; is_marked = result.marked }
+        ≡ span_merged level start end (record { glyphs = with_due merges.due glyphs.old; is_marked = merges.marked }) }
+    ensures due { MayBeDue level end result.due glyphs.new }
+{
+    if end - start < 2 {
+        return merges;
+    }
+    merge_next(glyphs, level, in_order, start, end, merges)
+}
+
+/// Merges the spans of a range that begins at `start`; answers whether a glyph was marked.
+fn merge_spans(
+    glyphs: &mut [hb_glyph_info_t],
+    level: BufferClusterLevel,
+    in_order: bool,
+    start: usize,
+    order: &[Keyed],
+) -> bool
+    requires within { start + length order.now ≤ length glyphs.old }
+    requires known { in_order ≡ true → IsOrdered (clusters glyphs.old) }
+    ensures merged { record { glyphs = glyphs.new; is_marked = result }
+        ≡ range_spanned level start order.now glyphs.old }
+    ensures direction { (falls : Bool) → IsInOrder falls (clusters glyphs.old) → IsInOrder falls (clusters glyphs.new) }
+{
+    let mut merges = no_merges(glyphs, level, in_order);
+    let mut begin = 0;
+    let mut reach = 0;
+    for place in 0..order.len() {
+        reach = reach.max(order[place].place);
+        if place < reach {
+            continue;
+        }
+        let end = place + 1;
+        merges = merge_span(glyphs, level, in_order, start + begin, start + end, merges);
+        begin = end;
+    }
+    settle(glyphs, merges.due);
+    merges.marked
+}
+
+/// Each place of a range takes the glyph that stood at another place of it, as the order tells; answers whether each place
+/// has the cluster that it had.
+fn put_in_order(range: &mut [hb_glyph_info_t], copy: &[hb_glyph_info_t], order: &[Keyed]) -> bool
+    requires long { length order.now ≡ length range.old }
+    requires within { All (λ e. e.place < length copy.now) order.now }
+    ensures put { range.new ≡ map (λ e. glyph_at copy.now e.place) order.now }
+    ensures same { IsTrue result ↔ (clusters range.new ≡ clusters range.old) }
+{
+    let mut same = true;
+    for place in 0..order.len() {
+        let glyph = copy[order[place].place];
+        same &= range[place].cluster == glyph.cluster;
+        range[place] = glyph;
+    }
+    same
+}

@@ -1,0 +1,12 @@
+-- A table of languages as its rows.
+use Rattle.std.specs.Prelude.{ℕ, List}
+use Rattle.buffer_common.specs.declared.tag.Tag.{Tag}
+use Rattle.buffer_languages.specs.declared.language_table.LanguageRow.{LanguageRow}
+use Rattle.buffer_languages.specs.declared.language_table.LanguageTable.{LanguageTable}
+use Rattle.buffer_languages.specs.LanguageRows.{tags_of_language}
+
+abbrev pub rows_of : LanguageTable → List LanguageRow
+rows_of table = table.rows.items
+
+abbrev pub tags_of_table : LanguageTable → List ℕ → List Tag
+tags_of_table table text = tags_of_language (rows_of table) text

@@ -1,0 +1,12 @@
+pub mod Properties
+pub mod Laws
+pub mod SupportedExpansion
+pub mod Characters
+pub mod Categories
+pub mod Normalizer
+pub mod Expanding
+pub mod Ordering
+pub mod Composing
+pub mod NormalizedList
+pub mod Premises
+pub mod NormalLaws

@@ -1,0 +1,28 @@
+-- The normalised list of a text.
+use Rattle.std.specs.Prelude.{Bool, ◌&&◌, if◌then◌else◌, List, drop}
+use Rattle.std.specs.List.{list_any}
+use Rattle.buffer_glyphs.specs.Items.{Item}
+use Rattle.buffer_glyphs.specs.Arranged.{Arranged, kept, and_arranged}
+use Rattle.buffer_properties.specs.Characters.{is_mark}
+use Rattle.buffer_properties.specs.Normalizer.{Normalizer, is_composing}
+use Rattle.buffer_properties.specs.Expanding.{expanded_list}
+use Rattle.buffer_properties.specs.Ordering.{ordered_list, joiners_shown}
+use Rattle.buffer_properties.specs.Composing.{composed_list}
+
+-- a mark stands past the first item
+abbrev pub has_later_mark : List Item → Bool
+has_later_mark xs = list_any is_mark (drop 1 xs)
+
+abbrev pub ordered_if : Bool → Normalizer → List Item → Arranged
+ordered_if b c xs = if b then ordered_list c.reorders xs else kept xs
+
+abbrev pub composed_if : Bool → Normalizer → List Item → Arranged
+composed_if b c xs = if b then composed_list c xs else kept xs
+
+-- an expanded list, put in order, its joiners shown, and composed
+unfoldable pub arranged_marks : Bool → Normalizer → List Item → Arranged
+arranged_marks b c xs = and_arranged (ordered_if b c xs) (λ ys. composed_if (b && is_composing c.mode) c (joiners_shown ys))
+
+-- marks are put in order and composed only where one stands past the first item of the text
+unfoldable pub normalized : Normalizer → List Item → Arranged
+normalized c xs = and_arranged (expanded_list c xs) (arranged_marks (has_later_mark xs) c)

@@ -1,0 +1,45 @@
+-- Texts and normalisers of which the laws speak.
+use Rattle.std.specs.Prelude.{ℕ, ◌≡◌, ◌≤◌, ◌+◌, ◌==◌, true, false, if◌then◌else◌, List, [], ◌∷◌, Some, drop}
+use Rattle.std.specs.List.{list_any, list_all}
+use Rattle.buffer_unicode.specs.Character.{is_variation_selector_character}
+use Rattle.buffer_unicode_tables.specs.Tables.{split_of, pair_of, class_of}
+use Rattle.buffer_unicode_tables.specs.Texts.{full_text}
+use Rattle.buffer_glyphs.specs.Items.{Item}
+use Rattle.buffer_glyphs.specs.Arranged.{kept}
+use Rattle.buffer_properties.specs.Properties.{is_mark_character}
+use Rattle.buffer_properties.specs.Normalizer.{Normalizer, has_character, reach_alone, reach_with_marks}
+use Rattle.buffer_properties.specs.SupportedExpansion.{Greatest}
+use Rattle.buffer_properties.specs.declared.normal_mode.TheConstants.{MAX_COMBINING_MARKS}
+
+-- no run of nonzero class has more elements than are put in order; so many of a run are met
+abbrev pub HasShortRuns : {X : Type 0} → (X → ℕ) → ℕ → List X → Type 0
+HasShortRuns class met [] = met ≤ MAX_COMBINING_MARKS
+HasShortRuns class met (x ∷ xs) = (met ≤ MAX_COMBINING_MARKS) × HasShortRuns class (if class x == 0 then 0 else met + 1) xs
+
+-- characters split as in Unicode
+abbrev pub SplitsAsUnicode : Normalizer → Type 0
+SplitsAsUnicode c = (u : ℕ) → c.splits u ≡ split_of c.tables u
+
+-- what characters compose to, they compose to in Unicode
+abbrev pub ComposesWithinUnicode : Normalizer → Type 0
+ComposesWithinUnicode c = (a b u : ℕ) → c.composes a b ≡ Some u → pair_of c.tables a b ≡ Some u
+
+-- a sorted run of marks stays as it is
+abbrev pub ReordersNothing : Normalizer → Type 0
+ReordersNothing c = (run : List Item) → c.reorders run ≡ kept run
+
+-- all characters are split as far as the font has their parts
+pub record ExpandsGreatest (c : Normalizer) : Type 0 where
+  pub alone : reach_alone c.mode ≡ Greatest
+  pub with_marks : reach_with_marks c.mode ≡ Greatest
+
+abbrev pub HasNoSelector : List ℕ → Type 0
+HasNoSelector us = list_any is_variation_selector_character us ≡ false
+
+-- a mark stands past the first character, none is a variation selector; of the full expansion, no run of marks is long
+-- and the font has every character
+pub record IsRegular (c : Normalizer) (us : List ℕ) : Type 0 where
+  pub has_later_mark : list_any is_mark_character (drop 1 us) ≡ true
+  pub has_no_selector : HasNoSelector us
+  pub has_short_runs : HasShortRuns (class_of c.tables) 0 (full_text c.tables us)
+  pub in_font : list_all (has_character c) (full_text c.tables us) ≡ true

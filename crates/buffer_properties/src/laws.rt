@@ -1,0 +1,24 @@
+//! What holds of the properties of every character.
+ghost use Rattle.std.specs.Prelude.{◌≡◌};
+ghost use Rattle.buffer_properties.specs.Laws.{ContinuationLeaves, LowBitsAreTheCategory};
+
+use crate::normal_mode::MAX_COMBINING_MARKS;
+
+/// The low five bits of a property word are the number of the general category.
+#[tactic(auto, using(crate::proofs::Words::low_bits_are_the_category))]
+pub fn low_bits_are_the_category()
+    ensures { LowBitsAreTheCategory }
+{}
+
+/// A character of a text without its mark of a continuation has the property word of its item.
+#[tactic(auto, using(crate::proofs::Words::continuation_leaves))]
+pub fn continuation_leaves()
+    ensures { ContinuationLeaves }
+{}
+
+/// The most marks in a row that are put in the order of their classes.
+pub fn most_marks_of_a_run() -> usize
+    ensures { result ≡ 32 }
+{
+    MAX_COMBINING_MARKS
+}

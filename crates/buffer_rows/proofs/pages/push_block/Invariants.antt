@@ -1,0 +1,10 @@
+use Rattle.std.proofs.Common.{◌≡◌, ◌+◌, length}
+use Rattle.buffer_rows.specs.Pages.{Extends, IsBlock}
+use Rattle.buffer_rows.proofs.pages.push_block.Given as goal
+
+abbrev pub invariant-loop-low : goal.invariant-loop-low
+invariant-loop-low g l = record {
+  size : length l.slots.items ≡ length l.initial.slots.items + l.low;
+  kept : Extends l.initial.slots.items l.slots.items;
+  block : IsBlock g.R.Numbered.number_of l.rows l.slots.items (length l.initial.slots.items) l.first l.low;
+}

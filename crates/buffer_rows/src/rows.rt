@@ -1,0 +1,56 @@
+//! A table of records in the strict order of their keys.
+ghost use Rattle.std.specs.Prelude.{◌≡◌, None, true};
+ghost use Rattle.std.specs.Option.{option_copied};
+ghost use Rattle.buffer_rows.specs.Keys.{is_rising, row_with};
+
+use crate::keyed::{Keyed, find_row};
+use std::marker::Model;
+
+/// Records whose keys rise strictly, each found by its key.
+#[derive(Debug, Drop)]
+pub struct SortedRows<R: Keyed> {
+    rows: Vec<R>,
+}
+
+impl<R: Keyed> Model for SortedRows<R> {
+    ghost use Rattle.std.specs.Prelude.{◌≡◌, List, None, true};
+    ghost use Rattle.buffer_rows.specs.Keys.{is_rising};
+
+    ghost Value = { List R };
+
+    ghost view = { λ s. s.rows.items };
+
+    ghost invariant = { λ s. is_rising R.Key.cmp R.key_of None s.rows.items ≡ true };
+}
+
+impl<R: Keyed> SortedRows<R> {
+    /// Of records whose keys rise strictly.
+    pub fn new(rows: Vec<R>) -> SortedRows<R>
+        requires { is_rising R.Key.cmp R.key_of None rows.items ≡ true }
+        ensures { result ≡ rows.items }
+    {
+        SortedRows { rows }
+    }
+
+    /// The record of a key, in logarithmic time.
+    pub fn get(&self, key: R::Key) -> Option<&R>
+        ensures { option_copied result ≡ row_with R.Key.cmp R.key_of key self.now }
+    {
+        find_row(&self.rows, key)
+    }
+
+    /// The records, in the order of their keys.
+    pub fn as_slice(&self) -> &[R]
+        ensures { result.now ≡ self.now }
+    {
+        &self.rows
+    }
+
+    /// The records, whose keys rise strictly, for a search by a part of their key.
+    pub fn rising_rows(&self) -> &[R]
+        ensures same { result.now ≡ self.now }
+        ensures rising { is_rising R.Key.cmp R.key_of None result.now ≡ true }
+    {
+        &self.rows
+    }
+}

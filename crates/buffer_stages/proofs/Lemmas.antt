@@ -1,0 +1,22 @@
+-- Lemmas.
+pub mod Orders
+pub mod Frames
+pub mod Glyphs
+pub mod Does
+pub mod Tried
+pub mod Attempts
+pub mod Performed
+pub mod Firsts
+pub mod Around
+pub mod Ways
+pub mod Happened
+pub mod Walked
+pub mod Permuted
+pub mod Cuts
+pub mod Syllables
+pub mod Numbers
+pub mod Fronts
+pub mod Masks
+pub mod Elements
+pub mod Fitting
+pub mod Counts

@@ -1,0 +1,83 @@
+-- Glyphs put behind the output in the place of the one at the cursor.
+use Rattle.std.proofs.Common.{ℕ, zero, suc, ◌≡◌, ◌<◌, ◌≤◌, ◌+◌, true, List, [], ◌∷◌, ◌++◌, Some, length, take, drop, refl, sym, ap, subst, ◌∙◌, append_assoc, arith}
+use Rattle.std.specs.Prelude.{slice_get, replicate}
+use Rattle.std.proofs.lemmas.List.{map-append, length-map, drop-map}
+use Rattle.std.proofs.Math.Seq.{take-append_seam, drop-append_seam, drop-append-add}
+use Rattle.buffer_glyphs.specs.declared.info.hb_glyph_info_t.{hb_glyph_info_t}
+use Rattle.buffer_glyphs.specs.Items.{item_of, strip}
+use Rattle.buffer_glyphs.specs.Parts.{replaced_among}
+use Rattle.buffer_glyphs.specs.Origins.{Origin, origin_of, origins, InList, manner}
+use Rattle.buffer_glyphs.specs.Events.{Replace}
+use Rattle.buffer_core.specs.Sides.{Sides, origins_of}
+use Rattle.buffer_core.specs.Merging.{with_put, with_skipped}
+use Rattle.buffer_stages.specs.Lemmas.Alone.{merged_alone}
+use Rattle.buffer_stages.specs.Walks.{Walked}
+
+origins_same : (o : Origin) (front back : List Origin) (n : ℕ) → replaced_among (length front) 1 n (front ++ o ∷ back) ≡ front ++ replicate n o ++ back
+origins_same o front back n =
+    let there : drop (length front) (front ++ o ∷ back) ≡ o ∷ back = drop-append_seam front (o ∷ back) in
+    let past : drop (length front + 1) (front ++ o ∷ back) ≡ back = drop-append-add front (o ∷ back) 1 in
+    rw (take-append_seam front (o ∷ back), there, past) refl
+
+first_ahead : (g : hb_glyph_info_t) (gs : List hb_glyph_info_t) → slice_get gs 0 ≡ Some g → gs ≡ g ∷ drop 1 gs
+first_ahead g [] at = cc
+first_ahead g (h ∷ gs) at = let e : h ≡ g = cc in rw e refl
+
+-- glyphs of one origin in the place of the one at the cursor
+pub put_walked : (gs : List hb_glyph_info_t) (g : hb_glyph_info_t) (s new : Sides) → s.is_open ≡ true → slice_get s.ahead 0 ≡ Some g → origins gs ≡ replicate (length gs) (origin_of g)
+    → new ≡ with_skipped (record s { behind = s.behind ++ gs }) → Walked (strip s.behind ++ strip gs) (drop 1 (strip s.ahead)) (Replace (length s.behind) 1 (length gs) ∷ []) s new
+put_walked gs g s new opened there same is = subst (λ (t : Sides). Walked (strip s.behind ++ strip gs) (drop 1 (strip s.ahead)) (Replace (length s.behind) 1 (length gs) ∷ []) s t) (sym is) (record {
+  behind = map-append item_of s.behind gs;
+  ahead = sym (drop-map item_of 1 s.ahead);
+  happened =
+      let rest = drop 1 s.ahead in
+      let at = first_ahead g s.ahead there in
+      let whole : origins_of s ≡ origins s.behind ++ origin_of g ∷ origins rest = map-append origin_of s.behind s.ahead ∙ ap (λ hs. origins s.behind ++ origins hs) at in
+      let now : origins ((s.behind ++ gs) ++ rest) ≡ origins s.behind ++ replicate (length gs) (origin_of g) ++ origins rest =
+      map-append origin_of (s.behind ++ gs) rest ∙ ap (λ os. os ++ origins rest) (map-append origin_of s.behind gs)
+      ∙ ap (λ os. origins s.behind ++ os ++ origins rest) same in
+      let b : length (origins s.behind) ≡ length s.behind = length-map s.behind origin_of in
+      now ∙ sym (origins_same (origin_of g) (origins s.behind) (origins rest) (length gs))
+      ∙ ap (λ k. replaced_among k 1 (length gs) (origins s.behind ++ origin_of g ∷ origins rest)) b ∙ ap (replaced_among (length s.behind) 1 (length gs)) (sym whole)
+      ∙ ap (replaced_among (length s.behind) 1 (length gs)) (sym (merged_alone (manner InList s.level) (length s.behind) (origins_of s)));
+  view = refl;
+  settings = refl;
+  opened = opened;
+  unrefused = refl;
+})
+
+-- one glyph of its origin in the place of the one at the cursor
+pub passed_walked : (h g : hb_glyph_info_t) (s new : Sides) → s.is_open ≡ true → slice_get s.ahead 0 ≡ Some g → origin_of h ≡ origin_of g → new ≡ with_skipped (with_put h s)
+    → Walked (strip s.behind ++ item_of h ∷ []) (drop 1 (strip s.ahead)) [] s new
+passed_walked h g s new opened there same is = subst (λ (t : Sides). Walked (strip s.behind ++ item_of h ∷ []) (drop 1 (strip s.ahead)) [] s t) (sym is) (record {
+  behind = map-append item_of s.behind (h ∷ []);
+  ahead = sym (drop-map item_of 1 s.ahead);
+  happened =
+      let rest = drop 1 s.ahead in
+      let at = first_ahead g s.ahead there in
+      map-append origin_of (s.behind ++ h ∷ []) rest ∙ ap (λ os. os ++ origins rest) (map-append origin_of s.behind (h ∷ []))
+      ∙ append_assoc (origins s.behind) (origin_of h ∷ []) (origins rest)
+      ∙ ap (λ o. origins s.behind ++ o ∷ origins rest) same
+      ∙ ap (λ gs. origins s.behind ++ origins gs) (sym at) ∙ sym (map-append origin_of s.behind s.ahead);
+  view = refl;
+  settings = refl;
+  opened = opened;
+  unrefused = refl;
+})
+
+all_taken : {X : Type 0} (i : ℕ) (xs : List X) → length xs ≤ i → take i xs ≡ xs
+all_taken zero [] le = refl
+all_taken (suc i) [] le = refl
+all_taken zero (x ∷ xs) le = absurd (omega (arith, le))
+all_taken (suc i) (x ∷ xs) le = ap (λ ys. x ∷ ys) (all_taken i xs (omega (arith, le)))
+
+-- glyphs put one by one in the place of the one at the cursor
+pub all_put : (gs : List hb_glyph_info_t) (i : ℕ) (s mid new : Sides) → s.is_open ≡ true → 0 < length s.ahead → ((g : hb_glyph_info_t) → slice_get s.ahead 0 ≡ Some g → origins gs ≡ replicate (length gs) (origin_of g))
+    → mid ≡ record s { behind = s.behind ++ take i gs } → length gs ≤ i → new ≡ with_skipped mid → Walked (strip s.behind ++ strip gs) (drop 1 (strip s.ahead)) (Replace (length s.behind) 1 (length gs) ∷ []) s new
+all_put gs i s mid new opened there same is le went = by_ahead s.ahead refl
+  where
+    by_ahead : (hs : List hb_glyph_info_t) → s.ahead ≡ hs → Walked (strip s.behind ++ strip gs) (drop 1 (strip s.ahead)) (Replace (length s.behind) 1 (length gs) ∷ []) s new
+    by_ahead [] e = absurd (let none = ap (λ (ys : List hb_glyph_info_t). length ys) e in omega (arith, none, there))
+    by_ahead (g ∷ hs) e =
+        let at : slice_get s.ahead 0 ≡ Some g = ap (λ (ys : List hb_glyph_info_t). slice_get ys 0) e in
+        put_walked gs g s new opened at (same g at) (went ∙ ap with_skipped is ∙ ap (λ hs. with_skipped (record s { behind = s.behind ++ hs })) (all_taken i gs le))

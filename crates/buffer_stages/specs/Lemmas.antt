@@ -1,0 +1,10 @@
+-- Lemmas for what stands above: rules on buffers, stages that write glyphs one by one, moves, syllables that are rewritten.
+pub mod Written
+pub mod Moved
+pub mod Alone
+pub mod Nested
+pub mod Fronted
+pub mod Ordered
+pub mod Shifts
+pub mod Rewritings
+pub mod Parts

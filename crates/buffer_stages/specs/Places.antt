@@ -1,0 +1,21 @@
+-- Positions that are changed one by one, each by its glyph.
+use Rattle.std.specs.Prelude.{◌≡◌, List, [], ◌∷◌}
+use Rattle.std.specs.Fn.{Shared, FnReturns}
+use denote.Ref.{Bor}
+use Rattle.buffer_glyphs.specs.declared.info.hb_glyph_info_t.{hb_glyph_info_t}
+use Rattle.buffer_glyphs.specs.declared.position.GlyphPosition.{GlyphPosition}
+use Rattle.buffer_glyphs.specs.Items.{Item, Position, item_of}
+use Rattle.buffer_core.specs.Readings.{View, Read, with_events}
+
+-- each position changed by its item
+abbrev pub placed_by : (Item → Position → Position) → List Item → List Position → List Position
+placed_by k [] ps = []
+placed_by k (x ∷ xs) [] = []
+placed_by k (x ∷ xs) (p ∷ ps) = k x p ∷ placed_by k xs ps
+
+abbrev pub placed : (Item → Position → Position) → View → Read
+placed k v = with_events [] (record v { positions = placed_by k v.items v.positions })
+
+-- each position that a function may make of a glyph and its position is what a map makes of the glyph's item
+abbrev pub MakesPositions : {F : Type 0} → Shared F (Bor hb_glyph_info_t × (GlyphPosition × Unit {0})) GlyphPosition → F → (Item → Position → Position) → Type 0
+MakesPositions calls f k = (g : Bor hb_glyph_info_t) (p q : GlyphPosition) → FnReturns calls f (g, (p, tt)) q → q ≡ k (item_of g.now) p

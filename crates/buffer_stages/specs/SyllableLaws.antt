@@ -1,0 +1,22 @@
+-- Rules that permute.
+use Rattle.std.specs.Prelude.{ℕ, List, map}
+use Rattle.std.specs.List.Sorted.{IsPermutation}
+use Rattle.buffer_glyphs.specs.Items.{Item}
+use Rattle.buffer_stages.specs.Pieces.{ArePermuted}
+use Rattle.buffer_stages.specs.Rewriting.{Rewritten, in_syllables, by_syllable}
+
+-- a rule leaves of each list a permutation of what is seen of its items
+abbrev pub PermutesSeen : (Item → ℕ) → (List Item → Rewritten) → Type 0
+PermutesSeen see rule = (xs : List Item) → IsPermutation (map see xs) (map see (rule xs).items)
+
+abbrev pub numbers_of : List Item → List ℕ
+numbers_of xs = map (λ (x : Item). x.number) xs
+
+-- a list was rewritten to a permutation of its numbers
+abbrev pub IsPermuted : List Item → Rewritten → Type 0
+IsPermuted xs r = IsPermutation (numbers_of xs) (numbers_of r.items)
+
+-- such a rule, used syllable by syllable, permutes each syllable by itself
+abbrev pub PermutesEachSyllable : Type 0
+PermutesEachSyllable = (see : Item → ℕ) (rule : List Item → Rewritten) → PermutesSeen see rule → (xs : List Item)
+    → ArePermuted (map (map see) (in_syllables xs)) (map see (by_syllable rule xs).items)

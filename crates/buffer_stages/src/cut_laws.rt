@@ -1,0 +1,41 @@
+//! Laws of lists that are cut into syllables.
+ghost use Rattle.buffer_stages.specs.Bytes.{BytesAreOne, BytesTell, NeighboursDiffer};
+ghost use Rattle.buffer_stages.specs.Cuts.{CutsJoin};
+ghost use Rattle.buffer_stages.specs.Examples.{Examples};
+ghost use Rattle.buffer_stages.specs.Pieces.{PermutesEach};
+
+/// The syllables of a list, one after the other, are the list.
+#[tactic(auto, using(crate::proofs::Joined::cuts_join))]
+pub fn law_cuts_join()
+    ensures { CutsJoin }
+{}
+
+/// Where a rule permutes each list, a list in pieces is permuted piece by piece.
+#[tactic(auto, using(crate::specs::Pieces::permutes_numbers))]
+pub fn law_permutes_each()
+    ensures { PermutesEach }
+{}
+
+/// Each element has one byte.
+#[tactic(auto, using(crate::proofs::Bytewise::bytes_are_one))]
+pub fn law_bytes_are_one()
+    ensures { BytesAreOne }
+{}
+
+/// A byte tells the serial number and the kind.
+#[tactic(auto, using(crate::proofs::Bytewise::bytes_tell))]
+pub fn law_bytes_tell()
+    ensures { BytesTell }
+{}
+
+/// Syllables that stand one after the other have different bytes.
+#[tactic(auto, using(crate::proofs::Bytewise::neighbours_differ))]
+pub fn law_neighbours_differ()
+    ensures { NeighboursDiffer }
+{}
+
+/// Some lists in syllables, with their bytes.
+#[tactic(auto, using(crate::proofs::Bytewise::examples))]
+pub fn law_examples()
+    ensures { Examples }
+{}

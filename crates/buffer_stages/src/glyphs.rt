@@ -1,0 +1,28 @@
+//! The loop over a buffer's glyphs.
+ghost use Rattle.buffer_glyphs.specs.Items.{Item};
+ghost use Rattle.buffer_core.specs.Readings.{always};
+ghost use Rattle.buffer_stages.specs.Ready.{IsReady};
+ghost use Rattle.buffer_stages.specs.Stages.{AreMapped, IsFollowed, Makes, mapped};
+
+use buffer_core::buffer::hb_buffer_t;
+use buffer_glyphs::info::hb_glyph_info_t;
+
+/// Puts in the place of each glyph what `make` makes of it; the glyphs that it makes keep their clusters and glyph flags.
+/// It takes linear time and no memory.
+#[tactic(auto, using(crate::specs::Lemmas::Written::mapped_followed))]
+pub fn map_glyphs<F: Fn(&hb_glyph_info_t) -> hb_glyph_info_t>(buffer: &mut hb_buffer_t, make: F)
+    requires callable { F.IsAlwaysCallable make }
+    requires ready { IsReady buffer.old }
+    ensures { (k : Item → Item) → Makes F.Fn make k → IsFollowed (always (mapped k)) buffer.old buffer.new }
+{
+    map_each(buffer.info_slice_mut(), make);
+}
+
+fn map_each<F: Fn(&hb_glyph_info_t) -> hb_glyph_info_t>(glyphs: &mut [hb_glyph_info_t], make: F)
+    requires callable { F.IsAlwaysCallable make }
+    ensures { (k : Item → Item) → Makes F.Fn make k → AreMapped k glyphs.old glyphs.new }
+{
+    for glyph in glyphs.iter_mut() {
+        *glyph = make(glyph);
+    }
+}

@@ -1,0 +1,19 @@
+// The words of rules and stages on a buffer: what a rule of a layout table does at the cursor, what runs between the stages of
+// lookups, what a stage leaves; the loops that most stages are, over glyphs and by syllables; lists cut into syllables; and moves
+// of glyphs within a text, whose range merges and is then permuted.
+#![tactic(auto)]
+
+pub mod cut_laws;
+pub mod front_laws;
+pub mod fronts;
+pub mod glyphs;
+pub mod laws;
+pub mod mask;
+pub mod moves;
+pub mod parts;
+pub mod pause;
+pub mod positions;
+pub mod syllable_fronts;
+pub mod syllable_laws;
+pub mod walk;
+pub mod walks;

@@ -1,0 +1,65 @@
+//! What the rules of syllables do to parts of a buffer.
+ghost use Rattle.std.specs.Prelude.{◌≡◌, ◌≤◌, ◌-◌, ◌++◌, length, map, take, drop, slice_range};
+ghost use Rattle.buffer_core.specs.Sides.{all_glyphs, items_of};
+ghost use Rattle.buffer_stages.specs.Ready.{IsReady};
+ghost use Rattle.buffer_stages.specs.SyllableBuffers.{IsRewritten};
+ghost use Rattle.buffer_stages.specs.Parts.{first_to_back, glyph_masked, masked_all};
+
+use crate::moves::move_back;
+use buffer_core::buffer::hb_buffer_t;
+use buffer_glyphs::info::{DEFINED, hb_glyph_info_t, hb_mask_t};
+
+/// The first `count` glyphs from `start` up to before `end` come to stand after the others, and all of them merge. It
+/// takes no memory.
+pub fn first_to_back(buffer: &mut hb_buffer_t, start: usize, end: usize, count: usize)
+    requires ready { IsReady buffer.old }
+    requires ordered { start ≤ end }
+    requires within { end ≤ length (all_glyphs buffer.old) }
+    requires few { count ≤ end - start }
+    ensures { IsRewritten (first_to_back count (slice_range (items_of buffer.old) start end)) start end buffer.old
+        buffer.new }
+{
+    move_back(buffer, start, start + count, end);
+}
+
+/// The glyphs from `start` up to before `end` get the features of a mask; its glyph flags are left out.
+pub fn add_mask(buffer: &mut hb_buffer_t, start: usize, end: usize, mask: hb_mask_t)
+    requires ready { IsReady buffer.old }
+    requires ordered { start ≤ end }
+    requires within { end ≤ length (all_glyphs buffer.old) }
+    ensures { IsRewritten (masked_all mask (slice_range (items_of buffer.old) start end)) start end buffer.old
+        buffer.new }
+{
+    let known = buffer.known_order();
+    mask_within(buffer.info_slice_mut(), start, end, mask);
+    buffer.keep_order(known);
+}
+
+/// The glyphs from `start` up to before `end` of a slice get the features of a mask; its glyph flags are left out.
+pub fn mask_within(glyphs: &mut [hb_glyph_info_t], start: usize, end: usize, mask: hb_mask_t)
+    requires ordered { start ≤ end }
+    requires within { end ≤ length glyphs.old }
+    ensures { glyphs.new ≡ take start glyphs.old ++ map (glyph_masked mask) (slice_range glyphs.old start end)
+        ++ drop end glyphs.old }
+{
+    mask_each(&mut glyphs[start..end], mask);
+}
+
+#[tactic(auto, using(buffer_glyphs::specs::Lists::map_step))]
+fn mask_each(glyphs: &mut [hb_glyph_info_t], mask: hb_mask_t)
+    ensures { glyphs.new ≡ map (glyph_masked mask) glyphs.old }
+{
+    for glyph in glyphs.iter_mut() {
+        *glyph = with_mask(*glyph, mask);
+    }
+}
+
+fn with_mask(glyph: hb_glyph_info_t, mask: hb_mask_t) -> hb_glyph_info_t
+    ensures { result ≡ glyph_masked mask glyph }
+{
+    let features = mask - (mask & DEFINED);
+    hb_glyph_info_t {
+        mask: glyph.mask | features,
+        ..glyph
+    }
+}

@@ -1,0 +1,52 @@
+//! What runs between the stages of a table.
+ghost use Rattle.std.specs.Prelude.{ℕ, ◌≡◌, ◌≢◌, true, false, Ok, Err, IfErr, OnOk};
+ghost use Rattle.buffer_core.specs.Readings.{Stage, read_of};
+ghost use Rattle.buffer_core.specs.Sides.{items_of, run_of};
+ghost use Rattle.buffer_stages.specs.Buffers.{are_glyphs};
+ghost use Rattle.buffer_stages.specs.Ready.{IsDone, IsDoneFrom, IsReady, run_with};
+ghost use Rattle.buffer_stages.specs.Pauses.{BringsNoGlyph, pause_stage};
+ghost use Rattle.buffer_stages.specs.Settings.{TextSettings, text_settings};
+
+use buffer_core::buffer::hb_buffer_t;
+use buffer_glyphs::cause::ShapeCause;
+
+/// What a script's shaper does between the stages of lookups, by what is set for the text and the numbers of its pauses.
+pub trait Pause {
+    ghost stage: { Self → TextSettings → ℕ → Stage };
+
+    /// Does what the pause of a number does, and answers true whenever a glyph number came in. It refuses by its own cause,
+    /// or for want of memory.
+    fn run(&self, pause: u8, buffer: &mut hb_buffer_t) -> Result<bool, ShapeCause>
+        requires ready { IsReady buffer.old }
+        requires numbers { are_glyphs (items_of buffer.old) ≡ true }
+        ensures ok { OnOk result (IsDone (stage self.now (text_settings buffer.old) pause) buffer.old buffer.new) }
+        ensures told { result ≡ Ok false → BringsNoGlyph (items_of buffer.old) (items_of buffer.new) }
+        ensures err { IfErr result (λ e. e ≢ ShapeCause.OutOfMemory
+            → read_of (stage self.now (text_settings buffer.old) pause) (run_of buffer.old) ≡ Err e) };
+}
+
+/// Runs the pause of a stage, if it has one: a stage of its own, which leaves the random state as it was. It refuses by the
+/// pause's cause, or for want of memory.
+#[tactic(auto, using(crate::proofs::Lemmas::Ways::paused, crate::proofs::Lemmas::Ways::pause_refused, crate::proofs::Lemmas::Ways::nothing_done))]
+pub fn run_pause<P: Pause>(
+    pause: &P,
+    number: Option<u8>,
+    buffer: &mut hb_buffer_t,
+) -> Result<(), ShapeCause>
+    requires ready { IsReady buffer.old }
+    requires numbers { are_glyphs (items_of buffer.old) ≡ true }
+    ensures ok { OnOk result
+        ((r : ℕ) → IsDoneFrom r r (pause_stage (P.stage pause.now (text_settings buffer.old)) number)
+        buffer.old buffer.new) }
+    ensures err { IfErr result (λ e. e ≢ ShapeCause.OutOfMemory
+        → (r : ℕ) → read_of (pause_stage (P.stage pause.now (text_settings buffer.old)) number)
+        (run_with r buffer.old) ≡ Err e) }
+{
+    match number {
+        Some(number) => match pause.run(number, buffer) {
+            Ok(_) => Ok(()),
+            Err(cause) => Err(cause),
+        },
+        None => Ok(()),
+    }
+}

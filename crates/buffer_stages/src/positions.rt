@@ -1,0 +1,26 @@
+//! The loop over a buffer's positions.
+ghost use Rattle.buffer_glyphs.specs.Items.{Item, Position};
+ghost use Rattle.buffer_core.specs.Readings.{always};
+ghost use Rattle.buffer_stages.specs.Ready.{IsDone, IsReady};
+ghost use Rattle.buffer_stages.specs.Places.{MakesPositions, placed};
+
+use buffer_core::buffer::hb_buffer_t;
+use buffer_glyphs::info::hb_glyph_info_t;
+use buffer_glyphs::position::GlyphPosition;
+
+/// Puts in the place of each position what `make` makes of it and of its glyph. It takes linear time and no memory.
+pub fn map_positions<F: Fn(&hb_glyph_info_t, GlyphPosition) -> GlyphPosition>(
+    buffer: &mut hb_buffer_t,
+    make: F,
+)
+    requires callable { F.IsAlwaysCallable make }
+    requires ready { IsReady buffer.old }
+    ensures { (k : Item → Position → Position) → MakesPositions F.Fn make k
+        → IsDone (always (placed k)) buffer.old buffer.new }
+{
+    let count = buffer.info_slice().len();
+    for i in 0..count {
+        let position = make(&buffer.info_slice()[i], buffer.pos_slice()[i]);
+        buffer.pos_slice_mut()[i] = position;
+    }
+}

@@ -1,0 +1,39 @@
+//! Glyphs that come to the front of a part of a buffer.
+ghost use Rattle.std.specs.Prelude.{◌≡◌, ◌≤◌, ◌+◌, drop, length, slice_range};
+ghost use Rattle.buffer_core.specs.Sides.{all_glyphs, items_of};
+ghost use Rattle.buffer_stages.specs.Ready.{IsReady};
+ghost use Rattle.buffer_stages.specs.Moves.{reach};
+ghost use Rattle.buffer_stages.specs.Fronts.{front_moves};
+ghost use Rattle.buffer_stages.specs.SyllableBuffers.{IsRewritten};
+ghost use Rattle.buffer_stages.specs.Parts.{fronts_moved};
+
+use crate::fronts::{FrontRule, gather_after};
+use crate::moves::order_kept;
+use buffer_core::buffer::hb_buffer_t;
+
+/// The first `walked` glyphs from `start` up to before `end` stand in front. Of those after them some come before them one
+/// after another, and merge with what they pass; `merged` glyphs are those up to the last of these, and at least one. It takes
+/// no memory, and n glyphs take the time of n log n.
+pub fn move_fronts<R: FrontRule>(
+    rule: &R,
+    buffer: &mut hb_buffer_t,
+    start: usize,
+    end: usize,
+    walked: usize,
+    merged: usize,
+)
+    requires ready { IsReady buffer.old }
+    requires ordered { start + walked ≤ end }
+    requires within { end ≤ length (all_glyphs buffer.old) }
+    requires last { merged ≡ reach 1 (front_moves (R.pairs rule.now) (R.ones rule.now) walked
+        (drop walked (slice_range (items_of buffer.old) start end))) }
+    requires fits { start + merged ≤ end }
+    ensures { IsRewritten (fronts_moved (R.pairs rule.now) (R.ones rule.now) walked
+        (slice_range (items_of buffer.old) start end)) start end
+        buffer.old buffer.new }
+{
+    buffer.merge_clusters(start, start + merged);
+    let known = order_kept(buffer, start, start + merged);
+    gather_after(rule, buffer.info_slice_mut(), start, start + walked, end);
+    buffer.keep_order(known);
+}

@@ -1,0 +1,5 @@
+pub mod Searches
+pub mod Widened
+pub mod Faults
+pub mod Pairs
+mod Steps

@@ -1,0 +1,7 @@
+pub mod Orders
+pub mod Chains
+pub mod Decisions
+pub mod Expansions
+mod Faults
+pub mod Steps
+pub mod Syllables

@@ -1,0 +1,11 @@
+pub mod ClassOrder
+pub mod Expansion
+pub mod Hangul
+pub mod Inside
+pub mod Lawful
+pub mod Laws
+pub mod Ranges
+pub mod Records
+pub mod Tables
+pub mod Tests
+pub mod Texts

@@ -1,0 +1,51 @@
+-- Texts over the tables: full expansion and equivalence (UAX 15, canonical decomposition and canonical equivalence).
+use Rattle.std.specs.Prelude.{ℕ, ◌≡◌, ◌≢◌, List, [], ◌∷◌, ◌++◌, Some}
+use Rattle.std.specs.List.{flat_map}
+use Rattle.buffer_unicode_tables.specs.ClassOrder.{class_order}
+use Rattle.buffer_unicode_tables.specs.Expansion.{followed_by, expanded}
+use Rattle.buffer_unicode_tables.specs.Tables.{Tables, split_of, class_of}
+
+-- the full expansion of the first part, then the second part as it stands; the character itself where it has no split
+abbrev pub full_expansion : Tables → ℕ → List ℕ
+full_expansion t u = expanded (split_of t) 8 u
+
+abbrev pub full_text : Tables → List ℕ → List ℕ
+full_text t xs = flat_map (full_expansion t) xs
+
+-- the order of a text by the classes of the tables
+abbrev pub text_order : Tables → List ℕ → List ℕ
+text_order t xs = class_order (class_of t) xs
+
+-- a character is replaced by its split
+pub record IsSplit (t : Tables) (xs ys : List ℕ) : Type 0 where
+  pub front : List ℕ
+  pub whole : ℕ
+  pub first : ℕ
+  pub second : ℕ
+  pub back : List ℕ
+  pub splits : split_of t whole ≡ Some (first, second)
+  pub is_before : xs ≡ front ++ whole ∷ back
+  pub is_after : ys ≡ front ++ (followed_by second (first ∷ []) ++ back)
+
+-- neighbours of distinct nonzero class change places
+pub record IsSwap (t : Tables) (xs ys : List ℕ) : Type 0 where
+  pub front : List ℕ
+  pub first : ℕ
+  pub second : ℕ
+  pub back : List ℕ
+  pub first_nonzero : class_of t first ≢ 0
+  pub second_nonzero : class_of t second ≢ 0
+  pub apart : class_of t first ≢ class_of t second
+  pub is_before : xs ≡ front ++ first ∷ second ∷ back
+  pub is_after : ys ≡ front ++ second ∷ first ∷ back
+
+-- one step between equivalent texts
+pub data IsStep (t : Tables) (xs ys : List ℕ) : Type 0 where
+  splits : IsSplit t xs ys → IsStep t xs ys
+  joins : IsSplit t ys xs → IsStep t xs ys
+  swaps : IsSwap t xs ys → IsStep t xs ys
+
+-- finitely many steps lead from one text to the other
+pub data AreEquivalent (t : Tables) (xs : List ℕ) : List ℕ → Type 0 where
+  same : AreEquivalent t xs xs
+  then_step : (ys zs : List ℕ) → AreEquivalent t xs ys → IsStep t ys zs → AreEquivalent t xs zs

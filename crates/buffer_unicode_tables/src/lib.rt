@@ -1,0 +1,18 @@
+// What the shaper knows of characters by tables that are handed in.
+#![tactic(auto)]
+
+pub mod character;
+mod depth;
+mod expansion;
+pub mod hangul;
+pub mod law_fault;
+pub mod laws;
+pub mod records;
+pub mod tables;
+
+pub use buffer_unicode_rows::{TablesFault, UnicodeRows};
+pub use character::CharTablesExt;
+pub use hangul::{compose_hangul, decompose_hangul, hangul_pairs_are_splits};
+pub use law_fault::LawFault;
+pub use records::UnicodeRecords;
+pub use tables::{UnicodeTables, compose, decompose};

@@ -1,0 +1,22 @@
+//! The records of all tables.
+use buffer_unicode_rows::{
+    CharacterClass, CharacterRange, Counterpart, IndicRow, JoiningRow, Pair, Split, ThaiRow,
+    UniversalRow,
+};
+
+/// The records of all tables, each in the order of its keys.
+#[derive(Drop)]
+pub struct UnicodeRecords {
+    pub splits: Vec<Split>,
+    pub pairs: Vec<Pair>,
+    pub classes: Vec<CharacterClass>,
+    pub mirrored: Vec<Counterpart>,
+    pub vertical: Vec<Counterpart>,
+    /// By first characters.
+    pub pictographic: Vec<CharacterRange>,
+    pub joining: Vec<JoiningRow>,
+    pub indic: Vec<IndicRow>,
+    pub universal: Vec<UniversalRow>,
+    /// By characters, then by actions.
+    pub thai: Vec<ThaiRow>,
+}

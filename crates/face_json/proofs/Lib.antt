@@ -1,2 +1,0 @@
-mod Means
-mod RisingKeys

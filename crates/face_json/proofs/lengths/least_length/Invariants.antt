@@ -1,8 +1,0 @@
-use Rattle.std.proofs.Common.{◌≡◌, drop}
-use Rattle.serde_json.specs.View.{items_view}
-use Rattle.face_json.specs.Lengths.{least_length}
-use Rattle.face_json.proofs.lengths.least_length.Given as goal
-
--- what is left, after the least so far, gives the least of all
-abbrev pub invariant-loop-value : goal.invariant-loop-value
-invariant-loop-value l = least_length l.least (items_view (drop l.value-index l.values)) ≡ least_length l.limit (items_view l.values)

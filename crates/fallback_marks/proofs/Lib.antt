@@ -1,4 +1,0 @@
-pub mod Counted
-pub mod Marked
-pub mod Placed
-pub mod Standing

@@ -1,2 +1,0 @@
--- Lemmas for what stands above: texts without marks.
-pub mod Unmarked

@@ -1,4 +1,0 @@
-pub mod Bases
-pub mod Around
-pub mod Marks
-pub mod Lemmas

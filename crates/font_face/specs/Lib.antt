@@ -1,6 +1,0 @@
-pub mod LookupIndices
-pub mod Lookups
-pub mod Glyphs
-pub mod Indices
-pub mod Names
-pub mod VariationSearch

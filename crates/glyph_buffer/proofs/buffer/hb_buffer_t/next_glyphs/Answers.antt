@@ -1,7 +1,0 @@
-use Rattle.std.proofs.Common.{ap, ◌∙◌}
-use Rattle.glyph_buffer.specs.Sides.{moved_on}
-use Rattle.glyph_buffer.proofs.Kept.{moved_closed}
-use Rattle.glyph_buffer.proofs.buffer.hb_buffer_t.next_glyphs.Goals as goal
-
-pub returns-then-not-self-clause-moved : goal.returns-then-not-self-clause-moved
-returns-then-not-self-clause-moved c e = moved_closed c.self.inside c.args.count c.if-not-self.true ∙ ap (moved_on c.args.count) c.self.view_is

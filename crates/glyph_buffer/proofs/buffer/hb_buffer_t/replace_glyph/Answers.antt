@@ -1,7 +1,0 @@
-use Rattle.std.proofs.Common.{ap, ◌∙◌}
-use Rattle.glyph_buffer.specs.Sides.{items_of}
-use Rattle.glyph_buffer.proofs.Apart.{renumbered_items}
-use Rattle.glyph_buffer.proofs.buffer.hb_buffer_t.replace_glyph.Goals as goal
-
-pub returns-clause-items : goal.returns-clause-items
-returns-clause-items c e = ap items_of c.in_ok-push_renumbered.ensures.replaced ∙ renumbered_items c.args.glyph_index c.args.self.now c.requires.there

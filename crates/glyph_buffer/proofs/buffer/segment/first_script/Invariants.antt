@@ -1,7 +1,0 @@
-use Rattle.std.proofs.Common.{◌≡◌, drop}
-use Rattle.glyph_buffer.specs.Segment.{first_script}
-use Rattle.glyph_buffer.proofs.buffer.segment.first_script.Given as goal
-
--- what is left decides
-abbrev pub invariant-loop-glyph : goal.invariant-loop-glyph
-invariant-loop-glyph l = first_script (drop l.glyph-index l.glyphs) ≡ first_script l.glyphs

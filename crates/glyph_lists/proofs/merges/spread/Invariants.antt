@@ -1,8 +1,0 @@
-use Rattle.std.proofs.Common.{◌≡◌, ◌++◌, take, drop}
-use Rattle.glyph_lists.specs.Items.{clusters}
-use Rattle.glyph_lists.specs.Glyphs.{glyphs_merged}
-use Rattle.glyph_lists.proofs.merges.spread.Given as goal
-
--- the glyphs that were passed are merged
-abbrev pub invariant-loop-glyph : goal.invariant-loop-glyph
-invariant-loop-glyph l = l.glyphs ≡ glyphs_merged (clusters l.range) (take l.glyph-index l.initial.glyphs) ++ drop l.glyph-index l.initial.glyphs

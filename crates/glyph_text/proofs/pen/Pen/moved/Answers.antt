@@ -1,6 +1,0 @@
-use Rattle.std.proofs.Common.{rules}
-use Rattle.glyph_text.proofs.Steps.{near_step}
-use Rattle.glyph_text.proofs.pen.Pen.moved.Goals as goal
-
-pub returns-clause-near : goal.returns-clause-near
-returns-clause-near c = λ bound h. near_step bound c.args.self _ c.args.place.now.x_advance c.args.place.now.y_advance (search rules) (search rules) (search rules) h

@@ -1,8 +1,0 @@
-ghost use Rattle.glyph_text.specs.Shown.{EqualTextsShowEqualRuns};
-
-/// A printed run tells its glyphs apart: under `NO_GLYPH_NAMES` and `GLYPH_FLAGS` alone, runs of any length with equal
-/// texts have equal numbers, clusters, offsets, advances and glyph flags.
-#[tactic(auto, using(crate::proofs::ReadBack::equal_texts_show_equal_runs))]
-pub fn equal_texts_show_equal_runs()
-    ensures { EqualTextsShowEqualRuns }
-{}

@@ -1,6 +1,0 @@
-pub mod Shifted
-pub mod Fitted
-pub mod Matching
-pub mod Cuts
-pub mod Settled
-pub mod Begun

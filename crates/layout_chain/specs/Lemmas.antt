@@ -1,9 +1,0 @@
--- Lemmas for the loop over the records of a rule, and for what applies nested lookups.
-pub mod Steps
-pub mod Lengths
-pub mod Rising
-pub mod Walks
-pub mod Inside
-pub mod Acting
-pub mod Subtables
-pub mod Nested

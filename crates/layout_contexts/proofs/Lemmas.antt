@@ -1,0 +1,9 @@
+-- Lemmas.
+pub mod Steps
+pub mod Lengths
+pub mod Rising
+pub mod Walks
+pub mod Inside
+pub mod Acting
+pub mod Subtables
+pub mod Nested

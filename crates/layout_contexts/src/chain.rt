@@ -1,0 +1,130 @@
+ghost use Rattle.std.specs.Prelude.{◌≡◌, ◌<◌, drop, length};
+ghost use Rattle.layout_match.specs.Applied.{applied_of};
+ghost use Rattle.layout_match.specs.Sequences.{tests_of};
+ghost use Rattle.buffer_stages.specs.Performing.{cut_with};
+ghost use Rattle.layout_contexts.specs.Fitting.{IsInside, Matched, Says, chain_of};
+
+use crate::counts::backtrack_len;
+use crate::marks::{mark_attempt, mark_match};
+use crate::places::move_places;
+use buffer_core::buffer::hb_buffer_t;
+use layout_match::{
+    MAX_CONTEXT_LENGTH, MatchPositions, MatchSequence, hb_ot_apply_context_t, match_backtrack,
+    match_input, match_lookahead,
+};
+use layout_subtables::context::SequenceLookupRecord;
+
+/// A rule of a context or a chained context, in any of the formats.
+#[derive(Clone, Copy)]
+pub struct ChainRule<'a> {
+    /// What stands before the input, the nearest first.
+    pub backtrack: MatchSequence<'a>,
+    /// The input, with its first glyph.
+    pub input: MatchSequence<'a>,
+    /// What stands after the input.
+    pub lookahead: MatchSequence<'a>,
+    /// The lookups to apply then, in their order.
+    pub records: &'a [SequenceLookupRecord],
+}
+
+/// How a rule fits at the cursor.
+enum ChainFit {
+    /// Its first glyph isn't there, or it has too many.
+    NoAttempt,
+    /// So many glyphs before the cursor and from it on tell that it doesn't fit.
+    Fails {
+        back: usize,
+        ahead: usize,
+    },
+    /// So many before the cursor and from it on were matched; the input ends so far from it.
+    Fits {
+        back: usize,
+        end: usize,
+        ahead: usize,
+    },
+}
+
+fn behind_first_of<T>(items: &[T]) -> &[T]
+    ensures { result.now ≡ drop 1 items.now }
+{
+    if items.is_empty() {
+        return &[];
+    }
+    &items[1..]
+}
+
+/// A sequence without its first glyph.
+#[tactic(auto, using(crate::proofs::Fitted::map_behind_first))]
+fn behind_first<'a>(sequence: &MatchSequence<'a>) -> MatchSequence<'a>
+    ensures { tests_of result ≡ drop 1 (tests_of sequence.now) }
+{
+    match sequence {
+        MatchSequence::Glyphs(glyphs) => MatchSequence::Glyphs(behind_first_of(glyphs)),
+        MatchSequence::Classes(classes, values) => {
+            MatchSequence::Classes(classes, behind_first_of(values))
+        }
+        MatchSequence::Coverages(sets) => MatchSequence::Coverages(behind_first_of(sets)),
+    }
+}
+
+/// Looks whether a rule fits at the cursor, and notes how far from it each glyph of its input stands.
+fn find_chain(
+    ctx: &hb_ot_apply_context_t,
+    rule: &ChainRule,
+    buffer: &hb_buffer_t,
+    places: &mut MatchPositions,
+) -> ChainFit
+    requires { 0 < length buffer.now.ahead }
+    ensures says { Says result (applied_of ctx.now) (chain_of rule.now) places.new.items
+        (cut_with ctx.now.random_state buffer.now) }
+    ensures inside { IsInside result places.new.items (length buffer.now.behind) (length buffer.now.ahead) }
+{
+    if !rule.input.fits(0, buffer.cur(0)) {
+        return ChainFit::NoAttempt;
+    }
+    if rule.input.len() > MAX_CONTEXT_LENGTH {
+        return ChainFit::NoAttempt;
+    }
+    let input = behind_first(&rule.input);
+    let end = match match_input(ctx, &input, buffer, places) {
+        Ok(end) => end,
+        Err(ahead) => return ChainFit::Fails { back: 0, ahead },
+    };
+    let ahead = match match_lookahead(ctx, &rule.lookahead, end, buffer) {
+        Ok(ahead) => ahead,
+        Err(ahead) => return ChainFit::Fails { back: 0, ahead },
+    };
+    match match_backtrack(ctx, &rule.backtrack, buffer) {
+        Ok(back) => ChainFit::Fits { back, end, ahead },
+        Err(back) => ChainFit::Fails { back, ahead: 1 },
+    }
+}
+
+/// Tries a rule at the cursor, and marks what tells whether it fits: where it does, what it matched as unsafe to break, else
+/// what was looked at as unsafe to concat, where that is asked for. Where it fits, it notes the indices of its input among
+/// all glyphs, and answers the index at which the input ends.
+pub fn match_chain(
+    ctx: &hb_ot_apply_context_t,
+    rule: &ChainRule,
+    buffer: &mut hb_buffer_t,
+    places: &mut MatchPositions,
+) -> Option<usize>
+    requires { 0 < length buffer.old.ahead }
+    ensures { Matched result (applied_of ctx.now) (chain_of rule.now) ctx.now.random_state places.new.items buffer.old
+        buffer.new }
+{
+    let front = backtrack_len(buffer);
+    let _rest = buffer.lookahead_len();
+    match find_chain(ctx, rule, buffer, places) {
+        ChainFit::NoAttempt => None,
+        ChainFit::Fails { back, ahead } => {
+            mark_attempt(back, ahead, buffer);
+            None
+        }
+        ChainFit::Fits { back, end, ahead } => {
+            mark_match(back, ahead, buffer);
+            move_places(places, front);
+            Some(front + end)
+        }
+    }
+}

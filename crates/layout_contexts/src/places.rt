@@ -1,0 +1,78 @@
+ghost use Rattle.std.specs.Prelude.{◌≡◌, ◌<◌, ◌+◌, ◌-◌, ◌++◌, ◌^◌, drop, length, map, take};
+ghost use Rattle.std.specs.List.{All};
+ghost use Rattle.layout_contexts.specs.Shifts.{following, resized};
+
+use layout_match::MatchPositions;
+
+#[tactic(auto, using(crate::proofs::Shifted::following_on, crate::proofs::Shifted::following_full, crate::proofs::Shifted::following_all))]
+/// Adds so many places behind one, as far as there is room.
+fn push_following(places: &mut MatchPositions, place: usize, count: usize)
+    requires { place + count + 1 < 2 ^ 64 }
+    ensures { places.new.items ≡ take 64 (places.old.items ++ following place count) }
+{
+    let _len = places.as_slice().len();
+    for k in 0..count {
+        if places.is_full() {
+            return;
+        }
+        places.push(place + k + 1);
+    }
+}
+
+#[tactic(auto, using(crate::proofs::Shifted::moved_on, crate::proofs::Shifted::following_full, crate::proofs::Shifted::moved_all))]
+/// Adds places moved by a change of length, as far as there is room.
+fn push_moved(places: &mut MatchPositions, later: &[usize], before: usize, after: usize)
+    requires { All (λ q. q + after < 2 ^ 64) later.now }
+    ensures { places.new.items ≡ take 64 (places.old.items ++ map (λ q. q + after - before) later.now) }
+{
+    let _len = places.as_slice().len();
+    for place in later {
+        if places.is_full() {
+            return;
+        }
+        places.push((*place + after).saturating_sub(before));
+    }
+}
+
+/// Those from an index on.
+fn from_index(places: &[usize], from: usize) -> &[usize]
+    ensures { result.now ≡ drop from places.now }
+{
+    if from < places.len() {
+        return &places[from..];
+    }
+    &[]
+}
+
+/// Moves all places by so many.
+#[tactic(auto, using(crate::proofs::Shifted::all_moved))]
+pub(crate) fn move_places(places: &mut MatchPositions, by: usize)
+    requires { All (λ q. q + by < 2 ^ 64) places.old.items }
+    ensures { places.new.items ≡ map (λ q. q + by) places.old.items }
+{
+    let mut moved = MatchPositions::new();
+    push_moved(&mut moved, places.as_slice(), 0, by);
+    *places = moved;
+}
+
+/// Settles the places of a match, once a lookup at the i-th of them made the list, of `before` glyphs, one of `after`: as many
+/// places come in behind that one as glyphs came, as many are lost there as glyphs went, and later ones move. Those past
+/// `MAX_CONTEXT_LENGTH` are left out.
+#[tactic(auto, using(crate::proofs::Shifted::all_settled))]
+pub fn settle_places(places: &mut MatchPositions, i: usize, before: usize, after: usize)
+    requires there { i < length places.old.items }
+    requires fits { All (λ q. q + after + 1 < 2 ^ 64) places.old.items }
+    ensures { places.new.items ≡ resized i before after places.old.items }
+{
+    let mut settled = MatchPositions::new();
+    let old = places.as_slice();
+    push_moved(&mut settled, &old[..i + 1], 0, 0);
+    push_following(&mut settled, old[i], after.saturating_sub(before));
+    push_moved(
+        &mut settled,
+        from_index(&old[i + 1..], before.saturating_sub(after)),
+        before,
+        after,
+    );
+    *places = settled;
+}

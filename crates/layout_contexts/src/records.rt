@@ -1,0 +1,125 @@
+ghost use Rattle.std.specs.Prelude.{◌≡◌, ◌≤◌, ◌<◌, ◌+◌, ◌^◌, [], ℕ, true, false, length, slice_get, Some, OnOk, IfErr};
+ghost use Rattle.buffer_stages.specs.Actions.{whole};
+ghost use Rattle.buffer_stages.specs.Buffers.{cut_of};
+ghost use Rattle.buffer_stages.specs.Performing.{cut_with};
+ghost use Rattle.layout_contexts.specs.Nested.{Walks, cut_behind, has_budget, holds};
+ghost use Rattle.layout_contexts.specs.Nesting.{Nests};
+ghost use Rattle.layout_contexts.specs.Places.{AreRising};
+ghost use Rattle.layout_contexts.specs.Records.{Begins, IsMoved, IsMoveRefusal, IsSpent};
+ghost use Rattle.layout_contexts.specs.Shifts.{moved_end, resized};
+
+use crate::counts::glyph_count;
+use crate::places::settle_places;
+use buffer_core::buffer::hb_buffer_t;
+use buffer_glyphs::cause::ShapeCause;
+use layout_match::MatchPositions;
+use layout_subtables::context::SequenceLookupRecord;
+
+/// How deep lookups may be nested in others.
+pub const MAX_NESTING_LEVEL: u32 = 64;
+
+/// Puts the cursor at a place.
+#[tactic(auto, using(crate::proofs::Cuts::went_there, crate::proofs::Cuts::held_is, crate::proofs::Cuts::not_held, crate::proofs::Cuts::short_memory))]
+fn go_to(place: usize, buffer: &mut hb_buffer_t) -> Result<(), ShapeCause>
+    requires kept { buffer.old.has_refused ≡ false }
+    requires there { place ≤ length (whole (cut_of buffer.old)) }
+    ensures held { OnOk result (holds place (cut_of buffer.old) ≡ true) }
+    ensures ok { OnOk result (IsMoved place buffer.old buffer.new) }
+    ensures err { IfErr result (λ e. IsMoveRefusal place (cut_of buffer.old) e) }
+{
+    let _count = buffer.len();
+    if !buffer.move_to(place)? {
+        return Err(ShapeCause::TooLong);
+    }
+    Ok(())
+}
+
+/// Takes a unit of the budget, or tells that none is left.
+#[tactic(auto, using(crate::proofs::Cuts::spent_left))]
+fn spend(buffer: &mut hb_buffer_t) -> bool
+    ensures left { result ≡ has_budget (cut_of buffer.old) }
+    ensures taken { result ≡ true → IsSpent buffer.old buffer.new }
+    ensures none { result ≡ false → buffer.new ≡ buffer.old }
+{
+    let left = buffer.max_ops();
+    if left <= 0 {
+        return false;
+    }
+    buffer.set_max_ops(left - 1);
+    true
+}
+
+fn place_at(places: &MatchPositions, i: usize) -> Option<usize>
+    ensures { result ≡ slice_get places.now.items i }
+{
+    places.as_slice().get(i).copied()
+}
+
+/// Begins a record of a rule that matched at these places: where its place is among them and in the list, and a unit of the
+/// budget is left, takes the unit, puts the cursor at the place and answers it. The record's lookup is then to be applied
+/// there. Else it does nothing. It refuses for want of memory, or where a side of the buffer would have more glyphs than it
+/// may.
+pub fn begin_record(
+    lookup_record: &SequenceLookupRecord,
+    places: &MatchPositions,
+    buffer: &mut hb_buffer_t,
+) -> Result<Option<usize>, ShapeCause>
+    requires kept { buffer.old.has_refused ≡ false }
+    ensures { Begins lookup_record.now places.now.items result buffer.old buffer.new }
+{
+    let Some(place) = place_at(places, usize::from(lookup_record.sequence_index)) else {
+        return Ok(None);
+    };
+    if glyph_count(buffer) <= place {
+        return Ok(None);
+    }
+    if !spend(buffer) {
+        return Ok(None);
+    }
+    if let Err(cause) = go_to(place, buffer) {
+        return Err(cause);
+    }
+    Ok(Some(place))
+}
+
+/// Settles the places of a match, and answers where it ends, once a record's lookup acted at its place on a list of
+/// `before` glyphs, which may have become longer or shorter.
+#[tactic(auto, using(crate::proofs::Settled::in_places, crate::proofs::Settled::room_to_settle))]
+pub fn settle_match(
+    lookup_record: &SequenceLookupRecord,
+    place: usize,
+    before: usize,
+    end: usize,
+    places: &mut MatchPositions,
+    buffer: &hb_buffer_t,
+) -> usize
+    requires there { slice_get places.old.items lookup_record.now.sequence_index ≡ Some place }
+    requires rising { AreRising 0 (before + 1) places.old.items }
+    requires ends { end ≤ before }
+    requires small { before < 2 ^ 60 }
+    ensures places { places.new.items
+        ≡ resized lookup_record.now.sequence_index before (length (whole (cut_of buffer.now))) places.old.items }
+    ensures end { result ≡ moved_end place before (length (whole (cut_of buffer.now))) end }
+{
+    let after = glyph_count(buffer);
+    settle_places(
+        places,
+        usize::from(lookup_record.sequence_index),
+        before,
+        after,
+    );
+    place.max((end + after).saturating_sub(before))
+}
+
+/// Puts the cursor behind the match, which ends at an index, or at the end of the list where that lies past it.
+pub fn go_behind(end: usize, buffer: &mut hb_buffer_t) -> Result<bool, ShapeCause>
+    requires kept { buffer.old.has_refused ≡ false }
+    ensures { (random : ℕ) → Nests (cut_behind (Walks (cut_with random buffer.old) [] end
+        [])) result random random buffer.old buffer.new }
+{
+    let place = end.min(glyph_count(buffer));
+    if let Err(cause) = go_to(place, buffer) {
+        return Err(cause);
+    }
+    Ok(true)
+}

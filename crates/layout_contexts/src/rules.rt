@@ -1,0 +1,80 @@
+ghost use Rattle.std.specs.Prelude.{◌≡◌, ◌<◌, length, slice_get, Some};
+ghost use Rattle.buffer_glyphs.specs.Items.{item_of};
+ghost use Rattle.layout_contexts.specs.Chains.{class_chain, coverage_chain, glyph_chain};
+ghost use Rattle.layout_contexts.specs.Fitting.{chain_of};
+ghost use Rattle.layout_contexts.specs.Rules.{chains_of, is_tried_at};
+
+use crate::chain::ChainRule;
+use buffer_glyphs::info::hb_glyph_info_t;
+use layout_common::coverage::Coverage;
+use layout_match::{MatchSequence, match_coverage};
+use layout_subtables::context::{ClassRules, ContextSubtable, SequenceRule};
+
+/// A rule by glyphs (format 1).
+pub fn glyph_rule(rule: &SequenceRule<u16>) -> ChainRule<'_>
+    ensures { chain_of result ≡ glyph_chain rule.now }
+{
+    ChainRule {
+        backtrack: MatchSequence::Glyphs(rule.backtrack.as_slice()),
+        input: MatchSequence::Glyphs(rule.input.as_slice()),
+        lookahead: MatchSequence::Glyphs(rule.lookahead.as_slice()),
+        records: rule.records.as_slice(),
+    }
+}
+
+/// A rule by classes (format 2).
+pub fn class_rule<'a>(rules: &'a ClassRules, rule: &'a SequenceRule<u16>) -> ChainRule<'a>
+    ensures { chain_of result ≡ class_chain rules.now rule.now }
+{
+    ChainRule {
+        backtrack: MatchSequence::Classes(&rules.backtrack, rule.backtrack.as_slice()),
+        input: MatchSequence::Classes(&rules.input, rule.input.as_slice()),
+        lookahead: MatchSequence::Classes(&rules.lookahead, rule.lookahead.as_slice()),
+        records: rule.records.as_slice(),
+    }
+}
+
+/// A rule by sets of glyphs (format 3).
+pub fn coverage_rule(rule: &SequenceRule<Coverage>) -> ChainRule<'_>
+    ensures { chain_of result ≡ coverage_chain rule.now }
+{
+    ChainRule {
+        backtrack: MatchSequence::Coverages(rule.backtrack.as_slice()),
+        input: MatchSequence::Coverages(rule.input.as_slice()),
+        lookahead: MatchSequence::Coverages(rule.lookahead.as_slice()),
+        records: rule.records.as_slice(),
+    }
+}
+
+/// How many rules a subtable has.
+pub fn rule_count(subtable: &ContextSubtable) -> usize
+    ensures { result ≡ length (chains_of subtable.now) }
+{
+    match subtable {
+        ContextSubtable::Glyphs(rules) => rules.as_slice().len(),
+        ContextSubtable::Classes(rules) => rules.rules.as_slice().len(),
+        ContextSubtable::Coverage(rules) => rules.as_slice().len(),
+    }
+}
+
+/// The rule at an index among those of a subtable, in the order in which they are tried.
+pub fn rule_at(subtable: &ContextSubtable, i: usize) -> ChainRule<'_>
+    requires { i < length (chains_of subtable.now) }
+    ensures { slice_get (chains_of subtable.now) i ≡ Some (chain_of result) }
+{
+    match subtable {
+        ContextSubtable::Glyphs(rules) => glyph_rule(&rules.as_slice()[i]),
+        ContextSubtable::Classes(rules) => class_rule(rules, &rules.rules.as_slice()[i]),
+        ContextSubtable::Coverage(rules) => coverage_rule(&rules.as_slice()[i]),
+    }
+}
+
+/// Whether the rules of a subtable are tried at a glyph: those by classes only where it is covered.
+pub fn is_tried_at(subtable: &ContextSubtable, info: &hb_glyph_info_t) -> bool
+    ensures { result ≡ is_tried_at subtable.now (item_of info.now) }
+{
+    match subtable {
+        ContextSubtable::Classes(rules) => match_coverage(info, &rules.first),
+        ContextSubtable::Glyphs(_) | ContextSubtable::Coverage(_) => true,
+    }
+}

@@ -1,0 +1,5 @@
+pub mod LookupIndices
+pub mod Lookups
+pub mod Glyphs
+pub mod Indices
+pub mod Names

@@ -1,0 +1,46 @@
+-- Indices and classes of a layout table that stay within their lists.
+use Rattle.std.specs.Prelude.{ℕ, ◌&&◌, Bool, true, nat_lt, Option, length}
+use Rattle.std.specs.List.{list_all}
+use Rattle.std.specs.Option.{option_map_or}
+use Rattle.layout_tables.specs.Indices.{indices_fit}
+use Rattle.layout_subtables.specs.declared.pair.PairPos.{PairPos}
+use Rattle.layout_subtables.specs.declared.pair.PairPos.TheVariants as Pairs
+use Rattle.layout_subtables.specs.Fits.{marks_fit_bases, marks_fit_ligatures, pairs_fit}
+use Rattle.layout_face.specs.declared.substitution.SubstitutionTable.{SubstitutionTable}
+use Rattle.layout_face.specs.declared.positioning.PositioningLookup.{PositioningLookup}
+use Rattle.layout_face.specs.declared.positioning.PositioningTable.{PositioningTable}
+use Rattle.layout_face.specs.declared.positioning.PositioningSubtables.{PositioningSubtables}
+use Rattle.layout_face.specs.declared.positioning.PositioningSubtables.TheVariants.{Single, Pair, Cursive, MarkToBase, MarkToLigature, MarkToMark, Context, ChainContext}
+
+-- the set that a lookup names is there
+abbrev pub set_fits : ℕ → Option ℕ → Bool
+set_fits count set = option_map_or (λ i. nat_lt i count) set true
+
+abbrev pub pair_classes_fit : PairPos → Bool
+pair_classes_fit (Pairs.Glyphs pairs) = true
+pair_classes_fit (Pairs.Classes pairs) = pairs_fit pairs
+
+-- each class of a subtable has its record, or its anchor
+abbrev pub positioning_classes_fit : PositioningSubtables → Bool
+positioning_classes_fit (Single subtables) = true
+positioning_classes_fit (Pair subtables) = list_all (λ s. pair_classes_fit s) subtables
+positioning_classes_fit (Cursive subtables) = true
+positioning_classes_fit (MarkToBase subtables) = list_all (λ s. marks_fit_bases s.marks s.bases) subtables
+positioning_classes_fit (MarkToLigature subtables) = list_all (λ s. marks_fit_ligatures s.marks s.ligatures) subtables
+positioning_classes_fit (MarkToMark subtables) = list_all (λ s. marks_fit_bases s.marks s.bases) subtables
+positioning_classes_fit (Context subtables) = true
+positioning_classes_fit (ChainContext subtables) = true
+
+-- features, lookups and sets of marks are there
+abbrev pub substitution_fits : ℕ → SubstitutionTable → Bool
+substitution_fits sets table =
+    indices_fit (length table.lookups) table.inner && list_all (λ l. set_fits sets l.mark_filtering_set) table.lookups
+
+abbrev pub positioning_lookup_fits : ℕ → PositioningLookup → Bool
+positioning_lookup_fits sets lookup = set_fits sets lookup.mark_filtering_set && positioning_classes_fit lookup.subtables
+
+-- features, lookups, sets of marks, records and anchors are there
+abbrev pub positioning_fits : ℕ → PositioningTable → Bool
+positioning_fits sets table =
+    indices_fit (length table.lookups) table.inner
+    && list_all (λ l. positioning_lookup_fits sets l) table.lookups

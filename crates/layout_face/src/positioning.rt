@@ -1,0 +1,71 @@
+//! The table of glyph positioning.
+ghost use Rattle.std.specs.Prelude.{◌≡◌, false, slice_get};
+ghost use Rattle.std.specs.Option.{option_copied};
+ghost use Rattle.layout_face.specs.Lookups.{props_of};
+
+use crate::substitution::lookup_props;
+use layout_common::array::Array;
+use layout_subtables::context::ContextSubtable;
+use layout_subtables::cursive::CursivePos;
+use layout_subtables::mark::{MarkBasePos, MarkLigPos};
+use layout_subtables::pair::PairPos;
+use layout_subtables::single_pos::SinglePos;
+use layout_tables::table::LayoutTable;
+
+/// The subtables of a positioning lookup, which are of one type, in the order in which they are tried.
+#[derive(Debug, Drop)]
+pub enum PositioningSubtables {
+    Single(Array<SinglePos>),
+    Pair(Array<PairPos>),
+    Cursive(Array<CursivePos>),
+    MarkToBase(Array<MarkBasePos>),
+    MarkToLigature(Array<MarkLigPos>),
+    MarkToMark(Array<MarkBasePos>),
+    Context(Array<ContextSubtable>),
+    ChainContext(Array<ContextSubtable>),
+}
+
+/// A lookup of glyph positioning: the first of its subtables that acts at a glyph is the one that acts there.
+#[derive(Debug, Drop)]
+pub struct PositioningLookup {
+    /// The lookup flag: which glyphs are skipped.
+    pub flags: u16,
+    /// The index of a set of marks; it counts only with `USE_MARK_FILTERING_SET`.
+    pub mark_filtering_set: Option<u16>,
+    pub subtables: PositioningSubtables,
+}
+
+impl PositioningLookup {
+    /// The lookup flag in the low 16 bits and, with `USE_MARK_FILTERING_SET`, the set's index in the high 16 bits, 65535
+    /// where the lookup names none.
+    pub fn props(&self) -> u32
+        ensures { result ≡ props_of self.now.flags self.now.mark_filtering_set }
+    {
+        lookup_props(self.flags, self.mark_filtering_set)
+    }
+
+    /// Whether the lookup is applied from the end of the text: no positioning is.
+    pub fn is_reverse(&self) -> bool
+        ensures { result ≡ false }
+    {
+        false
+    }
+}
+
+/// The table GPOS.
+#[derive(Debug, Drop)]
+pub struct PositioningTable {
+    /// Scripts, language systems and features.
+    pub inner: LayoutTable,
+    /// The lookups, in the order of their indices.
+    pub lookups: Array<PositioningLookup>,
+}
+
+impl PositioningTable {
+    /// The lookup of an index.
+    pub fn get_lookup(&self, index: u16) -> Option<&PositioningLookup>
+        ensures { option_copied result ≡ slice_get self.now.lookups index }
+    {
+        self.lookups.get(usize::from(index))
+    }
+}

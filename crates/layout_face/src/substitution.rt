@@ -1,0 +1,80 @@
+//! The table of glyph substitution.
+ghost use Rattle.std.specs.Prelude.{◌≡◌};
+ghost use Rattle.std.specs.Option.{option_copied};
+ghost use Rattle.std.specs.Prelude.{slice_get};
+ghost use Rattle.layout_face.specs.Lookups.{props_of, is_reverse};
+
+use layout_common::array::Array;
+use layout_common::flags::USE_MARK_FILTERING_SET;
+use layout_subtables::context::ContextSubtable;
+use layout_subtables::reverse::ReverseChainSubst;
+use layout_subtables::sequence::{AlternateSubst, MultipleSubst};
+use layout_subtables::single_subst::SingleSubst;
+use layout_tables::ligature::LigatureSubst;
+use layout_tables::table::LayoutTable;
+
+/// The subtables of a substitution lookup, which are of one type, in the order in which they are tried.
+#[derive(Debug, Drop)]
+pub enum SubstitutionSubtables {
+    Single(Array<SingleSubst>),
+    Multiple(Array<MultipleSubst>),
+    Alternate(Array<AlternateSubst>),
+    Ligature(Array<LigatureSubst>),
+    Context(Array<ContextSubtable>),
+    ChainContext(Array<ContextSubtable>),
+    ReverseChainSingle(Array<ReverseChainSubst>),
+}
+
+/// A lookup of glyph substitution: the first of its subtables that acts at a glyph is the one that acts there.
+#[derive(Debug, Drop)]
+pub struct SubstLookup {
+    /// The lookup flag: which glyphs are skipped.
+    pub flags: u16,
+    /// The index of a set of marks; it counts only with `USE_MARK_FILTERING_SET`.
+    pub mark_filtering_set: Option<u16>,
+    pub subtables: SubstitutionSubtables,
+}
+
+impl SubstLookup {
+    /// The lookup flag in the low 16 bits and, with `USE_MARK_FILTERING_SET`, the set's index in the high 16 bits, 65535
+    /// where the lookup names none.
+    pub fn props(&self) -> u32
+        ensures { result ≡ props_of self.now.flags self.now.mark_filtering_set }
+    {
+        lookup_props(self.flags, self.mark_filtering_set)
+    }
+
+    /// Whether the lookup is applied from the end of the text.
+    pub fn is_reverse(&self) -> bool
+        ensures { result ≡ is_reverse self.now.subtables }
+    {
+        matches!(self.subtables, SubstitutionSubtables::ReverseChainSingle(_))
+    }
+}
+
+pub(crate) fn lookup_props(flags: u16, set: Option<u16>) -> u32
+    ensures { result ≡ props_of flags set }
+{
+    if flags & USE_MARK_FILTERING_SET == 0 {
+        return u32::from(flags);
+    }
+    u32::from(flags) + u32::from(set.unwrap_or(u16::MAX)) * 0x1_0000
+}
+
+/// The table GSUB.
+#[derive(Debug, Drop)]
+pub struct SubstitutionTable {
+    /// Scripts, language systems and features.
+    pub inner: LayoutTable,
+    /// The lookups, in the order of their indices.
+    pub lookups: Array<SubstLookup>,
+}
+
+impl SubstitutionTable {
+    /// The lookup of an index.
+    pub fn get_lookup(&self, index: u16) -> Option<&SubstLookup>
+        ensures { option_copied result ≡ slice_get self.now.lookups index }
+    {
+        self.lookups.get(usize::from(index))
+    }
+}

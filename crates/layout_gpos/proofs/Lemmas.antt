@@ -1,0 +1,6 @@
+-- Lemmas.
+pub mod Read
+pub mod Nearest
+pub mod Placed
+pub mod Performed
+pub mod Left

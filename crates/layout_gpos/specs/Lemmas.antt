@@ -1,5 +1,0 @@
-pub mod Read
-pub mod Nearest
-pub mod Placed
-pub mod Performed
-pub mod Left

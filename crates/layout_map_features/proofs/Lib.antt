@@ -1,0 +1,4 @@
+pub mod Rising
+pub mod Grouping
+pub mod Threading
+pub mod Bits

@@ -1,0 +1,48 @@
+ghost use Rattle.std.specs.Prelude.{◌≡◌, [], ◌∷◌};
+ghost use Rattle.layout_map_features.specs.Laws.{LookupsRise, OwnBitsAreApart, OwnBitsAreFree, TagsRise};
+
+use crate::flags::{
+    F_GLOBAL, F_GLOBAL_HAS_FALLBACK, F_GLOBAL_MANUAL_JOINERS, F_GLOBAL_SEARCH, F_HAS_FALLBACK,
+    F_MANUAL_JOINERS, F_MANUAL_ZWJ, F_MANUAL_ZWNJ, F_NONE, F_PER_SYLLABLE, F_RANDOM,
+};
+
+/// Bits of a feature's own are no glyph flags, and not the global bit.
+pub fn own_bits_are_free()
+    ensures { OwnBitsAreFree }
+{}
+
+/// Two features that have bits of their own share none.
+pub fn own_bits_are_apart()
+    ensures { OwnBitsAreApart }
+{}
+
+/// The tags of merged requests rise strictly.
+#[tactic(auto, using(crate::proofs::Rising::tags_rise))]
+pub fn tags_rise()
+    ensures { TagsRise }
+{}
+
+/// The lookups of a stage rise strictly, and the table has them.
+#[tactic(auto, using(crate::proofs::Rising::lookups_rise))]
+pub fn lookups_rise()
+    ensures { LookupsRise }
+{}
+
+/// The flags of requests: one bit each, and three sums of them.
+pub fn feature_flag_numbers() -> [u32; 11]
+    ensures { result ≡ 0 ∷ 1 ∷ 2 ∷ 4 ∷ 8 ∷ 12 ∷ 13 ∷ 3 ∷ 16 ∷ 32 ∷ 64 ∷ [] }
+{
+    [
+        F_NONE,
+        F_GLOBAL,
+        F_HAS_FALLBACK,
+        F_MANUAL_ZWNJ,
+        F_MANUAL_ZWJ,
+        F_MANUAL_JOINERS,
+        F_GLOBAL_MANUAL_JOINERS,
+        F_GLOBAL_HAS_FALLBACK,
+        F_GLOBAL_SEARCH,
+        F_RANDOM,
+        F_PER_SYLLABLE,
+    ]
+}

@@ -1,0 +1,5 @@
+-- Lemmas.
+pub mod Nearest
+pub mod Met
+pub mod Passage
+pub mod Steps

@@ -1,0 +1,139 @@
+-- A lookup on its way over a buffer.
+use Rattle.std.proofs.Common.{ℕ, suc, ◌≡◌, ◌≤◌, ◌<◌, ◌+◌, ◌-◌, true, false, nat_le, length, Ok, Err, refl, sym, ap, subst, ◌∙◌, arith}
+use Rattle.std.specs.Prelude.{Result, IfErr, IsErrAnd}
+use Rattle.std.proofs.lemmas.List.{map-append, length-map, length-replicate}
+use Rattle.buffer_glyphs.specs.declared.cause.ShapeCause.{ShapeCause}
+use Rattle.buffer_glyphs.specs.declared.cause.ShapeCause.TheVariants.{TooLong}
+use Rattle.buffer_glyphs.specs.Items.{item_of, strip, zero_position}
+use Rattle.buffer_core.specs.Readings.{View, Reading, Run, Follows, read_of}
+use Rattle.buffer_core.specs.Steps.{follows_then, follows_from, refused_first, refused_then}
+use Rattle.buffer_core.specs.Sides.{Sides, all_glyphs, run_of, items_of, with_output, synced, fits_joined, zero_positions}
+use Rattle.layout_match.specs.Applied.{Applied}
+use Rattle.buffer_stages.specs.Actions.{view_at, uncut, Action}
+use Rattle.buffer_stages.specs.Buffers.{are_glyphs, IsStill}
+use Rattle.buffer_stages.specs.Performing.{cut_with}
+use Rattle.buffer_stages.specs.Ready.{IsReady, IsDoneFrom, run_with}
+use Rattle.buffer_stages.proofs.Lemmas.Frames.{still_settings, still_refused, still_direction}
+use Rattle.layout_match.specs.Trying.{tried, unplaced, joined, looked_up}
+use Rattle.layout_match.specs.Steps.{IsStep, IsGivenUp}
+
+-- from an opened buffer so many steps are left
+pub record IsUnderway (act : Action) (count left before after : ℕ) (start now : Sides) : Type 0 where
+  pub still : IsStill start now
+  pub enough : length now.ahead ≤ left
+  pub numbers : are_glyphs (items_of start) ≡ true → are_glyphs (items_of now) ≡ true
+  pub follows : (v : View) (final : Run) → Follows (tried act v left (cut_with after now)) (run_of now) final → Follows (tried act v count (cut_with before start)) (run_of start) final
+  pub refuses : (v : View) (cause : ShapeCause) → tried act v left (cut_with after now) ≡ Err cause → tried act v count (cut_with before start) ≡ Err cause
+
+pub begun : (act : Action) (count r : ℕ) (s : Sides) → length s.ahead ≡ count → IsUnderway act count (count - 0) r r s s
+begun act count r s len =
+    let zero_left : count - 0 ≡ count = omega arith in
+    record {
+      still = refl;
+      enough = omega (arith, len);
+      numbers = λ h. h;
+      follows = λ v final f. rw zero_left at f;
+      refuses = λ v cause e. rw zero_left at e;
+    }
+
+pub gone_on : (act : Action) (count at before r after : ℕ) (start now next : Sides) → at < count → IsUnderway act count (count - at) before r start now → IsStep act r after now next → IsUnderway act count (count - (at + 1)) before after start next
+gone_on act count at before r after start now next lt u st =
+    let more : count - at ≡ suc (count - (at + 1)) = omega (arith, lt) in
+    record {
+      still = st.still ∙ u.still;
+      enough = omega (arith, u.enough, st.less, lt);
+      numbers = λ h. st.numbers (u.numbers h);
+      follows = λ v final f. u.follows v final (rw more (st.follows v (count - (at + 1)) final f));
+      refuses = λ v cause e. u.refuses v cause (rw more (st.refuses v (count - (at + 1)) cause e));
+    }
+
+-- ---- at the end nothing is left to read
+
+pub ended_view : (r : ℕ) (v : View) (start now : Sides) → v.direction ≡ start.direction → IsStill start now → (run_with r now).view ≡ view_at v (cut_with r now)
+ended_view r v start now direction still =
+    ap (λ xs. record (run_with r now).view { items = xs }) (map-append item_of now.behind now.ahead) ∙ ap (λ d. record (view_at v (cut_with r now)) { direction = d }) (still_direction start now still ∙ sym direction)
+
+-- the whole list was tried
+walked : (act : Action) (r after : ℕ) (s mid : Sides) → IsUnderway act (length (all_glyphs s)) 0 r after (with_output s) mid → Follows (tried act (run_with r s).view (length (strip (all_glyphs s))) (uncut (run_with r s).view)) (run_with r s) (run_with after mid)
+walked act r after s mid u =
+    let v = (run_with r s).view in
+    let ended : Follows (tried act v 0 (cut_with after mid)) (run_of mid) (run_with after mid) = ap (λ w. record { view = w; origins = (run_of mid).origins; level = mid.level; asks = (run_of mid).asks }) (ended_view after v (with_output s) mid refl u.still) in
+    let first : Follows (tried act v (length (all_glyphs s)) (uncut v)) (run_with r s) (run_with after mid) = follows_from (tried act v (length (all_glyphs s)) (uncut v)) (run_of (with_output s)) (run_with r s) (run_with after mid) refl refl refl (u.follows v (run_with after mid) ended) in
+    let n : length (strip (all_glyphs s)) ≡ length (all_glyphs s) = length-map (all_glyphs s) item_of in
+    rw n first
+
+-- whether both sides are one list is what the reading asks
+room_of : (r : ℕ) (mid : Sides) → mid.has_refused ≡ false → nat_le (length (items_of mid)) mid.max_len ≡ fits_joined mid
+room_of r mid unrefused =
+    let n : length (items_of mid) ≡ length (all_glyphs mid) + 0 = length-map (all_glyphs mid) item_of ∙ sym (omega arith) in
+    ap (λ k. nat_le k mid.max_len) n ∙ rw unrefused refl
+
+synced_follows : (r : ℕ) (mid : Sides) → mid.has_refused ≡ false → fits_joined mid ≡ true → Follows (read_of joined (run_with r mid)) (run_with r mid) (run_with r (synced mid))
+synced_follows r mid unrefused room =
+    let v = (run_with r mid).view in
+    let is : joined v ≡ Ok (unplaced v) = rw (room_of r mid unrefused ∙ room) refl in
+    let P : Reading → Type 0 = λ q. Follows q (run_with r mid) (run_with r (synced mid)) in
+    subst P (sym is) (ap (λ n. record (run_with r mid) { view = record v { positions = zero_positions n } }) (sym (length-map (all_glyphs mid) item_of)))
+
+-- a lookup that was tried everywhere, once both sides are one list
+pub looked_up_done : (act : Action) (count at r after : ℕ) (s mid new : Sides) → IsReady s → count ≡ length (all_glyphs s) → count ≤ at → IsUnderway act count (count - at) r after (with_output s) mid → fits_joined mid ≡ true → new ≡ synced mid
+    → IsDoneFrom r after (looked_up act) s new
+looked_up_done act count at r after s mid new ready len le u room is =
+    let nothing_left : count - at ≡ 0 = omega (arith, le) in
+    let L : ℕ → Type 0 = λ n. IsUnderway act count n r after (with_output s) mid in
+    let C : ℕ → Type 0 = λ n. IsUnderway act n 0 r after (with_output s) mid in
+    let done : IsUnderway act (length (all_glyphs s)) 0 r after (with_output s) mid = subst C len (subst L nothing_left u) in
+    let unrefused : mid.has_refused ≡ false = still_refused (with_output s) mid u.still ∙ ready.unrefused in
+    let v = (run_with r s).view in
+    let P : Sides → Type 0 = λ t. IsDoneFrom r after (looked_up act) s t in
+    let kept : IsDoneFrom r after (looked_up act) s (synced mid) = record {
+      follows = follows_then (tried act v (length v.items) (uncut v)) joined (run_with r s) (run_with after mid) (run_with after (synced mid)) (walked act r after s mid done) (synced_follows after mid unrefused room);
+      ready = record { closed = refl; front = refl; unread = refl; placed = length-replicate (length (all_glyphs mid)) zero_position; unrefused = unrefused };
+      settings = still_settings (with_output s) mid u.still;
+      numbers = u.numbers;
+    } in
+    subst P (sym is) kept
+
+-- both sides are too long for one list
+pub looked_up_long : (act : Action) (count at r after : ℕ) (s mid : Sides) → IsReady s → count ≡ length (all_glyphs s) → count ≤ at → IsUnderway act count (count - at) r after (with_output s) mid → fits_joined mid ≡ false
+    → read_of (looked_up act) (run_with r s) ≡ Err TooLong
+looked_up_long act count at r after s mid ready len le u full =
+    let nothing_left : count - at ≡ 0 = omega (arith, le) in
+    let L : ℕ → Type 0 = λ n. IsUnderway act count n r after (with_output s) mid in
+    let C : ℕ → Type 0 = λ n. IsUnderway act n 0 r after (with_output s) mid in
+    let done : IsUnderway act (length (all_glyphs s)) 0 r after (with_output s) mid = subst C len (subst L nothing_left u) in
+    let unrefused : mid.has_refused ≡ false = still_refused (with_output s) mid u.still ∙ ready.unrefused in
+    let v = (run_with r s).view in
+    let long : joined (run_with after mid).view ≡ Err TooLong = rw (room_of after mid unrefused ∙ full) refl in
+    refused_then (tried act v (length v.items) (uncut v)) joined (run_with r s) (run_with after mid) TooLong (walked act r after s mid done) long
+
+-- a step was refused
+pub looked_up_refused : (act : Action) (count at r after : ℕ) (s now : Sides) (cause : ShapeCause) → count ≡ length (all_glyphs s) → at < count → IsUnderway act count (count - at) r after (with_output s) now → IsGivenUp act after now cause
+    → read_of (looked_up act) (run_with r s) ≡ Err cause
+looked_up_refused act count at r after s now cause len lt u given =
+    let v = (run_with r s).view in
+    let more : count - at ≡ suc (count - (at + 1)) = omega (arith, lt) in
+    let here : tried act v (count - at) (cut_with after now) ≡ Err cause = rw more (given v (count - (at + 1))) in
+    let all : tried act v count (uncut v) ≡ Err cause = u.refuses v cause here in
+    let n : length v.items ≡ count = length-map (all_glyphs s) item_of ∙ sym len in
+    refused_first (tried act v (length v.items) (uncut v)) joined cause (rw n all)
+
+-- ---- with what a lookup is applied may be told otherwise
+
+pub gone_on_by : (act : Applied → Action) (a b : Applied) (count at before r after : ℕ) (start now next : Sides) → at < count → a ≡ b → IsUnderway (act b) count (count - at) before r start now → IsStep (act a) r after now next
+    → IsUnderway (act b) count (count - (at + 1)) before after start next
+gone_on_by act a b count at before r after start now next lt same u st =
+    let P : Applied → Type 0 = λ k. IsStep (act k) r after now next in
+    gone_on (act b) count at before r after start now next lt u (subst P same st)
+
+pub looked_up_refused_by : (act : Applied → Action) (a b : Applied) (count at r after : ℕ) (s start now : Sides) (cause : ShapeCause) → count ≡ length (all_glyphs s) → at < count → a ≡ b → start ≡ with_output s → IsUnderway (act b) count (count - at) r after start now
+    → IsGivenUp (act a) after now cause → read_of (looked_up (act b)) (run_with r s) ≡ Err cause
+looked_up_refused_by act a b count at r after s start now cause len lt same opened u given =
+    let P : Applied → Type 0 = λ k. IsGivenUp (act k) after now cause in
+    let S : Sides → Type 0 = λ t. IsUnderway (act b) count (count - at) r after t now in
+    looked_up_refused (act b) count at r after s now cause len lt (subst S opened u) (subst P same given)
+
+-- an error that `?` passes on
+pub passed_on : {A E : Type 0} (r : Result A E) (e : E) (P : E → Type 0) → IsErrAnd r (λ (f : E). f ≡ e) → P e → IfErr r P
+passed_on (Ok a) e P h p = tt
+passed_on (Err f) e P h p = subst P (sym h) p

@@ -1,2 +1,0 @@
--- Lemmas for what stands above: searches from a glyph on and back.
-pub mod Nearest

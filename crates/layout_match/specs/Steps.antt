@@ -1,0 +1,21 @@
+-- What one step of a lookup over a buffer leaves.
+use Rattle.std.specs.Prelude.{ℕ, suc, ◌≡◌, ◌≤◌, ◌-◌, true, length, Err}
+use Rattle.buffer_glyphs.specs.declared.cause.ShapeCause.{ShapeCause}
+use Rattle.buffer_core.specs.Readings.{View, Run, Follows}
+use Rattle.buffer_core.specs.Sides.{Sides, items_of, run_of}
+use Rattle.buffer_stages.specs.Actions.{Action}
+use Rattle.buffer_stages.specs.Buffers.{are_glyphs, IsStill}
+use Rattle.buffer_stages.specs.Performing.{cut_with}
+use Rattle.layout_match.specs.Trying.{tried}
+
+-- a rule was tried at the cursor, which went on where it could, from one random state to another; whatever follows, or is refused, from here does so from before
+pub record IsStep (act : Action) (before after : ℕ) (old new : Sides) : Type 0 where
+  pub still : IsStill old new
+  pub less : length new.ahead ≤ length old.ahead - 1
+  pub numbers : are_glyphs (items_of old) ≡ true → are_glyphs (items_of new) ≡ true
+  pub follows : (v : View) (n : ℕ) (final : Run) → Follows (tried act v n (cut_with after new)) (run_of new) final → Follows (tried act v (suc n) (cut_with before old)) (run_of old) final
+  pub refuses : (v : View) (n : ℕ) (cause : ShapeCause) → tried act v n (cut_with after new) ≡ Err cause → tried act v (suc n) (cut_with before old) ≡ Err cause
+
+-- a rule gave up at the cursor, or what is done could have no item more
+abbrev pub IsGivenUp : Action → ℕ → Sides → ShapeCause → Type 0
+IsGivenUp act before old cause = (v : View) (n : ℕ) → tried act v (suc n) (cut_with before old) ≡ Err cause

@@ -1,0 +1,60 @@
+-- A rule tried at each index of a list, from the left, where its lookup meets the item (OpenType, chapter 2).
+use Rattle.std.specs.Prelude.{ℕ, suc, zero, ◌&&◌, Bool, not, nat_le, if◌then◌else◌, List, [], ◌∷◌, length, Ok, Err}
+use Rattle.buffer_glyphs.specs.declared.cause.ShapeCause.TheVariants.{TooLong}
+use Rattle.buffer_glyphs.specs.Items.{Item}
+use Rattle.buffer_glyphs.specs.Parts.{first_of}
+use Rattle.buffer_core.specs.Readings.{View, Read, Reading, Stage, then_reading, and_then, with_events}
+use Rattle.buffer_core.specs.Sides.{zero_positions}
+use Rattle.layout_match.specs.Applied.{Applied}
+use Rattle.layout_match.specs.Searches.{is_left_out}
+use Rattle.buffer_stages.specs.Masks.{shares_mask}
+use Rattle.buffer_stages.specs.Actions.{Cut, view_at, uncut, past_item, Outcome, Passes, Acts, Refuses, Action, at_first, within_limit}
+
+-- ---- at a cut
+
+-- a lookup meets an item that has its mask and that its flag doesn't leave out
+abbrev pub meets : Applied → Item → Bool
+meets a x = shares_mask a.mask x.mask && not (is_left_out a.props a.font.gdef.sets x)
+
+-- a rule is tried at an item that its lookup meets
+abbrev pub at_met : Applied → Action → Item → Action
+at_met a act x c = if meets a x then act c else Passes []
+
+abbrev pub met_first : Applied → Action → Action
+met_first a act c = at_first (at_met a act) (first_of c.rest) c
+
+-- ---- at all indices
+
+-- what comes of a list once a rule was tried
+abbrev pub after_outcome : Outcome → (Cut → Reading) → View → Cut → Reading
+after_outcome (Passes events) next v c = then_reading (with_events events (view_at v c)) (next c)
+after_outcome (Acts cut events) next v c = then_reading (with_events events (view_at v cut)) (next cut)
+after_outcome (Refuses cause) next v c = Err cause
+
+-- a rule that passes goes over the item, where what is done may have one more
+abbrev pub gone_over : Outcome → Cut → Outcome
+gone_over (Passes events) c = within_limit 1 c (Acts (past_item c) events)
+gone_over (Acts cut events) c = Acts cut events
+gone_over (Refuses cause) c = Refuses cause
+
+-- at the end of the list nothing is tried
+abbrev pub tried_before : Action → (Cut → Reading) → View → List Item → Cut → Reading
+tried_before act next v [] c = Ok (with_events [] (view_at v c))
+tried_before act next v (x ∷ rest) c = after_outcome (gone_over (act c) c) next v c
+
+-- a rule tried at so many indices at most, the first of them the cut
+abbrev pub tried : Action → View → ℕ → Cut → Reading
+tried act v zero c = Ok (with_events [] (view_at v c))
+tried act v (suc n) c = tried_before act (tried act v n) v c.rest c
+
+-- what came of a list stands at positions of nothing
+abbrev pub unplaced : View → Read
+unplaced v = with_events [] (record v { positions = zero_positions (length v.items) })
+
+-- what is done and what is left become one list, which may have so many items
+abbrev pub joined : Stage
+joined v = if nat_le (length v.items) v.max_len then Ok (unplaced v) else Err TooLong
+
+-- a rule tried at each index of a list once, from the left; what it made is not tried again
+abbrev pub looked_up : Action → Stage
+looked_up act v = and_then (tried act v (length v.items) (uncut v)) joined

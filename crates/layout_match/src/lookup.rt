@@ -1,0 +1,15 @@
+ghost use Rattle.std.specs.Prelude.{◌≡◌};
+ghost use Rattle.buffer_glyphs.specs.Items.{item_of};
+ghost use Rattle.layout_match.specs.Applied.{applied_of};
+ghost use Rattle.layout_match.specs.Trying.{meets};
+
+use crate::hb_ot_apply_context_t;
+use buffer_glyphs::info::hb_glyph_info_t;
+use buffer_stages::mask::shares_mask;
+
+/// Whether a lookup meets a glyph: it has a bit of the lookup's mask, and the lookup's flag doesn't leave it out.
+pub fn meets(ctx: &hb_ot_apply_context_t, info: &hb_glyph_info_t) -> bool
+    ensures { result ≡ meets (applied_of ctx.now) (item_of info.now) }
+{
+    shares_mask(ctx.lookup_mask(), info) && ctx.check_glyph_property(info, ctx.lookup_props)
+}

@@ -1,0 +1,4 @@
+-- Lemmas.
+pub mod Linked
+pub mod Turned
+pub mod Joined

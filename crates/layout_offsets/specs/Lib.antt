@@ -1,0 +1,4 @@
+pub mod Sums
+pub mod Zeroing
+pub mod Links
+pub mod Cursive

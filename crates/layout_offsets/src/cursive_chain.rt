@@ -1,0 +1,235 @@
+//! Cursive joins, on a list of positions.
+ghost use Rattle.std.specs.Prelude.{◌≡◌, ◌<◌, true, length};
+ghost use Rattle.buffer_common.specs.Direction.{is_forward, is_horizontal};
+ghost use Rattle.layout_offsets.specs.Links.{is_near, parent, without_link};
+ghost use Rattle.layout_offsets.specs.Cursive.{cursive_hung, first_ends, freed, freed_across, joined_across, joined_advances, joined_at, negated, old_parent, shifted, chain_turned, turned_across, turned_from, turned_link};
+
+use crate::links::{is_near, link_to, linked};
+use crate::sums::{minus, plus};
+use buffer_common::direction::Direction;
+use buffer_glyphs::position::GlyphPosition;
+use layout_subtables::value::Anchor;
+
+/// What a glyph hangs on.
+fn parent(positions: &[GlyphPosition], at: usize) -> Option<usize>
+    requires here { at < length positions.now }
+    ensures { result ≡ parent at positions.now }
+{
+    linked(positions.len(), at, positions[at].attach_chain)
+}
+
+/// What a cursive child hangs on, up to before the new parent.
+fn old_parent(positions: &[GlyphPosition], stop: usize, at: usize) -> Option<usize>
+    requires here { at < length positions.now }
+    ensures { result ≡ old_parent stop at positions.now }
+{
+    if positions[at].attach_type != 2 {
+        return None;
+    }
+    let there = parent(positions, at)?;
+    if there == stop { None } else { Some(there) }
+}
+
+fn negated(a: i32) -> i32
+    ensures { result ≡ negated a }
+{
+    minus(0, a)
+}
+
+fn turned_link(link: i16) -> i16
+    ensures { result ≡ turned_link link }
+{
+    link.wrapping_neg()
+}
+
+fn turned_across(across: bool, child: GlyphPosition, position: GlyphPosition) -> GlyphPosition
+    ensures { result ≡ turned_across across child position }
+{
+    let mut there = position;
+    if across {
+        there.y_offset = negated(child.y_offset);
+    } else {
+        there.x_offset = negated(child.x_offset);
+    }
+    there.attach_chain = turned_link(child.attach_chain);
+    there.attach_type = child.attach_type;
+    there
+}
+
+fn without_link(position: GlyphPosition) -> GlyphPosition
+    ensures { result ≡ without_link position }
+{
+    let mut free = position;
+    free.attach_chain = 0;
+    free
+}
+
+/// A glyph becomes another, and the chain from it on is turned round, over at most as many links as there are glyphs.
+#[tactic(auto, using(crate::proofs::Lemmas::Turned::turned_none, crate::proofs::Lemmas::Turned::turned_stops, crate::proofs::Lemmas::Turned::turned_goes, crate::proofs::Lemmas::Turned::old_parent_within))]
+fn turn_from(
+    positions: &mut [GlyphPosition],
+    stop: usize,
+    start: usize,
+    first: GlyphPosition,
+    direction: Direction,
+)
+    requires here { start < length positions.old }
+    ensures { positions.new ≡ turned_from direction stop (length positions.old) start first positions.old }
+{
+    let mut new = first;
+    let mut at = start;
+    for _done in 0..positions.len() {
+        let old = positions[at];
+        let next = old_parent(positions, stop, at);
+        positions[at] = new;
+        let Some(there) = next else {
+            return;
+        };
+        new = turned_across(direction.is_horizontal(), old, positions[there]);
+        at = there;
+    }
+}
+
+/// Turns the chain of a cursive child round: the child is then its root. It ends since each link is left but once, and
+/// after as many links as there are glyphs at the latest.
+pub fn turn(positions: &mut [GlyphPosition], stop: usize, start: usize, direction: Direction)
+    requires here { start < length positions.old }
+    ensures { positions.new ≡ chain_turned direction stop start positions.old }
+{
+    let first = positions[start];
+    if first.attach_type == 2 {
+        turn_from(positions, stop, start, without_link(first), direction);
+    }
+}
+
+fn joined_across(across: bool, x: i32, y: i32, link: i16, position: GlyphPosition) -> GlyphPosition
+    ensures { result ≡ joined_across across x y link position }
+{
+    let mut there = position;
+    if across {
+        there.y_offset = y;
+    } else {
+        there.x_offset = x;
+    }
+    there.attach_chain = link;
+    there.attach_type = 2;
+    there
+}
+
+fn freed_across(across: bool, position: GlyphPosition) -> GlyphPosition
+    ensures { result ≡ freed_across across position }
+{
+    let mut there = position;
+    if across {
+        there.y_offset = 0;
+    } else {
+        there.x_offset = 0;
+    }
+    there.attach_chain = 0;
+    there
+}
+
+fn join_at(
+    positions: &mut [GlyphPosition],
+    child: usize,
+    to: usize,
+    x: i32,
+    y: i32,
+    direction: Direction,
+)
+    requires child { child < length positions.old }
+    requires near { is_near child to ≡ true }
+    ensures { positions.new ≡ joined_at direction child to x y positions.old }
+{
+    let link = link_to(child, to);
+    let position = positions[child];
+    positions[child] = joined_across(direction.is_horizontal(), x, y, link, position);
+}
+
+/// Unlinks a parent that hung on its child.
+fn free(positions: &mut [GlyphPosition], child: usize, to: usize, direction: Direction)
+    requires to { to < length positions.old }
+    ensures { positions.new ≡ freed direction child to positions.old }
+{
+    let Some(there) = parent(positions, to) else {
+        return;
+    };
+    if there == child {
+        let position = positions[to];
+        positions[to] = freed_across(direction.is_horizontal(), position);
+    }
+}
+
+/// Hangs a cursive child on its parent at an offset across the line, once its old chain is turned round. A parent that hung
+/// on the child is unlinked. Where the parent is too far nothing changes.
+pub fn hang_child(
+    positions: &mut [GlyphPosition],
+    child: usize,
+    to: usize,
+    x: i32,
+    y: i32,
+    direction: Direction,
+)
+    requires child { child < length positions.old }
+    requires to { to < length positions.old }
+    ensures { positions.new ≡ cursive_hung direction child to x y positions.old }
+{
+    if !is_near(child, to) {
+        return;
+    }
+    turn(positions, to, child, direction);
+    join_at(positions, child, to, x, y, direction);
+    free(positions, child, to, direction);
+}
+
+fn first_ends(across: bool, exit: Anchor, position: GlyphPosition) -> GlyphPosition
+    ensures { result ≡ first_ends across exit position }
+{
+    let mut there = position;
+    if across {
+        there.x_advance = plus(i32::from(exit.x), position.x_offset);
+    } else {
+        there.y_advance = plus(i32::from(exit.y), position.y_offset);
+    }
+    there
+}
+
+fn shifted(across: bool, anchor: Anchor, position: GlyphPosition) -> GlyphPosition
+    ensures { result ≡ shifted across anchor position }
+{
+    let mut there = position;
+    if across {
+        let before = plus(i32::from(anchor.x), position.x_offset);
+        there.x_advance = minus(position.x_advance, before);
+        there.x_offset = minus(position.x_offset, before);
+    } else {
+        let before = plus(i32::from(anchor.y), position.y_offset);
+        there.y_advance = minus(position.y_advance, before);
+        there.y_offset = minus(position.y_offset, before);
+    }
+    there
+}
+
+/// The first glyph ends at its exit and the second begins at its entry, along the line.
+pub fn join_advances(
+    positions: &mut [GlyphPosition],
+    first: usize,
+    exit: Anchor,
+    second: usize,
+    entry: Anchor,
+    direction: Direction,
+)
+    requires first { first < length positions.old }
+    requires second { second < length positions.old }
+    ensures { positions.new ≡ joined_advances (is_forward direction) (is_horizontal direction) first exit second entry
+        positions.old }
+{
+    let across = direction.is_horizontal();
+    if direction.is_forward() {
+        positions[first] = first_ends(across, exit, positions[first]);
+        positions[second] = shifted(across, entry, positions[second]);
+    } else {
+        positions[first] = shifted(across, exit, positions[first]);
+        positions[second] = first_ends(across, entry, positions[second]);
+    }
+}

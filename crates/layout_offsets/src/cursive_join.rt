@@ -1,0 +1,69 @@
+//! Cursive joins of two glyphs, on a list of positions.
+ghost use Rattle.std.specs.Prelude.{◌≡◌, ◌<◌, ◌-ℤ◌, length};
+ghost use Rattle.layout_offsets.specs.Cursive.{hangs_earlier, joined, joined_on};
+
+use crate::cursive_chain::{hang_child, join_advances};
+use buffer_common::direction::Direction;
+use buffer_glyphs::position::GlyphPosition;
+use layout_common::flags::RIGHT_TO_LEFT;
+use layout_subtables::value::Anchor;
+
+/// Whether a lookup with this flag hangs the earlier of two glyphs on the later one.
+pub fn hangs_earlier(props: u32) -> bool
+    ensures { result ≡ hangs_earlier props }
+{
+    props & u32::from(RIGHT_TO_LEFT) != 0
+}
+
+fn difference(a: i16, b: i16) -> i32
+    ensures { result ≡ a -ℤ b }
+{
+    i32::from(a) - i32::from(b)
+}
+
+/// Two glyphs that are joined: their indices, where the first is left and the second is entered.
+#[derive(Clone, Copy)]
+pub struct Joint {
+    pub first: usize,
+    pub exit: Anchor,
+    pub second: usize,
+    pub entry: Anchor,
+}
+
+/// Hangs one of two glyphs on the other: the earlier on the later, or the later on the earlier.
+fn join_on(positions: &mut [GlyphPosition], earlier: bool, join: Joint, direction: Direction)
+    requires first { join.first < length positions.old }
+    requires second { join.second < length positions.old }
+    ensures { positions.new ≡ joined_on direction earlier join.first join.exit join.second join.entry positions.old }
+{
+    let Joint {
+        first,
+        exit,
+        second,
+        entry,
+    } = join;
+    if earlier {
+        let (x, y) = (difference(entry.x, exit.x), difference(entry.y, exit.y));
+        hang_child(positions, first, second, x, y, direction);
+        return;
+    }
+    let (x, y) = (difference(exit.x, entry.x), difference(exit.y, entry.y));
+    hang_child(positions, second, first, x, y, direction);
+}
+
+/// Joins two glyphs along the line and across it.
+pub fn join_both(positions: &mut [GlyphPosition], earlier: bool, join: Joint, direction: Direction)
+    requires first { join.first < length positions.old }
+    requires second { join.second < length positions.old }
+    ensures { positions.new ≡ joined direction earlier join.first join.exit join.second join.entry positions.old }
+{
+    join_advances(
+        positions,
+        join.first,
+        join.exit,
+        join.second,
+        join.entry,
+        direction,
+    );
+    join_on(positions, earlier, join, direction);
+}

@@ -1,4 +1,0 @@
-pub mod Fits
-pub mod Marks
-pub mod Pairs
-pub mod PairSearch

@@ -1,6 +1,0 @@
-use Rattle.std.proofs.Common.{rules}
-use Rattle.layout_stages.proofs.Ways.{no_table}
-use Rattle.layout_stages.proofs.substitute.apply_stage.Goals as goal
-
-pub returns-in-None-clause-ok : goal.returns-in-None-clause-ok
-returns-in-None-clause-ok c = no_table c.args.ctx.now.face.now c.args.lookups.now c.args.ctx.now.random_state c.args.buffer.now c.requires.ready (search rules)

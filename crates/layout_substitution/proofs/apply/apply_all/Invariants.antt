@@ -1,0 +1,12 @@
+use Rattle.std.proofs.Common.{◌≡◌, drop}
+use Rattle.layout_map_features.specs.declared.per_table.TableIndex.TheVariants.{GSUB}
+use Rattle.layout_substitution.proofs.Stages.{AreDone}
+use Rattle.layout_substitution.proofs.apply.apply_all.Given as goal
+
+-- the lookups so far were done
+abbrev pub invariant-loop-lookup_map : goal.invariant-loop-lookup_map
+invariant-loop-lookup_map l = record {
+  done : AreDone l.fn.ctx.face.now l.table.lookups l.lookups (drop l.lookup_map-index l.lookups) l.fn.ctx.random_state l.ctx.random_state l.fn.buffer l.buffer;
+  substitution : l.ctx.table_index ≡ GSUB;
+  face : l.ctx.face.now ≡ l.fn.ctx.face.now;
+}

@@ -1,0 +1,100 @@
+-- A lookup by the type of its subtables, tried at each index of a list, and the lookups of a stage (OpenType, chapter 2).
+use Rattle.std.specs.Prelude.{ℕ, suc, zero, if◌then◌else◌, List, [], ◌∷◌, length, take, drop, Option, Some, None, Ok, slice_get}
+use Rattle.buffer_core.specs.Readings.{View, Reading, Stage, and_then, with_events, as_it_is}
+use Rattle.layout_face.specs.declared.parts.FaceParts.{FaceParts}
+use Rattle.layout_face.specs.Lookups.{props_of, is_reverse}
+use Rattle.layout_face.specs.declared.substitution.SubstLookup.{SubstLookup}
+use Rattle.layout_face.specs.declared.substitution.SubstitutionSubtables.{SubstitutionSubtables}
+use Rattle.layout_face.specs.declared.substitution.SubstitutionSubtables.TheVariants.{Single, Multiple, Alternate, Ligature, Context, ChainContext, ReverseChainSingle}
+use Rattle.layout_map_features.specs.declared.lookup.lookup_map_t.{lookup_map_t}
+use Rattle.layout_map_features.specs.declared.per_table.TableIndex.TheVariants.{GSUB}
+use Rattle.layout_match.specs.Applied.{Applied}
+use Rattle.buffer_stages.specs.Actions.{Cut, whole, view_at, uncut_placed, Passes, Action, first_rule}
+use Rattle.layout_contexts.specs.Chains.{context_subtable}
+use Rattle.layout_gsub.specs.Alternates.{alternate_subtable}
+use Rattle.layout_gsub.specs.Ligating.{ligature_subst}
+use Rattle.layout_gsub.specs.Multiples.{multiple_subtable}
+use Rattle.layout_gsub.specs.Replacements.{single_subtable}
+use Rattle.layout_gsub.specs.Reverses.{reverse_subtable}
+use Rattle.layout_match.specs.Trying.{met_first, after_outcome, looked_up}
+
+-- with what a lookup of a map is applied: its flag is its own, its mask and how it passes over joiners, keeps to syllables and draws are the map's
+abbrev pub applied_by : FaceParts → SubstLookup → lookup_map_t → Applied
+applied_by font lookup m = record { table = GSUB; font = font; props = props_of lookup.flags lookup.mark_filtering_set; mask = m.mask; auto_zwnj = m.auto_zwnj; auto_zwj = m.auto_zwj; per_syllable = m.per_syllable; random = m.random }
+
+-- ---- at a cut
+
+-- of a lookup that is tried from the left the first subtable that acts; contexts apply the lookups that may be nested in it
+abbrev pub first_subtable : Option (ℕ → Action) → Applied → SubstitutionSubtables → Action
+first_subtable nest a (Single subtables) c = first_rule (λ s. single_subtable a.font.gdef s.rows) subtables c
+first_subtable nest a (Multiple subtables) c = first_rule (λ s. multiple_subtable a.font.gdef s.rows) subtables c
+first_subtable nest a (Alternate subtables) c = first_rule (λ s. alternate_subtable a.font.gdef a.random a.mask s.rows) subtables c
+first_subtable nest a (Ligature subtables) c = first_rule (ligature_subst a) subtables c
+first_subtable nest a (Context subtables) c = first_rule (context_subtable nest a) subtables c
+first_subtable nest a (ChainContext subtables) c = first_rule (context_subtable nest a) subtables c
+first_subtable nest a (ReverseChainSingle subtables) c = Passes []
+
+-- a lookup nested in another keeps to that one's mask, joiners and syllables, and has a flag of its own
+abbrev pub under_flag : SubstLookup → Applied → Applied
+under_flag lookup a = record a { props = props_of lookup.flags lookup.mark_filtering_set }
+
+-- what a nested lookup does at its place, where neither mask nor flag is asked; an index without one does nothing
+abbrev pub nested_lookup : (Applied → Option (ℕ → Action)) → Option SubstLookup → Applied → Action
+nested_lookup below None a c = Passes []
+nested_lookup below (Some lookup) a c = first_subtable (below (under_flag lookup a)) (under_flag lookup a) lookup.subtables c
+
+-- what the lookups of a table do that are nested in one, each by its index, at so many levels; at none there are none
+unfoldable pub nested : List SubstLookup → ℕ → Applied → Option (ℕ → Action)
+nested table zero a = None
+nested table (suc depth) a = Some (λ i. nested_lookup (nested table depth) (slice_get table i) a)
+
+-- what those do in which lookups may be nested at so many levels more
+abbrev pub nested_act : List SubstLookup → ℕ → Applied → ℕ → Action
+nested_act table depth a i c = nested_lookup (nested table depth) (slice_get table i) a c
+
+-- of a lookup that is tried from the right: reverse chaining substitution alone
+abbrev pub first_reverse : Applied → SubstitutionSubtables → Action
+first_reverse a (ReverseChainSingle subtables) c = first_rule (reverse_subtable a) subtables c
+first_reverse a (Single subtables) c = Passes []
+first_reverse a (Multiple subtables) c = Passes []
+first_reverse a (Alternate subtables) c = Passes []
+first_reverse a (Ligature subtables) c = Passes []
+first_reverse a (Context subtables) c = Passes []
+first_reverse a (ChainContext subtables) c = Passes []
+
+-- what a lookup does at an index, from the left and from the right; lookups may be nested in it 64 levels deep
+abbrev pub lookup_action : List SubstLookup → Applied → SubstLookup → Action
+lookup_action table a lookup c = met_first a (first_subtable (nested table 64 a) a lookup.subtables) c
+
+abbrev pub reverse_action : Applied → SubstLookup → Action
+reverse_action a lookup c = met_first a (first_reverse a lookup.subtables) c
+
+-- ---- at all indices
+
+-- the list cut at an index
+abbrev pub cut_at : ℕ → Cut → Cut
+cut_at i c = record c { front = take i (whole c); rest = drop i (whole c) }
+
+-- a rule tried in place at so many indices from the first, the last of them first
+abbrev pub tried_back : Action → View → ℕ → Cut → Reading
+tried_back act v zero c = Ok (with_events [] (view_at v c))
+tried_back act v (suc n) c = after_outcome (act (cut_at n c)) (tried_back act v n) v (cut_at n c)
+
+-- a rule tried at each index of a list once, from the right
+abbrev pub looked_back : Action → Stage
+looked_back act v = tried_back act v (length v.items) (uncut_placed v)
+
+abbrev pub lookup_applied : List SubstLookup → Applied → SubstLookup → Stage
+lookup_applied table a lookup v = if is_reverse lookup.subtables then looked_back (reverse_action a lookup) v else looked_up (lookup_action table a lookup) v
+
+-- ---- lookups of a stage
+
+-- an index without a lookup does nothing
+abbrev pub lookup_stage : FaceParts → List SubstLookup → Option SubstLookup → lookup_map_t → Stage
+lookup_stage font table None m v = as_it_is v
+lookup_stage font table (Some lookup) m v = lookup_applied table (applied_by font lookup m) lookup v
+
+-- lookups of a table, one after another
+abbrev pub lookups_stage : FaceParts → List SubstLookup → List lookup_map_t → Stage
+lookups_stage font table [] v = as_it_is v
+lookups_stage font table (m ∷ maps) v = and_then (lookup_stage font table (slice_get table m.index) m v) (lookups_stage font table maps)

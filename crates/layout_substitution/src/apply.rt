@@ -1,0 +1,128 @@
+ghost use Rattle.std.specs.Prelude.{◌≡◌, ◌≢◌, true, Err, slice_get, IfErr, OnOk};
+ghost use Rattle.buffer_core.specs.Readings.{read_of};
+ghost use Rattle.buffer_core.specs.Sides.{items_of, run_of};
+ghost use Rattle.layout_map_features.specs.declared.per_table.TableIndex.TheVariants.{GSUB};
+ghost use Rattle.layout_match.specs.Applied.{applied_of};
+ghost use Rattle.buffer_stages.specs.Buffers.{are_glyphs};
+ghost use Rattle.buffer_stages.specs.Ready.{IsDone, IsDoneFrom, IsReady, run_with};
+ghost use Rattle.buffer_stages.specs.Pauses.{with_own_random};
+ghost use Rattle.layout_substitution.specs.Lookups.{applied_by, lookup_applied, lookup_stage, lookups_stage};
+
+use crate::backward::apply_backward;
+use crate::forward::apply_forward;
+use buffer_core::buffer::hb_buffer_t;
+use buffer_glyphs::cause::ShapeCause;
+use layout_face::Face;
+use layout_face::substitution::{SubstLookup, SubstitutionTable};
+use layout_map_features::lookup::lookup_map_t;
+use layout_map_features::per_table::TableIndex;
+use layout_match::hb_ot_apply_context_t;
+
+/// Tries a lookup at each glyph: one of reverse chaining from the right in place, any other from the left.
+fn apply_everywhere(
+    table: &SubstitutionTable,
+    lookup: &SubstLookup,
+    ctx: &mut hb_ot_apply_context_t,
+    buffer: &mut hb_buffer_t,
+) -> Result<(), ShapeCause>
+    requires ready { IsReady buffer.old }
+    requires numbers { are_glyphs (items_of buffer.old) ≡ true }
+    ensures ok { OnOk result
+        (IsDoneFrom ctx.old.random_state ctx.new.random_state (lookup_applied table.now.lookups
+        (applied_of ctx.old) lookup.now) buffer.old buffer.new) }
+    ensures err { IfErr result (λ e. e ≢ ShapeCause.OutOfMemory → read_of
+        (lookup_applied table.now.lookups (applied_of ctx.old) lookup.now) (run_with ctx.old.random_state buffer.old)
+        ≡ Err e) }
+    ensures context { applied_of ctx.new ≡ applied_of ctx.old }
+{
+    if lookup.is_reverse() {
+        apply_backward(lookup, ctx, buffer);
+        return Ok(());
+    }
+    apply_forward(table, lookup, ctx, buffer)
+}
+
+/// Applies a lookup from now on: with its own flag, and what the map says of it.
+fn set_lookup(ctx: &mut hb_ot_apply_context_t, lookup: &SubstLookup, lookup_map: &lookup_map_t)
+    requires { ctx.old.table_index ≡ GSUB }
+    ensures applied { applied_of ctx.new ≡ applied_by ctx.old.face.now lookup.now lookup_map.now }
+    ensures state { ctx.new.random_state ≡ ctx.old.random_state }
+{
+    ctx.set_lookup_mask(lookup_map.mask);
+    ctx.auto_zwnj = lookup_map.auto_zwnj;
+    ctx.auto_zwj = lookup_map.auto_zwj;
+    ctx.random = lookup_map.random;
+    ctx.per_syllable = lookup_map.per_syllable;
+    ctx.lookup_props = lookup.props();
+}
+
+/// Does what the lookup at an index of the table does; an index without one does nothing.
+fn apply_mapped(
+    table: &SubstitutionTable,
+    lookup_map: &lookup_map_t,
+    ctx: &mut hb_ot_apply_context_t,
+    buffer: &mut hb_buffer_t,
+) -> Result<(), ShapeCause>
+    requires substitution { ctx.old.table_index ≡ GSUB }
+    requires ready { IsReady buffer.old }
+    requires numbers { are_glyphs (items_of buffer.old) ≡ true }
+    ensures ok { OnOk result
+        (IsDoneFrom ctx.old.random_state ctx.new.random_state (lookup_stage ctx.old.face.now table.now.lookups
+        (slice_get table.now.lookups lookup_map.now.index) lookup_map.now) buffer.old buffer.new) }
+    ensures err { IfErr result (λ e. e ≢ ShapeCause.OutOfMemory
+        → read_of (lookup_stage ctx.old.face.now table.now.lookups
+        (slice_get table.now.lookups lookup_map.now.index) lookup_map.now)
+        (run_with ctx.old.random_state buffer.old) ≡ Err e) }
+    ensures table { ctx.new.table_index ≡ GSUB }
+    ensures face { ctx.new.face.now ≡ ctx.old.face.now }
+{
+    let Some(lookup) = table.get_lookup(lookup_map.index) else {
+        return Ok(());
+    };
+    set_lookup(ctx, lookup, lookup_map);
+    apply_everywhere(table, lookup, ctx, buffer)
+}
+
+pub(crate) fn apply_all(
+    table: &SubstitutionTable,
+    lookups: &[lookup_map_t],
+    ctx: &mut hb_ot_apply_context_t,
+    buffer: &mut hb_buffer_t,
+) -> Result<(), ShapeCause>
+    requires substitution { ctx.old.table_index ≡ GSUB }
+    requires ready { IsReady buffer.old }
+    requires numbers { are_glyphs (items_of buffer.old) ≡ true }
+    ensures ok { OnOk result
+        (IsDoneFrom ctx.old.random_state ctx.new.random_state (lookups_stage
+        ctx.old.face.now table.now.lookups lookups.now) buffer.old buffer.new) }
+    ensures err { IfErr result (λ e. e ≢ ShapeCause.OutOfMemory → read_of
+        (lookups_stage ctx.old.face.now table.now.lookups lookups.now)
+        (run_with ctx.old.random_state buffer.old) ≡ Err e) }
+    ensures table { ctx.new.table_index ≡ GSUB }
+    ensures face { ctx.new.face.now ≡ ctx.old.face.now }
+{
+    for lookup_map in lookups {
+        apply_mapped(table, lookup_map, ctx, buffer)?;
+    }
+    Ok(())
+}
+
+/// Does lookups of the font's table of substitution one after another, each at all glyphs: from the left, going on after what
+/// it made, or where it is of reverse chaining from the right. Alternates are drawn from 1 on. It refuses for want of memory,
+/// or where a list would have more glyphs than it may.
+pub fn apply_lookups(
+    face: &Face,
+    table: &SubstitutionTable,
+    lookups: &[lookup_map_t],
+    buffer: &mut hb_buffer_t,
+) -> Result<(), ShapeCause>
+    requires ready { IsReady buffer.old }
+    requires numbers { are_glyphs (items_of buffer.old) ≡ true }
+    ensures ok { OnOk result
+        (IsDone (with_own_random (lookups_stage face.now table.now.lookups lookups.now)) buffer.old buffer.new) }
+    ensures err { IfErr result (λ e. e ≢ ShapeCause.OutOfMemory → read_of
+        (with_own_random (lookups_stage face.now table.now.lookups lookups.now)) (run_of buffer.old) ≡ Err e) }
+{
+    let mut ctx = hb_ot_apply_context_t::new(TableIndex::GSUB, face);
+    apply_all(table, lookups, &mut ctx, buffer)
+}

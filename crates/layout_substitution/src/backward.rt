@@ -1,0 +1,42 @@
+ghost use Rattle.std.specs.Prelude.{ℕ, ◌≡◌, ◌<◌, true, false, length};
+ghost use Rattle.buffer_core.specs.Sides.{all_glyphs, items_of};
+ghost use Rattle.layout_match.specs.Applied.{applied_of};
+ghost use Rattle.buffer_stages.specs.Buffers.{are_glyphs};
+ghost use Rattle.buffer_stages.specs.Ready.{IsDoneFrom, IsReady};
+ghost use Rattle.layout_substitution.specs.Lookups.{looked_back, reverse_action};
+ghost use Rattle.layout_substitution.specs.Steps.{IsStepBack};
+
+use crate::lookup::apply_reverse_lookup;
+use buffer_core::buffer::hb_buffer_t;
+use layout_face::substitution::SubstLookup;
+use layout_match::hb_ot_apply_context_t;
+
+/// Tries a lookup of reverse chaining in place at an index.
+#[tactic(auto, using(crate::proofs::Back::step_back))]
+fn apply_at(lookup: &SubstLookup, at: usize, ctx: &hb_ot_apply_context_t, buffer: &mut hb_buffer_t)
+    requires closed { buffer.old.is_open ≡ false }
+    requires there { at < length (all_glyphs buffer.old) }
+    requires numbers { are_glyphs (items_of buffer.old) ≡ true }
+    ensures { IsStepBack (reverse_action (applied_of ctx.now) lookup.now) at buffer.old buffer.new }
+{
+    let _before = buffer.pos_slice();
+    let _ = buffer.move_to(at);
+    let _acted = apply_reverse_lookup(lookup, ctx, buffer);
+    let _after = buffer.pos_slice();
+}
+
+/// Tries a lookup of reverse chaining at each glyph once, from the right, in place. It takes no memory.
+#[tactic(auto, using(crate::proofs::Back::back_begun))]
+pub fn apply_backward(lookup: &SubstLookup, ctx: &hb_ot_apply_context_t, buffer: &mut hb_buffer_t)
+    requires ready { IsReady buffer.old }
+    requires numbers { are_glyphs (items_of buffer.old) ≡ true }
+    ensures { (r : ℕ) → IsDoneFrom r r (looked_back
+        (reverse_action (applied_of ctx.now) lookup.now)) buffer.old buffer.new }
+{
+    for at in (0..buffer.len()).rev() {
+        apply_at(lookup, at, ctx, buffer);
+    }
+    let _end = buffer.len();
+    let _ = buffer.move_to(0);
+    let _after = buffer.pos_slice();
+}

@@ -1,0 +1,74 @@
+ghost use Rattle.std.specs.Prelude.{◌≡◌, ◌≢◌, true, false, Err, IfErr, OnOk};
+ghost use Rattle.buffer_core.specs.Readings.{read_of};
+ghost use Rattle.buffer_core.specs.Sides.{items_of};
+ghost use Rattle.layout_match.specs.Applied.{applied_of};
+ghost use Rattle.buffer_stages.specs.Buffers.{are_glyphs};
+ghost use Rattle.buffer_stages.specs.Ready.{IsDoneFrom, IsReady, run_with};
+ghost use Rattle.layout_match.specs.Trying.{looked_up};
+ghost use Rattle.layout_substitution.specs.Lookups.{lookup_action};
+ghost use Rattle.layout_match.specs.Steps.{IsGivenUp, IsStep};
+
+use crate::lookup::apply_lookup;
+use buffer_core::buffer::hb_buffer_t;
+use buffer_glyphs::cause::ShapeCause;
+use layout_face::substitution::{SubstLookup, SubstitutionTable};
+use layout_match::hb_ot_apply_context_t;
+
+/// Tries a lookup at the cursor, and goes on over the glyph where it doesn't act; at the end it does nothing.
+#[tactic(auto, using(layout_match::proofs::Lemmas::Steps::step_ended))]
+fn apply_next(
+    table: &SubstitutionTable,
+    lookup: &SubstLookup,
+    ctx: &mut hb_ot_apply_context_t,
+    buffer: &mut hb_buffer_t,
+) -> Result<(), ShapeCause>
+    requires open { buffer.old.is_open ≡ true }
+    requires unrefused { buffer.old.has_refused ≡ false }
+    requires numbers { are_glyphs (items_of buffer.old) ≡ true }
+    ensures ok { OnOk result (IsStep (lookup_action table.now.lookups
+        (applied_of ctx.old) lookup.now) ctx.old.random_state ctx.new.random_state buffer.old buffer.new) }
+    ensures err { IfErr result (λ e. e ≢ ShapeCause.OutOfMemory
+        → IsGivenUp (lookup_action table.now.lookups (applied_of ctx.old) lookup.now)
+        ctx.old.random_state buffer.old e) }
+    ensures context { applied_of ctx.new ≡ applied_of ctx.old }
+{
+    if buffer.idx() == buffer.len() {
+        return Ok(());
+    }
+    if apply_lookup(table, lookup, ctx, buffer)? {
+        return Ok(());
+    }
+    if !buffer.next_glyph()? {
+        return Err(ShapeCause::TooLong);
+    }
+    Ok(())
+}
+
+/// Tries a lookup at each glyph once, from the left, and goes on after what it made.
+#[tactic(auto, using(layout_match::proofs::Lemmas::Passage::begun))]
+pub fn apply_forward(
+    table: &SubstitutionTable,
+    lookup: &SubstLookup,
+    ctx: &mut hb_ot_apply_context_t,
+    buffer: &mut hb_buffer_t,
+) -> Result<(), ShapeCause>
+    requires ready { IsReady buffer.old }
+    requires numbers { are_glyphs (items_of buffer.old) ≡ true }
+    ensures ok { OnOk result
+        (IsDoneFrom ctx.old.random_state ctx.new.random_state (looked_up
+        (lookup_action table.now.lookups (applied_of ctx.old) lookup.now)) buffer.old buffer.new) }
+    ensures err { IfErr result (λ e. e ≢ ShapeCause.OutOfMemory → read_of (looked_up
+        (lookup_action table.now.lookups (applied_of ctx.old) lookup.now)) (run_with ctx.old.random_state buffer.old)
+        ≡ Err e) }
+    ensures context { applied_of ctx.new ≡ applied_of ctx.old }
+{
+    let count = buffer.len();
+    buffer.clear_output()?;
+    for _ in 0..count {
+        apply_next(table, lookup, ctx, buffer)?;
+    }
+    if !buffer.sync()? {
+        return Err(ShapeCause::TooLong);
+    }
+    Ok(())
+}

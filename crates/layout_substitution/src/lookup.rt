@@ -1,0 +1,106 @@
+ghost use Rattle.std.specs.Prelude.{◌≡◌, ◌<◌, true, false, length};
+ghost use Rattle.buffer_core.specs.Sides.{items_of};
+ghost use Rattle.layout_match.specs.Applied.{applied_of};
+ghost use Rattle.buffer_stages.specs.Actions.{first_rule};
+ghost use Rattle.buffer_stages.specs.Buffers.{are_glyphs, cut_of};
+ghost use Rattle.buffer_stages.specs.Performing.{Performs, PerformsInPlace, cut_with};
+ghost use Rattle.layout_gsub.specs.Reverses.{reverse_subtable};
+ghost use Rattle.layout_substitution.specs.Lookups.{first_reverse, lookup_action, reverse_action};
+
+use crate::nested::apply_subtables;
+use buffer_core::buffer::hb_buffer_t;
+use buffer_glyphs::cause::ShapeCause;
+use layout_contexts::MAX_NESTING_LEVEL;
+use layout_face::substitution::{SubstLookup, SubstitutionSubtables, SubstitutionTable};
+use layout_gsub::reverse::apply_reverse_chain_single_subst;
+use layout_match::hb_ot_apply_context_t;
+use layout_match::lookup::meets;
+use layout_subtables::reverse::ReverseChainSubst;
+
+/// Does what a lookup does at the glyph at the cursor, where it meets it: what the first of its subtables does that acts. It
+/// tells whether one acted; where none did it changed glyph flags alone. It refuses for want of memory, or where the output
+/// would have more glyphs than it may.
+#[tactic(auto, using(crate::proofs::First::lookup_passes, crate::proofs::First::lookup_tries))]
+pub fn apply_lookup(
+    table: &SubstitutionTable,
+    lookup: &SubstLookup,
+    ctx: &mut hb_ot_apply_context_t,
+    buffer: &mut hb_buffer_t,
+) -> Result<bool, ShapeCause>
+    requires open { buffer.old.is_open ≡ true }
+    requires unrefused { buffer.old.has_refused ≡ false }
+    requires there { 0 < length buffer.old.ahead }
+    requires number { are_glyphs (items_of buffer.old) ≡ true }
+    ensures performs { Performs (lookup_action table.now.lookups (applied_of ctx.old) lookup.now
+        (cut_with ctx.old.random_state buffer.old)) result ctx.old.random_state ctx.new.random_state buffer.old
+        buffer.new }
+    ensures context { applied_of ctx.new ≡ applied_of ctx.old }
+{
+    if !meets(ctx, buffer.cur(0)) {
+        return Ok(false);
+    }
+    apply_subtables(table, MAX_NESTING_LEVEL, &lookup.subtables, ctx, buffer)
+}
+
+/// Does what the first of some subtables of reverse chaining does that acts, in place.
+#[tactic(auto, using(crate::proofs::InPlace::put_first, crate::proofs::InPlace::put_numbers, crate::proofs::InPlace::put_there, crate::proofs::InPlace::put_acted, crate::proofs::InPlace::put_all))]
+fn apply_reverse_subtables(
+    subtables: &[ReverseChainSubst],
+    ctx: &hb_ot_apply_context_t,
+    buffer: &mut hb_buffer_t,
+) -> bool
+    requires there { 0 < length buffer.old.ahead }
+    requires number { are_glyphs (items_of buffer.old) ≡ true }
+    ensures { PerformsInPlace (first_rule (reverse_subtable (applied_of ctx.now)) subtables.now
+        (cut_of buffer.old)) result buffer.old buffer.new }
+{
+    for subtable in subtables {
+        if apply_reverse_chain_single_subst(subtable, ctx, buffer) {
+            return true;
+        }
+    }
+    false
+}
+
+/// The same where the subtables are of reverse chaining; others do nothing from the right.
+fn apply_reverse_substitution(
+    subtables: &SubstitutionSubtables,
+    ctx: &hb_ot_apply_context_t,
+    buffer: &mut hb_buffer_t,
+) -> bool
+    requires there { 0 < length buffer.old.ahead }
+    requires number { are_glyphs (items_of buffer.old) ≡ true }
+    ensures { PerformsInPlace (first_reverse (applied_of ctx.now) subtables.now
+        (cut_of buffer.old)) result buffer.old buffer.new }
+{
+    match subtables {
+        SubstitutionSubtables::ReverseChainSingle(subtables) => {
+            apply_reverse_subtables(subtables.as_slice(), ctx, buffer)
+        }
+        SubstitutionSubtables::Single(_)
+        | SubstitutionSubtables::Multiple(_)
+        | SubstitutionSubtables::Alternate(_)
+        | SubstitutionSubtables::Ligature(_)
+        | SubstitutionSubtables::Context(_)
+        | SubstitutionSubtables::ChainContext(_) => false,
+    }
+}
+
+/// Does what a lookup of reverse chaining does at the glyph at the cursor of a buffer without an output, where it meets it. It
+/// tells whether it acted; where it didn't, it changed glyph flags alone. It takes no memory.
+#[tactic(auto, using(crate::proofs::First::reverse_passes, crate::proofs::First::reverse_tries))]
+pub fn apply_reverse_lookup(
+    lookup: &SubstLookup,
+    ctx: &hb_ot_apply_context_t,
+    buffer: &mut hb_buffer_t,
+) -> bool
+    requires there { 0 < length buffer.old.ahead }
+    requires number { are_glyphs (items_of buffer.old) ≡ true }
+    ensures { PerformsInPlace (reverse_action (applied_of ctx.now) lookup.now
+        (cut_of buffer.old)) result buffer.old buffer.new }
+{
+    if !meets(ctx, buffer.cur(0)) {
+        return false;
+    }
+    apply_reverse_substitution(&lookup.subtables, ctx, buffer)
+}

@@ -1,0 +1,278 @@
+//! Lookups that are nested in others: a rule of a context applies them at the places of its match.
+ghost use Rattle.std.specs.Prelude.{◌≡◌, ◌≢◌, ◌≤◌, ◌<◌, ◌+◌, true, false, length, slice_get, IfOk, Some, None};
+ghost use Rattle.buffer_core.specs.Sides.{items_of};
+ghost use Rattle.layout_contexts.specs.Chains.{chain_rule, context_subtable};
+ghost use Rattle.layout_contexts.specs.Fitting.{chain_of};
+ghost use Rattle.layout_contexts.specs.Inside.{StaysInside};
+ghost use Rattle.layout_contexts.specs.Nested.{each_nested, one_record};
+ghost use Rattle.layout_contexts.specs.Nesting.{Walking};
+ghost use Rattle.layout_contexts.specs.Places.{AreRising};
+ghost use Rattle.layout_contexts.specs.Rules.{chains_of};
+ghost use Rattle.layout_match.specs.Applied.{applied_of};
+ghost use Rattle.buffer_stages.specs.Actions.{first_rule, whole};
+ghost use Rattle.buffer_stages.specs.Buffers.{are_glyphs, cut_of};
+ghost use Rattle.buffer_stages.specs.Performing.{Performs, cut_with};
+ghost use Rattle.layout_substitution.specs.Lookups.{first_subtable, nested, nested_act, nested_lookup};
+
+use buffer_core::buffer::hb_buffer_t;
+use buffer_glyphs::cause::ShapeCause;
+use layout_contexts::{
+    ChainRule, begin_record, glyph_count, go_behind, is_tried_at, match_chain, rule_at, rule_count,
+    settle_match,
+};
+use layout_face::substitution::{SubstitutionSubtables, SubstitutionTable};
+use layout_gsub::apply::apply_first;
+use layout_match::{MatchPositions, hb_ot_apply_context_t};
+use layout_subtables::context::{ContextSubtable, SequenceLookupRecord};
+
+/// Applies the lookup at an index of the table at the cursor, nested in another: with its own flag, and without asking
+/// whether it meets the glyph there. An index without one does nothing. Lookups may be nested in it so many levels deep.
+#[cycle(nested)]
+fn recurse(
+    table: &SubstitutionTable,
+    depth: u32,
+    index: u16,
+    ctx: &mut hb_ot_apply_context_t,
+    buffer: &mut hb_buffer_t,
+) -> Result<bool, ShapeCause>
+    requires open { buffer.old.is_open ≡ true }
+    requires unrefused { buffer.old.has_refused ≡ false }
+    requires there { 0 < length buffer.old.ahead }
+    requires number { are_glyphs (items_of buffer.old) ≡ true }
+    ensures performs { Performs (nested_lookup (nested table.now.lookups depth) (slice_get table.now.lookups index)
+        (applied_of ctx.old) (cut_with ctx.old.random_state buffer.old)) result ctx.old.random_state
+        ctx.new.random_state buffer.old buffer.new }
+    ensures context { applied_of ctx.new ≡ applied_of ctx.old }
+{
+    let Some(lookup) = table.get_lookup(index) else {
+        return Ok(false);
+    };
+    let lookup_props = ctx.lookup_props;
+    ctx.lookup_props = lookup.props();
+    let applied = apply_subtables(table, depth, &lookup.subtables, ctx, buffer);
+    ctx.lookup_props = lookup_props;
+    applied
+}
+
+/// Does what the first of the subtables does that acts, at the cursor. Reverse chaining is not applied from the left.
+#[cycle(nested)]
+pub(crate) fn apply_subtables(
+    table: &SubstitutionTable,
+    depth: u32,
+    subtables: &SubstitutionSubtables,
+    ctx: &mut hb_ot_apply_context_t,
+    buffer: &mut hb_buffer_t,
+) -> Result<bool, ShapeCause>
+    requires open { buffer.old.is_open ≡ true }
+    requires unrefused { buffer.old.has_refused ≡ false }
+    requires there { 0 < length buffer.old.ahead }
+    requires number { are_glyphs (items_of buffer.old) ≡ true }
+    ensures performs { Performs (first_subtable (nested table.now.lookups depth (applied_of ctx.old))
+        (applied_of ctx.old) subtables.now (cut_with ctx.old.random_state buffer.old)) result
+        ctx.old.random_state ctx.new.random_state buffer.old buffer.new }
+    ensures context { applied_of ctx.new ≡ applied_of ctx.old }
+{
+    match subtables {
+        SubstitutionSubtables::Single(subtables) => {
+            apply_first(subtables.as_slice(), ctx, buffer)
+        }
+        SubstitutionSubtables::Multiple(subtables) => {
+            apply_first(subtables.as_slice(), ctx, buffer)
+        }
+        SubstitutionSubtables::Alternate(subtables) => {
+            apply_first(subtables.as_slice(), ctx, buffer)
+        }
+        SubstitutionSubtables::Ligature(subtables) => {
+            apply_first(subtables.as_slice(), ctx, buffer)
+        }
+        SubstitutionSubtables::Context(subtables)
+        | SubstitutionSubtables::ChainContext(subtables) => {
+            apply_contexts(table, depth, subtables.as_slice(), ctx, buffer)
+        }
+        SubstitutionSubtables::ReverseChainSingle(_) => Ok(false),
+    }
+}
+
+/// Does what the first of some contexts does that acts.
+#[cycle(nested)]
+#[tactic(auto, using(buffer_stages::proofs::Lemmas::Performed::passed_first, buffer_stages::proofs::Lemmas::Performed::passed_open, buffer_stages::proofs::Lemmas::Performed::passed_unrefused, buffer_stages::proofs::Lemmas::Performed::passed_numbers))]
+fn apply_contexts(
+    table: &SubstitutionTable,
+    depth: u32,
+    subtables: &[ContextSubtable],
+    ctx: &mut hb_ot_apply_context_t,
+    buffer: &mut hb_buffer_t,
+) -> Result<bool, ShapeCause>
+    requires open { buffer.old.is_open ≡ true }
+    requires unrefused { buffer.old.has_refused ≡ false }
+    requires there { 0 < length buffer.old.ahead }
+    requires number { are_glyphs (items_of buffer.old) ≡ true }
+    ensures performs { Performs (first_rule (context_subtable (nested table.now.lookups depth
+        (applied_of ctx.old)) (applied_of ctx.old)) subtables.now (cut_with ctx.old.random_state buffer.old))
+        result ctx.old.random_state ctx.new.random_state buffer.old buffer.new }
+    ensures context { applied_of ctx.new ≡ applied_of ctx.old }
+{
+    for subtable in subtables {
+        match apply_context(table, depth, subtable, ctx, buffer) {
+            Ok(false) => {}
+            Ok(true) => return Ok(true),
+            Err(cause) => return Err(cause),
+        }
+    }
+    Ok(false)
+}
+
+/// Does what a context does at the cursor: where its rules are tried there, what the first does that matches.
+#[cycle(nested)]
+fn apply_context(
+    table: &SubstitutionTable,
+    depth: u32,
+    subtable: &ContextSubtable,
+    ctx: &mut hb_ot_apply_context_t,
+    buffer: &mut hb_buffer_t,
+) -> Result<bool, ShapeCause>
+    requires open { buffer.old.is_open ≡ true }
+    requires unrefused { buffer.old.has_refused ≡ false }
+    requires there { 0 < length buffer.old.ahead }
+    requires number { are_glyphs (items_of buffer.old) ≡ true }
+    ensures performs { Performs (context_subtable (nested table.now.lookups depth (applied_of ctx.old))
+        (applied_of ctx.old) subtable.now (cut_with ctx.old.random_state buffer.old)) result
+        ctx.old.random_state ctx.new.random_state buffer.old buffer.new }
+    ensures context { applied_of ctx.new ≡ applied_of ctx.old }
+{
+    if !is_tried_at(subtable, buffer.cur(0)) {
+        return Ok(false);
+    }
+    apply_rules(table, depth, subtable, ctx, buffer)
+}
+
+/// Does what the first of a context's rules does that matches at the cursor.
+#[cycle(nested)]
+#[tactic(auto, using(buffer_stages::proofs::Lemmas::Performed::passed_first, buffer_stages::proofs::Lemmas::Performed::passed_open, buffer_stages::proofs::Lemmas::Performed::passed_unrefused, buffer_stages::proofs::Lemmas::Performed::passed_numbers))]
+fn apply_rules(
+    table: &SubstitutionTable,
+    depth: u32,
+    subtable: &ContextSubtable,
+    ctx: &mut hb_ot_apply_context_t,
+    buffer: &mut hb_buffer_t,
+) -> Result<bool, ShapeCause>
+    requires open { buffer.old.is_open ≡ true }
+    requires unrefused { buffer.old.has_refused ≡ false }
+    requires there { 0 < length buffer.old.ahead }
+    requires number { are_glyphs (items_of buffer.old) ≡ true }
+    ensures performs { Performs (first_rule (chain_rule (nested table.now.lookups depth (applied_of
+        ctx.old)) (applied_of ctx.old)) (chains_of subtable.now) (cut_with ctx.old.random_state buffer.old)) result
+        ctx.old.random_state ctx.new.random_state buffer.old buffer.new }
+    ensures context { applied_of ctx.new ≡ applied_of ctx.old }
+{
+    for i in 0..rule_count(subtable) {
+        let rule = rule_at(subtable, i);
+        match apply_rule(table, depth, &rule, ctx, buffer) {
+            Ok(false) => {}
+            Ok(true) => return Ok(true),
+            Err(cause) => return Err(cause),
+        }
+    }
+    Ok(false)
+}
+
+/// Does what a rule does at the cursor: where it matches, its records, and then the cursor goes behind the match.
+#[cycle(nested)]
+fn apply_rule(
+    table: &SubstitutionTable,
+    depth: u32,
+    rule: &ChainRule,
+    ctx: &mut hb_ot_apply_context_t,
+    buffer: &mut hb_buffer_t,
+) -> Result<bool, ShapeCause>
+    requires open { buffer.old.is_open ≡ true }
+    requires unrefused { buffer.old.has_refused ≡ false }
+    requires there { 0 < length buffer.old.ahead }
+    requires number { are_glyphs (items_of buffer.old) ≡ true }
+    ensures performs { Performs (chain_rule (nested table.now.lookups depth (applied_of ctx.old))
+        (applied_of ctx.old) (chain_of rule.now) (cut_with ctx.old.random_state buffer.old)) result
+        ctx.old.random_state ctx.new.random_state buffer.old buffer.new }
+    ensures context { applied_of ctx.new ≡ applied_of ctx.old }
+{
+    let mut places = MatchPositions::new();
+    let Some(end) = match_chain(ctx, rule, buffer, &mut places) else {
+        return Ok(false);
+    };
+    match apply_records(table, depth, rule.records, end, &mut places, ctx, buffer) {
+        Ok(at) => go_behind(at, buffer),
+        Err(cause) => Err(cause),
+    }
+}
+
+/// Applies the records of a rule in their order, where lookups may be nested; answers where the match ends then.
+#[cycle(nested)]
+fn apply_records(
+    table: &SubstitutionTable,
+    depth: u32,
+    records: &[SequenceLookupRecord],
+    end: usize,
+    places: &mut MatchPositions,
+    ctx: &mut hb_ot_apply_context_t,
+    buffer: &mut hb_buffer_t,
+) -> Result<usize, ShapeCause>
+    requires open { buffer.old.is_open ≡ true }
+    requires unrefused { buffer.old.has_refused ≡ false }
+    requires number { are_glyphs (items_of buffer.old) ≡ true }
+    requires rising { AreRising 0 (length (whole (cut_of buffer.old)) + 1) places.old.items }
+    requires within { end ≤ length (whole (cut_of buffer.old)) }
+    ensures walks { Walking (each_nested (nested table.now.lookups depth (applied_of ctx.old)) records.now
+        (cut_with ctx.old.random_state buffer.old) places.old.items end) result places.new.items ctx.new.random_state
+        buffer.old buffer.new }
+    ensures inside { IfOk result (λ at. StaysInside (length (whole (cut_of buffer.old)))
+        (length (whole (cut_of buffer.new))) places.old.items places.new.items end at) }
+    ensures context { applied_of ctx.new ≡ applied_of ctx.old }
+{
+    if depth == 0 {
+        return Ok(end);
+    }
+    let mut at = end;
+    for lookup_record in records {
+        match apply_record(table, depth - 1, lookup_record, at, places, ctx, buffer) {
+            Ok(settled) => at = settled,
+            Err(cause) => return Err(cause),
+        }
+    }
+    Ok(at)
+}
+
+/// Applies a record of a rule: its lookup, at its place; answers where the match ends then.
+#[cycle(nested)]
+#[tactic(auto, using(layout_contexts::proofs::Lemmas::Nested::begun_open, layout_contexts::proofs::Lemmas::Nested::begun_unrefused, layout_contexts::proofs::Lemmas::Nested::begun_numbers, layout_contexts::proofs::Lemmas::Nested::begun_there))]
+fn apply_record(
+    table: &SubstitutionTable,
+    depth: u32,
+    lookup_record: &SequenceLookupRecord,
+    end: usize,
+    places: &mut MatchPositions,
+    ctx: &mut hb_ot_apply_context_t,
+    buffer: &mut hb_buffer_t,
+) -> Result<usize, ShapeCause>
+    requires open { buffer.old.is_open ≡ true }
+    requires unrefused { buffer.old.has_refused ≡ false }
+    requires number { are_glyphs (items_of buffer.old) ≡ true }
+    requires rising { AreRising 0 (length (whole (cut_of buffer.old)) + 1) places.old.items }
+    requires within { end ≤ length (whole (cut_of buffer.old)) }
+    ensures walks { Walking (one_record (nested_act table.now.lookups depth (applied_of ctx.old)) lookup_record.now
+        (cut_with ctx.old.random_state buffer.old) places.old.items end) result places.new.items ctx.new.random_state
+        buffer.old buffer.new }
+    ensures inside { IfOk result (λ at. StaysInside (length (whole (cut_of buffer.old)))
+        (length (whole (cut_of buffer.new))) places.old.items places.new.items end at) }
+    ensures context { applied_of ctx.new ≡ applied_of ctx.old }
+{
+    let place = match begin_record(lookup_record, places, buffer) {
+        Ok(Some(place)) => place,
+        Ok(None) => return Ok(end),
+        Err(cause) => return Err(cause),
+    };
+    let before = glyph_count(buffer);
+    match recurse(table, depth, lookup_record.lookup_index, ctx, buffer) {
+        Ok(true) => Ok(settle_match(lookup_record, place, before, end, places, buffer)),
+        Ok(false) => Ok(end),
+        Err(cause) => Err(cause),
+    }
+}

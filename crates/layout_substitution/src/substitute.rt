@@ -1,0 +1,94 @@
+//! Substitution, stage after stage.
+ghost use Rattle.std.specs.Prelude.{ℕ, ◌≡◌, ◌≢◌, true, Err, IfErr, OnOk};
+ghost use Rattle.std.specs.Option.{option_map_or, option_map};
+ghost use Rattle.buffer_core.specs.Readings.{read_of};
+ghost use Rattle.buffer_core.specs.Sides.{items_of, run_of};
+ghost use Rattle.layout_map_features.specs.declared.per_table.TableIndex.TheVariants.{GSUB};
+ghost use Rattle.buffer_stages.specs.Buffers.{are_glyphs};
+ghost use Rattle.buffer_stages.specs.Ready.{IsDone, IsDoneFrom, IsReady, run_with};
+ghost use Rattle.layout_substitution.specs.Lookups.{lookups_stage};
+ghost use Rattle.buffer_stages.specs.Settings.{text_settings};
+ghost use Rattle.layout_substitution.specs.Substituting.{substituted_by, substitution_lookups, table_stage, table_stages};
+
+use crate::apply::apply_all;
+use buffer_core::buffer::hb_buffer_t;
+use buffer_glyphs::cause::ShapeCause;
+use buffer_stages::pause::{Pause, run_pause};
+use layout_face::Face;
+use layout_map::map::hb_ot_map_t;
+use layout_map_features::lookup::lookup_map_t;
+use layout_map_features::per_table::TableIndex;
+use layout_match::hb_ot_apply_context_t;
+
+/// Does the lookups of a stage one after another; a font without a table of substitution has none.
+fn apply_stage(
+    lookups: &[lookup_map_t],
+    ctx: &mut hb_ot_apply_context_t,
+    buffer: &mut hb_buffer_t,
+) -> Result<(), ShapeCause>
+    requires substitution { ctx.old.table_index ≡ GSUB }
+    requires ready { IsReady buffer.old }
+    requires numbers { are_glyphs (items_of buffer.old) ≡ true }
+    ensures ok { OnOk result
+        (IsDoneFrom ctx.old.random_state ctx.new.random_state (lookups_stage ctx.old.face.now
+        (substitution_lookups ctx.old.face.now) lookups.now) buffer.old buffer.new) }
+    ensures err { IfErr result (λ e. e ≢ ShapeCause.OutOfMemory → read_of (lookups_stage ctx.old.face.now
+        (substitution_lookups ctx.old.face.now) lookups.now) (run_with ctx.old.random_state buffer.old) ≡ Err e) }
+    ensures table { ctx.new.table_index ≡ GSUB }
+    ensures face { ctx.new.face.now ≡ ctx.old.face.now }
+{
+    match ctx.face.gsub() {
+        Some(table) => apply_all(table, lookups, ctx, buffer),
+        None => Ok(()),
+    }
+}
+
+/// Does the lookups of a map's stages for substitution, each stage ended by its pause.
+#[tactic(auto, using(crate::proofs::Ways::stage_lookups_refused))]
+fn apply_layout_table<P: Pause>(
+    map: &hb_ot_map_t,
+    ctx: &mut hb_ot_apply_context_t,
+    buffer: &mut hb_buffer_t,
+    pause: &P,
+) -> Result<(), ShapeCause>
+    requires substitution { ctx.old.table_index ≡ GSUB }
+    requires ready { IsReady buffer.old }
+    requires numbers { are_glyphs (items_of buffer.old) ≡ true }
+    ensures ok { OnOk result
+        (IsDoneFrom ctx.old.random_state ctx.new.random_state (table_stages ctx.old.face.now
+        (substitution_lookups ctx.old.face.now) map.now.tables.gsub (P.stage pause.now (text_settings buffer.old)) 0
+        map.now.tables.gsub.stages)
+        buffer.old buffer.new) }
+    ensures err { IfErr result (λ e. e ≢ ShapeCause.OutOfMemory → read_of (table_stages ctx.old.face.now
+        (substitution_lookups ctx.old.face.now) map.now.tables.gsub (P.stage pause.now (text_settings buffer.old)) 0
+        map.now.tables.gsub.stages)
+        (run_with ctx.old.random_state buffer.old) ≡ Err e) }
+{
+    let stages = map.stages(TableIndex::GSUB);
+    for i in 0..stages.len() {
+        apply_stage(map.stage_lookups(TableIndex::GSUB, i), ctx, buffer)?;
+        run_pause(pause, stages[i].pause, buffer)?;
+    }
+    Ok(())
+}
+
+/// Substitutes glyphs by the font's rules for the features of a map: stage after stage the stage's lookups by their
+/// indices, each at all glyphs, and then the stage's pause. One state serves all that is drawn at random in lookups. It
+/// refuses for want of memory, where a list would have more glyphs than it may, or by a pause's cause.
+pub fn substitute<P: Pause>(
+    map: &hb_ot_map_t,
+    face: &Face,
+    buffer: &mut hb_buffer_t,
+    pause: &P,
+) -> Result<(), ShapeCause>
+    requires ready { IsReady buffer.old }
+    requires numbers { are_glyphs (items_of buffer.old) ≡ true }
+    ensures ok { OnOk result (IsDone (substituted_by face.now map.now (P.stage pause.now (text_settings buffer.old)))
+        buffer.old buffer.new) }
+    ensures err { IfErr result (λ e. e ≢ ShapeCause.OutOfMemory
+        → read_of (substituted_by face.now map.now (P.stage pause.now (text_settings buffer.old))) (run_of buffer.old)
+        ≡ Err e) }
+{
+    let mut ctx = hb_ot_apply_context_t::new(TableIndex::GSUB, face);
+    apply_layout_table(map, &mut ctx, buffer, pause)
+}

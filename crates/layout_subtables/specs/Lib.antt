@@ -1,0 +1,4 @@
+pub mod Substitutions
+pub mod Fits
+pub mod Marks
+pub mod Pairs

@@ -1,0 +1,13 @@
+// The subtables of both layout tables (OpenType, GSUB and GPOS): substitutions, positions, contexts.
+#![tactic(auto)]
+
+pub mod context;
+pub mod cursive;
+mod fits;
+pub mod mark;
+pub mod pair;
+pub mod reverse;
+pub mod sequence;
+pub mod single_pos;
+pub mod single_subst;
+pub mod value;

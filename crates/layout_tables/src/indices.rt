@@ -1,0 +1,77 @@
+//! Whether the indices of a layout table stay within their lists.
+ghost use Rattle.std.specs.Prelude.{◌≡◌, true, nat_lt};
+ghost use Rattle.std.specs.List.{list_all};
+ghost use Rattle.std.specs.Option.{option_copied, option_map_or};
+ghost use Rattle.layout_tables.specs.Indices.{all_below, system_fits, script_fits, indices_fit};
+
+use crate::script::{LangSys, LangSysRecord, ScriptRecord};
+use crate::table::{FeatureRecord, LayoutTable};
+
+impl LayoutTable {
+    /// Whether the features of each language system, and the lookups of each feature, are there, in a table with so many
+    /// lookups.
+    pub fn indices_fit(&self, lookup_count: usize) -> bool
+        ensures { result ≡ indices_fit lookup_count self.now }
+    {
+        scripts_fit(self.features().len(), self.scripts())
+            && features_fit(lookup_count, self.features())
+    }
+}
+
+fn scripts_fit(count: usize, scripts: &[ScriptRecord]) -> bool
+    ensures { result ≡ list_all (λ s. script_fits count s) scripts.now }
+{
+    scripts.iter().all(|script| script_fits(count, script))
+}
+
+fn features_fit(count: usize, features: &[FeatureRecord]) -> bool
+    ensures { result ≡ list_all (λ f. all_below count f.lookups) features.now }
+{
+    features
+        .iter()
+        .all(|feature| all_below(count, feature.lookups()))
+}
+
+fn script_fits(count: usize, script: &ScriptRecord) -> bool
+    ensures { result ≡ script_fits count script.now }
+{
+    default_fits(count, script.default_lang_sys()) && systems_fit(count, script.lang_systems())
+}
+
+fn systems_fit(count: usize, systems: &[LangSysRecord]) -> bool
+    ensures { result ≡ list_all (λ s. system_fits count s.lang_sys) systems.now }
+{
+    systems
+        .iter()
+        .all(|record| system_fits(count, record.lang_sys()))
+}
+
+fn system_fits(count: usize, system: &LangSys) -> bool
+    ensures { result ≡ system_fits count system.now }
+{
+    required_fits(count, system.required_feature()) && all_below(count, system.features())
+}
+
+fn default_fits(count: usize, system: Option<&LangSys>) -> bool
+    ensures { result ≡ option_map_or (λ s. system_fits count s) (option_copied system.entry) true }
+{
+    match system {
+        Some(system) => system_fits(count, system),
+        None => true,
+    }
+}
+
+fn required_fits(count: usize, index: Option<u16>) -> bool
+    ensures { result ≡ option_map_or (λ i. nat_lt i count) index true }
+{
+    match index {
+        Some(index) => usize::from(index) < count,
+        None => true,
+    }
+}
+
+fn all_below(count: usize, indices: &[u16]) -> bool
+    ensures { result ≡ all_below count indices.now }
+{
+    indices.iter().all(|index| usize::from(*index) < count)
+}

@@ -1,0 +1,129 @@
+ghost use Rattle.std.specs.Prelude.{◌≡◌, None, true};
+ghost use Rattle.std.specs.Option.{option_copied};
+ghost use Rattle.layout_tables.specs.Keyed.{is_rising};
+ghost use Rattle.layout_tables.specs.Layout.{LigatureTable, ligature_set_of};
+
+use crate::keyed::find_keyed;
+use buffer_rows::Keyed;
+use std::marker::Model;
+
+/// A ligature: the components after the first, and the glyph that takes the place of all.
+#[derive(Debug, Drop)]
+pub struct Ligature {
+    components: Vec<u16>,
+    glyph: u16,
+}
+
+impl Model for Ligature {
+    ghost use Rattle.layout_tables.specs.Layout.{LigatureTable};
+
+    ghost Value = { LigatureTable };
+
+    ghost view = { λ l. record { components = l.components.items; glyph = l.glyph } };
+}
+
+impl Ligature {
+    /// Of the glyphs after the first, and the ligature's glyph.
+    pub fn new(components: Vec<u16>, glyph: u16) -> Ligature
+        ensures { result ≡ record { components = components.items; glyph = glyph } }
+    {
+        Ligature { components, glyph }
+    }
+
+    /// The glyphs that follow the first one.
+    pub fn components(&self) -> &[u16]
+        ensures { result.now ≡ self.now.components }
+    {
+        &self.components
+    }
+
+    /// The glyph that takes the place of all.
+    pub fn glyph(&self) -> u16
+        ensures { result ≡ self.now.glyph }
+    {
+        self.glyph
+    }
+}
+
+/// The ligatures that begin with a glyph, in the order of preference.
+#[derive(Debug, Drop)]
+pub struct LigatureSet {
+    first: u16,
+    ligatures: Vec<Ligature>,
+}
+
+impl Model for LigatureSet {
+    ghost use Rattle.layout_tables.specs.Layout.{LigatureSetTable};
+
+    ghost Value = { LigatureSetTable };
+
+    ghost view = { λ s. record { first = s.first; ligatures = s.ligatures.items } };
+}
+
+impl Keyed for LigatureSet {
+    type Key = u32;
+
+    ghost key_of = { λ s. s.first };
+
+    fn key(&self) -> u32 {
+        self.first.into()
+    }
+}
+
+impl LigatureSet {
+    /// Of the first glyph, and its ligatures by preference.
+    pub fn new(first: u16, ligatures: Vec<Ligature>) -> LigatureSet
+        ensures { result ≡ record { first = first; ligatures = ligatures.items } }
+    {
+        LigatureSet { first, ligatures }
+    }
+
+    /// The first glyph of each ligature.
+    pub fn first(&self) -> u16
+        ensures { result ≡ self.now.first }
+    {
+        self.first
+    }
+
+    /// The ligatures, the preferred one first.
+    pub fn ligatures(&self) -> &[Ligature]
+        ensures { result.now ≡ self.now.ligatures }
+    {
+        &self.ligatures
+    }
+}
+
+/// A ligature subtable: its sets, by rising first glyphs, which are the glyphs that it covers.
+#[derive(Debug, Drop)]
+pub struct LigatureSubst {
+    sets: Vec<LigatureSet>,
+}
+
+impl Model for LigatureSubst {
+    ghost use Rattle.std.specs.Prelude.{◌≡◌, List, None, true};
+    ghost use Rattle.layout_tables.specs.Keyed.{is_rising};
+    ghost use Rattle.layout_tables.specs.Layout.{LigatureSetTable};
+
+    ghost Value = { List LigatureSetTable };
+
+    ghost view = { λ s. s.sets.items };
+
+    ghost invariant = { λ s. is_rising (λ r. r.first) None s.sets.items ≡ true };
+}
+
+impl LigatureSubst {
+    /// Of sets whose first glyphs rise strictly.
+    pub fn new(sets: Vec<LigatureSet>) -> LigatureSubst
+        requires { is_rising (λ r. r.first) None sets.items ≡ true }
+        ensures { result ≡ sets.items }
+    {
+        LigatureSubst { sets }
+    }
+
+    /// The set of a first glyph, none where the subtable doesn't cover the glyph.
+    pub fn set_of(&self, glyph: u16) -> Option<&LigatureSet>
+        ensures { option_copied result ≡ ligature_set_of glyph self.now }
+    {
+        find_keyed(&self.sets, glyph.into())
+    }
+}

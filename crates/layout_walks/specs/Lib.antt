@@ -1,3 +1,0 @@
-pub mod Trying
-pub mod Steps
-pub mod Lemmas

@@ -1,4 +1,0 @@
-// A lookup on its way over the glyphs of a buffer.
-#![tactic(auto)]
-
-pub mod lookup;

@@ -1,7 +1,0 @@
-ghost use Rattle.map_builder.specs.Laws.{OneBuilderOneMap};
-
-/// A builder that is asked for its map twice gives the same map, whatever was read of it between: all that can be read
-/// of the one map is what can be read of the other.
-pub fn one_builder_one_map()
-    ensures { OneBuilderOneMap }
-{}

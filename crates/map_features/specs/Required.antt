@@ -1,8 +1,0 @@
--- The feature that a language system always has on.
-use Rattle.std.specs.Prelude.{ℕ, ◌==◌, if◌then◌else◌, Option, Some, None}
-use Rattle.map_features.specs.declared.required.RequiredFeature.{RequiredFeature}
-
--- the index of the feature that is required in a stage: it runs in the stage that is its own, and in no other
-abbrev pub required_index : ℕ → Option RequiredFeature → Option ℕ
-required_index stage None = None
-required_index stage (Some r) = if r.stage == stage then Some r.index else None

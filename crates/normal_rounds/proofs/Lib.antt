@@ -1,9 +1,0 @@
-pub mod Supported
-pub mod Parts
-pub mod Put
-pub mod Select
-pub mod Selections
-pub mod Each
-pub mod Walk
-pub mod Spaces
-pub mod Found

@@ -1,7 +1,0 @@
-use Rattle.glyph_properties.specs.Expanding.{expanded}
-use Rattle.normal_rounds.proofs.Each.{IsUnderway}
-use Rattle.normal_rounds.proofs.expanding.expand_each.Given as goal
-
--- so many are behind the cursor
-abbrev pub invariant-loop : goal.invariant-loop
-invariant-loop g l = IsUnderway (expanded (g.N.Normalizing.normalizer l.by) l.reach) l.count l.counter l.initial.buffer l.buffer

@@ -1,3 +1,0 @@
--- Lemmas for what stands above: arrangements brought one after another, refusals passed on.
-pub mod Chain
-pub mod Refusals

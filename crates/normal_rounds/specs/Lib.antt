@@ -1,5 +1,0 @@
-pub mod Glyphs
-pub mod Brought
-pub mod Rearranged
-pub mod Walking
-pub mod Lemmas

@@ -1,3 +1,0 @@
-pub mod Linked
-pub mod Turned
-pub mod Joined

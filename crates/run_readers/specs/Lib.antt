@@ -1,5 +1,0 @@
-pub mod Faults
-pub mod Values
-pub mod Tables
-pub mod Input
-pub mod Laws

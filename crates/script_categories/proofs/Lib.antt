@@ -1,0 +1,4 @@
+pub mod Tables
+pub mod Texts
+pub mod Rising
+pub mod Walks

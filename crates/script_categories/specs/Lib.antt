@@ -1,0 +1,12 @@
+pub mod Arabic
+pub mod Indic
+pub mod Joining
+pub mod Names
+pub mod Shapers
+pub mod Thai
+pub mod Universal
+pub mod Fronts
+pub mod Inside
+pub mod Machines
+pub mod Sound
+pub mod Spans

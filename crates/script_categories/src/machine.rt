@@ -1,0 +1,83 @@
+//! Machines of states that read the categories of characters.
+use buffer_unicode_rows::Keyed;
+use std::alloc::Global;
+
+/// In a state a category leads to another state.
+#[derive(Clone, Copy)]
+pub struct Step {
+    pub state: u32,
+    pub category: u8,
+    pub next: u32,
+}
+
+impl Keyed for Step {
+    ghost high = { λ r. r.state };
+
+    ghost low = { λ r. r.category };
+
+    fn high(&self) -> u32 {
+        self.state
+    }
+
+    fn low(&self) -> u32 {
+        self.category as u32
+    }
+}
+
+/// In a state a syllable of a kind may end.
+#[derive(Clone, Copy)]
+pub struct Accept {
+    pub state: u32,
+    pub kind: u8,
+}
+
+impl Keyed for Accept {
+    ghost high = { λ _. 0 };
+
+    ghost low = { λ r. r.state };
+
+    fn high(&self) -> u32 {
+        0
+    }
+
+    fn low(&self) -> u32 {
+        self.state
+    }
+}
+
+/// The rows of a machine, which begins in state 0.
+#[derive(Drop)]
+pub struct SyllableMachine {
+    /// How many states there are.
+    pub states: u32,
+    /// By state and category.
+    pub next: Vec<Step>,
+    /// By state.
+    pub accept: Vec<Accept>,
+}
+
+impl SyllableMachine {
+    ghost use Rattle.std.specs.Prelude.{◌≡◌, []};
+
+    /// No states.
+    pub fn new(alloc: Global) -> SyllableMachine
+        ensures states { result.states ≡ 0 }
+        ensures next { result.next.items ≡ [] }
+        ensures accept { result.accept.items ≡ [] }
+    {
+        SyllableMachine {
+            states: 0,
+            next: Vec::new(alloc),
+            accept: Vec::new(alloc),
+        }
+    }
+}
+
+/// The machines of the shapers that see syllables.
+#[derive(Drop)]
+pub struct SyllableMachines {
+    pub indic: SyllableMachine,
+    pub khmer: SyllableMachine,
+    pub myanmar: SyllableMachine,
+    pub universal: SyllableMachine,
+}

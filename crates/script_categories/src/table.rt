@@ -1,0 +1,88 @@
+//! Syllables by the machines that are handed in.
+ghost use Rattle.std.specs.Prelude.{◌≡◌, ◌<◌, ◌≤◌, IfOk, IfErr, IfSome, OnOk, None, Some, length};
+ghost use Rattle.std.specs.Option.{option_and_then};
+ghost use Rattle.script_categories.specs.Fronts.{longest_front};
+ghost use Rattle.script_categories.specs.Machines.{machine_of, machines_fault, machines_in};
+ghost use Rattle.script_categories.specs.Sound.{AreRising};
+
+use crate::faults::machines_fault;
+use crate::hb_ot_script_shaper_t::{
+    self, INDIC_SHAPER, KHMER_SHAPER, MYANMAR_SHAPER, UNIVERSAL_SHAPER,
+};
+use crate::machine::SyllableMachines;
+use crate::scan::{Front, longest_front};
+use crate::spans::SyllableSpans;
+use buffer_unicode_rows::TablesFault;
+use std::marker::Model;
+
+/// The machines of all shapers, whose states and kinds are known.
+#[derive(Drop)]
+pub struct SyllableTable {
+    machines: SyllableMachines,
+}
+
+impl Model for SyllableTable {
+    ghost use Rattle.script_categories.specs.Inside.{IsSound};
+    ghost use Rattle.script_categories.specs.Machines.{Machines, machines_in};
+
+    ghost Value = { Machines };
+
+    ghost view = { λ t. machines_in t.machines };
+
+    ghost invariant = { IsSound };
+}
+
+impl SyllableTable {
+    /// The table of these machines, or the first fault of a row: a state that the machine does not have or a kind
+    /// that the shaper does not know (`OutOfRange`), else a key that is not above the one before (`OutOfOrder`).
+    /// Machines come in the order of the shapers' names, and the steps of a machine before its accepting states.
+    pub fn new(machines: SyllableMachines) -> Result<SyllableTable, TablesFault>
+        ensures table { IfOk result (λ t. t ≡ machines_in machines) }
+        ensures sound { OnOk result (machines_fault (machines_in machines) ≡ None) }
+        ensures refused { IfErr result (λ e. machines_fault (machines_in machines) ≡ Some e) }
+    {
+        match machines_fault(&machines) {
+            None => Ok(SyllableTable { machines }),
+            Some(fault) => Err(fault),
+        }
+    }
+
+    /// The table of machines whose rows rise by their keys; that states and kinds are known has been seen to.
+    pub fn of_machines(machines: SyllableMachines) -> SyllableTable
+        requires { AreRising (machines_in machines) }
+        ensures { result ≡ machines_in machines }
+    {
+        SyllableTable { machines }
+    }
+
+    fn front(&self, shaper: hb_ot_script_shaper_t, categories: &[u8]) -> Option<Front>
+        ensures front { result ≡ option_and_then (λ m. longest_front m categories.now) (machine_of self.now shaper) }
+        ensures within { IfSome result (λ f. (0 < f.length) × (f.length ≤ length categories.now)) }
+    {
+        match shaper {
+            INDIC_SHAPER => longest_front(&self.machines.indic, categories),
+            KHMER_SHAPER => longest_front(&self.machines.khmer, categories),
+            MYANMAR_SHAPER => longest_front(&self.machines.myanmar, categories),
+            UNIVERSAL_SHAPER => longest_front(&self.machines.universal, categories),
+            _ => None,
+        }
+    }
+}
+
+impl SyllableSpans for SyllableTable {
+    ghost use Rattle.script_categories.specs.Fronts.{syllable_at};
+    ghost use Rattle.script_categories.specs.Spans.{ends_after_start, ends_inside};
+
+    ghost span_of = { syllable_at };
+
+    fn next(&self, shaper: hb_ot_script_shaper_t, categories: &[u8], start: usize) -> (usize, u8) {
+        match self.front(shaper, &categories[start..]) {
+            Some(front) => (start + front.length, front.kind),
+            None => (start + 1, shaper.non_cluster_kind()),
+        }
+    }
+
+    ghost ends_after_start = { ends_after_start };
+
+    ghost ends_inside = { ends_inside };
+}

@@ -1,6 +1,0 @@
-use Rattle.std.proofs.Common.{◌∙◌}
-use Rattle.script_constants.proofs.Texts.{numbers_of_texts}
-use Rattle.script_constants.proofs.names.number_of.Goals as goal
-
-pub returns : goal.returns
-returns c = c.number_in_row.ensures ∙ numbers_of_texts c.args.rows.now c.args.name.now

@@ -1,0 +1,168 @@
+-- Which shaper a script has.
+use Rattle.std.specs.Prelude.{◌==◌, Bool, false, ◌&&◌, ◌||◌, not, List, [], ◌∷◌, Option, Some, None, ℕ, ◌%◌, codes, if◌then◌else◌}
+use Rattle.buffer_common.specs.declared.tag.Tag.{Tag}
+use Rattle.buffer_common.specs.Tag.{tag_of}
+use Rattle.buffer_common.specs.declared.script.Script.{Script}
+use Rattle.buffer_common.specs.declared.script.TheConstants as script
+use Rattle.buffer_common.specs.declared.direction.Direction.{Direction}
+use Rattle.buffer_common.specs.Direction.{is_among, is_horizontal}
+use Rattle.script_categories.specs.declared.shaper.hb_ot_script_shaper_t.TheVariants.{ARABIC_SHAPER, HANGUL_SHAPER, HEBREW_SHAPER, INDIC_SHAPER, KHMER_SHAPER, MYANMAR_SHAPER, MYANMAR_ZAWGYI_SHAPER, THAI_SHAPER, UNIVERSAL_SHAPER}
+use Rattle.script_dispatch.specs.declared.any_shaper.hb_ot_any_shaper_t.{hb_ot_any_shaper_t}
+use Rattle.script_dispatch.specs.declared.any_shaper.hb_ot_any_shaper_t.TheVariants as any
+
+-- whether the font's script is of this tag
+abbrev pub is_tag : List ℕ → Option Tag → Bool
+is_tag name None = false
+is_tag name (Some t) = t.0 == (tag_of name).0
+
+-- a font that serves the script only by default, or as Latin, was not made for its shaper
+abbrev pub is_default_or_latin : Option Tag → Bool
+is_default_or_latin chosen = is_tag (codes "DFLT") chosen || is_tag (codes "latn") chosen
+
+-- whether the font's script is of the third shaping model
+abbrev pub ends_in_three : Option Tag → Bool
+ends_in_three None = false
+ends_in_three (Some t) = t.0 % 256 == 51
+
+-- the nine scripts of the Indic shaper
+abbrev pub indic_scripts : List Script
+indic_scripts =
+    script.BENGALI ∷ script.DEVANAGARI ∷ script.GUJARATI ∷ script.GURMUKHI ∷ script.KANNADA ∷ script.MALAYALAM ∷ script.ORIYA ∷ script.TAMIL ∷ script.TELUGU ∷ []
+
+-- scripts of the universal shaping engine
+abbrev pub universal_scripts : List Script
+universal_scripts =
+    script.TIBETAN ∷
+    script.MONGOLIAN ∷
+    script.SINHALA ∷
+    script.BUHID ∷
+    script.HANUNOO ∷
+    script.TAGALOG ∷
+    script.TAGBANWA ∷
+    script.LIMBU ∷
+    script.TAI_LE ∷
+    script.BUGINESE ∷
+    script.KHAROSHTHI ∷
+    script.SYLOTI_NAGRI ∷
+    script.TIFINAGH ∷
+    script.BALINESE ∷
+    script.NKO ∷
+    script.PHAGS_PA ∷
+    script.CHAM ∷
+    script.KAYAH_LI ∷
+    script.LEPCHA ∷
+    script.REJANG ∷
+    script.SAURASHTRA ∷
+    script.SUNDANESE ∷
+    script.EGYPTIAN_HIEROGLYPHS ∷
+    script.JAVANESE ∷
+    script.KAITHI ∷
+    script.MEETEI_MAYEK ∷
+    script.TAI_THAM ∷
+    script.TAI_VIET ∷
+    script.BATAK ∷
+    script.BRAHMI ∷
+    script.MANDAIC ∷
+    script.CHAKMA ∷
+    script.MIAO ∷
+    script.SHARADA ∷
+    script.TAKRI ∷
+    script.DUPLOYAN ∷
+    script.GRANTHA ∷
+    script.KHOJKI ∷
+    script.KHUDAWADI ∷
+    script.MAHAJANI ∷
+    script.MANICHAEAN ∷
+    script.MODI ∷
+    script.PAHAWH_HMONG ∷
+    script.PSALTER_PAHLAVI ∷
+    script.SIDDHAM ∷
+    script.TIRHUTA ∷
+    script.AHOM ∷
+    script.MULTANI ∷
+    script.ADLAM ∷
+    script.BHAIKSUKI ∷
+    script.MARCHEN ∷
+    script.NEWA ∷
+    script.MASARAM_GONDI ∷
+    script.SOYOMBO ∷
+    script.ZANABAZAR_SQUARE ∷
+    script.DOGRA ∷
+    script.GUNJALA_GONDI ∷
+    script.HANIFI_ROHINGYA ∷
+    script.MAKASAR ∷
+    script.MEDEFAIDRIN ∷
+    script.OLD_SOGDIAN ∷
+    script.SOGDIAN ∷
+    script.ELYMAIC ∷
+    script.NANDINAGARI ∷
+    script.NYIAKENG_PUACHUE_HMONG ∷
+    script.WANCHO ∷
+    script.CHORASMIAN ∷
+    script.DIVES_AKURU ∷
+    script.KHITAN_SMALL_SCRIPT ∷
+    script.YEZIDI ∷
+    script.CYPRO_MINOAN ∷
+    script.OLD_UYGHUR ∷
+    script.TANGSA ∷
+    script.TOTO ∷
+    script.VITHKUQI ∷
+    script.KAWI ∷
+    script.NAG_MUNDARI ∷
+    script.GARAY ∷
+    script.GURUNG_KHEMA ∷
+    script.KIRAT_RAI ∷
+    script.OL_ONAL ∷
+    script.SUNUWAR ∷
+    script.TODHRI ∷
+    script.TULU_TIGALARI ∷
+    []
+
+abbrev pub is_script : Script → Script → Bool
+is_script s t = s.0.0 == t.0.0
+
+abbrev pub indic_shaper : Option Tag → hb_ot_any_shaper_t
+indic_shaper chosen =
+    if is_default_or_latin chosen then any.Default else if ends_in_three chosen then any.Script UNIVERSAL_SHAPER else any.Script INDIC_SHAPER
+
+abbrev pub myanmar_shaper : Option Tag → hb_ot_any_shaper_t
+myanmar_shaper chosen = if is_default_or_latin chosen || is_tag (codes "mymr") chosen then any.Default else any.Script MYANMAR_SHAPER
+
+abbrev pub universal_shaper : Option Tag → hb_ot_any_shaper_t
+universal_shaper chosen = if is_default_or_latin chosen then any.Default else any.Script UNIVERSAL_SHAPER
+
+-- lines of Arabic and Syriac join their letters, columns do not; Syriac only where the font knows it
+abbrev pub joins : Script → Direction → Option Tag → Bool
+joins s direction chosen =
+    is_horizontal direction && (is_script s script.ARABIC || is_script s script.SYRIAC && not (is_tag (codes "DFLT") chosen))
+
+-- the shaper of a script that has one of its own, whatever the font says
+abbrev pub own_shaper : Script → hb_ot_any_shaper_t
+own_shaper s =
+    if is_script s script.THAI || is_script s script.LAO then any.Script THAI_SHAPER
+    else if is_script s script.HANGUL then any.Script HANGUL_SHAPER
+    else if is_script s script.HEBREW then any.Script HEBREW_SHAPER
+    else if is_script s script.KHMER then any.Script KHMER_SHAPER
+    else if is_script s script.MYANMAR_ZAWGYI then any.Script MYANMAR_ZAWGYI_SHAPER
+    else any.Default
+
+-- the shaper of a text by its script, its direction, and the script of GSUB that serves it
+abbrev pub categorized : Script → Direction → Option Tag → hb_ot_any_shaper_t
+categorized s direction chosen =
+    if joins s direction chosen then any.Script ARABIC_SHAPER
+    else if is_among indic_scripts s then indic_shaper chosen
+    else if is_script s script.MYANMAR then myanmar_shaper chosen
+    else if is_among universal_scripts s then universal_shaper chosen
+    else own_shaper s
+
+-- a text without a script has the default shaper
+abbrev pub shaper_of : Option Script → Direction → Option Tag → hb_ot_any_shaper_t
+shaper_of None direction chosen = any.Default
+shaper_of (Some s) direction chosen = categorized s direction chosen
+
+-- ---- scripts whose shaper is not there yet
+
+-- a script waits where a text of it may have the Indic shaper
+abbrev pub script_waits : Option Script → Bool
+script_waits None = false
+script_waits (Some s) = is_among indic_scripts s

@@ -1,0 +1,133 @@
+-- What the shapers of scripts do to a text, at the places where the pipeline asks them.
+use Rattle.std.specs.Prelude.{ℕ, ◌==◌, ◌&&◌, not, Bool, false, if◌then◌else◌, List, Option, Some, None, codes}
+use Rattle.buffer_common.specs.declared.script.Script.{Script}
+use Rattle.buffer_common.specs.declared.script.TheConstants as script
+use Rattle.buffer_unicode_tables.specs.Expansion.{Splits}
+use Rattle.buffer_unicode_tables.specs.Tables.{Tables, pair_of, split_of}
+use Rattle.layout_face.specs.declared.parts.FaceParts.{FaceParts}
+use Rattle.buffer_properties.specs.Properties.{is_mark_character}
+use Rattle.buffer_glyphs.specs.Items.{Item}
+use Rattle.buffer_core.specs.Readings.{Stage, always, and_then, as_it_is}
+use Rattle.layout_map.specs.Compiled.{OtMapValue}
+use Rattle.buffer_stages.specs.Pauses.{Pauses}
+use Rattle.buffer_stages.specs.Settings.{TextSettings}
+use Rattle.buffer_glyphs.specs.Arranged.{Arranged, kept}
+use Rattle.buffer_stages.specs.Stages.{mapped}
+use Rattle.script_plan.specs.Plans.{has_mask, mask_at_one}
+use Rattle.script_plan.specs.declared.pause.hb_script_pause_t.{hb_script_pause_t}
+use Rattle.script_plan.specs.declared.pause.hb_script_pause_t.TheVariants.{RecordStch, SetupSyllables, ReorderKhmer, ReorderMyanmar, ClearSyllables, ClearSubstitutionFlags, RecordRphf, RecordPref, ReorderUse, InitialReordering, FinalReordering}
+use Rattle.script_plan.specs.Pauses.{pause_of_number}
+use Rattle.script_categories.specs.declared.shaper.hb_ot_script_shaper_t.{hb_ot_script_shaper_t}
+use Rattle.script_categories.specs.declared.shaper.hb_ot_script_shaper_t.TheVariants.{ARABIC_SHAPER, HANGUL_SHAPER, HEBREW_SHAPER, INDIC_SHAPER, KHMER_SHAPER, MYANMAR_SHAPER, THAI_SHAPER, UNIVERSAL_SHAPER}
+use Rattle.script_hebrew_thai.specs.Hebrew.{hebrew_pair}
+use Rattle.script_hebrew_thai.specs.ThaiPrivate.{with_private}
+use Rattle.script_hebrew_thai.specs.ThaiVowel.{vowels_split}
+use Rattle.script_hangul.specs.Hangul.{syllables_formed}
+use Rattle.script_hangul.specs.Masks.{with_place_mask}
+use Rattle.script_khmer_myanmar.specs.Khmer.{khmer_split}
+use Rattle.script_mark_orders.specs.Orders.{arabic_order, hebrew_order}
+use Rattle.script_syllabic.specs.Bytes.{syllables_set}
+use Rattle.script_syllabic.specs.Features.{pref_recorded, rphf_recorded}
+use Rattle.script_pauses.specs.Categories.{categories_set, ot_category_of}
+use Rattle.script_pauses.specs.Syllables.{khmer_order, myanmar_order, substitutions_forgotten, syllables_by, syllables_cleared, universal_order, universal_syllables_set}
+use Rattle.script_pauses.specs.Tiles.{tiles_recorded}
+use Rattle.script_pauses.specs.Stretch.{tiles_laid}
+use Rattle.script_dispatch.specs.Masks.{form_masks, jamo_masks, khmer_masks, letters_joined, universal_masks_set}
+
+-- ---- the text
+
+abbrev pub is_thai : Option Script → Bool
+is_thai None = false
+is_thai (Some s) = s.0.0 == script.THAI.0.0
+
+-- a font that does not know Thai may have forms of its marks at private characters
+abbrev pub has_private_forms : OtMapValue → Option Script → Bool
+has_private_forms m s = is_thai s && not m.tables.gsub.found_script
+
+abbrev pub private_if : Bool → Tables → FaceParts → Stage
+private_if b t font v = if b then always (with_private t font) v else as_it_is v
+
+-- the vowels with two parts are split, and then marks take such forms
+abbrev pub thai_text : OtMapValue → Option Script → Tables → FaceParts → Stage
+thai_text m s t font v = and_then (vowels_split v) (private_if (has_private_forms m s) t font)
+
+-- what becomes of a text before it is normalised: vowels of Thai and Lao, syllables of Hangul
+abbrev pub preprocessed_by : hb_ot_script_shaper_t → OtMapValue → Option Script → FaceParts → Tables → TextSettings → Stage
+preprocessed_by THAI_SHAPER m s font t settings = thai_text m s t font
+preprocessed_by HANGUL_SHAPER m s font t settings = syllables_formed font settings.flags
+preprocessed_by _ m s font t settings = as_it_is
+
+-- ---- characters
+
+-- how characters split: a vowel of Khmer with a left part does so otherwise than in Unicode
+abbrev pub splits_by : hb_ot_script_shaper_t → Tables → Splits
+splits_by KHMER_SHAPER t = khmer_split t
+splits_by _ t = split_of t
+
+-- a mark composes with nothing after it
+abbrev pub unmarked_pair : Tables → ℕ → ℕ → Option ℕ
+unmarked_pair t a b = if is_mark_character a then None else pair_of t a b
+
+-- what two characters compose to: Hebrew has presentation forms where the font places no marks
+abbrev pub composes_by : hb_ot_script_shaper_t → Bool → Tables → ℕ → ℕ → Option ℕ
+composes_by HEBREW_SHAPER has_gpos_mark t = hebrew_pair t has_gpos_mark
+composes_by INDIC_SHAPER has_gpos_mark t = unmarked_pair t
+composes_by KHMER_SHAPER has_gpos_mark t = unmarked_pair t
+composes_by UNIVERSAL_SHAPER has_gpos_mark t = unmarked_pair t
+composes_by _ has_gpos_mark t = pair_of t
+
+-- the order of a run of marks beside that of their classes
+abbrev pub reorders_by : hb_ot_script_shaper_t → List Item → Arranged
+reorders_by ARABIC_SHAPER = arabic_order
+reorders_by HEBREW_SHAPER = hebrew_order
+reorders_by _ = λ run. kept run
+
+-- ---- masks
+
+-- letters take their forms, letters of Hangul their places in syllables; the shapers of syllables see categories
+abbrev pub masks_set_by : hb_ot_script_shaper_t → OtMapValue → Option Script → Tables → TextSettings → Stage
+masks_set_by ARABIC_SHAPER m s t settings = letters_joined m s t settings.pre_context settings.post_context
+masks_set_by HANGUL_SHAPER m s t settings = always (mapped (with_place_mask (jamo_masks m)))
+masks_set_by KHMER_SHAPER m s t settings = categories_set (ot_category_of t)
+masks_set_by MYANMAR_SHAPER m s t settings = categories_set (ot_category_of t)
+masks_set_by UNIVERSAL_SHAPER m s t settings = universal_masks_set m s t settings.pre_context settings.post_context
+masks_set_by _ m s t settings = as_it_is
+
+-- ---- pauses
+
+-- where syllables end
+abbrev pub Spans : Type 0
+Spans = hb_ot_script_shaper_t → List ℕ → ℕ → ℕ × ℕ
+
+abbrev pub syllables_found_by : hb_ot_script_shaper_t → OtMapValue → Option Script → Spans → Stage
+syllables_found_by UNIVERSAL_SHAPER m s spans = universal_syllables_set spans (mask_at_one (codes "rphf") m) (form_masks m s)
+syllables_found_by shaper m s spans = syllables_set spans shaper
+
+-- a pause; the orders of Indic syllables are not there yet
+abbrev pub pause_done : hb_ot_script_shaper_t → OtMapValue → Option Script → FaceParts → Spans → TextSettings → hb_script_pause_t → Stage
+pause_done shaper m s font spans settings RecordStch = tiles_recorded (has_mask (codes "stch") m)
+pause_done shaper m s font spans settings SetupSyllables = syllables_found_by shaper m s spans
+pause_done shaper m s font spans settings ReorderKhmer = khmer_order font settings.flags (khmer_masks m)
+pause_done shaper m s font spans settings ReorderMyanmar = myanmar_order font settings.flags
+pause_done shaper m s font spans settings ClearSyllables = syllables_cleared
+pause_done shaper m s font spans settings ClearSubstitutionFlags = substitutions_forgotten
+pause_done shaper m s font spans settings RecordRphf = syllables_by (rphf_recorded (mask_at_one (codes "rphf") m))
+pause_done shaper m s font spans settings RecordPref = syllables_by pref_recorded
+pause_done shaper m s font spans settings ReorderUse = universal_order font settings.flags
+pause_done shaper m s font spans settings InitialReordering = as_it_is
+pause_done shaper m s font spans settings FinalReordering = as_it_is
+
+abbrev pub pause_if : hb_ot_script_shaper_t → OtMapValue → Option Script → FaceParts → Spans → TextSettings → Option hb_script_pause_t → Stage
+pause_if shaper m s font spans settings None = as_it_is
+pause_if shaper m s font spans settings (Some pause) = pause_done shaper m s font spans settings pause
+
+-- the pause of a number of a map
+abbrev pub pauses_by : hb_ot_script_shaper_t → OtMapValue → Option Script → FaceParts → Spans → TextSettings → Pauses
+pauses_by shaper m s font spans settings n = pause_if shaper m s font spans settings (pause_of_number n)
+
+-- ---- glyphs
+
+-- what becomes of glyphs that stand as they are drawn: tiles of Arabic are laid over their words
+abbrev pub postprocessed_by : hb_ot_script_shaper_t → FaceParts → Stage
+postprocessed_by ARABIC_SHAPER font = tiles_laid font
+postprocessed_by _ font = as_it_is

@@ -1,0 +1,9 @@
+pub mod Lemmas
+pub mod Masks
+pub mod Shapers
+pub mod Dispatch
+pub mod Requests
+pub mod Hooks
+pub mod Present
+pub mod Plain
+pub mod Rules

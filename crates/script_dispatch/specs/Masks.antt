@@ -1,0 +1,77 @@
+-- The masks that the shapers of scripts read of a map, and the hooks that set them.
+use Rattle.std.specs.Prelude.{ℕ, ◌==◌, Bool, false, if◌then◌else◌, List, [], ◌∷◌, Option, None, Some, codes}
+use Rattle.std.specs.Int.RustNames.{bit_or}
+use Rattle.std.specs.Option.{option_map_or}
+use Rattle.buffer_common.specs.declared.script.Script.{Script}
+use Rattle.buffer_common.specs.declared.script.TheConstants as script
+use Rattle.buffer_common.specs.declared.tag.Tag.{Tag}
+use Rattle.buffer_common.specs.Direction.{is_among}
+use Rattle.buffer_common.specs.Tag.{tag_of}
+use Rattle.buffer_unicode_tables.specs.Tables.{Tables}
+use Rattle.layout_map.specs.Compiled.{OtMapValue, feature_at}
+use Rattle.layout_map.specs.declared.chosen_feature.feature_map_t.{feature_map_t}
+use Rattle.buffer_core.specs.Readings.{Stage, and_then, always, as_it_is}
+use Rattle.script_plan.specs.Plans.{mask_at_one}
+use Rattle.script_joining.specs.Joining.{joined}
+use Rattle.script_hangul.specs.declared.masks.JamoMasks.{JamoMasks}
+use Rattle.script_khmer_myanmar.specs.declared.khmer.KhmerMasks.{KhmerMasks}
+use Rattle.script_syllabic.specs.declared.forms.FormMasks.{FormMasks}
+use Rattle.script_pauses.specs.Categories.{categories_set, universal_category_of}
+
+-- ---- Arabic
+
+abbrev pub is_mongolian : Option Script → Bool
+is_mongolian None = false
+is_mongolian (Some s) = s.0.0 == script.MONGOLIAN.0.0
+
+-- the masks of the forms, in the order of their numbers
+abbrev pub arabic_masks : OtMapValue → List ℕ
+arabic_masks m =
+    mask_at_one (codes "isol") m ∷ mask_at_one (codes "fina") m ∷ mask_at_one (codes "fin2") m ∷ mask_at_one (codes "fin3") m
+    ∷ mask_at_one (codes "medi") m ∷ mask_at_one (codes "med2") m ∷ mask_at_one (codes "init") m ∷ []
+
+-- letters take their forms between what stands before the text and after it, and the masks of these
+abbrev pub letters_joined : OtMapValue → Option Script → Tables → List ℕ → List ℕ → Stage
+letters_joined m s t pre post = always (joined t (is_mongolian s) (arabic_masks m) pre post)
+
+-- ---- Hangul and Khmer
+
+abbrev pub jamo_masks : OtMapValue → JamoMasks
+jamo_masks m = record { ljmo = mask_at_one (codes "ljmo") m; vjmo = mask_at_one (codes "vjmo") m; tjmo = mask_at_one (codes "tjmo") m }
+
+abbrev pub khmer_masks : OtMapValue → KhmerMasks
+khmer_masks m = record {
+  pref = mask_at_one (codes "pref") m;
+  post_base = bit_or (bit_or (mask_at_one (codes "blwf") m) (mask_at_one (codes "abvf") m)) (mask_at_one (codes "pstf") m);
+  cfar = mask_at_one (codes "cfar") m;
+}
+
+-- ---- the universal shaper
+
+-- scripts whose letters join as those of Arabic
+abbrev pub joining_scripts : List Script
+joining_scripts =
+    script.ADLAM ∷ script.ARABIC ∷ script.CHORASMIAN ∷ script.HANIFI_ROHINGYA ∷ script.MANDAIC ∷ script.MANICHAEAN ∷ script.MONGOLIAN ∷ script.NKO
+    ∷ script.OLD_UYGHUR ∷ script.PHAGS_PA ∷ script.PSALTER_PAHLAVI ∷ script.SOGDIAN ∷ script.SYRIAC ∷ []
+
+abbrev pub letters_join : Option Script → Bool
+letters_join None = false
+letters_join (Some s) = is_among joining_scripts s
+
+abbrev pub joined_if : OtMapValue → Option Script → Tables → List ℕ → List ℕ → Stage
+joined_if m s t pre post v = if letters_join s then letters_joined m s t pre post v else as_it_is v
+
+-- letters of such a script take their forms, and then each character its category
+abbrev pub universal_masks_set : OtMapValue → Option Script → Tables → List ℕ → List ℕ → Stage
+universal_masks_set m s t pre post v = and_then (joined_if m s t pre post v) (categories_set (universal_category_of t))
+
+-- the mask of a form of syllables; one that all glyphs have is none
+abbrev pub form_mask : Tag → OtMapValue → ℕ
+form_mask tag m =
+    if option_map_or (λ (f : feature_map_t). f.one_mask) (feature_at tag m) 0 == m.global_mask then 0
+    else option_map_or (λ (f : feature_map_t). f.one_mask) (feature_at tag m) 0
+
+abbrev pub form_masks : OtMapValue → Option Script → Option FormMasks
+form_masks m s =
+    if letters_join s then None
+    else Some (record { isol = form_mask (tag_of (codes "isol")) m; init = form_mask (tag_of (codes "init")) m; medi = form_mask (tag_of (codes "medi")) m; fina = form_mask (tag_of (codes "fina")) m })

@@ -1,0 +1,32 @@
+-- What a shaper of the stack asks of a font.
+use Rattle.std.specs.Prelude.{Bool, fold, Option, codes, ⊤}
+use Rattle.buffer_common.specs.declared.script.Script.{Script}
+use Rattle.buffer_common.specs.Tag.{tag_of}
+use Rattle.layout_map.specs.Compiled.{MapRequests}
+use Rattle.layout_map.specs.Features.{in_any, system_features}
+use Rattle.script_plan.specs.Asks.{with_ask}
+use Rattle.script_plan.specs.Traits.{ShaperKind}
+use Rattle.script_dispatch.specs.declared.any_shaper.hb_ot_any_shaper_t.{hb_ot_any_shaper_t}
+use Rattle.script_dispatch.specs.Dispatch.{shaper_of}
+use Rattle.script_dispatch.specs.Shapers.{shaper_features, shaper_overrides, traits_of}
+
+-- whether a language system of the font has the feature for required contexts
+abbrev pub has_rclt : MapRequests → Bool
+has_rclt b = in_any (system_features (tag_of (codes "rclt")) b.tables)
+
+-- what a shaper asks beside what every text asks
+abbrev pub collected : hb_ot_any_shaper_t → Option Script → MapRequests → MapRequests
+collected shaper script b = fold with_ask b (shaper_features shaper script (has_rclt b))
+
+-- what it asks whatever the user asked
+abbrev pub overridden : hb_ot_any_shaper_t → Option Script → MapRequests → MapRequests
+overridden shaper script b = fold with_ask b (shaper_overrides shaper)
+
+-- what a plan takes of the stack's shapers, which keep nothing for their texts
+abbrev pub any_kind : ShaperKind hb_ot_any_shaper_t ⊤
+any_kind = record {
+  shaper_of = shaper_of;
+  traits = traits_of;
+  asking = λ shaper. record { collects = collected shaper; overrides = overridden shaper };
+  data_of = λ shaper m script. tt;
+}

@@ -1,0 +1,99 @@
+//! The masks of Arabic letters.
+ghost use Rattle.std.specs.Prelude.{◌≡◌, codes};
+ghost use Rattle.std.specs.Int.RustNames.{bit_and};
+ghost use Rattle.buffer_stages.specs.Ready.{IsReady};
+ghost use Rattle.buffer_stages.specs.Stages.{IsFollowed};
+ghost use Rattle.script_plan.specs.Plans.{has_mask, mask_at_one};
+ghost use Rattle.buffer_core.specs.Readings.{always};
+ghost use Rattle.script_joining.specs.Glyphs.{AreFlagless};
+ghost use Rattle.script_joining.specs.Joining.{joined};
+ghost use Rattle.script_dispatch.specs.Masks.{arabic_masks, is_mongolian, letters_joined};
+
+use buffer_common::script::{MONGOLIAN, Script};
+use buffer_common::tag::Tag;
+use buffer_core::buffer::hb_buffer_t;
+use buffer_glyphs::info::hb_mask_t;
+use buffer_unicode_tables::UnicodeTables;
+use layout_map::map::hb_ot_map_t;
+
+/// What the shaper of Arabic reads of a map.
+#[derive(Clone, Copy)]
+pub struct arabic_shape_plan_t {
+    /// The masks of ISOL, FINA, FIN2, FIN3, MEDI, MED2 and INIT, in this order.
+    pub mask_array: [hb_mask_t; 7],
+    /// Whether the font stretches words.
+    pub has_stch: bool,
+}
+
+/// What the shaper of Arabic reads of a map. It is the same for each script.
+pub fn data_create_arabic(map: &hb_ot_map_t, _script: Option<Script>) -> arabic_shape_plan_t
+    ensures masks { result.mask_array ≡ arabic_masks map.now }
+    ensures flagless { AreFlagless result.mask_array }
+    ensures stch { result.has_stch ≡ has_mask (codes "stch") map.now }
+{
+    let isol = map.get_1_mask(Tag::from_bytes(b"isol"));
+    let fina = map.get_1_mask(Tag::from_bytes(b"fina"));
+    let fin2 = map.get_1_mask(Tag::from_bytes(b"fin2"));
+    let fin3 = map.get_1_mask(Tag::from_bytes(b"fin3"));
+    let medi = map.get_1_mask(Tag::from_bytes(b"medi"));
+    let med2 = map.get_1_mask(Tag::from_bytes(b"med2"));
+    let init = map.get_1_mask(Tag::from_bytes(b"init"));
+    arabic_shape_plan_t {
+        mask_array: [isol, fina, fin2, fin3, medi, med2, init],
+        has_stch: has_stch(map),
+    }
+}
+
+/// Gives each letter of a text its form by its neighbours, and the mask of the form's feature. It takes linear time and no
+/// memory.
+pub fn setup_masks(
+    map: &hb_ot_map_t,
+    script: Option<Script>,
+    tables: &UnicodeTables,
+    buffer: &mut hb_buffer_t,
+)
+    requires ready { IsReady buffer.old }
+    ensures { IsFollowed (letters_joined map.now script tables.now buffer.old.pre_context buffer.old.post_context)
+        buffer.old buffer.new }
+{
+    let arabic_plan = data_create_arabic(map, script);
+    setup_masks_inner(&arabic_plan, script, buffer, tables);
+}
+
+/// Gives each letter of a text its form by its neighbours, and the mask of the form's feature. It takes linear time and no
+/// memory.
+pub fn setup_masks_inner(
+    arabic_plan: &arabic_shape_plan_t,
+    script: Option<Script>,
+    buffer: &mut hb_buffer_t,
+    tables: &UnicodeTables,
+)
+    requires ready { IsReady buffer.old }
+    requires flagless { AreFlagless arabic_plan.now.mask_array }
+    ensures { IsFollowed (always (joined tables.now (is_mongolian script) arabic_plan.now.mask_array
+        buffer.old.pre_context buffer.old.post_context))
+        buffer.old buffer.new }
+{
+    script_joining::setup_masks_inner(
+        tables,
+        is_mongolian(script),
+        &arabic_plan.mask_array,
+        buffer,
+    );
+}
+
+fn is_mongolian(script: Option<Script>) -> bool
+    ensures { result ≡ is_mongolian script }
+{
+    match script {
+        Some(script) => script == MONGOLIAN,
+        None => false,
+    }
+}
+
+/// Whether the font stretches words.
+pub fn has_stch(map: &hb_ot_map_t) -> bool
+    ensures { result ≡ has_mask (codes "stch") map.now }
+{
+    map.get_1_mask(Tag::from_bytes(b"stch")) != 0
+}

@@ -1,0 +1,33 @@
+//! The masks of the letters of Hangul.
+ghost use Rattle.std.specs.Prelude.{◌≡◌};
+ghost use Rattle.buffer_core.specs.Readings.{always};
+ghost use Rattle.buffer_stages.specs.Ready.{IsReady};
+ghost use Rattle.buffer_stages.specs.Stages.{IsFollowed, mapped};
+ghost use Rattle.script_hangul.specs.Masks.{AreFlagless, with_place_mask};
+ghost use Rattle.script_dispatch.specs.Masks.{jamo_masks};
+
+use buffer_common::tag::Tag;
+use buffer_core::buffer::hb_buffer_t;
+use layout_map::map::hb_ot_map_t;
+use script_hangul::masks::{self, JamoMasks};
+
+/// Gives each letter that stands for itself the mask of the feature of its place in the syllable. It takes linear time and
+/// no memory.
+pub fn setup_masks(map: &hb_ot_map_t, buffer: &mut hb_buffer_t)
+    requires ready { IsReady buffer.old }
+    ensures { IsFollowed (always (mapped (with_place_mask (jamo_masks map.now)))) buffer.old buffer.new }
+{
+    let masks = jamo_masks(map);
+    masks::setup_masks(&masks, buffer);
+}
+
+fn jamo_masks(map: &hb_ot_map_t) -> JamoMasks
+    ensures masks { result ≡ jamo_masks map.now }
+    ensures flagless { AreFlagless result }
+{
+    JamoMasks {
+        ljmo: map.get_1_mask(Tag::from_bytes(b"ljmo")),
+        vjmo: map.get_1_mask(Tag::from_bytes(b"vjmo")),
+        tjmo: map.get_1_mask(Tag::from_bytes(b"tjmo")),
+    }
+}

@@ -1,0 +1,21 @@
+//! The masks of Khmer.
+ghost use Rattle.std.specs.Prelude.{◌≡◌};
+ghost use Rattle.script_dispatch.specs.Masks.{khmer_masks};
+
+use buffer_common::tag::Tag;
+use layout_map::map::hb_ot_map_t;
+use script_khmer_myanmar::khmer::KhmerMasks;
+
+/// The masks that the order of Khmer sets.
+pub fn khmer_masks(map: &hb_ot_map_t) -> KhmerMasks
+    ensures { result ≡ khmer_masks map.now }
+{
+    let blwf = map.get_1_mask(Tag::from_bytes(b"blwf"));
+    let abvf = map.get_1_mask(Tag::from_bytes(b"abvf"));
+    let pstf = map.get_1_mask(Tag::from_bytes(b"pstf"));
+    KhmerMasks {
+        pref: map.get_1_mask(Tag::from_bytes(b"pref")),
+        post_base: (blwf | abvf) | pstf,
+        cfar: map.get_1_mask(Tag::from_bytes(b"cfar")),
+    }
+}

@@ -1,0 +1,134 @@
+//! What the shapers of the stack do to a text.
+use crate::any_shaper::hb_ot_any_shaper_t;
+use crate::{characters, glyphs, masks, pauses, text};
+use buffer_core::buffer::hb_buffer_t;
+use buffer_glyphs::cause::ShapeCause;
+use buffer_unicode_tables::UnicodeTables;
+use layout_face::Face;
+use script_categories::SyllableSpans;
+use script_plan::hb_ot_shaper_t;
+use script_plan::plan::hb_script_plan_t;
+use std::alloc::Global;
+
+/// The shaper of most scripts and that which does as little as can be have no hook; those of scripts have their own.
+impl hb_ot_shaper_t for hb_ot_any_shaper_t {
+    ghost use Rattle.script_dispatch.specs.Shapers.{keeps_order};
+    ghost use Rattle.script_dispatch.specs.Rules.{rules_of};
+    ghost use Rattle.script_dispatch.specs.Lemmas.Orders.{keeps_count, rules_keep_order};
+    ghost use Rattle.script_dispatch.specs.Lemmas.Splits.{splits_end};
+
+    ghost rules = { rules_of };
+
+    ghost keeps_order = { keeps_order };
+
+    ghost splits_end = { splits_end };
+
+    ghost keeps_count = { keeps_count };
+
+    ghost rules_keep_order = { λ shaper plan _. rules_keep_order shaper plan };
+
+    fn preprocess_text(
+        &self,
+        plan: &hb_script_plan_t<()>,
+        face: &Face,
+        tables: &UnicodeTables,
+        buffer: &mut hb_buffer_t,
+    ) -> Result<(), ShapeCause> {
+        match *self {
+            hb_ot_any_shaper_t::Script(shaper) => {
+                text::preprocess_text(shaper, plan, face, tables, buffer)
+            }
+            _ => Ok(()),
+        }
+    }
+
+    fn decompose(
+        &self,
+        _plan: &hb_script_plan_t<()>,
+        tables: &UnicodeTables,
+        ab: char,
+    ) -> Option<(char, char)> {
+        match *self {
+            hb_ot_any_shaper_t::Script(shaper) => characters::decompose(shaper, tables, ab),
+            _ => buffer_unicode_tables::decompose(tables, ab),
+        }
+    }
+
+    fn compose(
+        &self,
+        plan: &hb_script_plan_t<()>,
+        tables: &UnicodeTables,
+        a: char,
+        b: char,
+    ) -> Option<char> {
+        match *self {
+            hb_ot_any_shaper_t::Script(shaper) => {
+                characters::compose(shaper, plan.choices.has_gpos_mark, tables, a, b)
+            }
+            _ => buffer_unicode_tables::compose(tables, a, b),
+        }
+    }
+
+    #[tactic(auto, using(script_plan::specs::Lemmas::Unchanged::unchanged_run))]
+    fn reorder_marks(
+        &self,
+        _plan: &hb_script_plan_t<()>,
+        buffer: &mut hb_buffer_t,
+        start: usize,
+        end: usize,
+    ) {
+        if let hb_ot_any_shaper_t::Script(shaper) = *self {
+            characters::reorder_marks(shaper, buffer, start, end);
+        }
+    }
+
+    fn setup_masks(
+        &self,
+        plan: &hb_script_plan_t<()>,
+        _face: &Face,
+        tables: &UnicodeTables,
+        buffer: &mut hb_buffer_t,
+    ) -> Result<(), ShapeCause> {
+        if let hb_ot_any_shaper_t::Script(shaper) = *self {
+            masks::setup_masks(shaper, plan, tables, buffer);
+        }
+        Ok(())
+    }
+
+    fn run_pause<P: SyllableSpans>(
+        &self,
+        alloc: Global,
+        pause: u8,
+        plan: &hb_script_plan_t<()>,
+        face: &Face,
+        _tables: &UnicodeTables,
+        spans: &P,
+        buffer: &mut hb_buffer_t,
+    ) -> Result<bool, ShapeCause> {
+        match *self {
+            hb_ot_any_shaper_t::Script(shaper) => {
+                pauses::run_pause(shaper, alloc, pause, plan, face, spans, buffer)
+            }
+            _ => Ok(false),
+        }
+    }
+
+    fn postprocess_glyphs(
+        &self,
+        alloc: Global,
+        _plan: &hb_script_plan_t<()>,
+        face: &Face,
+        buffer: &mut hb_buffer_t,
+    ) -> Result<(), ShapeCause> {
+        match *self {
+            hb_ot_any_shaper_t::Script(shaper) => {
+                glyphs::postprocess_glyphs(shaper, alloc, face, buffer)
+            }
+            _ => Ok(()),
+        }
+    }
+
+    fn keeps_cluster_order(&self) -> bool {
+        hb_ot_any_shaper_t::keeps_cluster_order(*self)
+    }
+}

@@ -1,0 +1,112 @@
+//! The masks and categories of the universal shaper.
+ghost use Rattle.std.specs.Prelude.{◌≡◌, codes, List, ℕ};
+ghost use Rattle.buffer_stages.specs.Ready.{IsReady};
+ghost use Rattle.buffer_stages.specs.Stages.{IsFollowed};
+ghost use Rattle.script_plan.specs.Plans.{mask_at_one};
+ghost use Rattle.script_dispatch.specs.Masks.{form_mask, form_masks, joined_if, joining_scripts, letters_join, universal_masks_set};
+
+use crate::arabic_masks;
+use buffer_common::script::{
+    ADLAM, ARABIC, CHORASMIAN, HANIFI_ROHINGYA, MANDAIC, MANICHAEAN, MONGOLIAN, NKO, OLD_UYGHUR,
+    PHAGS_PA, PSALTER_PAHLAVI, SOGDIAN, SYRIAC, Script,
+};
+use buffer_common::tag::Tag;
+use buffer_core::buffer::hb_buffer_t;
+use buffer_glyphs::info::hb_mask_t;
+use buffer_unicode_tables::UnicodeTables;
+use layout_map::map::hb_ot_map_t;
+use script_pauses::categories::set_universal_categories;
+use script_syllabic::forms::FormMasks;
+
+/// Scripts whose letters join as those of Arabic.
+const JOINING: [Script; 13] = [
+    ADLAM,
+    ARABIC,
+    CHORASMIAN,
+    HANIFI_ROHINGYA,
+    MANDAIC,
+    MANICHAEAN,
+    MONGOLIAN,
+    NKO,
+    OLD_UYGHUR,
+    PHAGS_PA,
+    PSALTER_PAHLAVI,
+    SOGDIAN,
+    SYRIAC,
+];
+
+/// Gives letters their forms where those of the script join, and each character its category. It takes linear time and no
+/// memory.
+#[tactic(auto, using(script_pauses::proofs::Lemmas::Quiet::followed_then))]
+pub fn setup_masks(
+    map: &hb_ot_map_t,
+    script: Option<Script>,
+    tables: &UnicodeTables,
+    buffer: &mut hb_buffer_t,
+)
+    requires ready { IsReady buffer.old }
+    ensures { IsFollowed (universal_masks_set map.now script tables.now buffer.old.pre_context buffer.old.post_context)
+        buffer.old buffer.new }
+{
+    join_letters(map, script, tables, buffer);
+    set_universal_categories(tables, buffer);
+}
+
+fn join_letters(
+    map: &hb_ot_map_t,
+    script: Option<Script>,
+    tables: &UnicodeTables,
+    buffer: &mut hb_buffer_t,
+)
+    requires ready { IsReady buffer.old }
+    ensures { IsFollowed (joined_if map.now script tables.now buffer.old.pre_context buffer.old.post_context)
+        buffer.old buffer.new }
+{
+    if letters_join(script) {
+        arabic_masks::setup_masks(map, script, tables, buffer);
+    }
+}
+
+/// Whether letters of a script join as those of Arabic.
+fn letters_join(script: Option<Script>) -> bool
+    ensures { result ≡ letters_join script }
+{
+    match script {
+        Some(script) => JOINING.contains(&script),
+        None => false,
+    }
+}
+
+/// The mask of the glyphs that may become a reph.
+pub fn rphf_mask(map: &hb_ot_map_t) -> hb_mask_t
+    ensures { result ≡ mask_at_one (codes "rphf") map.now }
+{
+    map.get_1_mask(Tag::from_bytes(b"rphf"))
+}
+
+/// The masks of the forms of syllables; none where letters of the script join.
+pub fn form_masks(map: &hb_ot_map_t, script: Option<Script>) -> Option<FormMasks>
+    ensures { result ≡ form_masks map.now script }
+{
+    if letters_join(script) {
+        return None;
+    }
+    Some(FormMasks {
+        isol: form_mask(map, Tag::from_bytes(b"isol")),
+        init: form_mask(map, Tag::from_bytes(b"init")),
+        medi: form_mask(map, Tag::from_bytes(b"medi")),
+        fina: form_mask(map, Tag::from_bytes(b"fina")),
+    })
+}
+
+/// The mask of a form; one that all glyphs have is none.
+fn form_mask(map: &hb_ot_map_t, tag: Tag) -> hb_mask_t
+    ensures { result ≡ form_mask tag map.now }
+{
+    let mask = map.get_1_mask(tag);
+    if mask == map.get_global_mask() {
+        0
+    } else {
+        mask
+    }
+}

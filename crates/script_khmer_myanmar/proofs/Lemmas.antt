@@ -1,0 +1,3 @@
+-- Lemmas.
+pub mod KhmerPermuted
+pub mod MyanmarPermuted

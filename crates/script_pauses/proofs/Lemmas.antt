@@ -1,0 +1,4 @@
+-- Lemmas.
+pub mod Quiet
+pub mod Numbers
+pub mod Rules

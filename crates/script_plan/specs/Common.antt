@@ -1,0 +1,50 @@
+-- What every text asks of a font's features, and what the user asks.
+use Rattle.std.specs.Prelude.{List, [], ◌∷◌, ◌++◌, codes, if◌then◌else◌}
+use Rattle.std.specs.Int.RustNames.{bit_or}
+use Rattle.buffer_common.specs.Tag.{tag_of}
+use Rattle.buffer_common.specs.declared.direction.Direction.{Direction}
+use Rattle.buffer_common.specs.declared.direction.Direction.TheVariants.{LeftToRight, RightToLeft}
+use Rattle.buffer_common.specs.Direction.{is_horizontal}
+use Rattle.buffer_features.specs.declared.feature.Feature as text
+use Rattle.buffer_features.specs.Feature.{is_global}
+use Rattle.layout_map_features.specs.declared.flags.TheConstants.{F_NONE, F_GLOBAL, F_HAS_FALLBACK, F_MANUAL_JOINERS, F_GLOBAL_SEARCH, F_RANDOM}
+use Rattle.script_plan.specs.declared.ask.Ask.{Ask}
+use Rattle.script_plan.specs.declared.ask.Ask.TheVariants.{Feature}
+use Rattle.script_plan.specs.Asks.{on, added, stage_end}
+
+-- alternates and mirrored forms of lines that run to one side
+abbrev pub of_side : Direction → List Ask
+of_side LeftToRight = on (codes "ltra") F_NONE ∷ on (codes "ltrm") F_NONE ∷ []
+of_side RightToLeft = on (codes "rtla") F_NONE ∷ added (codes "rtlm") F_NONE ∷ []
+of_side _ = []
+
+-- required variations in a stage of their own, then the side, fractions where a mask is set, and an alternate at random;
+-- tracking is the shaper's own work where no table has it
+abbrev pub asked_first : Direction → List Ask
+asked_first direction =
+    on (codes "rvrn") F_NONE ∷ stage_end ∷
+    of_side direction ++
+    added (codes "frac") F_NONE ∷ added (codes "numr") F_NONE ∷ added (codes "dnom") F_NONE ∷
+    Feature (tag_of (codes "rand")) (bit_or F_GLOBAL F_RANDOM) 255 ∷
+    on (codes "trak") F_HAS_FALLBACK ∷
+    on (codes "Harf") F_NONE ∷ on (codes "HARF") F_NONE ∷
+    []
+
+-- ligatures, contexts, joins and kerning of lines; vertical forms of columns, wherever the font lists them
+abbrev pub of_line : Direction → List Ask
+of_line direction =
+    if is_horizontal direction then
+    on (codes "calt") F_NONE ∷ on (codes "clig") F_NONE ∷ on (codes "curs") F_NONE ∷ on (codes "dist") F_NONE ∷ on (codes "kern") F_HAS_FALLBACK ∷ on (codes "liga") F_NONE ∷ on (codes "rclt") F_NONE ∷ []
+    else on (codes "vert") F_GLOBAL_SEARCH ∷ []
+
+-- marks, composition and localised forms
+abbrev pub asked_after : Direction → List Ask
+asked_after direction =
+    on (codes "Buzz") F_NONE ∷ on (codes "BUZZ") F_NONE ∷
+    on (codes "abvm") F_NONE ∷ on (codes "blwm") F_NONE ∷ on (codes "ccmp") F_NONE ∷ on (codes "locl") F_NONE ∷
+    on (codes "mark") F_MANUAL_JOINERS ∷ on (codes "mkmk") F_MANUAL_JOINERS ∷ on (codes "rlig") F_NONE ∷
+    of_line direction
+
+-- a feature that the user asks for, for every glyph or for a range
+abbrev pub ask_of : text.Feature → Ask
+ask_of f = Feature f.tag (if is_global f then F_GLOBAL else F_NONE) f.value

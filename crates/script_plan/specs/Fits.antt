@@ -1,0 +1,16 @@
+-- Which texts a plan is for.
+use Rattle.std.specs.Prelude.{◌≡◌, Option, unwrap_or}
+use Rattle.buffer_common.specs.declared.script.Script.{Script}
+use Rattle.buffer_common.specs.declared.script.TheConstants.{UNKNOWN}
+use Rattle.buffer_core.specs.Segment.{guessed}
+use Rattle.buffer_core.specs.Sides.{Sides}
+use Rattle.script_plan.specs.declared.plan.hb_ot_shape_plan_t.{hb_ot_shape_plan_t}
+
+-- no script counts as one that is not known
+abbrev pub script_or_unknown : Option Script → Script
+script_or_unknown script = unwrap_or script UNKNOWN
+
+-- a plan is for texts of its direction and script, be they told or guessed
+pub record Fits {S D : Type 0} (plan : hb_ot_shape_plan_t S D) (text : Sides) : Type 0 where
+  pub direction : (guessed text).direction ≡ plan.script_plan.direction
+  pub script : script_or_unknown (guessed text).script ≡ script_or_unknown plan.script_plan.script

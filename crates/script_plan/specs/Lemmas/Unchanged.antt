@@ -1,0 +1,61 @@
+-- Rules that leave a text as it is.
+use Rattle.std.proofs.Common.{ℕ, zero, suc, ◌≡◌, Bool, true, List, [], Option, Some, None, refl, subst}
+use Rattle.std.specs.Prelude.{is_none}
+use Rattle.buffer_glyphs.specs.Items.{Item}
+use Rattle.buffer_glyphs.specs.Events.{IsPlain}
+use Rattle.buffer_core.specs.Readings.{Read, as_it_is, with_events}
+use Rattle.buffer_core.specs.Steps.{follows_same}
+use Rattle.buffer_core.specs.Sides.{Sides, run_of}
+use Rattle.buffer_stages.specs.Ready.{IsDone, IsReady}
+use Rattle.buffer_stages.specs.Pauses.{BringsNoGlyph}
+use Rattle.buffer_core.specs.Sides.{items_of}
+use Rattle.buffer_glyphs.specs.Arranged.{kept}
+use Rattle.buffer_stages.specs.Rearranged.{Rearranges}
+use Rattle.buffer_stages.specs.Stages.{IsFollowed}
+use Rattle.buffer_unicode_tables.specs.Expansion.{EndWithin, Splits, ends_by, ends_within}
+use Rattle.script_plan.specs.Rules.{KeepsOrder, StaysPlain, plain_rules}
+
+pub unchanged_followed : (s : Sides) → IsReady s → IsFollowed as_it_is s s
+unchanged_followed s ready = record { follows = follows_same (run_of s); settings = refl; ready = ready }
+
+pub unchanged_done : (s : Sides) → IsReady s → IsDone as_it_is s s
+unchanged_done s ready = record { follows = follows_same (run_of s); settings = refl; ready = ready; numbers = λ h. h }
+
+pub unchanged_run : (start end : ℕ) (s : Sides) → IsReady s → Rearranges (λ (run : List Item). kept run) start end s s
+unchanged_run start end s ready front run rest e len upto = record { items = e; happened = refl; frame = refl; ready = ready }
+
+pub brings_none : (s : Sides) → BringsNoGlyph (items_of s) (items_of s)
+brings_none s n h = h
+
+pub unchanged_plain : StaysPlain as_it_is
+unchanged_plain v r level monotone e =
+    let same : with_events [] v ≡ r = cc in
+    subst (λ (q : Read). IsPlain (q.events level)) same tt
+
+pub plain_order : KeepsOrder plain_rules
+plain_order = record {
+  preprocesses = λ font t settings. unchanged_plain;
+  reorders = λ run. tt;
+  sets_masks = λ font t settings. unchanged_plain;
+  pauses = λ font t spans settings n. unchanged_plain;
+  postprocesses = λ font settings. unchanged_plain;
+}
+
+-- ---- chains of first parts
+
+pub by_more : (e f : ℕ → Bool) → ((a : ℕ) → e a ≡ true → f a ≡ true) → (s : Option (ℕ × ℕ)) → ends_by e s ≡ true → ends_by f s ≡ true
+by_more e f more None h = refl
+by_more e f more (Some (a, b)) h = more a h
+
+pub none_more : (e : ℕ → Bool) (s : Option (ℕ × ℕ)) → is_none s ≡ true → ends_by e s ≡ true
+none_more e None h = refl
+none_more e (Some (a, b)) h = cc
+
+one_more : (splits : Splits) (depth u : ℕ) → ends_within splits depth u ≡ true → ends_within splits (suc depth) u ≡ true
+unfolding ends_within
+one_more splits zero u h = none_more (ends_within splits zero) (splits u) h
+one_more splits (suc depth) u h = by_more (ends_within splits depth) (ends_within splits (suc depth)) (one_more splits depth) (splits u) h
+
+-- chains that end within eight splits end within nine
+pub nine_splits : (splits : Splits) → EndWithin splits 8 → EndWithin splits 9
+nine_splits splits e u = one_more splits 8 u (e u)

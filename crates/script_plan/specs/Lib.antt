@@ -1,0 +1,10 @@
+pub mod Lemmas
+pub mod Asks
+pub mod Common
+pub mod Lists
+pub mod Pauses
+pub mod Requests
+pub mod Traits
+pub mod Plans
+pub mod Fits
+pub mod Rules

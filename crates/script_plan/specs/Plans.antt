@@ -1,0 +1,96 @@
+-- The plan for texts of one direction, script and language, and one font.
+use Rattle.std.specs.Prelude.{ℕ, Bool, false, ◌≡◌, ◌==◌, ◌&&◌, ◌||◌, not, List, Option, Some, None, is_some, codes}
+use Rattle.std.specs.Option.{option_map_or}
+use Rattle.buffer_common.specs.declared.tag.Tag.{Tag}
+use Rattle.buffer_common.specs.declared.script.Script.{Script}
+use Rattle.buffer_common.specs.declared.direction.Direction.{Direction}
+use Rattle.buffer_common.specs.Tag.{tag_of}
+use Rattle.buffer_common.specs.ScriptTags.{wanted_tags}
+use Rattle.buffer_features.specs.declared.feature.Feature.{Feature}
+use Rattle.layout_face.specs.declared.parts.FaceParts.{FaceParts}
+use Rattle.layout_map.specs.Compiled.{MapRequests, OtMapValue, compiled, feature_at, no_requests}
+use Rattle.layout_map.specs.Chosen.{script_tag}
+use Rattle.script_plan.specs.declared.planned.TheConstants.{HB_OT_SHAPE_ZERO_WIDTH_MARKS_NONE}
+use Rattle.script_plan.specs.declared.plan.PlanChoices.{PlanChoices}
+use Rattle.script_plan.specs.declared.plan.hb_ot_shape_plan_t.{hb_ot_shape_plan_t}
+use Rattle.script_plan.specs.declared.plan.hb_script_plan_t.{hb_script_plan_t}
+use Rattle.script_plan.specs.Requests.{Asking, with_requests}
+use Rattle.script_plan.specs.Traits.{ShaperKind, ShaperTraits}
+
+-- nothing is asked yet: the scripts and language systems of the font's tables are chosen
+abbrev pub nothing_asked : FaceParts → Option Script → List Tag → MapRequests
+nothing_asked font script languages = no_requests (wanted_tags script) languages font.gsub font.gpos
+
+-- the script of GSUB that serves the text
+abbrev pub gsub_script : FaceParts → Option Script → List Tag → Option Tag
+gsub_script font script languages = script_tag (nothing_asked font script languages).tables.gsub
+
+-- the mask of a feature at the value 1, 0 where the map lacks it
+abbrev pub mask_at_one : List ℕ → OtMapValue → ℕ
+mask_at_one name m = option_map_or (λ f. f.one_mask) (feature_at (tag_of name) m) 0
+
+abbrev pub has_mask : List ℕ → OtMapValue → Bool
+has_mask name m = not (mask_at_one name m == 0)
+
+-- a fraction is one feature, or two for its numerator and its denominator
+abbrev pub has_fractions : OtMapValue → Bool
+has_fractions m = has_mask (codes "frac") m || has_mask (codes "numr") m && has_mask (codes "dnom") m
+
+abbrev pub is_chosen : Tag → Option Tag → Bool
+is_chosen wanted None = false
+is_chosen wanted (Some chosen) = wanted.0 == chosen.0
+
+-- a shaper that is made for one script of GPOS does not use the table under another
+abbrev pub disables_gpos : Option Tag → Option Tag → Bool
+disables_gpos None chosen = false
+disables_gpos (Some wanted) chosen = not (is_chosen wanted chosen)
+
+-- whether the font's own positioning is used
+abbrev pub uses_gpos : ShaperTraits → FaceParts → OtMapValue → Bool
+uses_gpos traits font m = is_some font.gpos && not (disables_gpos traits.gpos_tag m.tables.gpos.chosen_script)
+
+-- what a plan decides, beside its map
+abbrev pub choices : ShaperTraits → FaceParts → OtMapValue → PlanChoices
+choices traits font m = record {
+  has_frac = has_fractions m;
+  has_vert = has_mask (codes "vert") m;
+  has_gpos_mark = has_mask (codes "mark") m;
+  zero_marks = not (traits.zero_width_marks == HB_OT_SHAPE_ZERO_WIDTH_MARKS_NONE);
+  fallback_glyph_classes = not (is_some font.gdef.classes);
+  fallback_mark_positioning = not (uses_gpos traits font m) && traits.fallback_position;
+  adjust_mark_positioning_when_zeroing = not (uses_gpos traits font m);
+  apply_gpos = uses_gpos traits font m;
+  apply_fallback_kern = not (uses_gpos traits font m);
+}
+
+-- the map of a text's plan
+abbrev pub planned_map : Asking → FaceParts → List Tag → Direction → Option Script → List Feature → OtMapValue
+planned_map asking font languages direction script features =
+    compiled (with_requests asking direction script features (nothing_asked font script languages))
+
+-- ---- plans of shapers of a kind
+
+-- the shaper of a text, by its script
+unfoldable pub planned_shaper : {S D : Type 0} → ShaperKind S D → FaceParts → List Tag → Direction → Option Script → S
+planned_shaper kind font languages direction script = kind.shaper_of script direction (gsub_script font script languages)
+
+-- the map of a text's plan, by its script
+unfoldable pub text_map : {S D : Type 0} → ShaperKind S D → FaceParts → List Tag → Direction → Option Script → List Feature → OtMapValue
+text_map kind font languages direction script features =
+    planned_map (kind.asking (planned_shaper kind font languages direction script)) font languages direction script features
+
+-- what a text's shaper reads of its plan
+unfoldable pub text_plan : {S D : Type 0} → ShaperKind S D → FaceParts → List Tag → Direction → Option Script → List Feature → hb_script_plan_t D
+text_plan kind font languages direction script features = record {
+  direction = direction;
+  script = script;
+  map = text_map kind font languages direction script features;
+  choices = choices (kind.traits (planned_shaper kind font languages direction script)) font (text_map kind font languages direction script features);
+  plan_data = kind.data_of (planned_shaper kind font languages direction script) (text_map kind font languages direction script features) script;
+}
+
+-- the plan of a text: its shaper, what that reads of it, and what was asked for
+pub record IsPlanned {S D : Type 0} (kind : ShaperKind S D) (font : FaceParts) (languages : List Tag) (d : Direction) (s : Option Script) (asked : List Feature) (plan : hb_ot_shape_plan_t S D) : Type 0 where
+  pub shaper : plan.shaper ≡ planned_shaper kind font languages d s
+  pub script_plan : plan.script_plan ≡ text_plan kind font languages d s asked
+  pub features : plan.user_features.items ≡ asked

@@ -1,0 +1,13 @@
+//! What Hangul asks.
+
+use crate::ask::{Ask, added, off, tag};
+use layout_map_features::flags::F_NONE;
+
+pub(crate) const FEATURES: [Ask; 3] = [
+    added!(b"ljmo", F_NONE),
+    added!(b"vjmo", F_NONE),
+    added!(b"tjmo", F_NONE),
+];
+
+/// After what the user asked.
+pub(crate) const OVERRIDES: [Ask; 1] = [off!(b"calt")];

@@ -1,0 +1,74 @@
+//! What a shaper does between two stages of substitution.
+ghost use Rattle.std.specs.Prelude.{◌≡◌};
+ghost use Rattle.script_plan.specs.Pauses.{number_of_pause, pause_number, pause_of_number, NumbersLeadBack};
+
+/// A pause with a body of its own.
+#[derive(Clone, Copy)]
+pub enum hb_script_pause_t {
+    RecordStch,
+    SetupSyllables,
+    ReorderKhmer,
+    ReorderMyanmar,
+    ClearSyllables,
+    ClearSubstitutionFlags,
+    RecordRphf,
+    RecordPref,
+    ReorderUse,
+    InitialReordering,
+    FinalReordering,
+}
+
+use hb_script_pause_t::*;
+
+impl hb_script_pause_t {
+    /// The number that stands for the pause in a map: 1 to 11.
+    pub fn number(self) -> u8
+        ensures { result ≡ pause_number self }
+    {
+        match self {
+            RecordStch => 1,
+            SetupSyllables => 2,
+            ReorderKhmer => 3,
+            ReorderMyanmar => 4,
+            ClearSyllables => 5,
+            ClearSubstitutionFlags => 6,
+            RecordRphf => 7,
+            RecordPref => 8,
+            ReorderUse => 9,
+            InitialReordering => 10,
+            FinalReordering => 11,
+        }
+    }
+
+    /// The pause that a number of a map stands for, if it has a body.
+    pub fn from_number(number: u8) -> Option<hb_script_pause_t>
+        ensures { result ≡ pause_of_number number }
+    {
+        match number {
+            1 => Some(RecordStch),
+            2 => Some(SetupSyllables),
+            3 => Some(ReorderKhmer),
+            4 => Some(ReorderMyanmar),
+            5 => Some(ClearSyllables),
+            6 => Some(ClearSubstitutionFlags),
+            7 => Some(RecordRphf),
+            8 => Some(RecordPref),
+            9 => Some(ReorderUse),
+            10 => Some(InitialReordering),
+            11 => Some(FinalReordering),
+            _ => None,
+        }
+    }
+}
+
+/// The number that stands in a map for what is done where a stage ends: 0 where nothing is.
+pub fn number_of_pause(pause: Option<hb_script_pause_t>) -> u8
+    ensures { result ≡ number_of_pause pause }
+{
+    pause.map_or(0, hb_script_pause_t::number)
+}
+
+/// The number of each pause leads back to it.
+pub fn law_numbers_lead_back()
+    ensures { NumbersLeadBack }
+{}

@@ -1,0 +1,242 @@
+//! Makes plans.
+ghost use Rattle.std.specs.Prelude.{◌≡◌, ◌&&◌, not, codes, IfOk, is_some};
+ghost use Rattle.std.specs.Option.{option_copied};
+ghost use Rattle.buffer_common.specs.ScriptTags.{wanted_language_tags};
+ghost use Rattle.script_plan.specs.Plans.{IsPlanned, choices, disables_gpos, gsub_script, has_fractions, has_mask, nothing_asked, planned_map, uses_gpos};
+ghost use Rattle.script_plan.specs.Requests.{with_requests, with_user};
+ghost use Rattle.layout_map.specs.Compiled.{compiled};
+ghost use Rattle.std.specs.Prelude.{OnOk};
+
+use crate::plan::{PlanChoices, hb_ot_shape_plan_t, hb_script_plan_t};
+use crate::planned::{CategorizedShaper, HB_OT_SHAPE_ZERO_WIDTH_MARKS_NONE, PlannedShaper};
+use crate::{common, user};
+use buffer_common::direction::Direction;
+use buffer_common::language::Language;
+use buffer_common::language_tags::LanguageTags;
+use buffer_common::script::Script;
+use buffer_common::script_tags::tags_from_script_and_language;
+use buffer_common::tag::Tag;
+use buffer_features::feature::Feature;
+use layout_face::Face;
+use layout_map::builder::hb_ot_map_builder_t;
+use layout_map::map::hb_ot_map_t;
+use layout_map_features::per_table::TableIndex;
+use std::alloc::{AllocError, Global};
+
+/// Collects what is asked of a font, and compiles a plan.
+#[derive(Drop)]
+pub struct hb_ot_shape_planner_t<'a, S: PlannedShaper> {
+    pub face: &'a Face,
+    pub direction: Direction,
+    pub script: Option<Script>,
+    pub ot_map: hb_ot_map_builder_t<'a>,
+    pub shaper: S,
+}
+
+/// A builder for a font's tables that nothing was asked of yet.
+fn new_builder<'a, L: LanguageTags>(
+    alloc: Global,
+    face: &'a Face,
+    languages: &L,
+    script: Option<Script>,
+    language: Option<&Language>,
+) -> hb_ot_map_builder_t<'a>
+    ensures { result
+        ≡ nothing_asked face.now script
+        (wanted_language_tags (L.tags_of languages.now) (option_copied language.entry)) }
+{
+    let (scripts, languages) = tags_from_script_and_language(script, language, languages);
+    hb_ot_map_builder_t::new(
+        alloc,
+        face.gsub(),
+        face.gpos(),
+        scripts.as_slice(),
+        languages.as_slice(),
+    )
+}
+
+impl<'a, S: CategorizedShaper> hb_ot_shape_planner_t<'a, S> {
+    /// A planner with the shaper that the script has for the font.
+    pub fn new<L: LanguageTags>(
+        alloc: Global,
+        face: &'a Face,
+        languages: &L,
+        direction: Direction,
+        script: Option<Script>,
+        language: Option<&Language>,
+    ) -> hb_ot_shape_planner_t<'a, S>
+        ensures face { result.face.now ≡ face.now }
+        ensures direction { result.direction ≡ direction }
+        ensures script { result.script ≡ script }
+        ensures shaper { result.shaper ≡ S.shaper_of script direction (gsub_script face.now script
+            (wanted_language_tags (L.tags_of languages.now) (option_copied language.entry))) }
+        ensures requests { result.ot_map
+            ≡ nothing_asked face.now script (wanted_language_tags (L.tags_of languages.now)
+            (option_copied language.entry)) }
+    {
+        let ot_map = new_builder(alloc, face, languages, script, language);
+        let gsub_script = ot_map.chosen_script(TableIndex::GSUB);
+        let shaper = S::categorize(script, direction, gsub_script);
+        hb_ot_shape_planner_t {
+            face,
+            direction,
+            script,
+            ot_map,
+            shaper,
+        }
+    }
+}
+
+impl<'a, S: PlannedShaper> hb_ot_shape_planner_t<'a, S> {
+    /// A planner with a shaper that is handed in.
+    pub fn with_shaper<L: LanguageTags>(
+        alloc: Global,
+        face: &'a Face,
+        languages: &L,
+        direction: Direction,
+        script: Option<Script>,
+        language: Option<&Language>,
+        shaper: S,
+    ) -> hb_ot_shape_planner_t<'a, S>
+        ensures face { result.face.now ≡ face.now }
+        ensures direction { result.direction ≡ direction }
+        ensures script { result.script ≡ script }
+        ensures shaper { result.shaper ≡ shaper }
+        ensures requests { result.ot_map
+            ≡ nothing_asked face.now script (wanted_language_tags (L.tags_of languages.now)
+            (option_copied language.entry)) }
+    {
+        let ot_map = new_builder(alloc, face, languages, script, language);
+        hb_ot_shape_planner_t {
+            face,
+            direction,
+            script,
+            ot_map,
+            shaper,
+        }
+    }
+
+    /// Asks for what every text, the shaper and the user want. A planner that was refused memory is only dropped.
+    pub fn collect_features(&mut self, features: &[Feature]) -> Result<(), AllocError>
+        ensures { OnOk result (self.new ≡ record self.old {
+          ot_map = with_requests (record {
+            collects = S.collects self.old.shaper;
+            overrides = S.overrides
+                self.old.shaper;
+          })
+              self.old.direction self.old.script features.now self.old.ot_map;
+        }) }
+    {
+        common::ask_first(&mut self.ot_map, self.direction)?;
+        self.shaper.collect_features(&mut self.ot_map, self.script)?;
+        common::ask_after(&mut self.ot_map, self.direction)?;
+        user::ask_features(&mut self.ot_map, features)?;
+        self.shaper.override_features(&mut self.ot_map, self.script)
+    }
+
+    /// The plan of what was asked, with what the shaper keeps for its texts; it keeps the user's features.
+    pub fn compile(
+        self,
+        alloc: Global,
+        features: &[Feature],
+    ) -> Result<hb_ot_shape_plan_t<S>, AllocError>
+        ensures direction { IfOk result (λ plan. plan.script_plan.direction ≡ self.entry.direction) }
+        ensures script { IfOk result (λ plan. plan.script_plan.script ≡ self.entry.script) }
+        ensures shaper { IfOk result (λ plan. plan.shaper ≡ self.entry.shaper) }
+        ensures map { IfOk result (λ plan. plan.script_plan.map ≡ compiled self.entry.ot_map) }
+        ensures choices { IfOk result (λ plan. plan.script_plan.choices
+            ≡ choices (S.traits self.entry.shaper) self.entry.face.now (compiled self.entry.ot_map)) }
+        ensures data { IfOk result (λ plan. plan.script_plan.plan_data
+            ≡ S.data_of self.entry.shaper (compiled self.entry.ot_map) self.entry.script) }
+        ensures features { IfOk result (λ plan. plan.user_features.items ≡ features.now) }
+    {
+        let map = self.ot_map.compile(alloc)?;
+        let choices = plan_choices(&self.shaper, self.face, &map);
+        let plan_data = self.shaper.create_data(alloc, &map, self.script)?;
+        let mut user_features = Vec::new(alloc);
+        user_features.extend_from_slice(features)?;
+        Ok(hb_ot_shape_plan_t {
+            shaper: self.shaper,
+            script_plan: hb_script_plan_t {
+                direction: self.direction,
+                script: self.script,
+                map,
+                choices,
+                plan_data,
+            },
+            user_features,
+        })
+    }
+}
+
+impl<S: CategorizedShaper> hb_ot_shape_plan_t<S> {
+    /// The plan for texts of a direction, a script and a language in a font, with the shaper that the script has for the
+    /// font and with the features that the user asks for. One plan serves all such texts. It takes memory for the map of
+    /// features and for the stages of lookups.
+    pub fn new<L: LanguageTags>(
+        alloc: Global,
+        face: &Face,
+        languages: &L,
+        direction: Direction,
+        script: Option<Script>,
+        language: Option<&Language>,
+        features: &[Feature],
+    ) -> Result<hb_ot_shape_plan_t<S>, AllocError>
+        ensures { IfOk result (IsPlanned (record {
+          shaper_of = S.shaper_of;
+          traits = S.traits;
+          asking = λ shaper. record { collects = S.collects shaper; overrides = S.overrides shaper };
+          data_of = S.data_of;
+        }) face.now (wanted_language_tags (L.tags_of languages.now) (option_copied language.entry))
+            direction script features.now) }
+    {
+        let mut planner = hb_ot_shape_planner_t::new(
+            alloc, face, languages, direction, script, language,
+        );
+        planner.collect_features(features)?;
+        let plan = planner.compile(alloc, features)?;
+        Ok(plan)
+    }
+}
+
+fn has_mask(map: &hb_ot_map_t, tag: &[u8; 4]) -> bool
+    ensures { result ≡ has_mask tag.now map.now }
+{
+    map.get_1_mask(Tag::from_bytes(tag)) != 0
+}
+
+fn has_fractions(map: &hb_ot_map_t) -> bool
+    ensures { result ≡ has_fractions map.now }
+{
+    has_mask(map, b"frac") || has_mask(map, b"numr") && has_mask(map, b"dnom")
+}
+
+/// Whether a shaper that is made for one script of GPOS is faced with another.
+fn disables_gpos(wanted: Option<Tag>, chosen: Option<Tag>) -> bool
+    ensures { result ≡ disables_gpos wanted chosen }
+{
+    wanted.is_some() && wanted != chosen
+}
+
+fn uses_gpos<S: PlannedShaper>(shaper: &S, face: &Face, map: &hb_ot_map_t) -> bool
+    ensures { result ≡ uses_gpos (S.traits shaper.now) face.now map.now }
+{
+    face.gpos().is_some() && !disables_gpos(shaper.gpos_tag(), map.chosen_script(TableIndex::GPOS))
+}
+
+fn plan_choices<S: PlannedShaper>(shaper: &S, face: &Face, map: &hb_ot_map_t) -> PlanChoices
+    ensures { result ≡ choices (S.traits shaper.now) face.now map.now }
+{
+    let apply_gpos = uses_gpos(shaper, face, map);
+    PlanChoices {
+        has_frac: has_fractions(map),
+        has_vert: has_mask(map, b"vert"),
+        has_gpos_mark: has_mask(map, b"mark"),
+        zero_marks: shaper.zero_width_marks() != HB_OT_SHAPE_ZERO_WIDTH_MARKS_NONE,
+        fallback_glyph_classes: !face.has_glyph_classes(),
+        fallback_mark_positioning: !apply_gpos && shaper.fallback_position(),
+        adjust_mark_positioning_when_zeroing: !apply_gpos,
+        apply_gpos,
+        apply_fallback_kern: !apply_gpos,
+    }
+}

@@ -1,0 +1,149 @@
+//! A shaper.
+
+use crate::plan::hb_script_plan_t;
+use crate::planned::PlannedShaper;
+use buffer_core::buffer::hb_buffer_t;
+use buffer_glyphs::cause::ShapeCause;
+use buffer_unicode_tables::UnicodeTables;
+use layout_face::Face;
+use script_categories::SyllableSpans;
+use std::alloc::Global;
+
+/// What a shaper does to a text, at its places between the stages that every text has. Each hook's rule is a function of
+/// what the stages see, of the font, the tables, the plan and what is set for the text; it knows no cluster, no cluster level
+/// and no request for glyph flags.
+pub trait hb_ot_shaper_t: PlannedShaper {
+    ghost use Rattle.std.specs.Prelude.{◌≡◌, ◌≢◌, ◌≤◌, Bool, true, false, List, Ok, Err, IfErr, OnOk, length};
+    ghost use Rattle.buffer_unicode_tables.specs.Expansion.{EndWithin};
+    ghost use Rattle.buffer_unicode_tables.specs.Tables.{Tables, split_of};
+    ghost use Rattle.buffer_glyphs.specs.Items.{Item};
+    ghost use Rattle.buffer_core.specs.Readings.{read_of};
+    ghost use Rattle.buffer_core.specs.Sides.{all_glyphs, items_of, run_of};
+    ghost use Rattle.buffer_stages.specs.Buffers.{are_glyphs};
+    ghost use Rattle.buffer_stages.specs.Ready.{IsDone, IsReady};
+    ghost use Rattle.buffer_stages.specs.Settings.{text_settings};
+    ghost use Rattle.buffer_stages.specs.Pauses.{BringsNoGlyph};
+    ghost use Rattle.buffer_stages.specs.Rearranged.{Rearranges};
+    ghost use Rattle.buffer_stages.specs.Stages.{IsFollowed};
+    ghost use Rattle.script_plan.specs.declared.plan.hb_script_plan_t.{hb_script_plan_t};
+    ghost use Rattle.script_plan.specs.Rules.{KeepsOrder, ShaperRules};
+
+    ghost rules: { Self → hb_script_plan_t Self.PlanData → ShaperRules };
+
+    ghost keeps_order: { Self → Bool };
+
+    /// Changes the text's characters, which are in the order of their writing.
+    fn preprocess_text(
+        &self,
+        plan: &hb_script_plan_t<Self::PlanData>,
+        face: &Face,
+        tables: &UnicodeTables,
+        buffer: &mut hb_buffer_t,
+    ) -> Result<(), ShapeCause>
+        requires ready { IsReady buffer.old }
+        ensures ok { OnOk result (IsFollowed
+            ((rules self.now plan.now).preprocesses face.now tables.now (text_settings buffer.old))
+            buffer.old buffer.new) }
+        ensures err { IfErr result (λ e. e ≢ ShapeCause.OutOfMemory → read_of
+            ((rules self.now plan.now).preprocesses face.now tables.now (text_settings buffer.old)) (run_of buffer.old)
+            ≡ Err e) };
+
+    /// The two parts of a character; the second is U+0000 where it is absent.
+    fn decompose(
+        &self,
+        plan: &hb_script_plan_t<Self::PlanData>,
+        tables: &UnicodeTables,
+        ab: char,
+    ) -> Option<(char, char)>
+        ensures { result ≡ (rules self.now plan.now).splits tables.now ab };
+
+    /// What two characters compose to.
+    fn compose(
+        &self,
+        plan: &hb_script_plan_t<Self::PlanData>,
+        tables: &UnicodeTables,
+        a: char,
+        b: char,
+    ) -> Option<char>
+        ensures { result ≡ (rules self.now plan.now).composes tables.now a b };
+
+    /// Puts a run of marks, from `start` up to before `end` and in the order of their classes, in the shaper's own order.
+    fn reorder_marks(
+        &self,
+        plan: &hb_script_plan_t<Self::PlanData>,
+        buffer: &mut hb_buffer_t,
+        start: usize,
+        end: usize,
+    )
+        requires ready { IsReady buffer.old }
+        requires ordered { start ≤ end }
+        requires within { end ≤ length (all_glyphs buffer.old) }
+        ensures { Rearranges (rules self.now plan.now).reorders start end buffer.old buffer.new };
+
+    /// Sets the masks of features that act on some characters alone. It changes no character.
+    fn setup_masks(
+        &self,
+        plan: &hb_script_plan_t<Self::PlanData>,
+        face: &Face,
+        tables: &UnicodeTables,
+        buffer: &mut hb_buffer_t,
+    ) -> Result<(), ShapeCause>
+        requires ready { IsReady buffer.old }
+        ensures ok { OnOk result (IsFollowed
+            ((rules self.now plan.now).sets_masks face.now tables.now (text_settings buffer.old))
+            buffer.old buffer.new) }
+        ensures err { IfErr result (λ e. e ≢ ShapeCause.OutOfMemory → read_of
+            ((rules self.now plan.now).sets_masks face.now tables.now (text_settings buffer.old)) (run_of buffer.old)
+            ≡ Err e) };
+
+    /// Does what the pause of a number does between two stages of lookups, and answers true whenever a glyph number came in.
+    fn run_pause<P: SyllableSpans>(
+        &self,
+        alloc: Global,
+        pause: u8,
+        plan: &hb_script_plan_t<Self::PlanData>,
+        face: &Face,
+        tables: &UnicodeTables,
+        spans: &P,
+        buffer: &mut hb_buffer_t,
+    ) -> Result<bool, ShapeCause>
+        requires ready { IsReady buffer.old }
+        requires numbers { are_glyphs (items_of buffer.old) ≡ true }
+        ensures ok { OnOk result (IsDone
+            ((rules self.now plan.now).pauses face.now tables.now (P.span_of spans.now) (text_settings buffer.old)
+            pause)
+            buffer.old buffer.new) }
+        ensures told { result ≡ Ok false → BringsNoGlyph (items_of buffer.old) (items_of buffer.new) }
+        ensures err { IfErr result (λ e. e ≢ ShapeCause.OutOfMemory → read_of
+            ((rules self.now plan.now).pauses face.now tables.now (P.span_of spans.now) (text_settings buffer.old)
+            pause)
+            (run_of buffer.old) ≡ Err e) };
+
+    /// Changes the glyphs, which stand as they are drawn, and their positions.
+    fn postprocess_glyphs(
+        &self,
+        alloc: Global,
+        plan: &hb_script_plan_t<Self::PlanData>,
+        face: &Face,
+        buffer: &mut hb_buffer_t,
+    ) -> Result<(), ShapeCause>
+        requires ready { IsReady buffer.old }
+        ensures ok { OnOk result (IsDone
+            ((rules self.now plan.now).postprocesses face.now (text_settings buffer.old)) buffer.old buffer.new) }
+        ensures err { IfErr result (λ e. e ≢ ShapeCause.OutOfMemory → read_of
+            ((rules self.now plan.now).postprocesses face.now (text_settings buffer.old))
+            (run_of buffer.old) ≡ Err e) };
+
+    /// Whether clusters that are in order stay so at the levels that keep them in order.
+    fn keeps_cluster_order(&self) -> bool
+        ensures { result ≡ keeps_order self.now };
+
+    ghost splits_end: { (s : Self) (plan : hb_script_plan_t Self.PlanData) (t : Tables)
+        → EndWithin (split_of t) 8 → EndWithin ((rules s plan).splits t) 9 };
+
+    ghost keeps_count: { (s : Self) (plan : hb_script_plan_t Self.PlanData) (run : List Item)
+        → length ((rules s plan).reorders run).items ≡ length run };
+
+    ghost rules_keep_order: { (s : Self) (plan : hb_script_plan_t Self.PlanData)
+        → keeps_order s ≡ true → KeepsOrder (rules s plan) };
+}

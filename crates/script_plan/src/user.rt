@@ -1,0 +1,37 @@
+//! What the user asks.
+ghost use Rattle.std.specs.Prelude.{◌≡◌, fold, map, OnOk};
+ghost use Rattle.script_plan.specs.Asks.{with_ask};
+ghost use Rattle.script_plan.specs.Common.{ask_of};
+
+use crate::ask::{Ask, make};
+use buffer_features::feature::Feature;
+use layout_map::builder::hb_ot_map_builder_t;
+use layout_map_features::flags::{F_GLOBAL, F_NONE};
+use std::alloc::AllocError;
+
+fn ask_of(feature: &Feature) -> Ask
+    ensures { result ≡ ask_of feature.now }
+{
+    Ask::Feature {
+        tag: feature.tag,
+        flags: if feature.is_global() {
+            F_GLOBAL
+        } else {
+            F_NONE
+        },
+        value: feature.value,
+    }
+}
+
+/// Asks for the user's features in order, for every glyph or for a range.
+pub fn ask_features(
+    builder: &mut hb_ot_map_builder_t,
+    features: &[Feature],
+) -> Result<(), AllocError>
+    ensures { OnOk result (builder.new ≡ fold with_ask builder.old (map ask_of features.now)) }
+{
+    for feature in features {
+        make(builder, ask_of(feature))?;
+    }
+    Ok(())
+}

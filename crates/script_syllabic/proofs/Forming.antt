@@ -1,0 +1,189 @@
+-- Syllables that take their forms, one after another.
+use Rattle.std.proofs.Common.{ℕ, zero, suc, ◌≡◌, ◌≤◌, ◌<◌, ◌+◌, ◌-◌, ◌/◌, ◌%◌, ◌==◌, Bool, true, false, if◌then◌else◌, List, [], ◌∷◌, ◌++◌, length, map, take, drop, refl, sym, ap, subst, ◌∙◌, arith}
+use Rattle.std.specs.Prelude.{bit_and, slice_range}
+use Rattle.std.specs.Int.RustNames.{bit_or}
+use Rattle.std.specs.Int.Bits.{and_zero_r}
+use Rattle.std.proofs.lemmas.Nat.{and_mask, and_shr, and_mod, and_le_l}
+use Rattle.std.proofs.lemmas.List.{length-map, drop_all}
+use Rattle.buffer_glyphs.specs.declared.info.hb_glyph_info_t.{hb_glyph_info_t}
+use Rattle.buffer_glyphs.specs.Items.{Item, item_of, strip, without_flags}
+use Rattle.buffer_glyphs.specs.Origins.{origin_of, origins}
+use Rattle.buffer_core.specs.Readings.{always}
+use Rattle.buffer_groups.specs.Runs.{run_length}
+use Rattle.buffer_core.specs.Sides.{Sides, all_glyphs, items_of}
+use Rattle.buffer_core.specs.Lending.{with_refilled}
+use Rattle.buffer_stages.specs.Ready.{IsReady}
+use Rattle.buffer_stages.specs.Stages.{IsFollowed}
+use Rattle.buffer_stages.specs.Rewriting.{kept, in_syllables, joined_to, runs_of}
+use Rattle.buffer_stages.specs.SyllableBuffers.{IsRewritten, with_rule}
+use Rattle.buffer_stages.specs.Lemmas.Parts.{part_written, range_seen, range_size, without_again, flags_again}
+use Rattle.buffer_stages.specs.Lemmas.Rewritings.{middle, items_after, rewritten_beside, rewritten_count, rewritten_follows, rewritten_nothing, rewritten_same, counted}
+use Rattle.buffer_stages.proofs.Lemmas.Syllables.{syllable_end, syllables_cut}
+use Rattle.script_syllabic.specs.declared.forms.FormMasks.{FormMasks}
+use Rattle.script_syllabic.specs.Features.{all_forms, each_formed, first_joins, form_bits, form_of, formed, joins, topography, with_form}
+use Rattle.script_syllabic.specs.Formed.{glyph_with_form}
+use Rattle.buffer_stages.proofs.Lemmas.Masks.{high_cleared, without_flags_is}
+
+-- ---- one mask
+
+no_flags_in : (a : ℕ) → (a - bit_and a 0x8000_0007) % 8 ≡ 0
+no_flags_in a =
+    let low = and_mod a 0x8000_0007 3 in
+    let seven = and_mask (a % 8) 3 in
+    let most = and_le_l a 0x8000_0007 in
+    omega (arith, low, seven, most)
+
+-- bits are cleared above the flags as without them
+cleared_above : (m under : ℕ) → under % 8 ≡ 0 → without_flags (m - bit_and m under) ≡ without_flags m - bit_and (without_flags m) under
+cleared_above m under none =
+    let a = without_flags_is (m - bit_and m under) in
+    let b = high_cleared m under in
+    let n = without_flags m in
+    let is = without_flags_is m in
+    let same : n / 8 ≡ m / 8 = omega (arith, is) in
+    let low : n % 8 ≡ 0 = omega (arith, is) in
+    let c = and_shr n under 3 in
+    let d = and_mod n under 3 in
+    let e : bit_and (n / 8) (under / 8) ≡ bit_and (m / 8) (under / 8) = ap (λ k. bit_and k (under / 8)) same in
+    let f : bit_and (n % 8) (under % 8) ≡ 0 = ap (bit_and (n % 8)) none ∙ and_zero_r (n % 8) in
+    let some = and_le_l (m / 8) (under / 8) in
+    omega (arith, a, b, is, c, d, e, f, some)
+
+flags_stay : (m under : ℕ) → under % 8 ≡ 0 → bit_and (m - bit_and m under) 7 ≡ bit_and m 7
+flags_stay m under none =
+    let a = and_mask (m - bit_and m under) 3 in
+    let b = and_mask m 3 in
+    let low = and_mod m under 3 in
+    let off : bit_and (m % 8) (under % 8) ≡ 0 = ap (bit_and (m % 8)) none ∙ and_zero_r (m % 8) in
+    let most = and_le_l m under in
+    omega (arith, a, b, low, off, most)
+
+item_formed : (masks : FormMasks) (form : ℕ) (g : hb_glyph_info_t) → item_of (glyph_with_form (form_bits masks) form g) ≡ with_form masks form (item_of g)
+item_formed masks form g =
+    let none = no_flags_in (all_forms masks) in
+    ap (λ m. record (item_of g) { mask = m }) (without_again (g.mask - bit_and g.mask (form_bits masks)) form ∙ ap (λ m. bit_or m (without_flags form)) (cleared_above g.mask (form_bits masks) none))
+
+origin_formed : (masks : FormMasks) (form : ℕ) (g : hb_glyph_info_t) → origin_of (glyph_with_form (form_bits masks) form g) ≡ origin_of g
+origin_formed masks form g =
+    let none = no_flags_in (all_forms masks) in
+    ap (λ f. record (origin_of g) { flags = f }) (flags_again (g.mask - bit_and g.mask (form_bits masks)) form ∙ flags_stay g.mask (form_bits masks) none)
+
+items_formed : (masks : FormMasks) (form : ℕ) (gs : List hb_glyph_info_t) → strip (map (glyph_with_form (form_bits masks) form) gs) ≡ map (with_form masks form) (strip gs)
+items_formed masks form [] = refl
+items_formed masks form (g ∷ gs) = rw (item_formed masks form g, items_formed masks form gs) refl
+
+origins_formed : (masks : FormMasks) (form : ℕ) (gs : List hb_glyph_info_t) → origins (map (glyph_with_form (form_bits masks) form) gs) ≡ origins gs
+origins_formed masks form [] = refl
+origins_formed masks form (g ∷ gs) = rw (origin_formed masks form g, origins_formed masks form gs) refl
+
+pub form_rewrites : (masks : FormMasks) (form from to bits : ℕ) (gs : List hb_glyph_info_t) (a : Sides) → IsReady a → from ≤ to → to ≤ length (all_glyphs a) → bits ≡ form_bits masks
+    → gs ≡ take from (all_glyphs a) ++ map (glyph_with_form bits form) (slice_range (all_glyphs a) from to) ++ drop to (all_glyphs a)
+    → IsRewritten (kept (map (with_form masks form) (slice_range (items_of a) from to))) from to a (with_refilled gs a)
+form_rewrites masks form from to bits gs a ready le fits b e =
+    let range = slice_range (all_glyphs a) from to in
+    let f : gs ≡ take from (all_glyphs a) ++ map (glyph_with_form (form_bits masks) form) range ++ drop to (all_glyphs a) = e ∙ ap (λ n. take from (all_glyphs a) ++ map (glyph_with_form n form) range ++ drop to (all_glyphs a)) b in
+    part_written from to (map (with_form masks form) (slice_range (items_of a) from to)) (map (glyph_with_form (form_bits masks) form) range) gs a ready le fits f
+    (items_formed masks form range ∙ ap (map (with_form masks form)) (range_seen item_of from to (all_glyphs a))) (origins_formed masks form range)
+
+-- ---- one syllable
+
+joins_front : (k : ℕ) (xs : List Item) → 0 < k → joins (take k xs) ≡ joins xs
+joins_front zero xs lt = absurd (omega (arith, lt))
+joins_front (suc k) [] lt = refl
+joins_front (suc k) (x ∷ xs) lt = refl
+
+-- the syllable from an index on joins where the first item there does
+pub joins_there : (start end : ℕ) (xs : List Item) → start < end → joins (slice_range xs start end) ≡ joins (drop start xs)
+joins_there start end xs lt = joins_front (end - start) (drop start xs) (omega (arith, lt))
+
+first_of_syllables : (xs : List Item) → first_joins (in_syllables xs) ≡ joins xs
+first_of_syllables [] = refl
+first_of_syllables (x ∷ xs) = by_runs (runs_of (λ (y : Item). y.syllable) xs)
+  where
+    by_runs : (runs : List (List Item)) → first_joins (joined_to (λ (y : Item). y.syllable) x runs) ≡ joins (x ∷ xs)
+    by_runs [] = refl
+    by_runs ([] ∷ runs) = refl
+    by_runs ((y ∷ ys) ∷ runs) = elim (y.syllable == x.syllable) as (λ t. first_joins (if t then (x ∷ y ∷ ys) ∷ runs else (x ∷ []) ∷ (y ∷ ys) ∷ runs) ≡ joins (x ∷ xs)) [ true ↦ refl | false ↦ refl ]
+
+abbrev formed_if : FormMasks → Bool → List Item → Bool → Bool → List Item
+formed_if masks before s behind t = if t then map (with_form masks (form_of masks before behind)) s else s
+
+formed_size : (masks : FormMasks) (before behind : Bool) (s : List Item) → length (formed masks before s behind) ≡ length s
+formed_size masks before behind s = by_test (joins s)
+  where
+    by_test : (t : Bool) → length (formed_if masks before s behind t) ≡ length s
+    by_test true = length-map s (with_form masks (form_of masks before behind))
+    by_test false = refl
+
+-- a syllable that does not join stays
+pub left_as_it_is : (masks : FormMasks) (start end : ℕ) (before behind : Bool) (a : Sides) → start < end → IsReady a → joins (drop start (items_of a)) ≡ false
+    → IsRewritten (kept (formed masks before (slice_range (items_of a) start end) behind)) start end a a
+left_as_it_is masks start end before behind a lt ready e =
+    let s = slice_range (items_of a) start end in
+    let none : joins s ≡ false = joins_there start end (items_of a) lt ∙ e in
+    subst (λ ys. IsRewritten (kept ys) start end a a) (sym (ap (formed_if masks before s behind) none)) (rewritten_same start end a (omega (arith, lt)) ready)
+
+pub gets_form : (masks : FormMasks) (start end form : ℕ) (before joined : Bool) (a b : Sides) → start < end → joins (drop start (items_of a)) ≡ true → joined ≡ joins (drop end (items_of a)) → form ≡ form_of masks before joined
+    → IsRewritten (kept (map (with_form masks form) (slice_range (items_of a) start end))) start end a b
+    → IsRewritten (kept (formed masks before (slice_range (items_of a) start end) (joins (drop end (items_of a))))) start end a b
+gets_form masks start end form before joined a b lt e j f h =
+    let s = slice_range (items_of a) start end in
+    let yes : joins s ≡ true = joins_there start end (items_of a) lt ∙ e in
+    let P : ℕ → Type 0 = λ n. IsRewritten (kept (map (with_form masks n) s)) start end a b in
+    let Q : Bool → Type 0 = λ t. IsRewritten (kept (map (with_form masks (form_of masks before t)) s)) start end a b in
+    subst (λ ys. IsRewritten (kept ys) start end a b) (sym (ap (formed_if masks before s (joins (drop end (items_of a)))) yes)) (subst Q j (subst P f h))
+
+-- ---- the walk
+
+-- the syllables before an index have their forms: whatever the others become, all become
+pub record IsForming (masks : FormMasks) (start : ℕ) (before : Bool) (old now : Sides) : Type 0 where
+  pub ready : IsReady now
+  pub count : length (all_glyphs now) ≡ length (all_glyphs old)
+  pub does : (new : Sides) → IsRewritten (kept (each_formed masks before (in_syllables (drop start (items_of now))))) start (length (all_glyphs old)) now new
+      → IsRewritten (topography masks (items_of old)) 0 (length (all_glyphs old)) old new
+
+pub forming_begun : (masks : FormMasks) (s : Sides) → IsReady s → IsForming masks 0 false s s
+forming_begun masks s ready = record { ready = ready; count = refl; does = λ new f. f }
+
+next_formed : (masks : FormMasks) (before : Bool) (start end : ℕ) (s : Sides) → start < length (all_glyphs s) → end ≡ start + run_length (λ (g : hb_glyph_info_t). g.syllable) (drop start (all_glyphs s))
+    → each_formed masks before (in_syllables (drop start (items_of s)))
+    ≡ formed masks before (slice_range (items_of s) start end) (joins (drop end (items_of s))) ++ each_formed masks (joins (drop start (items_of s))) (in_syllables (drop end (items_of s)))
+next_formed masks before start end s lt e =
+    let part = slice_range (items_of s) start end in
+    let w = syllable_end start end s lt e in
+    ap (each_formed masks before) (syllables_cut start end s lt e)
+    ∙ ap (λ t. formed masks before part t ++ each_formed masks (joins part) (in_syllables (drop end (items_of s)))) (first_of_syllables (drop end (items_of s)))
+    ∙ ap (λ t. formed masks before part (joins (drop end (items_of s))) ++ each_formed masks t (in_syllables (drop end (items_of s)))) (joins_there start end (items_of s) w.0)
+
+pub formed_on : (masks : FormMasks) (before : Bool) (start end : ℕ) (old now next : Sides) (joined : Bool) → IsForming masks start before old now → start < length (all_glyphs now)
+    → end ≡ start + run_length (λ (g : hb_glyph_info_t). g.syllable) (drop start (all_glyphs now))
+    → IsRewritten (kept (formed masks before (slice_range (items_of now) start end) (joins (drop end (items_of now))))) start end now next → joined ≡ joins (drop start (items_of now)) → IsForming masks end joined old next
+formed_on masks before start end old now next joined u lt e f j =
+    let w = syllable_end start end now lt e in
+    let part = slice_range (items_of now) start end in
+    let behind = joins (drop end (items_of now)) in
+    let r = kept (formed masks before part behind) in
+    let n = counted now in
+    let inside : end ≤ length (items_of now) = omega (arith, n, w.1) in
+    let le : start ≤ end = omega (arith, w.0) in
+    let size : length r.items ≡ end - start = formed_size masks before behind part ∙ range_size start end (items_of now) le inside in
+    let same : drop end (items_of next) ≡ drop end (items_of now) = ap (drop end) (items_after r start end now next f) ∙ (middle start end (items_of now) r.items le inside size).1 in
+    let whole = length (all_glyphs old) in
+    let count = u.count in
+    record {
+      ready = f.ready;
+      count = rewritten_count r start end now next le inside size f ∙ u.count;
+      does = λ new g.
+          let P : List Item → Type 0 = λ ys. IsRewritten (kept (each_formed masks joined (in_syllables ys))) end whole next new in
+          let Q : Bool → Type 0 = λ t. IsRewritten (kept (each_formed masks t (in_syllables (drop end (items_of now))))) end whole next new in
+          let R : List Item → Type 0 = λ ys. IsRewritten (kept ys) start whole now new in
+          u.does new (subst R (sym (next_formed masks before start end now lt e)) (rewritten_beside r (kept (each_formed masks (joins (drop start (items_of now))) (in_syllables (drop end (items_of now))))) start end whole now next new le inside size (omega (arith, count, w.1)) f (subst Q j (subst P same g))));
+    }
+
+pub all_formed : (masks : FormMasks) (before : Bool) (start : ℕ) (old now : Sides) → IsForming masks start before old now → length (all_glyphs old) ≤ start → IsFollowed (always (with_rule (topography masks))) old now
+all_formed masks before start old now u le =
+    let n = counted now in
+    let count = u.count in
+    let past : length (items_of now) ≤ start = omega (arith, n, count, le) in
+    let P : List Item → Type 0 = λ ys. IsRewritten (kept (each_formed masks before (in_syllables ys))) start (length (all_glyphs old)) now now in
+    rewritten_follows (topography masks) old now (u.does now (subst P (sym (drop_all start (items_of now) past)) (rewritten_nothing start (length (all_glyphs old)) now u.ready past (omega (arith, n, count)))))

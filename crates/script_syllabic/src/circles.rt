@@ -1,0 +1,263 @@
+//! Circles for broken syllables to stand on.
+ghost use Rattle.std.specs.Prelude.{◌≡◌, ◌≢◌, ◌<◌, ◌≤◌, ◌+◌, ◌-◌, Err, Some, true, length, slice_get, IfOk, IfErr, OnOk};
+ghost use Rattle.std.specs.List.{list_any, prefix_len};
+ghost use Rattle.buffer_glyphs.specs.Items.{glyph_flags, item_of, strip};
+ghost use Rattle.buffer_glyphs.specs.Origins.{origin_of};
+ghost use Rattle.buffer_core.specs.Readings.{read_of};
+ghost use Rattle.buffer_core.specs.Sides.{all_glyphs, items_of, moved_on, origins_of, run_of};
+ghost use Rattle.buffer_stages.specs.Buffers.{are_glyphs};
+ghost use Rattle.buffer_stages.specs.Ready.{IsReady};
+ghost use Rattle.buffer_stages.specs.Stages.{IsFollowed};
+ghost use Rattle.script_syllabic.specs.Circles.{begins, circle_glyph, circle_item, circles_by, circles_put, is_broken, is_repha, puts_circles, with_circles};
+ghost use Rattle.script_syllabic.specs.Rules.{circle_rule, IsCircled, IsTooLong};
+
+use bitflags::Flags;
+use buffer_common::constants::BufferFlags;
+use buffer_core::buffer::hb_buffer_t;
+use buffer_glyphs::cause::ShapeCause;
+use buffer_glyphs::info::hb_glyph_info_t;
+use layout_face::Face;
+
+/// U+25CC DOTTED CIRCLE.
+pub const DOTTED_CIRCLE: char = '\u{25CC}';
+
+/// Which syllables get a circle, and what it is.
+#[derive(Clone, Copy)]
+pub struct CircleRule {
+    /// The font's glyph of U+25CC.
+    pub glyph: u16,
+    /// The kind of a broken syllable.
+    pub kind: u8,
+    /// The circle's category.
+    pub category: u8,
+    /// The category of a repha, which stands before the circle.
+    pub repha: Option<u8>,
+    /// The circle's position in a syllable.
+    pub position: u8,
+}
+
+/// Puts a dotted circle into each syllable of the kind `kind`: after the rephas that it begins with and in the last one's
+/// cluster, else before its first glyph and in that one's. The circle has the mask and the byte of the syllable's first
+/// glyph. A syllable with the byte of the last broken one before it gets none. Answers whether circles came in: none do
+/// where the buffer switches them off, where the font has none, and where no syllable is broken. It takes linear time.
+///
+/// # Errors
+///
+/// `TooLong` where the text would have more glyphs than the buffer may hold, or want of memory.
+pub fn insert_dotted_circles(
+    face: &Face,
+    buffer: &mut hb_buffer_t,
+    kind: u8,
+    circle_category: u8,
+    repha_category: Option<u8>,
+    circle_position: Option<u8>,
+) -> Result<bool, ShapeCause>
+    requires ready { IsReady buffer.old }
+    ensures glyphs { OnOk result (are_glyphs (items_of buffer.old) ≡ true → are_glyphs (items_of buffer.new) ≡ true) }
+    ensures told { IfOk result (λ b. b ≡ puts_circles
+        (circle_rule face.now buffer.old.flags kind circle_category repha_category circle_position)
+        (items_of buffer.old)) }
+    ensures ok { OnOk result (IsFollowed
+        (circles_by (circle_rule face.now buffer.old.flags kind circle_category repha_category circle_position))
+        buffer.old buffer.new) }
+    ensures err { IfErr result (λ e. e ≢ ShapeCause.OutOfMemory → read_of
+        (circles_by (circle_rule face.now buffer.old.flags kind circle_category repha_category circle_position))
+        (run_of buffer.old) ≡ Err e) }
+{
+    let Some(glyph) = circle_glyph(face, buffer.flags()) else {
+        return Ok(false);
+    };
+    let rule = CircleRule {
+        glyph,
+        kind,
+        category: circle_category,
+        repha: repha_category,
+        position: circle_position.unwrap_or(0),
+    };
+    circles_by(&rule, buffer)
+}
+
+#[tactic(auto, using(crate::proofs::Glyphs::put_keeps_glyphs))]
+fn circles_by(rule: &CircleRule, buffer: &mut hb_buffer_t) -> Result<bool, ShapeCause>
+    requires ready { IsReady buffer.old }
+    ensures glyphs { OnOk result (rule.now.glyph ≤ 65535 → are_glyphs (items_of buffer.old) ≡ true
+        → are_glyphs (items_of buffer.new) ≡ true) }
+    ensures told { IfOk result (λ b. b ≡ puts_circles (Some rule.now) (items_of buffer.old)) }
+    ensures ok { OnOk result (IsFollowed (circles_by (Some rule.now)) buffer.old buffer.new) }
+    ensures err { IfErr result (λ e. e ≢ ShapeCause.OutOfMemory
+        → read_of (circles_by (Some rule.now)) (run_of buffer.old) ≡ Err e) }
+{
+    if !has_broken(rule, buffer.info_slice()) {
+        return Ok(false);
+    }
+    put_circles(rule, buffer)?;
+    Ok(true)
+}
+
+fn circle_glyph(face: &Face, flags: BufferFlags) -> Option<u16>
+    ensures { result ≡ circle_glyph flags face.now }
+{
+    if flags.contains(BufferFlags::DO_NOT_INSERT_DOTTED_CIRCLE) {
+        return None;
+    }
+    face.get_nominal_glyph(DOTTED_CIRCLE)
+}
+
+#[tactic(auto, using(crate::proofs::Put::broken_here, crate::proofs::Put::broken_later, crate::proofs::Put::none_broken))]
+fn has_broken(rule: &CircleRule, glyphs: &[hb_glyph_info_t]) -> bool
+    ensures { result ≡ list_any (is_broken rule.now) (strip glyphs.now) }
+{
+    for glyph in glyphs {
+        if is_broken(rule, glyph) {
+            return true;
+        }
+    }
+    false
+}
+
+fn is_broken(rule: &CircleRule, glyph: &hb_glyph_info_t) -> bool
+    ensures { result ≡ is_broken rule.now (item_of glyph.now) }
+{
+    glyph.syllable & 15 == rule.kind
+}
+
+fn begins(rule: &CircleRule, last: u8, glyph: &hb_glyph_info_t) -> bool
+    ensures { result ≡ begins rule.now last (item_of glyph.now) }
+{
+    glyph.syllable != last && is_broken(rule, glyph)
+}
+
+fn is_repha(rule: &CircleRule, byte: u8, glyph: &hb_glyph_info_t) -> bool
+    ensures { result ≡ is_repha rule.now byte (item_of glyph.now) }
+{
+    match rule.repha {
+        Some(category) => glyph.syllable == byte && glyph.category == category,
+        None => false,
+    }
+}
+
+#[tactic(auto, using(crate::proofs::Underway::glyph_refused, crate::proofs::Underway::rephas_refused))]
+fn put_circles(rule: &CircleRule, buffer: &mut hb_buffer_t) -> Result<(), ShapeCause>
+    requires ready { IsReady buffer.old }
+    ensures ok { OnOk result (IsFollowed (λ v. circles_put (with_circles rule.now v.items) v) buffer.old buffer.new) }
+    ensures err { IfErr result (λ e. e ≢ ShapeCause.OutOfMemory
+        → read_of (λ v. circles_put (with_circles rule.now v.items) v) (run_of buffer.old) ≡ Err e) }
+{
+    buffer.clear_output()?;
+    let mut last = 0;
+    while buffer.lookahead_len() > 0 {
+        let glyph = *buffer.cur(0);
+        if begins(rule, last, &glyph) {
+            last = glyph.syllable;
+            let rephas = pass_rephas(rule, last, buffer)?;
+            put_circle(rule, &glyph, rephas, buffer)?;
+        } else {
+            pass_glyph(buffer)?;
+        }
+    }
+    if !buffer.sync()? {
+        return Err(ShapeCause::TooLong);
+    }
+    Ok(())
+}
+
+/// Moves the cursor over a glyph.
+fn pass_glyph(buffer: &mut hb_buffer_t) -> Result<(), ShapeCause>
+    requires open { buffer.old.is_open ≡ true }
+    requires there { 0 < length buffer.old.ahead }
+    ensures moved { OnOk result (buffer.new ≡ moved_on 1 buffer.old) }
+    ensures err { IfErr result (λ e. IsTooLong (length buffer.old.behind + 1) buffer.old e) }
+{
+    if !buffer.next_glyph()? {
+        return Err(ShapeCause::TooLong);
+    }
+    Ok(())
+}
+
+/// Moves the cursor over the rephas that stand from it on, and tells how many they are.
+#[tactic(auto, using(crate::proofs::Underway::none_passed))]
+fn pass_rephas(rule: &CircleRule, byte: u8, buffer: &mut hb_buffer_t) -> Result<usize, ShapeCause>
+    requires open { buffer.old.is_open ≡ true }
+    ensures count { IfOk result (λ n. n ≡ prefix_len (is_repha rule.now byte) (strip buffer.old.ahead)) }
+    ensures moved { OnOk result
+        (buffer.new ≡ moved_on (prefix_len (is_repha rule.now byte) (strip buffer.old.ahead)) buffer.old) }
+    ensures err { IfErr result (λ e. IsTooLong (length (all_glyphs buffer.old)) buffer.old e) }
+{
+    let count = buffer.lookahead_len();
+    let mut rephas = 0;
+    while rephas < count && is_repha(rule, byte, buffer.cur(0)) {
+        pass_glyph(buffer)?;
+        rephas += 1;
+    }
+    Ok(rephas)
+}
+
+/// Puts the circle of the syllable that `first` begins behind the output, whose last glyphs are so many rephas of it.
+fn put_circle(
+    rule: &CircleRule,
+    first: &hb_glyph_info_t,
+    rephas: usize,
+    buffer: &mut hb_buffer_t,
+) -> Result<(), ShapeCause>
+    requires open { buffer.old.is_open ≡ true }
+    requires passed { rephas ≤ length buffer.old.behind }
+    requires first { slice_get (all_glyphs buffer.old) (length buffer.old.behind - rephas) ≡ Some first.now }
+    ensures ok { OnOk result
+        (IsCircled (circle_item rule.now (item_of first.now)) rephas buffer.old buffer.new) }
+    ensures err { IfErr result (λ e. IsTooLong (length buffer.old.behind + 1) buffer.old e) }
+{
+    let circle = circle_info(rule, first);
+    if rephas == 0 {
+        return put_before(circle, buffer);
+    }
+    put_behind(circle, rephas, buffer)
+}
+
+/// The circle of the syllable that a glyph begins, in its cluster.
+fn circle_info(rule: &CircleRule, first: &hb_glyph_info_t) -> hb_glyph_info_t
+    ensures item { item_of result ≡ circle_item rule.now (item_of first.now) }
+    ensures origin { origin_of result ≡ origin_of first.now }
+{
+    hb_glyph_info_t {
+        glyph_id: u32::from(rule.glyph),
+        mask: first.mask,
+        cluster: first.cluster,
+        syllable: first.syllable,
+        category: rule.category,
+        auxiliary: rule.position,
+        ..Default::default()
+    }
+}
+
+/// Puts a circle before the glyph at the cursor, of which it has the cluster and the glyph flags.
+fn put_before(circle: hb_glyph_info_t, buffer: &mut hb_buffer_t) -> Result<(), ShapeCause>
+    requires open { buffer.old.is_open ≡ true }
+    requires first { slice_get (origins_of buffer.old) (length buffer.old.behind) ≡ Some (origin_of circle) }
+    ensures ok { OnOk result (IsCircled (item_of circle) 0 buffer.old buffer.new) }
+    ensures err { IfErr result (λ e. IsTooLong (length buffer.old.behind + 1) buffer.old e) }
+{
+    if !buffer.output_info(circle)? {
+        return Err(ShapeCause::TooLong);
+    }
+    Ok(())
+}
+
+/// Puts a circle behind the last glyph of the output, in its cluster, with the glyph flags of the first of so many rephas.
+fn put_behind(
+    circle: hb_glyph_info_t,
+    rephas: usize,
+    buffer: &mut hb_buffer_t,
+) -> Result<(), ShapeCause>
+    requires open { buffer.old.is_open ≡ true }
+    requires some { 0 < rephas }
+    requires passed { rephas ≤ length buffer.old.behind }
+    requires first { slice_get (origins_of buffer.old) (length buffer.old.behind - rephas) ≡ Some (origin_of circle) }
+    ensures ok { OnOk result (IsCircled (item_of circle) rephas buffer.old buffer.new) }
+    ensures err { IfErr result (λ e. IsTooLong (length buffer.old.behind + 1) buffer.old e) }
+{
+    let cluster = buffer.prev().cluster;
+    if !buffer.output_info(hb_glyph_info_t { cluster, ..circle })? {
+        return Err(ShapeCause::TooLong);
+    }
+    Ok(())
+}

@@ -1,0 +1,158 @@
+//! The forms of syllables by their neighbours.
+ghost use Rattle.std.specs.Prelude.{◌≡◌, ◌≤◌, ◌<◌, ◌++◌, length, map, take, drop, slice_range};
+ghost use Rattle.buffer_glyphs.specs.Items.{strip};
+ghost use Rattle.buffer_core.specs.Readings.{always};
+ghost use Rattle.buffer_core.specs.Sides.{all_glyphs, items_of};
+ghost use Rattle.buffer_stages.specs.Ready.{IsReady};
+ghost use Rattle.buffer_stages.specs.Stages.{IsFollowed};
+ghost use Rattle.buffer_stages.specs.Rewriting.{kept};
+ghost use Rattle.buffer_stages.specs.SyllableBuffers.{IsRewritten, with_rule};
+ghost use Rattle.script_syllabic.specs.Features.{all_forms, form_bits, form_of, formed, joins, topography, with_form};
+ghost use Rattle.script_syllabic.specs.Formed.{glyph_with_form};
+
+use buffer_core::buffer::hb_buffer_t;
+use buffer_glyphs::info::{DEFINED, hb_glyph_info_t, hb_mask_t};
+use script_categories::syllable_kinds::universal::{HIEROGLYPH_CLUSTER, NON_CLUSTER};
+
+/// The bit of a mask that every glyph has.
+const GLOBAL_BIT: hb_mask_t = 0x8000_0000;
+
+/// The masks of the forms of syllables, 0 where the font has none.
+#[derive(Clone, Copy)]
+pub struct FormMasks {
+    pub isol: hb_mask_t,
+    pub init: hb_mask_t,
+    pub medi: hb_mask_t,
+    pub fina: hb_mask_t,
+}
+
+impl FormMasks {
+    /// The form of a syllable, by whether those before and after it join.
+    fn form(&self, before: bool, behind: bool) -> hb_mask_t
+        ensures { result ≡ form_of self.now before behind }
+    {
+        match (before, behind) {
+            (true, true) => self.medi,
+            (true, false) => self.fina,
+            (false, true) => self.init,
+            (false, false) => self.isol,
+        }
+    }
+
+    fn all(&self) -> hb_mask_t
+        ensures { result ≡ all_forms self.now }
+    {
+        (self.isol | self.init) | (self.medi | self.fina)
+    }
+
+    /// The bits that a syllable loses before it gets its form.
+    fn bits(&self) -> hb_mask_t
+        ensures { result ≡ form_bits self.now }
+    {
+        let all = self.all();
+        all - (all & (GLOBAL_BIT | DEFINED))
+    }
+}
+
+/// Gives each syllable that is neither of hieroglyphs nor none the feature of its form: isol where neither neighbour is such a
+/// one, init where the next is, fina where the one before is, else medi. It takes linear time and no memory.
+pub fn setup_topographical_masks(masks: &FormMasks, buffer: &mut hb_buffer_t)
+    requires ready { IsReady buffer.old }
+    ensures { IsFollowed (always (with_rule (topography masks.now))) buffer.old buffer.new }
+{
+    let count = buffer.len();
+    let mut before = false;
+    let mut start = 0;
+    while start < count {
+        let end = buffer.next_syllable(start);
+        before = form_syllable(masks, buffer, start, end, before);
+        start = end;
+    }
+}
+
+/// Gives the syllable from `start` up to before `end` its form, and answers whether it joins.
+fn form_syllable(
+    masks: &FormMasks,
+    buffer: &mut hb_buffer_t,
+    start: usize,
+    end: usize,
+    before: bool,
+) -> bool
+    requires ready { IsReady buffer.old }
+    requires ordered { start < end }
+    requires within { end ≤ length (all_glyphs buffer.old) }
+    ensures rewritten { IsRewritten (kept (formed masks.now before (slice_range (items_of buffer.old) start end)
+        (joins (drop end (items_of buffer.old))))) start end buffer.old buffer.new }
+    ensures joins { result ≡ joins (drop start (items_of buffer.old)) }
+{
+    if !joins_at(buffer, start) {
+        return false;
+    }
+    let behind = joins_at(buffer, end);
+    set_form(masks, buffer, start, end, masks.form(before, behind));
+    true
+}
+
+/// Whether the syllable from an index on joins its neighbours.
+fn joins_at(buffer: &hb_buffer_t, at: usize) -> bool
+    requires ready { IsReady buffer.now }
+    requires within { at ≤ length (all_glyphs buffer.now) }
+    ensures { result ≡ joins (drop at (items_of buffer.now)) }
+{
+    joins(&buffer.info_slice()[at..])
+}
+
+/// Whether the syllable in front joins its neighbours.
+fn joins(glyphs: &[hb_glyph_info_t]) -> bool
+    ensures { result ≡ joins (strip glyphs.now) }
+{
+    match glyphs.first() {
+        Some(first) => !matches!(first.syllable & 15, HIEROGLYPH_CLUSTER | NON_CLUSTER),
+        None => false,
+    }
+}
+
+fn set_form(masks: &FormMasks, buffer: &mut hb_buffer_t, start: usize, end: usize, form: hb_mask_t)
+    requires ready { IsReady buffer.old }
+    requires ordered { start ≤ end }
+    requires within { end ≤ length (all_glyphs buffer.old) }
+    ensures { IsRewritten (kept (map (with_form masks.now form) (slice_range (items_of buffer.old) start end))) start
+        end
+        buffer.old buffer.new }
+{
+    form_within(buffer.info_slice_mut(), start, end, masks.bits(), form);
+}
+
+fn form_within(
+    glyphs: &mut [hb_glyph_info_t],
+    start: usize,
+    end: usize,
+    bits: hb_mask_t,
+    form: hb_mask_t,
+)
+    requires ordered { start ≤ end }
+    requires within { end ≤ length glyphs.old }
+    ensures { glyphs.new ≡ take start glyphs.old ++ map (glyph_with_form bits form) (slice_range glyphs.old start end)
+        ++ drop end glyphs.old }
+{
+    form_each(&mut glyphs[start..end], bits, form);
+}
+
+#[tactic(auto, using(buffer_glyphs::specs::Lists::map_step))]
+fn form_each(glyphs: &mut [hb_glyph_info_t], bits: hb_mask_t, form: hb_mask_t)
+    ensures { glyphs.new ≡ map (glyph_with_form bits form) glyphs.old }
+{
+    for glyph in glyphs.iter_mut() {
+        *glyph = with_form(*glyph, bits, form);
+    }
+}
+
+fn with_form(glyph: hb_glyph_info_t, bits: hb_mask_t, form: hb_mask_t) -> hb_glyph_info_t
+    ensures { result ≡ glyph_with_form bits form glyph }
+{
+    let features = form - (form & DEFINED);
+    hb_glyph_info_t {
+        mask: (glyph.mask - (glyph.mask & bits)) | features,
+        ..glyph
+    }
+}

@@ -1,0 +1,144 @@
+//! Syllables that skip glyphs.
+ghost use Rattle.std.specs.Prelude.{◌≡◌, ◌≢◌, ◌≤◌, ◌++◌, Err, find, length, map, not, slice_get, unwrap_or, IfErr, IfOk, OnOk};
+ghost use Rattle.buffer_glyphs.specs.Items.{item_of, strip};
+ghost use Rattle.buffer_core.specs.Readings.{read_of};
+ghost use Rattle.buffer_core.specs.Sides.{run_of};
+ghost use Rattle.buffer_stages.specs.Ready.{IsReady};
+ghost use Rattle.buffer_stages.specs.Stages.{IsFollowed};
+ghost use Rattle.script_syllabic.specs.Spans.{categories_counted, if_counted, is_counted, is_grapheme_joiner, places_from, stands_before_mark, universal_set};
+
+use crate::syllables::{SyllablePlaces, set_bytes};
+use buffer_core::buffer::hb_buffer_t;
+use buffer_glyphs::cause::ShapeCause;
+use buffer_glyphs::info::hb_glyph_info_t;
+use buffer_properties::categories::is_mark;
+use script_categories::SyllableSpans;
+use script_categories::category::{CGJ, ZWNJ};
+use script_categories::hb_ot_script_shaper_t::UNIVERSAL_SHAPER;
+use std::alloc::Global;
+
+/// The glyphs of a text that syllables count.
+#[derive(Drop)]
+pub(crate) struct Counted {
+    categories: Vec<u8>,
+    places: Places,
+}
+
+/// Where they stand.
+#[derive(Drop)]
+pub(crate) struct Places {
+    indices: Vec<usize>,
+    end: usize,
+}
+
+impl SyllablePlaces for Places {
+    ghost use Rattle.script_syllabic.specs.Spans.{place_in};
+
+    ghost place_of = { λ p. place_in p.indices.items p.end };
+
+    fn place(&self, index: usize) -> usize {
+        self.indices.get(index).copied().unwrap_or(self.end)
+    }
+}
+
+/// Gives the glyphs of each syllable its byte, and marks it as unsafe to break. Syllables skip each grapheme joiner, and each
+/// non-joiner before a mark; what is skipped gets the byte of the syllable before it, and keeps its own where there is none.
+/// It takes the time of the spans and memory for the glyphs that they count.
+///
+/// # Errors
+///
+/// `UnknownSyllableKind` where the spans name a kind that the shaper does not have, or want of memory.
+pub fn find_syllables<S: SyllableSpans>(
+    alloc: Global,
+    spans: &S,
+    buffer: &mut hb_buffer_t,
+) -> Result<(), ShapeCause>
+    requires ready { IsReady buffer.old }
+    ensures ok { OnOk result (IsFollowed (universal_set (S.span_of spans.now)) buffer.old buffer.new) }
+    ensures err { IfErr result (λ e. e ≢ ShapeCause.OutOfMemory
+        → read_of (universal_set (S.span_of spans.now)) (run_of buffer.old) ≡ Err e) }
+{
+    let counted = count_glyphs(alloc, buffer.info_slice())?;
+    set_bytes(
+        spans,
+        UNIVERSAL_SHAPER,
+        &counted.categories,
+        &counted.places,
+        buffer,
+    )
+}
+
+fn count_glyphs(alloc: Global, glyphs: &[hb_glyph_info_t]) -> Result<Counted, ShapeCause>
+    ensures categories { IfOk result (λ c. c.categories.items ≡ categories_counted (strip glyphs.now)) }
+    ensures indices { IfOk result (λ c. c.places.indices.items ≡ places_from 0 (strip glyphs.now)) }
+    ensures end { IfOk result (λ c. c.places.end ≡ length glyphs.now) }
+    ensures err { IfErr result (λ e. e ≡ ShapeCause.OutOfMemory) }
+{
+    let mut categories = Vec::new(alloc);
+    let mut indices = Vec::new(alloc);
+    for at in 0..glyphs.len() {
+        count_glyph(
+            &glyphs[at],
+            &glyphs[at + 1..],
+            at,
+            &mut categories,
+            &mut indices,
+        )?;
+    }
+    let places = Places {
+        indices,
+        end: glyphs.len(),
+    };
+    Ok(Counted { categories, places })
+}
+
+/// Counts a glyph that stands at an index before others, if syllables do.
+fn count_glyph(
+    glyph: &hb_glyph_info_t,
+    behind: &[hb_glyph_info_t],
+    at: usize,
+    categories: &mut Vec<u8>,
+    indices: &mut Vec<usize>,
+) -> Result<(), ShapeCause>
+    ensures categories { OnOk result (categories.new.items
+        ≡ categories.old.items ++ if_counted (item_of glyph.now) (strip behind.now) glyph.now.category) }
+    ensures indices { OnOk result
+        (indices.new.items ≡ indices.old.items ++ if_counted (item_of glyph.now) (strip behind.now) at) }
+    ensures err { IfErr result (λ e. e ≡ ShapeCause.OutOfMemory) }
+{
+    if !is_counted(glyph, behind) {
+        return Ok(());
+    }
+    categories.push(glyph.category)?;
+    indices.push(at)?;
+    Ok(())
+}
+
+/// Whether syllables count a glyph that stands before others.
+fn is_counted(glyph: &hb_glyph_info_t, behind: &[hb_glyph_info_t]) -> bool
+    ensures { result ≡ is_counted (item_of glyph.now) (strip behind.now) }
+{
+    match glyph.category {
+        CGJ => false,
+        ZWNJ => !stands_before_mark(behind),
+        _ => true,
+    }
+}
+
+#[tactic(auto, using(crate::proofs::Marks::next_met, crate::proofs::Marks::joiner_passed, crate::proofs::Marks::none_left))]
+fn stands_before_mark(behind: &[hb_glyph_info_t]) -> bool
+    ensures { result ≡ stands_before_mark (strip behind.now) }
+{
+    for next in behind {
+        if !is_grapheme_joiner(next) {
+            return is_mark(next);
+        }
+    }
+    false
+}
+
+fn is_grapheme_joiner(glyph: &hb_glyph_info_t) -> bool
+    ensures { result ≡ is_grapheme_joiner (item_of glyph.now) }
+{
+    glyph.category == CGJ
+}

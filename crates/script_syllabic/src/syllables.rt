@@ -1,0 +1,149 @@
+//! The bytes of syllables.
+ghost use Rattle.std.specs.Prelude.{◌≡◌, ◌≢◌, ◌≤◌, ◌<◌, ◌++◌, ℕ, Err, List, length, map, take, drop, slice_range, IfErr, IfOk, OnOk};
+ghost use Rattle.buffer_glyphs.specs.Items.{Item};
+ghost use Rattle.buffer_core.specs.Readings.{read_of};
+ghost use Rattle.buffer_core.specs.Sides.{all_glyphs, items_of, run_of};
+ghost use Rattle.buffer_stages.specs.Ready.{IsReady};
+ghost use Rattle.script_categories.specs.Shapers.{kinds_of};
+ghost use Rattle.buffer_stages.specs.Bytes.{syllable_byte};
+ghost use Rattle.buffer_stages.specs.Cuts.{syllables};
+ghost use Rattle.buffer_stages.specs.Stages.{IsFollowed};
+ghost use Rattle.buffer_stages.specs.SyllableBuffers.{IsRewritten};
+ghost use Rattle.script_syllabic.specs.Bytes.{bytes_of, one_syllable, syllables_set};
+ghost use Rattle.script_syllabic.specs.Rules.{glyph_with_byte};
+
+use buffer_core::buffer::hb_buffer_t;
+use buffer_glyphs::cause::ShapeCause;
+use buffer_glyphs::info::hb_glyph_info_t;
+use script_categories::{SyllableSpans, hb_ot_script_shaper_t};
+use std::alloc::{AllocFailed, Global};
+
+/// At which index of a buffer the i-th glyph stands that syllables count.
+pub trait SyllablePlaces {
+    ghost place_of: { Self → ℕ → ℕ };
+
+    /// The index in the buffer; past the last such glyph that of the buffer's end.
+    fn place(&self, index: usize) -> usize
+        ensures { result ≡ place_of self.now index };
+}
+
+/// Each glyph counts.
+#[derive(Clone, Copy)]
+pub struct Each;
+
+impl SyllablePlaces for Each {
+    ghost use Rattle.script_syllabic.specs.Bytes.{itself};
+
+    ghost place_of = { λ _. itself };
+
+    fn place(&self, index: usize) -> usize {
+        index
+    }
+}
+
+/// Gives the glyphs of each syllable its byte, its serial number and kind, and marks it as unsafe to break. The spans tell
+/// from the glyphs' categories where syllables end. It takes the time of the spans and memory for the categories.
+///
+/// # Errors
+///
+/// `UnknownSyllableKind` where the spans name a kind that the shaper does not have, or want of memory.
+pub fn setup_syllables<S: SyllableSpans>(
+    alloc: Global,
+    spans: &S,
+    shaper: hb_ot_script_shaper_t,
+    buffer: &mut hb_buffer_t,
+) -> Result<(), ShapeCause>
+    requires ready { IsReady buffer.old }
+    ensures ok { OnOk result (IsFollowed (syllables_set (S.span_of spans.now) shaper) buffer.old buffer.new) }
+    ensures err { IfErr result (λ e. e ≢ ShapeCause.OutOfMemory
+        → read_of (syllables_set (S.span_of spans.now) shaper) (run_of buffer.old) ≡ Err e) }
+{
+    let categories = categories_of(alloc, buffer.info_slice())?;
+    set_bytes(spans, shaper, &categories, &Each, buffer)
+}
+
+fn categories_of(alloc: Global, glyphs: &[hb_glyph_info_t]) -> Result<Vec<u8>, AllocFailed<u8>>
+    ensures { IfOk result (λ cs. cs.items ≡ map (λ g. g.category) glyphs.now) }
+{
+    let mut categories = Vec::new(alloc);
+    for glyph in glyphs {
+        categories.push(glyph.category)?;
+    }
+    Ok(categories)
+}
+
+/// Gives each syllable of a list of categories its byte, at the places in the buffer where they stand.
+///
+/// # Errors
+///
+/// `UnknownSyllableKind` alone, where the spans name a kind that the shaper does not have.
+#[tactic(auto, using(crate::proofs::Marking::marking_begun, crate::proofs::Marking::unknown_by))]
+pub fn set_bytes<S: SyllableSpans, P: SyllablePlaces>(
+    spans: &S,
+    shaper: hb_ot_script_shaper_t,
+    categories: &[u8],
+    places: &P,
+    buffer: &mut hb_buffer_t,
+) -> Result<(), ShapeCause>
+    requires ready { IsReady buffer.old }
+    requires rising { (i j : ℕ) → i ≤ j → P.place_of places.now i ≤ P.place_of places.now j }
+    requires within { P.place_of places.now (length categories.now) ≤ length (all_glyphs buffer.old) }
+    ensures ok { OnOk result (IsFollowed (bytes_of shaper (P.place_of places.now)
+        (syllables (S.span_of spans.now shaper categories.now) (length categories.now))) buffer.old buffer.new) }
+    ensures err { IfErr result (λ e. read_of (bytes_of shaper (P.place_of places.now)
+        (syllables (S.span_of spans.now shaper categories.now) (length categories.now))) (run_of buffer.old) ≡ Err e) }
+{
+    let mut index = 0;
+    let mut start = 0;
+    while start < categories.len() {
+        let (end, kind) = spans.next(shaper, categories, start);
+        if !shaper.has_kind(kind) {
+            return Err(ShapeCause::UnknownSyllableKind);
+        }
+        let from = places.place(start);
+        let to = places.place(end);
+        set_byte(buffer, from, to, byte_of(shaper, index, kind));
+        index += 1;
+        start = end;
+    }
+    Ok(())
+}
+
+/// The byte of the syllable with an index among all, from which its serial number and its kind are read.
+fn byte_of(shaper: hb_ot_script_shaper_t, index: usize, kind: u8) -> u8
+    requires { kind < length (kinds_of shaper) }
+    ensures { result ≡ syllable_byte index kind }
+{
+    let serial = (index % 15 + 1) as u8;
+    serial * 16 + kind
+}
+
+/// The glyphs from `start` up to before `end` get a byte, and are unsafe to break.
+fn set_byte(buffer: &mut hb_buffer_t, start: usize, end: usize, byte: u8)
+    requires ready { IsReady buffer.old }
+    requires ordered { start ≤ end }
+    requires within { end ≤ length (all_glyphs buffer.old) }
+    ensures { IsRewritten (one_syllable byte (slice_range (items_of buffer.old) start end)) start end buffer.old
+        buffer.new }
+{
+    byte_within(buffer.info_slice_mut(), start, end, byte);
+    buffer.unsafe_to_break(Some(start), Some(end));
+}
+
+fn byte_within(glyphs: &mut [hb_glyph_info_t], start: usize, end: usize, byte: u8)
+    requires ordered { start ≤ end }
+    requires within { end ≤ length glyphs.old }
+    ensures { glyphs.new ≡ take start glyphs.old ++ map (glyph_with_byte byte) (slice_range glyphs.old start end)
+        ++ drop end glyphs.old }
+{
+    byte_each(&mut glyphs[start..end], byte);
+}
+
+#[tactic(auto, using(buffer_glyphs::specs::Lists::map_step))]
+fn byte_each(glyphs: &mut [hb_glyph_info_t], byte: u8)
+    ensures { glyphs.new ≡ map (glyph_with_byte byte) glyphs.old }
+{
+    for glyph in glyphs.iter_mut() {
+        glyph.syllable = byte;
+    }
+}

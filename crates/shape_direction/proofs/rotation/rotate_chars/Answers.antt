@@ -1,9 +1,0 @@
-use Rattle.std.proofs.Common.{not, ◌&&◌}
-use Rattle.shaping_text.specs.Direction.{is_backward, is_vertical}
-use Rattle.shape_direction.specs.Rotation.{mapped_where, mirrored, upright}
-use Rattle.shape_direction.proofs.Turned.{both_followed}
-use Rattle.shape_direction.proofs.rotation.rotate_chars.Goals as goal
-
-pub returns : goal.returns
-returns c = both_followed (mapped_where (is_backward c.args.rotation.target_direction) (mirrored c.args.tables.now c.args.face.now c.args.rotation.rtlm_mask)) (mapped_where (is_vertical c.args.rotation.target_direction && not c.args.rotation.has_vert) (upright c.args.tables.now c.args.face.now))
-    c.args.buffer.now c.mirror_chars.new.buffer c.raise_chars.new.buffer c.mirror_chars.ensures c.raise_chars.ensures

@@ -1,2 +1,0 @@
-pub mod NativeOrder
-pub mod Rotation

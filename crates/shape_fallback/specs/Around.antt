@@ -1,0 +1,74 @@
+-- Marks around a base, one after another, each at the box that the one before it left.
+use Rattle.std.specs.Prelude.{ℕ, ℤ, pos, ◌/◌, ◌==◌, ◌&&◌, Bool, false, not, nat_lt, if◌then◌else◌, Option, Some, None}
+use Rattle.std.specs.Option.{option_map_or}
+use Rattle.buffer_common.specs.declared.direction.Direction.{Direction}
+use Rattle.buffer_common.specs.Direction.{is_forward}
+use Rattle.layout_common.specs.Rows.{value_of}
+use Rattle.layout_face.specs.declared.parts.FaceParts.{FaceParts}
+use Rattle.buffer_glyphs.specs.Items.{Item, Position}
+use Rattle.layout_offsets.specs.Sums.{minus, plus}
+use Rattle.shape_fallback.specs.Boxes.{marked}
+use Rattle.layout_offsets.specs.Zeroing.{without_advances}
+use Rattle.shape_fallback.specs.declared.boxes.Marked.{Marked}
+use Rattle.shape_fallback.specs.declared.bases.Base.{Base}
+use Rattle.shape_fallback.specs.declared.around.Around.{Around}
+use Rattle.shape_fallback.specs.declared.around.Placed.{Placed}
+use Rattle.shape_fallback.specs.declared.around.Placing.{Placing}
+use Rattle.shape_fallback.specs.Bases.{component_box, component_of}
+
+-- the pen stands after the base in a forward line, and at it in a backward one
+abbrev pub pen_back : Direction → ℤ → ℤ
+pen_back d advance = if is_forward d then minus (pos 0) advance else pos 0
+
+-- no mark stands there yet
+abbrev pub begun : Direction → Position → Base → Around
+begun d p b = record {
+  base = b;
+  component = b.extents;
+  extents = b.extents;
+  last_component = 0;
+  last_class = None;
+  x_offset = pen_back d p.x_advance;
+  y_offset = pen_back d p.y_advance;
+}
+
+-- marks of another component begin at its box; a base of one component has no others
+abbrev pub with_component : Bool → ℕ → Around → Around
+with_component left_to_right c s = record s { component = component_box left_to_right s.base c; last_component = c; last_class = None }
+
+abbrev pub at_component : Bool → Item → Around → Around
+at_component left_to_right x s =
+    if nat_lt 1 s.base.components && not (component_of s.base x == s.last_component) then with_component left_to_right (component_of s.base x) s else s
+
+-- marks of another class begin at the component's box, those of the same class at the box that the last one left
+abbrev pub is_class : ℕ → Option ℕ → Bool
+is_class class last = option_map_or (λ c. c == class) last false
+
+abbrev pub at_class : ℕ → Around → Around
+at_class class s = if is_class class s.last_class then s else record s { extents = s.component; last_class = Some class }
+
+-- a sixteenth of the em is kept free between a box and a mark that is not attached
+abbrev pub gap : FaceParts → ℤ
+gap font = pos (font.upem / 16)
+
+-- the line does not go on by a mark, which stands back to the base
+abbrev pub stood_back : Around → Position → Position
+stood_back s p = record (without_advances p) { x_offset = plus p.x_offset s.x_offset; y_offset = plus p.y_offset s.y_offset }
+
+abbrev pub set_around : Around → Marked → Placed
+set_around s m = record { position = stood_back s m.position; around = record s { extents = m.extents } }
+
+abbrev pub stood : FaceParts → Direction → Item → Position → Around → Placed
+stood font d x p s = set_around s (marked (gap font) d x.class (value_of x.number font.extents) s.extents p)
+
+-- a mark of class 0 stays, and takes the pen along for those after it
+abbrev pub along : Direction → ℤ → ℤ → ℤ
+along d offset advance = if is_forward d then minus offset advance else plus offset advance
+
+abbrev pub passed : Direction → Position → Around → Placed
+passed d p s = record { position = p; around = record s { x_offset = along d s.x_offset p.x_advance; y_offset = along d s.y_offset p.y_advance } }
+
+abbrev pub mark_around : FaceParts → Placing → Item → Position → Around → Placed
+mark_around font by x p s =
+    if x.class == 0 then passed by.direction p s
+    else stood font by.direction x p (at_class x.class (at_component by.left_to_right x s))

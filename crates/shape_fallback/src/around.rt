@@ -1,0 +1,219 @@
+//! Marks around a base, one after another.
+ghost use Rattle.std.specs.Prelude.{◌≡◌, ◌≤◌};
+ghost use Rattle.buffer_glyphs.specs.Items.{item_of};
+ghost use Rattle.layout_common.specs.Rows.{value_of};
+ghost use Rattle.buffer_glyphs.specs.LigatureWords.{component_bound};
+ghost use Rattle.shape_fallback.specs.Around.{along, at_class, at_component, begun, gap, is_class, mark_around, passed, pen_back, set_around, stood, stood_back};
+
+use crate::bases::{Base, component_box, component_of};
+use crate::boxes::{Marked, position_mark};
+use buffer_common::direction::Direction;
+use buffer_glyphs::info::hb_glyph_info_t;
+use buffer_glyphs::names::hb_glyph_extents_t;
+use buffer_glyphs::position::GlyphPosition;
+use layout_face::Face;
+use layout_offsets::sums::{minus, plus};
+use layout_offsets::zeroing::without_advances;
+
+/// What the marks of a text are placed by, beside the font.
+#[derive(Clone, Copy)]
+pub(crate) struct Placing {
+    pub direction: Direction,
+    /// Whether the components of a ligature stand from left to right.
+    pub left_to_right: bool,
+    /// Whether a mark that loses its advance goes back by it.
+    pub adjust_offsets: bool,
+}
+
+/// What stands around a base on the way over its marks.
+#[derive(Clone, Copy)]
+pub(crate) struct Around {
+    pub base: Base,
+    /// The box of the component that the last mark belongs to.
+    pub component: hb_glyph_extents_t,
+    /// The box as the last mark left it.
+    pub extents: hb_glyph_extents_t,
+    pub last_component: u32,
+    pub last_class: Option<u8>,
+    /// How far back, or on, the base is from the pen.
+    pub x_offset: i32,
+    pub y_offset: i32,
+}
+
+/// A mark where it stands, and what stands around its base then.
+#[derive(Clone, Copy)]
+pub(crate) struct Placed {
+    pub position: GlyphPosition,
+    pub around: Around,
+}
+
+fn pen_back(direction: Direction, advance: i32) -> i32
+    ensures { result ≡ pen_back direction advance }
+{
+    if direction.is_forward() {
+        minus(0, advance)
+    } else {
+        0
+    }
+}
+
+/// A base around which nothing stands yet.
+pub(crate) fn begun(direction: Direction, position: GlyphPosition, base: Base) -> Around
+    ensures { result ≡ begun direction position base }
+{
+    Around {
+        base,
+        component: base.extents,
+        extents: base.extents,
+        last_component: 0,
+        last_class: None,
+        x_offset: pen_back(direction, position.x_advance),
+        y_offset: pen_back(direction, position.y_advance),
+    }
+}
+
+fn at_component(left_to_right: bool, glyph: &hb_glyph_info_t, around: Around) -> Around
+    requires { around.base.components ≤ component_bound }
+    ensures value { result ≡ at_component left_to_right (item_of glyph.now) around }
+    ensures base { result.base ≡ around.base }
+{
+    let component = component_of(&around.base, glyph);
+    if around.base.components > 1 && component != around.last_component {
+        Around {
+            component: component_box(left_to_right, &around.base, component),
+            last_component: component,
+            last_class: None,
+            ..around
+        }
+    } else {
+        around
+    }
+}
+
+fn is_class(class: u8, last: Option<u8>) -> bool
+    ensures { result ≡ is_class class last }
+{
+    match last {
+        Some(last) => last == class,
+        None => false,
+    }
+}
+
+fn at_class(class: u8, around: Around) -> Around
+    ensures value { result ≡ at_class class around }
+    ensures base { result.base ≡ around.base }
+{
+    if is_class(class, around.last_class) {
+        around
+    } else {
+        Around {
+            extents: around.component,
+            last_class: Some(class),
+            ..around
+        }
+    }
+}
+
+fn gap(face: &Face) -> i32
+    ensures { result ≡ gap face.now }
+{
+    face.units_per_em() / 16
+}
+
+fn stood_back(around: Around, position: GlyphPosition) -> GlyphPosition
+    ensures { result ≡ stood_back around position }
+{
+    GlyphPosition {
+        x_offset: plus(position.x_offset, around.x_offset),
+        y_offset: plus(position.y_offset, around.y_offset),
+        ..without_advances(position)
+    }
+}
+
+fn set_around(around: Around, marked: Marked) -> Placed
+    ensures value { result ≡ set_around around marked }
+    ensures base { result.around.base ≡ around.base }
+{
+    Placed {
+        position: stood_back(around, marked.position),
+        around: Around {
+            extents: marked.extents,
+            ..around
+        },
+    }
+}
+
+/// The box of a glyph's ink, none where the font gives none.
+pub(crate) fn extents_of(face: &Face, glyph: &hb_glyph_info_t) -> Option<hb_glyph_extents_t>
+    requires { glyph.now.glyph_id ≤ 65535 }
+    ensures { result ≡ value_of glyph.now.glyph_id face.now.extents }
+{
+    face.glyph_extents(glyph.as_glyph().0)
+}
+
+fn stood(
+    face: &Face,
+    direction: Direction,
+    glyph: &hb_glyph_info_t,
+    position: GlyphPosition,
+    around: Around,
+) -> Placed
+    requires { glyph.now.glyph_id ≤ 65535 }
+    ensures value { result ≡ stood face.now direction (item_of glyph.now) position around }
+    ensures base { result.around.base ≡ around.base }
+{
+    let marked = position_mark(
+        gap(face),
+        direction,
+        glyph.modified_combining_class,
+        extents_of(face, glyph),
+        around.extents,
+        position,
+    );
+    set_around(around, marked)
+}
+
+fn along(direction: Direction, offset: i32, advance: i32) -> i32
+    ensures { result ≡ along direction offset advance }
+{
+    if direction.is_forward() {
+        minus(offset, advance)
+    } else {
+        plus(offset, advance)
+    }
+}
+
+fn passed(direction: Direction, position: GlyphPosition, around: Around) -> Placed
+    ensures value { result ≡ passed direction position around }
+    ensures base { result.around.base ≡ around.base }
+{
+    Placed {
+        position,
+        around: Around {
+            x_offset: along(direction, around.x_offset, position.x_advance),
+            y_offset: along(direction, around.y_offset, position.y_advance),
+            ..around
+        },
+    }
+}
+
+/// Puts a mark around its base.
+pub(crate) fn mark_around(
+    face: &Face,
+    by: Placing,
+    glyph: &hb_glyph_info_t,
+    position: GlyphPosition,
+    around: Around,
+) -> Placed
+    requires number { glyph.now.glyph_id ≤ 65535 }
+    requires base { around.base.components ≤ component_bound }
+    ensures value { result ≡ mark_around face.now by (item_of glyph.now) position around }
+    ensures base { result.around.base ≡ around.base }
+{
+    let class = glyph.modified_combining_class;
+    if class == 0 {
+        return passed(by.direction, position, around);
+    }
+    let around = at_class(class, at_component(by.left_to_right, glyph, around));
+    stood(face, by.direction, glyph, position, around)
+}

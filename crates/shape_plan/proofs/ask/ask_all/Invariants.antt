@@ -1,7 +1,0 @@
-use Rattle.std.proofs.Common.{◌≡◌, drop, fold}
-use Rattle.shape_plan.specs.Asks.{with_ask}
-use Rattle.shape_plan.proofs.ask.ask_all.Given as goal
-
--- what is left to ask, after what was asked, is all
-abbrev pub invariant-loop-it : goal.invariant-loop-it
-invariant-loop-it l = fold with_ask l.builder (drop l.it-index l.asks) ≡ fold with_ask l.initial.builder l.asks

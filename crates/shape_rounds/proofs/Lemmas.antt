@@ -1,0 +1,3 @@
+-- Lemmas.
+pub mod Chain
+pub mod Refusals

@@ -1,0 +1,10 @@
+pub mod Lemmas
+pub mod Supported
+pub mod Parts
+pub mod Put
+pub mod Select
+pub mod Selections
+pub mod Each
+pub mod Walk
+pub mod Spaces
+pub mod Found

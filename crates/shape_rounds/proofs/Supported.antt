@@ -1,0 +1,16 @@
+-- The steps of a supported expansion.
+use Rattle.std.proofs.Common.{ℕ, zero, suc, ◌≡◌, ◌≢◌, ◌-◌, Bool, refl, arith}
+use Rattle.buffer_unicode_tables.specs.Expansion.{Splits}
+use Rattle.buffer_properties.specs.declared.normal_mode.Reach.{Reach}
+use Rattle.buffer_properties.specs.SupportedExpansion.{alone, preferred, by_supported, supported}
+
+pub supported_zero : (reach : Reach) (has : ℕ → Bool) (splits : Splits) (depth u : ℕ) → depth ≡ 0 → supported reach has splits depth u ≡ alone has u
+unfolding supported
+supported_zero reach has splits zero u e = refl
+supported_zero reach has splits (suc depth) u e = absurd (omega (arith, e))
+
+pub supported_step : (reach : Reach) (has : ℕ → Bool) (splits : Splits) (depth u : ℕ) → depth ≢ 0
+    → supported reach has splits depth u ≡ preferred reach (alone has u) (by_supported has (supported reach has splits (depth - 1)) (splits u))
+unfolding supported
+supported_step reach has splits zero u n = absurd (n refl)
+supported_step reach has splits (suc depth) u n = let e : suc depth - 1 ≡ depth = omega arith in rw e refl

@@ -1,0 +1,25 @@
+//! A glyph in the place of the one at the cursor.
+ghost use Rattle.std.specs.Prelude.{◌≡◌, ◌<◌, true, length, IfErr, OnOk};
+ghost use Rattle.buffer_core.specs.Merging.{with_put, with_skipped};
+ghost use Rattle.buffer_stages.specs.Brought.{Overfills};
+
+use buffer_core::buffer::hb_buffer_t;
+use buffer_glyphs::cause::ShapeCause;
+use buffer_glyphs::info::hb_glyph_info_t;
+
+/// Puts a glyph in the place of the one at the cursor, behind it.
+pub(crate) fn put_in_place(
+    info: hb_glyph_info_t,
+    buffer: &mut hb_buffer_t,
+) -> Result<(), ShapeCause>
+    requires open { buffer.old.is_open ≡ true }
+    requires there { 0 < length buffer.old.ahead }
+    ensures ok { OnOk result (buffer.new ≡ with_skipped (with_put info buffer.old)) }
+    ensures err { IfErr result (λ e. Overfills 1 e buffer.old) }
+{
+    if !buffer.output_info(info)? {
+        return Err(ShapeCause::TooLong);
+    }
+    buffer.skip_glyph();
+    Ok(())
+}

@@ -1,0 +1,194 @@
+//! Characters with variation selectors after them: a selector joins the character before it where the font has the pair.
+ghost use Rattle.std.specs.Prelude.{◌≡◌, ◌<◌, ◌++◌, ◌∷◌, [], List, true, false, if◌then◌else◌, length, is_some, Some, None, IfOk, IfErr, OnOk};
+ghost use Rattle.buffer_core.specs.Lending.{with_glyph_ahead};
+ghost use Rattle.buffer_glyphs.specs.Items.{Item, strip};
+ghost use Rattle.buffer_glyphs.specs.Arranged.{in_turn, replaced_by};
+ghost use Rattle.buffer_properties.specs.Characters.{unjoined_selector, with_glyph};
+ghost use Rattle.buffer_properties.specs.Expanding.{unexpanded, selected};
+ghost use Rattle.buffer_stages.specs.Brought.{Brought, Overfills};
+ghost use Rattle.shape_rounds.specs.Walking.{PutsWaiting, Selects, SelectsTooMany, SelectsAll, SelectsAllTooMany};
+
+use crate::characters::{is_selector, unjoined, with_own_glyph};
+use crate::normalizing::Normalizing;
+use crate::placing::put_in_place;
+use buffer_core::buffer::hb_buffer_t;
+use buffer_glyphs::cause::ShapeCause;
+use buffer_glyphs::info::hb_glyph_info_t;
+
+/// Puts the character at the cursor behind it, with the font's glyph or glyph 0.
+#[tactic(auto, using(crate::proofs::Put::placed_brought))]
+fn put_unexpanded<N: Normalizing>(by: &N, buffer: &mut hb_buffer_t) -> Result<(), ShapeCause>
+    requires open { buffer.old.is_open ≡ true }
+    requires there { 0 < length buffer.old.ahead }
+    ensures ok { OnOk result ((x : Item) (xs : List Item) → strip buffer.old.ahead ≡ x ∷ xs
+        → Brought (unexpanded (N.normalizer by.now) x) xs buffer.old buffer.new) }
+    ensures err { IfErr result (λ e. Overfills 1 e buffer.old) }
+{
+    let info = with_own_glyph(by, buffer.cur(0));
+    put_in_place(info, buffer)?;
+    Ok(())
+}
+
+/// Puts the selector at the cursor behind it, where the font doesn't join it with the character before it.
+fn put_unjoined<N: Normalizing>(by: &N, buffer: &mut hb_buffer_t) -> Result<(), ShapeCause>
+    requires open { buffer.old.is_open ≡ true }
+    requires there { 0 < length buffer.old.ahead }
+    ensures ok { OnOk result ((x : Item) (xs : List Item) → strip buffer.old.ahead ≡ x ∷ xs
+        → Brought (unexpanded (N.normalizer by.now)
+        (unjoined_selector (is_some (N.normalizer by.now).unjoined_glyph) x)) xs buffer.old buffer.new) }
+    ensures err { IfErr result (λ e. Overfills 1 e buffer.old) }
+{
+    let selector = unjoined(buffer.cur(0), by.unjoined_glyph().is_some());
+    let info = with_own_glyph(by, &selector);
+    put_in_place(info, buffer)?;
+    Ok(())
+}
+
+fn write_current(info: hb_glyph_info_t, buffer: &mut hb_buffer_t)
+    requires { 0 < length buffer.old.ahead }
+    ensures { buffer.new ≡ with_glyph_ahead 0 info buffer.old }
+{
+    *buffer.cur_mut(0) = info;
+}
+
+/// Puts one glyph in the place of the character at the cursor and the selector behind it, behind the cursor.
+fn join_selector(glyph: u32, buffer: &mut hb_buffer_t) -> Result<(), ShapeCause>
+    requires open { buffer.old.is_open ≡ true }
+    requires there { 1 < length buffer.old.ahead }
+    ensures ok { OnOk result ((x s : Item) (xs : List Item) → strip buffer.old.ahead ≡ x ∷ s ∷ xs
+        → Brought (replaced_by 2 (with_glyph glyph x ∷ [])) xs buffer.old buffer.new) }
+    ensures err { IfErr result (λ e. Overfills 1 e buffer.old) }
+{
+    let info = hb_glyph_info_t {
+        glyph_index: glyph,
+        ..*buffer.cur(0)
+    };
+    write_current(info, buffer);
+    if !buffer.replace_glyphs(2, 1, &[info.glyph_id])? {
+        return Err(ShapeCause::TooLong);
+    }
+    Ok(())
+}
+
+/// Puts a character and the selector behind it behind the cursor, each for itself.
+fn put_both<N: Normalizing>(by: &N, buffer: &mut hb_buffer_t) -> Result<(), ShapeCause>
+    requires open { buffer.old.is_open ≡ true }
+    requires there { 1 < length buffer.old.ahead }
+    ensures ok { OnOk result ((x s : Item) (xs : List Item) → strip buffer.old.ahead ≡ x ∷ s ∷ xs
+        → Brought (in_turn (selected (N.normalizer by.now) x s None)) xs buffer.old buffer.new) }
+    ensures err { IfErr result (λ e. (x s : Item) (xs : List Item) → strip buffer.old.ahead ≡ x ∷ s ∷ xs
+        → Overfills (length (in_turn (selected (N.normalizer by.now) x s None)).items) e buffer.old) }
+{
+    put_unexpanded(by, buffer)?;
+    put_unjoined(by, buffer)?;
+    Ok(())
+}
+
+/// Puts a character and the selector behind it behind the cursor, joined where the font has the pair.
+fn put_selected<N: Normalizing>(by: &N, buffer: &mut hb_buffer_t) -> Result<(), ShapeCause>
+    requires open { buffer.old.is_open ≡ true }
+    requires there { 1 < length buffer.old.ahead }
+    ensures ok { OnOk result ((x s : Item) (xs : List Item) → strip buffer.old.ahead ≡ x ∷ s ∷ xs
+        → Brought (in_turn (selected (N.normalizer by.now) x s ((N.normalizer by.now).variant_of x.number s.number)))
+        xs buffer.old buffer.new) }
+    ensures err { IfErr result (λ e. (x s : Item) (xs : List Item) → strip buffer.old.ahead ≡ x ∷ s ∷ xs
+        → Overfills (length (in_turn (selected (N.normalizer by.now) x s
+        ((N.normalizer by.now).variant_of x.number s.number))).items) e buffer.old) }
+{
+    let number = buffer.cur(0).glyph_id;
+    let selector = buffer.cur(1).glyph_id;
+    match by.variant(number, selector) {
+        Some(glyph) => {
+            join_selector(glyph, buffer)?;
+            Ok(())
+        }
+        None => {
+            put_both(by, buffer)?;
+            Ok(())
+        }
+    }
+}
+
+/// Meets the character at the cursor while none waits.
+fn select_first<N: Normalizing>(by: &N, buffer: &mut hb_buffer_t) -> Result<bool, ShapeCause>
+    requires open { buffer.old.is_open ≡ true }
+    requires there { 0 < length buffer.old.ahead }
+    ensures ok { IfOk result (λ b. Selects (N.normalizer by.now) false b buffer.old buffer.new) }
+    ensures err { IfErr result (λ e. SelectsTooMany (N.normalizer by.now) false e buffer.old) }
+{
+    if !is_selector(buffer.cur(0)) {
+        return Ok(true);
+    }
+    put_unexpanded(by, buffer)?;
+    Ok(false)
+}
+
+/// Meets the character behind that at the cursor, which waits.
+fn select_behind<N: Normalizing>(by: &N, buffer: &mut hb_buffer_t) -> Result<bool, ShapeCause>
+    requires open { buffer.old.is_open ≡ true }
+    requires there { 1 < length buffer.old.ahead }
+    ensures ok { IfOk result (λ b. Selects (N.normalizer by.now) true b buffer.old buffer.new) }
+    ensures err { IfErr result (λ e. SelectsTooMany (N.normalizer by.now) true e buffer.old) }
+{
+    if !is_selector(buffer.cur(1)) {
+        put_unexpanded(by, buffer)?;
+        return Ok(true);
+    }
+    put_selected(by, buffer)?;
+    Ok(false)
+}
+
+/// Meets the next character, and tells whether it waits to see whether a selector follows.
+fn select_next<N: Normalizing>(
+    by: &N,
+    waits: bool,
+    buffer: &mut hb_buffer_t,
+) -> Result<bool, ShapeCause>
+    requires open { buffer.old.is_open ≡ true }
+    requires there { (if waits then 1 else 0) < length buffer.old.ahead }
+    ensures ok { IfOk result (λ b. Selects (N.normalizer by.now) waits b buffer.old buffer.new) }
+    ensures err { IfErr result (λ e. SelectsTooMany (N.normalizer by.now) waits e buffer.old) }
+{
+    if waits {
+        select_behind(by, buffer)
+    } else {
+        select_first(by, buffer)
+    }
+}
+
+/// Puts the character at the cursor behind it, where it waits.
+fn put_waiting<N: Normalizing>(
+    by: &N,
+    waits: bool,
+    buffer: &mut hb_buffer_t,
+) -> Result<(), ShapeCause>
+    requires open { buffer.old.is_open ≡ true }
+    requires there { waits ≡ true → 0 < length buffer.old.ahead }
+    ensures ok { OnOk result (PutsWaiting (N.normalizer by.now) waits buffer.old buffer.new) }
+    ensures err { IfErr result (λ e. Overfills (if waits then 1 else 0) e buffer.old) }
+{
+    if !waits {
+        return Ok(());
+    }
+    put_unexpanded(by, buffer)?;
+    Ok(())
+}
+
+/// Puts a character and so many marks and selectors behind it behind the cursor, without splitting them.
+pub(crate) fn expand_selected<N: Normalizing>(
+    by: &N,
+    marks: usize,
+    buffer: &mut hb_buffer_t,
+) -> Result<(), ShapeCause>
+    requires open { buffer.old.is_open ≡ true }
+    requires there { marks < length buffer.old.ahead }
+    ensures ok { OnOk result (SelectsAll (N.normalizer by.now) marks buffer.old buffer.new) }
+    ensures err { IfErr result (λ e. SelectsAllTooMany (N.normalizer by.now) marks e buffer.old) }
+{
+    let mut waits = true;
+    for _ in 0..marks {
+        waits = select_next(by, waits, buffer)?;
+    }
+    put_waiting(by, waits, buffer)?;
+    Ok(())
+}

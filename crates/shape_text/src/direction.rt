@@ -1,0 +1,141 @@
+//! The order in which a text's script is written.
+ghost use Rattle.std.specs.Prelude.{◌≡◌, false};
+ghost use Rattle.std.specs.List.{list_any};
+ghost use Rattle.buffer_glyphs.specs.Items.{item_of, strip};
+ghost use Rattle.buffer_glyphs.specs.Origins.{origin_of};
+ghost use Rattle.buffer_core.specs.Readings.{always};
+ghost use Rattle.buffer_core.specs.Graphemes.{continues};
+ghost use Rattle.buffer_core.specs.Sides.{items_of};
+ghost use Rattle.buffer_stages.specs.Ready.{IsReady};
+ghost use Rattle.buffer_properties.specs.Categories.{is_letter};
+ghost use Rattle.buffer_stages.specs.Stages.{IsFollowed};
+ghost use Rattle.shape_text.specs.NativeOrder.{is_number_text, is_numeral, is_turned, merges_graphemes, native_order, ordered, runs_against, script_direction, turned_text, with_numbers, without_continuation};
+
+use buffer_common::direction::Direction;
+use buffer_common::script::Script;
+use buffer_core::buffer::hb_buffer_t;
+use buffer_glyphs::flags::UnicodeProps;
+use buffer_glyphs::info::hb_glyph_info_t;
+use buffer_glyphs::level::BufferClusterLevel;
+use buffer_properties::categories::{is_decimal_number, is_letter};
+use buffer_stages::glyphs::map_glyphs;
+
+fn is_numeral(glyph: &hb_glyph_info_t) -> bool
+    ensures { result ≡ is_numeral (item_of glyph.now) }
+{
+    matches!(glyph.glyph_id, 0x1F1E6..=0x1F1FF) || is_decimal_number(glyph)
+}
+
+#[tactic(auto, using(crate::proofs::Turned::number_text_stripped))]
+fn is_number_text(glyphs: &[hb_glyph_info_t]) -> bool
+    ensures { result ≡ is_number_text (strip glyphs.now) }
+{
+    has_numeral(glyphs) && !has_letter(glyphs)
+}
+
+fn has_numeral(glyphs: &[hb_glyph_info_t]) -> bool
+    ensures { result ≡ list_any (λ g. is_numeral (item_of g)) glyphs.now }
+{
+    glyphs.iter().any(|glyph| is_numeral(glyph))
+}
+
+fn has_letter(glyphs: &[hb_glyph_info_t]) -> bool
+    ensures { result ≡ list_any (λ g. is_letter (item_of g)) glyphs.now }
+{
+    glyphs.iter().any(|glyph| is_letter(glyph))
+}
+
+fn script_direction(script: Option<Script>) -> Direction
+    ensures { result ≡ script_direction script }
+{
+    match script {
+        Some(script) => Direction::from_script(script).unwrap_or(Direction::Invalid),
+        None => Direction::Invalid,
+    }
+}
+
+fn with_numbers(is_number_text: bool, text: Direction, direction: Direction) -> Direction
+    ensures { result ≡ with_numbers is_number_text text direction }
+{
+    match (is_number_text, text, direction) {
+        (true, Direction::LeftToRight, Direction::RightToLeft) => Direction::LeftToRight,
+        _ => direction,
+    }
+}
+
+fn runs_against(text: Direction, written: Direction) -> bool
+    ensures { result ≡ runs_against text written }
+{
+    matches!(
+        (text, written),
+        (Direction::LeftToRight, Direction::RightToLeft)
+            | (Direction::RightToLeft, Direction::LeftToRight)
+            | (Direction::BottomToTop, _)
+    )
+}
+
+fn merges_graphemes(level: BufferClusterLevel) -> bool
+    ensures { result ≡ merges_graphemes level }
+{
+    matches!(level, BufferClusterLevel::MonotoneCharacters)
+}
+
+fn continues_grapheme(glyph: &hb_glyph_info_t) -> bool
+    ensures { result ≡ continues (item_of glyph.now) }
+{
+    glyph.unicode_props.0 & UnicodeProps::CONTINUATION.0 != 0
+}
+
+fn without_continuation(glyph: &hb_glyph_info_t) -> hb_glyph_info_t
+    ensures item { item_of result ≡ without_continuation (item_of glyph.now) }
+    ensures origin { origin_of result ≡ origin_of glyph.now }
+{
+    let props = glyph.unicode_props.0;
+    hb_glyph_info_t {
+        unicode_props: UnicodeProps(props - (props & UnicodeProps::CONTINUATION.0)),
+        ..*glyph
+    }
+}
+
+/// Puts a text in the order in which its script is written, where it is to run the other way: the graphemes in turned
+/// order, each in its own, and the direction with them. Graphemes that are no clusters merge before, at the level of
+/// characters. From here on no record says that it goes on with the one before it. It takes linear time and no memory.
+pub fn ensure_native_direction(buffer: &mut hb_buffer_t)
+    requires { IsReady buffer.old }
+    ensures { IsFollowed (always (native_order buffer.old.script)) buffer.old buffer.new }
+{
+    order_graphemes(buffer);
+    map_glyphs(buffer, |glyph| without_continuation(glyph));
+}
+
+#[tactic(auto, using(crate::proofs::Turned::turned_ordered, crate::proofs::Turned::stays_ordered))]
+fn order_graphemes(buffer: &mut hb_buffer_t)
+    requires { IsReady buffer.old }
+    ensures { IsFollowed (always (ordered buffer.old.script)) buffer.old buffer.new }
+{
+    if is_turned(buffer) {
+        turn_graphemes(buffer);
+    }
+}
+
+fn is_turned(buffer: &hb_buffer_t) -> bool
+    requires { buffer.now.is_open ≡ false }
+    ensures { result ≡ is_turned buffer.now.script buffer.now.direction (items_of buffer.now) }
+{
+    let text = buffer.direction();
+    let numbers = is_number_text(buffer.info_slice());
+    runs_against(
+        text,
+        with_numbers(numbers, text, script_direction(buffer.script())),
+    )
+}
+
+fn turn_graphemes(buffer: &mut hb_buffer_t)
+    requires { IsReady buffer.old }
+    ensures { IsFollowed (always turned_text) buffer.old buffer.new }
+{
+    let merge = merges_graphemes(buffer.cluster_level());
+    let direction = buffer.direction().reverse();
+    buffer.reverse_groups(|_before, glyph| continues_grapheme(glyph), merge);
+    buffer.set_direction(direction);
+}

@@ -1,0 +1,144 @@
+//! Characters that stand mirrored, or upright, in the line that they are to run in.
+ghost use Rattle.std.specs.Prelude.{◌≡◌, ◌&&◌, not};
+ghost use Rattle.std.specs.Int.RustNames.{bit_and};
+ghost use Rattle.buffer_glyphs.specs.declared.info.TheConstants.{DEFINED};
+ghost use Rattle.buffer_glyphs.specs.Items.{item_of};
+ghost use Rattle.buffer_glyphs.specs.Origins.{origin_of};
+ghost use Rattle.buffer_core.specs.Readings.{always};
+ghost use Rattle.buffer_stages.specs.Ready.{IsReady};
+ghost use Rattle.buffer_common.specs.Direction.{is_backward, is_vertical};
+ghost use Rattle.buffer_stages.specs.Stages.{IsFollowed};
+ghost use Rattle.shape_text.specs.Rotation.{if_known, mapped_where, mirror_image, mirrored, rotated, upright, vertical_form};
+
+use buffer_common::direction::Direction;
+use buffer_core::buffer::hb_buffer_t;
+use buffer_glyphs::info::{hb_glyph_info_t, hb_mask_t};
+use buffer_stages::glyphs::map_glyphs;
+use buffer_unicode_tables::{CharTablesExt, UnicodeTables};
+use layout_face::Face;
+
+/// What decides how a character stands in its line.
+#[derive(Clone, Copy)]
+pub struct Rotation {
+    /// The direction that was asked for.
+    pub target_direction: Direction,
+    /// The mask of the feature that mirrors what has no mirror image; it has no glyph flag.
+    pub rtlm_mask: hb_mask_t,
+    /// Whether the font has a feature for vertical forms.
+    pub has_vert: bool,
+}
+
+/// Puts the mirror image of each character in its place where the line runs backward, and its vertical form where the line is
+/// vertical and no feature of the font sees to that, each if the font has it. A character that is not mirrored gets the mask
+/// of the feature that mirrors. It takes no memory.
+pub fn rotate_chars(
+    rotation: Rotation,
+    face: &Face,
+    tables: &UnicodeTables,
+    buffer: &mut hb_buffer_t,
+)
+    requires ready { IsReady buffer.old }
+    requires flagless { bit_and rotation.rtlm_mask DEFINED ≡ 0 }
+    ensures { IsFollowed
+        (always (rotated tables.now face.now rotation.target_direction rotation.rtlm_mask rotation.has_vert))
+        buffer.old buffer.new }
+{
+    mirror_chars(rotation, face, tables, buffer);
+    raise_chars(rotation, face, tables, buffer);
+}
+
+#[tactic(auto, using(crate::proofs::Rotated::where_none))]
+fn mirror_chars(rotation: Rotation, face: &Face, tables: &UnicodeTables, buffer: &mut hb_buffer_t)
+    requires ready { IsReady buffer.old }
+    requires flagless { bit_and rotation.rtlm_mask DEFINED ≡ 0 }
+    ensures { IsFollowed
+        (always (mapped_where (is_backward rotation.target_direction)
+        (mirrored tables.now face.now rotation.rtlm_mask)))
+        buffer.old buffer.new }
+{
+    if rotation.target_direction.is_backward() {
+        let mask = rotation.rtlm_mask;
+        map_glyphs(buffer, |glyph| mirrored(tables, face, mask, glyph));
+    }
+}
+
+#[tactic(auto, using(crate::proofs::Rotated::where_none))]
+fn raise_chars(rotation: Rotation, face: &Face, tables: &UnicodeTables, buffer: &mut hb_buffer_t)
+    requires ready { IsReady buffer.old }
+    ensures { IsFollowed
+        (always (mapped_where (is_vertical rotation.target_direction && not rotation.has_vert)
+        (upright tables.now face.now)))
+        buffer.old buffer.new }
+{
+    if raises_chars(rotation) {
+        map_glyphs(buffer, |glyph| upright(tables, face, glyph));
+    }
+}
+
+fn raises_chars(rotation: Rotation) -> bool
+    ensures { result ≡ (is_vertical rotation.target_direction && not rotation.has_vert) }
+{
+    rotation.target_direction.is_vertical() && !rotation.has_vert
+}
+
+#[tactic(auto, using(buffer_stages::proofs::Lemmas::Masks::mask_above, std::proofs::lemmas::Nat::and_or_apart))]
+fn mirrored(
+    tables: &UnicodeTables,
+    face: &Face,
+    mask: hb_mask_t,
+    glyph: &hb_glyph_info_t,
+) -> hb_glyph_info_t
+    ensures item { item_of result ≡ mirrored tables.now face.now mask (item_of glyph.now) }
+    ensures origin { bit_and mask DEFINED ≡ 0 → origin_of result ≡ origin_of glyph.now }
+{
+    match mirror_image(tables, face, glyph.glyph_id) {
+        Some(image) => hb_glyph_info_t {
+            glyph_id: u32::from(image),
+            ..*glyph
+        },
+        None => hb_glyph_info_t {
+            mask: glyph.mask | mask,
+            ..*glyph
+        },
+    }
+}
+
+fn upright(tables: &UnicodeTables, face: &Face, glyph: &hb_glyph_info_t) -> hb_glyph_info_t
+    ensures item { item_of result ≡ upright tables.now face.now (item_of glyph.now) }
+    ensures origin { origin_of result ≡ origin_of glyph.now }
+{
+    match vertical_form(tables, face, glyph.glyph_id) {
+        Some(form) => hb_glyph_info_t {
+            glyph_id: u32::from(form),
+            ..*glyph
+        },
+        None => *glyph,
+    }
+}
+
+fn mirror_image(tables: &UnicodeTables, face: &Face, number: u32) -> Option<char>
+    ensures { result ≡ mirror_image tables.now face.now number }
+{
+    match char::from_u32(number) {
+        Some(u) => if_known(face, u.mirrored(tables)),
+        None => None,
+    }
+}
+
+fn vertical_form(tables: &UnicodeTables, face: &Face, number: u32) -> Option<char>
+    ensures { result ≡ vertical_form tables.now face.now number }
+{
+    match char::from_u32(number) {
+        Some(u) => if_known(face, u.vertical(tables)),
+        None => None,
+    }
+}
+
+fn if_known(face: &Face, character: Option<char>) -> Option<char>
+    ensures { result ≡ if_known face.now character }
+{
+    match character {
+        Some(u) if face.has_glyph(u) => Some(u),
+        _ => None,
+    }
+}

@@ -1,8 +1,0 @@
--- Languages by their tags.
-use Rattle.std.specs.Prelude.{ℕ, List}
-use Rattle.std.specs.String.{string_bytes}
-use Rattle.shaping_text.specs.declared.language.Language.{Language}
-
--- the language's tag
-abbrev pub language_text : Language → List ℕ
-language_text language = string_bytes language.0

@@ -1,0 +1,3 @@
+pub mod Split
+mod Means
+mod RisingKeys

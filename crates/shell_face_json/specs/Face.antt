@@ -1,0 +1,113 @@
+-- A font, key by key in the order of the format.
+use Rattle.std.specs.Prelude.{ℕ, ℤ, pos, nat_le, if◌then◌else◌, List, [], codes, length, Option, Some, None, Result, Ok, Err}
+use Rattle.std.specs.Ordering.{nat_cmp}
+use Rattle.serde_json.specs.Data.{Data}
+use Rattle.serde_json.specs.Find.{get}
+use Rattle.shell_json_values.specs.declared.fault.JsonFault.{JsonFault}
+use Rattle.shell_json_values.specs.declared.fault.JsonFault.TheVariants.{OutOfRange}
+use Rattle.shell_json_values.specs.Cell.{and_then, word, signed_word}
+use Rattle.shell_json_values.specs.Objects.{read_or, read_if_there}
+use Rattle.layout_common.specs.declared.glyph_row.GlyphRow.{GlyphRow}
+use Rattle.buffer_glyphs.specs.declared.names.hb_glyph_extents_t.{hb_glyph_extents_t}
+use Rattle.layout_face.specs.declared.positioning.PositioningTable.{PositioningTable}
+use Rattle.layout_face.specs.declared.substitution.SubstitutionTable.{SubstitutionTable}
+use Rattle.layout_face.specs.Names.{GlyphName}
+use Rattle.layout_face.specs.declared.parts.CharacterRow.{CharacterRow}
+use Rattle.layout_face.specs.declared.parts.VariationRow.{VariationRow}
+use Rattle.layout_face.specs.declared.parts.GlyphDefinition.{GlyphDefinition}
+use Rattle.layout_face.specs.declared.parts.FaceParts.{FaceParts}
+use Rattle.layout_face.specs.Indices.{indices_fit, set_limit}
+use Rattle.shell_face_json.specs.Lists.{number_below, is_object, rows_at, rows_in_turn}
+use Rattle.shell_face_json.specs.Row.{only}
+use Rattle.shell_face_json.specs.Sorted.{rows_by_key}
+use Rattle.shell_face_json.specs.Glyphs.{glyph_limit, glyph_rows, coverage, classes_in, class_definition}
+use Rattle.shell_face_json.specs.Contexts.{no_classes}
+use Rattle.shell_face_json.specs.Positions.{pair_order}
+use Rattle.shell_face_json.specs.SubstitutionTable.{substitution_table}
+use Rattle.shell_face_json.specs.PositionTable.{positioning_table}
+use Rattle.shell_face_json.specs.FontRows.{character_row, variation_row, extents, name_row}
+
+-- ---- the key `gdef`
+
+abbrev pub few_sets : List (List ℕ) → Result (List (List ℕ)) JsonFault
+few_sets sets = if nat_le (length sets) set_limit then Ok sets else Err OutOfRange
+
+-- glyph classes, where there are such, attachment classes, and sets of marks
+abbrev pub glyph_definition : Data → Result GlyphDefinition JsonFault
+glyph_definition d =
+    and_then (is_object d) (λ _.
+    and_then (read_if_there (class_definition glyph_limit) (get (codes "classes") d)) (λ classes.
+    and_then (rows_at (codes "attach") (classes_in glyph_limit) d) (λ attach.
+    and_then (and_then (rows_at (codes "sets") (rows_in_turn (coverage glyph_limit)) d) few_sets) (λ sets.
+    Ok (record { classes = classes; attach = attach; sets = sets })))))
+
+abbrev pub no_definition : GlyphDefinition
+no_definition = record { classes = None; attach = no_classes; sets = [] }
+
+abbrev pub glyph_definition_in : Option Data → Result GlyphDefinition JsonFault
+glyph_definition_in None = Ok no_definition
+glyph_definition_in (Some d) = glyph_definition d
+
+-- ---- the font
+
+-- the glyphs of characters, and those of characters with variation selectors
+abbrev pub character_keys : Data → Result (List CharacterRow × List VariationRow) JsonFault
+character_keys d =
+    and_then (rows_at (codes "cmap") (rows_by_key nat_cmp (λ r. r.character) (character_row glyph_limit) None) d) (λ cmap.
+    and_then (rows_at (codes "variants") (rows_by_key pair_order (λ r. (r.character, r.selector)) (variation_row glyph_limit) None) d) (λ variants.
+    Ok (cmap, variants)))
+
+-- advances of glyphs along a line and down a column
+abbrev pub advance_keys : Data → Result (List (GlyphRow ℕ) × List (GlyphRow ℕ)) JsonFault
+advance_keys d =
+    and_then (rows_at (codes "h") (glyph_rows (only (number_below glyph_limit))) d) (λ widths.
+    and_then (rows_at (codes "v") (glyph_rows (only (number_below glyph_limit))) d) (λ heights.
+    Ok (widths, heights)))
+
+-- origins, boxes and names of glyphs
+abbrev pub drawing_keys : Data → Result (List (GlyphRow ℤ) × (List (GlyphRow hb_glyph_extents_t) × List GlyphName)) JsonFault
+drawing_keys d =
+    and_then (rows_at (codes "origins") (glyph_rows (only signed_word)) d) (λ origins.
+    and_then (rows_at (codes "extents") (glyph_rows extents) d) (λ boxes.
+    and_then (rows_at (codes "names") (rows_by_key nat_cmp (λ r. r.glyph) (name_row glyph_limit) None) d) (λ names.
+    Ok (origins, (boxes, names)))))
+
+-- what is said of glyphs, substitution and positioning, whose indices of mark sets are held against the sets
+abbrev pub layout_keys : Data → Result (GlyphDefinition × (Option SubstitutionTable × Option PositioningTable)) JsonFault
+layout_keys d =
+    and_then (glyph_definition_in (get (codes "gdef") d)) (λ gdef.
+    and_then (read_if_there (substitution_table (length gdef.sets)) (get (codes "gsub") d)) (λ gsub.
+    and_then (read_if_there (positioning_table (length gdef.sets)) (get (codes "gpos") d)) (λ gpos.
+    Ok (gdef, (gsub, gpos)))))
+
+-- the keys of a font in the order in which their faults come
+abbrev pub face_keys : Data → Result FaceParts JsonFault
+face_keys d =
+    and_then (read_or 0 word (get (codes "upem") d)) (λ upem.
+    and_then (read_or (pos 0) signed_word (get (codes "ascender") d)) (λ ascender.
+    and_then (character_keys d) (λ characters.
+    and_then (advance_keys d) (λ advances.
+    and_then (drawing_keys d) (λ drawing.
+    and_then (layout_keys d) (λ layout.
+    Ok (record {
+      upem = upem;
+      ascender = ascender;
+      cmap = characters.0;
+      variants = characters.1;
+      h = advances.0;
+      v = advances.1;
+      origins = drawing.0;
+      extents = drawing.1.0;
+      names = drawing.1.1;
+      gdef = layout.0;
+      gsub = layout.1.0;
+      gpos = layout.1.1;
+    })))))))
+
+-- that indices stay within their lists was held against each row that has one
+abbrev pub with_indices : FaceParts → Result FaceParts JsonFault
+with_indices font = if indices_fit font then Ok font else Err OutOfRange
+
+-- the font of a JSON value
+abbrev pub face_of : Data → Result FaceParts JsonFault
+face_of d = and_then (is_object d) (λ _. and_then (face_keys d) with_indices)

@@ -1,0 +1,14 @@
+pub mod Lists
+pub mod Row
+pub mod Sorted
+pub mod Glyphs
+pub mod Scripts
+pub mod Contexts
+pub mod Substitutions
+pub mod SubstitutionTable
+pub mod Lengths
+pub mod Positions
+pub mod Marks
+pub mod PositionTable
+pub mod FontRows
+pub mod Face

@@ -1,0 +1,137 @@
+//! Contexts and chained contexts.
+ghost use Rattle.std.specs.Prelude.{◌≡◌, ◌≢◌, IfOk, IfErr, Ok, Err, codes};
+ghost use Rattle.serde_json.specs.Find.{get};
+ghost use Rattle.serde_json.specs.View.{view};
+ghost use Rattle.shell_face_json.specs.Contexts.{lookup_record, rule, context, format_in, format_of, rules_in, class_rules, class_maps, no_classes};
+
+use crate::glyphs::read_coverage_at;
+use crate::objects::{object, read_in_turn_at};
+use crate::rows::read_row;
+use crate::value::Part;
+use buffer_rows::SortedRows;
+use layout_common::class_definition::ClassDefinition;
+use layout_subtables::context::{ClassRules, ContextSubtable, SequenceLookupRecord, SequenceRule};
+use serde_json::Value;
+use shell_json_values::fault::JsonFault;
+use std::alloc::Global;
+
+/// The formats of a context: what the items of its rules are.
+#[derive(Clone, Copy)]
+pub enum ContextFormat {
+    Glyphs,
+    Classes,
+    Coverage,
+}
+
+impl Part for SequenceLookupRecord {
+    ghost part = { lookup_record };
+
+    fn read_part(
+        alloc: Global,
+        value: &Value,
+        limit: usize,
+    ) -> Result<SequenceLookupRecord, JsonFault> {
+        let (sequence_index, (lookup_index, ())) = read_row(alloc, value, limit)?;
+        Ok(SequenceLookupRecord {
+            sequence_index,
+            lookup_index,
+        })
+    }
+}
+
+impl<I: Part> Part for SequenceRule<I> {
+    ghost part = { λ limit. rule (I.part limit) (lookup_record limit) };
+
+    fn read_part(alloc: Global, value: &Value, limit: usize) -> Result<SequenceRule<I>, JsonFault> {
+        let (backtrack, (input, (lookahead, (records, ())))) = read_row(alloc, value, limit)?;
+        Ok(SequenceRule {
+            backtrack,
+            input,
+            lookahead,
+            records,
+        })
+    }
+}
+
+impl Part for ContextSubtable {
+    ghost part = { context };
+
+    fn read_part(alloc: Global, value: &Value, limit: usize) -> Result<ContextSubtable, JsonFault> {
+        object(value)?;
+        match read_format(value)? {
+            ContextFormat::Glyphs => Ok(ContextSubtable::Glyphs(read_in_turn_at(
+                alloc, value, "rules", limit,
+            )?)),
+            ContextFormat::Classes => Ok(ContextSubtable::Classes(read_class_rules(
+                alloc, value, limit,
+            )?)),
+            ContextFormat::Coverage => Ok(ContextSubtable::Coverage(read_in_turn_at(
+                alloc, value, "rules", limit,
+            )?)),
+        }
+    }
+}
+
+fn read_format(value: &Value) -> Result<ContextFormat, JsonFault>
+    ensures { result ≡ format_in (get (codes "format") (view value.now)) }
+{
+    match value.get("format") {
+        Some(value) => match value.as_str() {
+            Some(name) => format_of(name),
+            None => Err(JsonFault::WrongShape),
+        },
+        None => Err(JsonFault::WrongShape),
+    }
+}
+
+fn format_of(name: &str) -> Result<ContextFormat, JsonFault>
+    ensures { result ≡ format_of name.now }
+{
+    match name {
+        "glyphs" => Ok(ContextFormat::Glyphs),
+        "classes" => Ok(ContextFormat::Classes),
+        "coverage" => Ok(ContextFormat::Coverage),
+        _ => Err(JsonFault::UnknownName),
+    }
+}
+
+fn read_class_rules(alloc: Global, value: &Value, limit: usize) -> Result<ClassRules, JsonFault>
+    ensures ok { IfOk result (λ r. class_rules limit (view value.now) ≡ Ok r) }
+    ensures refused { IfErr result (λ e. e ≢ JsonFault.OutOfMemory
+        → class_rules limit (view value.now) ≡ Err e) }
+{
+    let (backtrack, (input, (lookahead, ()))) = read_class_maps(alloc, value, limit)?;
+    let first = read_coverage_at(alloc, value, "first", limit)?;
+    let rules = read_in_turn_at(alloc, value, "rules", limit)?;
+    Ok(ClassRules {
+        first,
+        backtrack,
+        input,
+        lookahead,
+        rules,
+    })
+}
+
+type ClassMaps = (ClassDefinition, (ClassDefinition, (ClassDefinition, ())));
+
+fn read_class_maps(alloc: Global, value: &Value, limit: usize) -> Result<ClassMaps, JsonFault>
+    ensures ok { IfOk result (λ m. class_maps limit (get (codes "classes") (view value.now)) ≡ Ok m) }
+    ensures refused { IfErr result (λ e. e ≢ JsonFault.OutOfMemory
+        → class_maps limit (get (codes "classes") (view value.now)) ≡ Err e) }
+{
+    match value.get("classes") {
+        Some(value) => read_row(alloc, value, limit),
+        None => Ok((
+            no_classes(alloc),
+            (no_classes(alloc), (no_classes(alloc), ())),
+        )),
+    }
+}
+
+fn no_classes(alloc: Global) -> ClassDefinition
+    ensures { result ≡ no_classes }
+{
+    ClassDefinition {
+        rows: SortedRows::new(Vec::new(alloc)),
+    }
+}

@@ -1,0 +1,178 @@
+//! A font.
+ghost use Rattle.std.specs.Prelude.{◌≡◌, ◌≢◌, ℕ, IfOk, IfErr, Ok, Err, codes};
+ghost use Rattle.serde_json.specs.Find.{get};
+ghost use Rattle.serde_json.specs.View.{view};
+ghost use Rattle.shell_face_json.specs.Face.{few_sets, glyph_definition, glyph_definition_in, no_definition, character_keys, advance_keys, drawing_keys, layout_keys, face_keys, face_of};
+
+use crate::glyphs::{GLYPH_LIMIT, read_classes_at};
+use crate::objects::{object, read_by_key_at, read_in_turn_at, read_optional_at};
+use crate::value::Part;
+use buffer_glyphs::names::hb_glyph_extents_t;
+use buffer_rows::SortedRows;
+use layout_common::array::Array;
+use layout_common::class_definition::ClassDefinition;
+use layout_common::coverage::Coverage;
+use layout_common::glyph_row::GlyphRow;
+use layout_face::Face;
+use layout_face::parts::{CharacterRow, FaceParts, GlyphDefinition, NameRow, VariationRow};
+use layout_face::positioning::PositioningTable;
+use layout_face::substitution::SubstitutionTable;
+use serde_json::Value;
+use shell_json_values::fault::JsonFault;
+use shell_json_values::keys::read_key;
+use std::alloc::Global;
+
+/// Reads a font. Keys that are not of the format are passed over. Of several faults it gives the first by the order of the
+/// format's keys, then of their rows; of one row's faults a wrong shape, then a float, a range, the order of rows.
+pub fn read_face(alloc: Global, value: &Value) -> Result<Face, JsonFault>
+    ensures ok { IfOk result (λ f. face_of (view value.now) ≡ Ok f) }
+    ensures refused { IfErr result (λ e. e ≢ JsonFault.OutOfMemory
+        → face_of (view value.now) ≡ Err e) }
+{
+    object(value)?;
+    let parts = read_face_parts(alloc, value)?;
+    if !parts.indices_fit() {
+        return Err(JsonFault::OutOfRange);
+    }
+    Ok(Face::new(parts))
+}
+
+fn read_face_parts(alloc: Global, value: &Value) -> Result<FaceParts, JsonFault>
+    ensures ok { IfOk result (λ p. face_keys (view value.now) ≡ Ok p) }
+    ensures refused { IfErr result (λ e. e ≢ JsonFault.OutOfMemory
+        → face_keys (view value.now) ≡ Err e) }
+{
+    let upem = read_key(value, "upem", 0u16)?;
+    let ascender = read_key(value, "ascender", 0i16)?;
+    let characters = read_characters(alloc, value)?;
+    let advances = read_advances(alloc, value)?;
+    let drawing = read_drawing(alloc, value)?;
+    let (gdef, (gsub, gpos)) = read_layouts(alloc, value)?;
+    let (cmap, variants) = characters;
+    let (h, v) = advances;
+    let (origins, (extents, names)) = drawing;
+    Ok(FaceParts {
+        upem,
+        ascender,
+        cmap,
+        variants,
+        h,
+        v,
+        origins,
+        extents,
+        names,
+        gdef,
+        gsub,
+        gpos,
+    })
+}
+
+/// The glyphs of characters, and those of characters with variation selectors.
+fn read_characters(
+    alloc: Global,
+    value: &Value,
+) -> Result<(SortedRows<CharacterRow>, SortedRows<VariationRow>), JsonFault>
+    ensures ok { IfOk result (λ p. character_keys (view value.now) ≡ Ok p) }
+    ensures refused { IfErr result (λ e. e ≢ JsonFault.OutOfMemory
+        → character_keys (view value.now) ≡ Err e) }
+{
+    let cmap = read_by_key_at(alloc, value, "cmap", GLYPH_LIMIT)?;
+    let variants = read_by_key_at(alloc, value, "variants", GLYPH_LIMIT)?;
+    Ok((cmap, variants))
+}
+
+type Rows<V> = SortedRows<GlyphRow<V>>;
+
+/// Advances of glyphs along a line and down a column.
+fn read_advances(alloc: Global, value: &Value) -> Result<(Rows<u16>, Rows<u16>), JsonFault>
+    ensures ok { IfOk result (λ p. advance_keys (view value.now) ≡ Ok p) }
+    ensures refused { IfErr result (λ e. e ≢ JsonFault.OutOfMemory
+        → advance_keys (view value.now) ≡ Err e) }
+{
+    let h = read_by_key_at(alloc, value, "h", GLYPH_LIMIT)?;
+    let v = read_by_key_at(alloc, value, "v", GLYPH_LIMIT)?;
+    Ok((h, v))
+}
+
+type Drawing = (Rows<i16>, (Rows<hb_glyph_extents_t>, SortedRows<NameRow>));
+
+/// Origins, boxes and names of glyphs.
+fn read_drawing(alloc: Global, value: &Value) -> Result<Drawing, JsonFault>
+    ensures ok { IfOk result (λ p. drawing_keys (view value.now) ≡ Ok p) }
+    ensures refused { IfErr result (λ e. e ≢ JsonFault.OutOfMemory
+        → drawing_keys (view value.now) ≡ Err e) }
+{
+    let origins = read_by_key_at(alloc, value, "origins", GLYPH_LIMIT)?;
+    let extents = read_by_key_at(alloc, value, "extents", GLYPH_LIMIT)?;
+    let names = read_by_key_at(alloc, value, "names", GLYPH_LIMIT)?;
+    Ok((origins, (extents, names)))
+}
+
+type Layouts = (
+    GlyphDefinition,
+    (Option<SubstitutionTable>, Option<PositioningTable>),
+);
+
+/// What is said of glyphs, substitution and positioning.
+fn read_layouts(alloc: Global, value: &Value) -> Result<Layouts, JsonFault>
+    ensures ok { IfOk result (λ p. layout_keys (view value.now) ≡ Ok p) }
+    ensures refused { IfErr result (λ e. e ≢ JsonFault.OutOfMemory
+        → layout_keys (view value.now) ≡ Err e) }
+{
+    let gdef = read_definition_at(alloc, value)?;
+    let set_count = gdef.sets.len();
+    let gsub = read_optional_at(alloc, value, "gsub", set_count)?;
+    let gpos = read_optional_at(alloc, value, "gpos", set_count)?;
+    Ok((gdef, (gsub, gpos)))
+}
+
+fn read_definition_at(alloc: Global, value: &Value) -> Result<GlyphDefinition, JsonFault>
+    ensures ok { IfOk result (λ g. glyph_definition_in (get (codes "gdef") (view value.now)) ≡ Ok g) }
+    ensures refused { IfErr result (λ e. e ≢ JsonFault.OutOfMemory
+        → glyph_definition_in (get (codes "gdef") (view value.now)) ≡ Err e) }
+{
+    match value.get("gdef") {
+        Some(value) => read_definition(alloc, value),
+        None => Ok(no_definition(alloc)),
+    }
+}
+
+/// What a font says of its glyphs.
+pub fn read_definition(alloc: Global, value: &Value) -> Result<GlyphDefinition, JsonFault>
+    ensures ok { IfOk result (λ g. glyph_definition (view value.now) ≡ Ok g) }
+    ensures refused { IfErr result (λ e. e ≢ JsonFault.OutOfMemory
+        → glyph_definition (view value.now) ≡ Err e) }
+{
+    object(value)?;
+    let classes = read_optional_at(alloc, value, "classes", GLYPH_LIMIT)?;
+    let attach = read_classes_at(alloc, value, "attach", GLYPH_LIMIT)?;
+    let sets = few_sets(read_in_turn_at(alloc, value, "sets", GLYPH_LIMIT)?)?;
+    Ok(GlyphDefinition {
+        classes,
+        attach,
+        sets,
+    })
+}
+
+fn few_sets(sets: Array<Coverage>) -> Result<Array<Coverage>, JsonFault>
+    ensures { result ≡ few_sets sets }
+{
+    if sets.len() <= usize::from(u16::MAX) {
+        Ok(sets)
+    } else {
+        Err(JsonFault::OutOfRange)
+    }
+}
+
+/// A font that says nothing of its glyphs.
+pub fn no_definition(alloc: Global) -> GlyphDefinition
+    ensures { result ≡ no_definition }
+{
+    GlyphDefinition {
+        classes: None,
+        attach: ClassDefinition {
+            rows: SortedRows::new(Vec::new(alloc)),
+        },
+        sets: Array::new(Vec::new(alloc)),
+    }
+}

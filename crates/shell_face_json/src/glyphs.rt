@@ -1,0 +1,95 @@
+//! Rows of glyphs, sets and classes of glyphs.
+ghost use Rattle.std.specs.Prelude.{◌≡◌, ◌≢◌, IfOk, IfErr, Ok, Err};
+ghost use Rattle.serde_json.specs.View.{view, items_view};
+ghost use Rattle.shell_face_json.specs.Lists.{rows_at};
+ghost use Rattle.shell_face_json.specs.Glyphs.{glyph_row, coverage, coverage_at, class_definition, classes_in};
+
+use crate::objects::read_in_turn_at;
+use crate::rising::read_by_key;
+use crate::rows::{Parts, split_row};
+use crate::value::Part;
+use layout_common::array::Array;
+use layout_common::class_definition::ClassDefinition;
+use layout_common::coverage::Coverage;
+use layout_common::glyph_row::GlyphRow;
+use serde_json::Value;
+use shell_json_values::cell::{Cell, pair};
+use shell_json_values::fault::JsonFault;
+use shell_json_values::parts::{list, list_at};
+use std::alloc::Global;
+
+/// Glyphs are numbers of 16 bits.
+pub const GLYPH_LIMIT: usize = 0x1_0000;
+
+/// A glyph, and what the rest of the row says of it.
+impl<V: Parts> Part for GlyphRow<V> {
+    ghost part = { λ limit. glyph_row (V.parts limit) };
+
+    fn read_part(alloc: Global, value: &Value, limit: usize) -> Result<GlyphRow<V>, JsonFault> {
+        let (glyph, rest) = split_row(value)?;
+        let (glyph, value) = pair(u16::read(glyph), V::read_parts(alloc, rest, limit))?;
+        Ok(GlyphRow { glyph, value })
+    }
+}
+
+/// A list of glyphs.
+impl Part for Coverage {
+    ghost part = { coverage };
+
+    fn read_part(alloc: Global, value: &Value, limit: usize) -> Result<Coverage, JsonFault> {
+        let glyphs: Array<u16> = Part::read_part(alloc, value, limit)?;
+        Ok(Coverage::new(glyphs.into_vec()))
+    }
+}
+
+/// A list of rows of a glyph and its class.
+impl Part for ClassDefinition {
+    ghost part = { class_definition };
+
+    fn read_part(alloc: Global, value: &Value, limit: usize) -> Result<ClassDefinition, JsonFault> {
+        read_classes(alloc, list(value)?, limit)
+    }
+}
+
+/// Rows of a glyph and its class, by rising glyphs.
+pub fn read_classes(
+    alloc: Global,
+    values: &[Value],
+    limit: usize,
+) -> Result<ClassDefinition, JsonFault>
+    ensures ok { IfOk result (λ c. classes_in limit (items_view values.now) ≡ Ok c) }
+    ensures refused { IfErr result (λ e. e ≢ JsonFault.OutOfMemory
+        → classes_in limit (items_view values.now) ≡ Err e) }
+{
+    let rows = read_by_key(alloc, values, limit)?;
+    Ok(ClassDefinition { rows })
+}
+
+/// The classes of a key.
+pub fn read_classes_at(
+    alloc: Global,
+    value: &Value,
+    key: &str,
+    limit: usize,
+) -> Result<ClassDefinition, JsonFault>
+    ensures ok { IfOk result (λ c. rows_at key.now (classes_in limit) (view value.now) ≡ Ok c) }
+    ensures refused { IfErr result (λ e. e ≢ JsonFault.OutOfMemory
+        → rows_at key.now (classes_in limit) (view value.now) ≡ Err e) }
+{
+    read_classes(alloc, list_at(value, key)?, limit)
+}
+
+/// The set of glyphs of a key.
+pub fn read_coverage_at(
+    alloc: Global,
+    value: &Value,
+    key: &str,
+    limit: usize,
+) -> Result<Coverage, JsonFault>
+    ensures ok { IfOk result (λ c. coverage_at limit key.now (view value.now) ≡ Ok c) }
+    ensures refused { IfErr result (λ e. e ≢ JsonFault.OutOfMemory
+        → coverage_at limit key.now (view value.now) ≡ Err e) }
+{
+    let glyphs: Array<u16> = read_in_turn_at(alloc, value, key, limit)?;
+    Ok(Coverage::new(glyphs.into_vec()))
+}

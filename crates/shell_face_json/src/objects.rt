@@ -1,0 +1,116 @@
+//! Objects, and the lists of an object's keys.
+ghost use Rattle.std.specs.Prelude.{◌≡◌, ◌≢◌, IfOk, IfErr, Ok, Err, None};
+ghost use Rattle.serde_json.specs.Find.{get};
+ghost use Rattle.serde_json.specs.View.{view};
+ghost use Rattle.shell_json_values.specs.Objects.{read_if_there};
+ghost use Rattle.shell_face_json.specs.Lists.{rows_at, rows_in_turn, parts_of, count_at, is_object};
+ghost use Rattle.shell_face_json.specs.Sorted.{rows_by_key};
+ghost use Rattle.shell_face_json.specs.Glyphs.{glyph_limit, subtables_of};
+
+use crate::glyphs::GLYPH_LIMIT;
+use crate::lists::{read_in_turn, read_list};
+use crate::rising::read_by_key;
+use crate::value::Part;
+use buffer_rows::{Keyed, SortedRows};
+use layout_common::array::Array;
+use serde_json::Value;
+use shell_json_values::fault::JsonFault;
+use shell_json_values::parts::list_at;
+use std::alloc::Global;
+
+/// Refuses what is no object.
+pub fn object(value: &Value) -> Result<(), JsonFault>
+    ensures { result ≡ is_object (view value.now) }
+{
+    if value.is_object() {
+        Ok(())
+    } else {
+        Err(JsonFault::WrongShape)
+    }
+}
+
+/// The rows of a key in turn.
+pub fn read_in_turn_at<P: Part>(
+    alloc: Global,
+    value: &Value,
+    key: &str,
+    limit: usize,
+) -> Result<Array<P>, JsonFault>
+    ensures ok { IfOk result (λ v.
+        rows_at key.now (rows_in_turn (P.part limit)) (view value.now) ≡ Ok v) }
+    ensures refused { IfErr result (λ e. e ≢ JsonFault.OutOfMemory
+        → rows_at key.now (rows_in_turn (P.part limit)) (view value.now) ≡ Err e) }
+{
+    read_in_turn(alloc, list_at(value, key)?, limit)
+}
+
+/// The rows of a key in turn, whose keys rise strictly.
+pub fn read_by_key_at<R: Part + Keyed>(
+    alloc: Global,
+    value: &Value,
+    key: &str,
+    limit: usize,
+) -> Result<SortedRows<R>, JsonFault>
+    ensures ok { IfOk result (λ v.
+        rows_at key.now (rows_by_key R.Key.cmp R.key_of (R.part limit) None) (view value.now) ≡ Ok v) }
+    ensures refused { IfErr result (λ e. e ≢ JsonFault.OutOfMemory
+        → rows_at key.now (rows_by_key R.Key.cmp R.key_of (R.part limit) None) (view value.now) ≡ Err e) }
+{
+    read_by_key(alloc, list_at(value, key)?, limit)
+}
+
+/// The list of a key, as a list inside a row.
+pub fn read_list_at<P: Part>(
+    alloc: Global,
+    value: &Value,
+    key: &str,
+    limit: usize,
+) -> Result<Vec<P>, JsonFault>
+    ensures ok { IfOk result (λ v.
+        rows_at key.now (parts_of (P.part limit)) (view value.now) ≡ Ok v.items) }
+    ensures refused { IfErr result (λ e. e ≢ JsonFault.OutOfMemory
+        → rows_at key.now (parts_of (P.part limit)) (view value.now) ≡ Err e) }
+{
+    read_list(alloc, list_at(value, key)?, limit)
+}
+
+/// The value of a key, none where the key is missing.
+pub fn read_optional_at<P: Part>(
+    alloc: Global,
+    value: &Value,
+    key: &str,
+    limit: usize,
+) -> Result<Option<P>, JsonFault>
+    ensures ok { IfOk result (λ v.
+        read_if_there (P.part limit) (get key.now (view value.now)) ≡ Ok v) }
+    ensures refused { IfErr result (λ e. e ≢ JsonFault.OutOfMemory
+        → read_if_there (P.part limit) (get key.now (view value.now)) ≡ Err e) }
+{
+    match value.get(key) {
+        Some(value) => Ok(Some(P::read_part(alloc, value, limit)?)),
+        None => Ok(None),
+    }
+}
+
+/// How many items the list of a key has, 0 where the key has no list.
+#[tactic(auto, using(crate::proofs::Split::count_is_length))]
+pub fn count_at(value: &Value, key: &str) -> usize
+    ensures { result ≡ count_at key.now (view value.now) }
+{
+    let Some(value) = value.get(key) else {
+        return 0;
+    };
+    match value.as_array() {
+        Some(values) => values.len(),
+        None => 0,
+    }
+}
+
+/// The subtables of a lookup, whose glyphs are numbers of 16 bits.
+pub fn subtables<P: Part>(alloc: Global, value: &Value) -> Result<Array<P>, JsonFault>
+    ensures ok { IfOk result (λ v. subtables_of (P.part glyph_limit) (view value.now) ≡ Ok v) }
+    ensures refused { IfErr result (λ e. e ≢ JsonFault.OutOfMemory
+        → subtables_of (P.part glyph_limit) (view value.now) ≡ Err e) }
+{
+    read_in_turn_at(alloc, value, "subtables", GLYPH_LIMIT)
+}

@@ -1,0 +1,98 @@
+//! Rows whose keys rise strictly.
+ghost use Rattle.std.specs.Prelude.{◌≡◌, ◌≢◌, IfOk, IfErr, Ok, Err, None, true};
+ghost use Rattle.serde_json.specs.View.{items_view};
+ghost use Rattle.buffer_rows.specs.Keys.{is_above, is_rising};
+ghost use Rattle.shell_face_json.specs.Sorted.{rows_by_key, sorted_part};
+
+use crate::lists::read_list;
+use crate::value::Part;
+use buffer_rows::{Keyed, SortedRows, is_above, is_rising};
+use serde_json::Value;
+use shell_json_values::fault::JsonFault;
+use shell_json_values::parts::list;
+use shell_json_values::rows::{RowReader, read_rows};
+use std::alloc::Global;
+use std::marker::PhantomData;
+
+/// A list of rows inside a row, whose keys rise strictly.
+impl<R: Part + Keyed> Part for SortedRows<R> {
+    ghost part = { λ limit. sorted_part R.Key.cmp R.key_of (R.part limit) };
+
+    fn read_part(alloc: Global, value: &Value, limit: usize) -> Result<SortedRows<R>, JsonFault> {
+        let rows = read_list(alloc, list(value)?, limit)?;
+        if !is_rising(&rows) {
+            return Err(JsonFault::OutOfOrder);
+        }
+        Ok(SortedRows::new(rows))
+    }
+}
+
+/// The rows of a list in turn, whose keys rise strictly: the fault of the first faulty row; of one row's faults the order
+/// comes last.
+pub fn read_by_key<R: Part + Keyed>(
+    alloc: Global,
+    values: &[Value],
+    limit: usize,
+) -> Result<SortedRows<R>, JsonFault>
+    ensures ok { IfOk result (λ v.
+        rows_by_key R.Key.cmp R.key_of (R.part limit) None (items_view values.now) ≡ Ok v) }
+    ensures refused { IfErr result (λ e. e ≢ JsonFault.OutOfMemory
+        → rows_by_key R.Key.cmp R.key_of (R.part limit) None (items_view values.now) ≡ Err e) }
+{
+    Ok(SortedRows::new(read_rising(alloc, values, limit)?))
+}
+
+/// What reads the rows of a list in which an index is below a limit.
+#[derive(Drop)]
+struct ByKey<R> {
+    limit: usize,
+    rows: PhantomData<R>,
+}
+
+impl<R: Part + Keyed> RowReader for ByKey<R> {
+    type Row = R;
+
+    type Key = R::Key;
+
+    ghost means = { λ reader. R.part reader.limit };
+
+    ghost key_of = { R.key_of };
+
+    ghost may_follow = { is_above R.Key.cmp };
+
+    fn read_row(&self, alloc: Global, value: &Value) -> Result<R, JsonFault> {
+        R::read_part(alloc, value, self.limit)
+    }
+
+    fn key(row: &R) -> R::Key
+        ensures { result ≡ R.key_of row.now }
+    {
+        row.key()
+    }
+
+    fn follows(before: Option<R::Key>, key: R::Key) -> bool
+        ensures { result ≡ is_above R.Key.cmp before key }
+    {
+        is_above(before, key)
+    }
+}
+
+/// The same rows as a vector.
+#[tactic(auto, using(crate::proofs::RisingKeys::keys_rise), unfolding(crate::specs::Sorted::rows_by_key))]
+pub fn read_rising<R: Part + Keyed>(
+    alloc: Global,
+    values: &[Value],
+    limit: usize,
+) -> Result<Vec<R>, JsonFault>
+    ensures ok { IfOk result (λ v.
+        rows_by_key R.Key.cmp R.key_of (R.part limit) None (items_view values.now) ≡ Ok v.items) }
+    ensures refused { IfErr result (λ e. e ≢ JsonFault.OutOfMemory
+        → rows_by_key R.Key.cmp R.key_of (R.part limit) None (items_view values.now) ≡ Err e) }
+    ensures rising { IfOk result (λ v. is_rising R.Key.cmp R.key_of None v.items ≡ true) }
+{
+    let reader = ByKey::<R> {
+        limit,
+        rows: PhantomData,
+    };
+    read_rows(alloc, values, &reader)
+}

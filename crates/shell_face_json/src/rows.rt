@@ -1,0 +1,108 @@
+//! Rows: lists whose items are parts of different kinds.
+ghost use Rattle.std.specs.Prelude.{◌≡◌, ◌≢◌, ℕ, IfOk, IfErr, Ok, Err, Result};
+ghost use Rattle.serde_json.specs.Data.{Items};
+ghost use Rattle.serde_json.specs.View.{view, items_view};
+ghost use Rattle.shell_json_values.specs.declared.fault.JsonFault.{JsonFault};
+ghost use Rattle.shell_json_values.specs.Cell.{and_then, signed_word};
+ghost use Rattle.shell_json_values.specs.Parts.{list_of};
+ghost use Rattle.shell_face_json.specs.Lists.{number_below};
+ghost use Rattle.shell_face_json.specs.Row.{no_more, only, first_and_rest, first_in, row_of};
+
+use crate::value::Part;
+use serde_json::Value;
+use shell_json_values::cell::pair;
+use shell_json_values::fault::JsonFault;
+use shell_json_values::parts::list;
+use std::alloc::Global;
+
+/// The parts of a row, from one of them to the last.
+pub trait Parts: Drop {
+    ghost parts: { ℕ → Items → Result Self JsonFault };
+
+    /// Reads the items that are left of a row. Of several faults it gives the one that comes first by its kind.
+    fn read_parts(alloc: Global, values: &[Value], limit: usize) -> Result<Self, JsonFault>
+        ensures ok { IfOk result (λ p. parts limit (items_view values.now) ≡ Ok p) }
+        ensures refused { IfErr result (λ e. e ≢ JsonFault.OutOfMemory
+            → parts limit (items_view values.now) ≡ Err e) };
+}
+
+impl Parts for () {
+    ghost parts = { λ _. no_more };
+
+    #[tactic(auto, using(crate::proofs::Split::none_left, crate::proofs::Split::some_left))]
+    fn read_parts(_alloc: Global, values: &[Value], _limit: usize) -> Result<(), JsonFault> {
+        if values.is_empty() {
+            Ok(())
+        } else {
+            Err(JsonFault::WrongShape)
+        }
+    }
+}
+
+impl<A: Part, R: Parts> Parts for (A, R) {
+    ghost parts = { λ limit. first_and_rest (A.part limit) (R.parts limit) };
+
+    fn read_parts(alloc: Global, values: &[Value], limit: usize) -> Result<(A, R), JsonFault> {
+        let (first, rest) = split_first(values)?;
+        let first = A::read_part(alloc, first, limit);
+        pair(first, R::read_parts(alloc, rest, limit))
+    }
+}
+
+/// One number, and no more.
+impl Parts for u16 {
+    ghost parts = { λ limit. only (number_below limit) };
+
+    fn read_parts(alloc: Global, values: &[Value], limit: usize) -> Result<u16, JsonFault> {
+        read_only(alloc, values, limit)
+    }
+}
+
+/// One number, and no more.
+impl Parts for i16 {
+    ghost parts = { λ _. only signed_word };
+
+    fn read_parts(alloc: Global, values: &[Value], limit: usize) -> Result<i16, JsonFault> {
+        read_only(alloc, values, limit)
+    }
+}
+
+/// One part, and no more.
+pub fn read_only<P: Part>(alloc: Global, values: &[Value], limit: usize) -> Result<P, JsonFault>
+    ensures ok { IfOk result (λ p. only (P.part limit) (items_view values.now) ≡ Ok p) }
+    ensures refused { IfErr result (λ e. e ≢ JsonFault.OutOfMemory
+        → only (P.part limit) (items_view values.now) ≡ Err e) }
+{
+    let (part, ()) = Parts::read_parts(alloc, values, limit)?;
+    Ok(part)
+}
+
+/// A row of parts.
+pub fn read_row<R: Parts>(alloc: Global, value: &Value, limit: usize) -> Result<R, JsonFault>
+    ensures ok { IfOk result (λ p. row_of (R.parts limit) (view value.now) ≡ Ok p) }
+    ensures refused { IfErr result (λ e. e ≢ JsonFault.OutOfMemory
+        → row_of (R.parts limit) (view value.now) ≡ Err e) }
+{
+    R::read_parts(alloc, list(value)?, limit)
+}
+
+/// The first item of a row, and the items after it.
+pub fn split_row(value: &Value) -> Result<(&Value, &[Value]), JsonFault>
+    ensures ok { IfOk result (λ p. and_then (list_of (view value.entry.now)) first_in
+        ≡ Ok (view p.0.now, items_view p.1.now)) }
+    ensures refused { IfErr result (λ e. and_then (list_of (view value.entry.now)) first_in ≡ Err e) }
+{
+    split_first(list(value)?)
+}
+
+#[tactic(auto, using(crate::proofs::Split::first_of_some, crate::proofs::Split::first_of_none))]
+fn split_first(values: &[Value]) -> Result<(&Value, &[Value]), JsonFault>
+    ensures ok { IfOk result (λ p. first_in (items_view values.entry.now)
+        ≡ Ok (view p.0.now, items_view p.1.now)) }
+    ensures refused { IfErr result (λ e. first_in (items_view values.entry.now) ≡ Err e) }
+{
+    if values.is_empty() {
+        return Err(JsonFault::WrongShape);
+    }
+    Ok((&values[0], &values[1..]))
+}

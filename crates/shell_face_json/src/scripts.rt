@@ -1,0 +1,48 @@
+//! Scripts and language systems.
+ghost use Rattle.shell_face_json.specs.Scripts.{lang_sys, lang_sys_entry, script};
+
+use crate::objects::{object, read_list_at, read_optional_at};
+use crate::rows::read_row;
+use crate::value::Part;
+use buffer_common::tag::Tag;
+use layout_common::array::Array;
+use layout_tables::is_rising;
+use layout_tables::script::{LangSys, LangSysRecord, ScriptRecord};
+use serde_json::Value;
+use shell_json_values::cell::pair;
+use shell_json_values::fault::JsonFault;
+use std::alloc::Global;
+
+impl Part for LangSys {
+    ghost part = { lang_sys };
+
+    fn read_part(alloc: Global, value: &Value, limit: usize) -> Result<LangSys, JsonFault> {
+        object(value)?;
+        let required = read_optional_at::<u16>(alloc, value, "required", limit);
+        let (required, features) = pair(required, read_list_at(alloc, value, "features", limit))?;
+        Ok(LangSys::new(required, features))
+    }
+}
+
+impl Part for LangSysRecord {
+    ghost part = { lang_sys_entry };
+
+    fn read_part(alloc: Global, value: &Value, limit: usize) -> Result<LangSysRecord, JsonFault> {
+        let (tag, (lang_sys, ())): (Tag, (LangSys, ())) = read_row(alloc, value, limit)?;
+        Ok(LangSysRecord::new(tag, lang_sys))
+    }
+}
+
+impl Part for ScriptRecord {
+    ghost part = { script };
+
+    fn read_part(alloc: Global, value: &Value, limit: usize) -> Result<ScriptRecord, JsonFault> {
+        let (tag, (default, (systems, ()))): (Tag, (Option<LangSys>, (Array<LangSysRecord>, ()))) =
+            read_row(alloc, value, limit)?;
+        let systems = systems.into_vec();
+        if !is_rising(&systems) {
+            return Err(JsonFault::OutOfOrder);
+        }
+        Ok(ScriptRecord::new(tag, default, systems))
+    }
+}

@@ -1,0 +1,31 @@
+ghost use Rattle.std.specs.Prelude.{◌≡◌, ◌≢◌, ℕ, IfOk, IfErr, Ok, Err, Result};
+ghost use Rattle.serde_json.specs.Data.{Data};
+ghost use Rattle.serde_json.specs.View.{view};
+ghost use Rattle.shell_json_values.specs.declared.fault.JsonFault.{JsonFault};
+ghost use Rattle.shell_face_json.specs.Lists.{or_null};
+
+use serde_json::Value;
+use shell_json_values::fault::JsonFault;
+use std::alloc::Global;
+
+/// A part of a row, or a row: a number, a text, a list.
+pub trait Part: Drop {
+    ghost part: { ℕ → Data → Result Self JsonFault };
+
+    /// Reads a value, in which each index has to be below a limit: the length of the list that it points into.
+    fn read_part(alloc: Global, value: &Value, limit: usize) -> Result<Self, JsonFault>
+        ensures ok { IfOk result (λ p. part limit (view value.now) ≡ Ok p) }
+        ensures refused { IfErr result (λ e. e ≢ JsonFault.OutOfMemory
+            → part limit (view value.now) ≡ Err e) };
+}
+
+impl<P: Part> Part for Option<P> {
+    ghost part = { λ limit. or_null (P.part limit) };
+
+    fn read_part(alloc: Global, value: &Value, limit: usize) -> Result<Option<P>, JsonFault> {
+        match value {
+            Value::Null => Ok(None),
+            _ => Ok(Some(P::read_part(alloc, value, limit)?)),
+        }
+    }
+}

@@ -1,0 +1,29 @@
+-- The keys of an object.
+use Rattle.std.specs.Prelude.{ℕ, List, [], ◌∷◌, Bool, true, false, ⊤, if◌then◌else◌, is_some, Option, Some, None, Result, Ok, Err}
+use Rattle.serde_json.specs.Data.{Data}
+use Rattle.serde_json.specs.Find.{get, as_object}
+use Rattle.shell_json_values.specs.declared.fault.JsonFault.{JsonFault}
+use Rattle.shell_json_values.specs.declared.fault.JsonFault.TheVariants.{WrongShape}
+use Rattle.shell_json_values.specs.Cell.{and_then}
+
+-- the value of a key as `read` reads it, or `missing` where the key is not there
+abbrev pub read_or : {A : Type 0} → A → (Data → Result A JsonFault) → Option Data → Result A JsonFault
+read_or missing read None = Ok missing
+read_or missing read (Some d) = read d
+
+-- the value of a key as `read` reads it, none where the key is not there
+abbrev pub read_if_there : {A : Type 0} → (Data → Result A JsonFault) → Option Data → Result (Option A) JsonFault
+read_if_there read None = Ok None
+read_if_there read (Some d) = and_then (read d) (λ a. Ok (Some a))
+
+-- one of the keys is there
+abbrev pub has_some : List (List ℕ) → Data → Bool
+has_some [] d = false
+has_some (k ∷ ks) d = if is_some (get k d) then true else has_some ks d
+
+-- keys that are not read yet
+abbrev pub without : List (List ℕ) → Data → Result ⊤ JsonFault
+without ks d = if has_some ks d then Err WrongShape else Ok tt
+
+abbrev pub of_object : {A : Type 0} → (Data → Result A JsonFault) → Data → Result A JsonFault
+of_object read d = if is_some (as_object d) then read d else Err WrongShape

@@ -1,0 +1,49 @@
+-- Faults of a run, and the exit status of each.
+use Rattle.std.specs.Prelude.{ℕ, List, codes}
+use Rattle.shell_json_values.specs.declared.fault.JsonFault.{JsonFault}
+use Rattle.shell_json_values.specs.Fault as json_values
+use Rattle.shell_readers.specs.declared.fault.RunFault.{RunFault}
+use Rattle.buffer_glyphs.specs.declared.cause.ShapeCause.{ShapeCause}
+use Rattle.buffer_glyphs.specs.declared.cause.ShapeCause.TheVariants as cause
+use Rattle.shell_json_values.specs.declared.fault.JsonFault.TheVariants as json
+use Rattle.shell_readers.specs.declared.fault.RunFault.TheVariants as run
+
+-- a fault of a table or a font as a fault of the run; want of memory is one fault wherever it showed
+abbrev pub run_fault_of : JsonFault → RunFault
+run_fault_of json.OutOfMemory = run.OutOfMemory
+run_fault_of fault = run.Json fault
+
+-- a cause for which a text is not shaped as a fault of the run
+abbrev pub fault_of_cause : ShapeCause → RunFault
+fault_of_cause cause.OutOfMemory = run.OutOfMemory
+fault_of_cause c = run.Shape c
+
+-- 2 for words, 3 for tables and fonts, 4 for the text's bytes, 5 for shaping and want of memory, 6 for input and output
+abbrev pub status_of : RunFault → ℕ
+status_of run.Words = 2
+status_of (run.Json json.OutOfMemory) = 5
+status_of (run.Json _) = 3
+status_of run.Unlawful = 3
+status_of run.NotUtf8 = 4
+status_of run.NotYet = 5
+status_of (run.Shape _) = 5
+status_of run.OutOfMemory = 5
+status_of run.Read = 6
+status_of run.ReadLimit = 6
+status_of run.Write = 6
+
+-- the name under which a fault is printed
+abbrev pub name_of : RunFault → List ℕ
+name_of run.Words = codes "words"
+name_of run.Read = codes "Read"
+name_of run.ReadLimit = codes "ReadLimit"
+name_of (run.Json fault) = json_values.name_of fault
+name_of run.Unlawful = codes "Unlawful"
+name_of run.NotUtf8 = codes "NotUtf8"
+name_of run.NotYet = codes "NotYet"
+name_of (run.Shape cause.OutOfMemory) = codes "S1 OutOfMemory"
+name_of (run.Shape cause.TooLong) = codes "S2 TooLong"
+name_of (run.Shape cause.StretchRange) = codes "S3 StretchRange"
+name_of (run.Shape cause.UnknownSyllableKind) = codes "S4 UnknownSyllableKind"
+name_of run.Write = codes "Write"
+name_of run.OutOfMemory = codes "OutOfMemory"

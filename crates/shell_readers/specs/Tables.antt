@@ -1,0 +1,68 @@
+-- What the bytes of tables are read as, and which of them shaping goes by.
+use Rattle.std.specs.Prelude.{ℕ, ◌≡◌, ◌⊎◌, List, [], Option, Result, Ok, Err, find}
+use Rattle.std.specs.Option.{option_map_or}
+use Rattle.std.specs.Str.{bytes_eq}
+use Rattle.buffer_common.specs.declared.tag.Tag.{Tag}
+use Rattle.buffer_languages.specs.LanguageRows.{primary_part}
+use Rattle.serde_json.specs.Data.{Data}
+use Rattle.shell_json_values.specs.declared.fault.JsonFault.{JsonFault}
+use Rattle.shell_json_values.specs.declared.fault.JsonFault.TheVariants.{SplitDepth}
+use Rattle.shell_json_values.specs.Cell.{and_then}
+use Rattle.shell_readers.specs.declared.fault.RunFault.{RunFault}
+use Rattle.shell_readers.specs.declared.fault.RunFault.TheVariants.{Unlawful}
+use Rattle.shell_tables_json.specs.Languages.{Language, languages_in, languages_of}
+use Rattle.shell_tables_json.specs.Syllables.{syllables_of}
+use Rattle.shell_tables_json.specs.Unicode.{tables_of}
+use Rattle.script_categories.specs.Machines.{Machines}
+use Rattle.buffer_unicode_tables.specs.Expansion.{EndWithin, HasDeepChain}
+use Rattle.buffer_unicode_tables.specs.Lawful.{IsLawful}
+use Rattle.buffer_unicode_tables.specs.Tables.{Tables, split_of}
+use Rattle.shell_readers.specs.declared.tables.TextTables.{TextTables}
+use Rattle.shell_readers.specs.Values.{json_of, of_json, then_answers}
+
+-- what shaping goes by, beside the font: the tables of characters, the machines of syllables, and the languages with their tags
+pub record RunTables : Type 0 where
+  pub characters : Tables
+  pub syllables : Machines
+  pub languages : List Language
+
+abbrev pub tables_value : TextTables → RunTables
+tables_value t = record { characters = t.characters; syllables = t.syllables; languages = languages_in t.languages }
+
+-- of rows without a fault, those are refused whose chains of first parts have more than eight splits
+abbrev pub IfShallow : {A : Type 0} → Tables → (Result A JsonFault → Type 0) → Result A JsonFault → Type 0
+IfShallow t Answers r = (EndWithin (split_of t) 8 × Answers r) ⊎ (HasDeepChain (split_of t) 8 × (r ≡ Err SplitDepth))
+
+-- the machines of syllables, and then the languages
+abbrev pub with_rest : Tables → Data → Result RunTables JsonFault
+with_rest t d =
+    and_then (syllables_of d) (λ syllables.
+    and_then (languages_of d) (λ languages.
+    Ok (record { characters = t; syllables = syllables; languages = languages })))
+
+-- what a JSON value of tables is read as: the rows from splits to Thai forms, then syllables and languages; the first
+-- fault ends it
+unfoldable pub IsValueOf : Data → Result RunTables JsonFault → Type 0
+IsValueOf d r = then_answers (tables_of d) (λ t. IfShallow t (λ whole. whole ≡ with_rest t d)) r
+
+-- the same with the run's name of the fault
+abbrev pub IsRunValueOf : Data → Result RunTables RunFault → Type 0
+IsRunValueOf d r = (read : Result RunTables JsonFault) × IsValueOf d read × (r ≡ of_json read)
+
+-- what the bytes of tables are read as
+unfoldable pub AreTables : List ℕ → Result RunTables RunFault → Type 0
+AreTables bytes r = then_answers (json_of bytes) IsRunValueOf r
+
+-- tables are refused that are not lawful; of lawful ones the answer is the next
+abbrev pub IfLawful : {B : Type 0} → (RunTables → Result B RunFault) → RunTables → Result B RunFault → Type 0
+IfLawful next t answer = (IsLawful t.characters × (answer ≡ next t)) ⊎ ((¬ IsLawful t.characters) × (answer ≡ Err Unlawful))
+
+-- ---- languages
+
+abbrev pub language_of : List Language → List ℕ → Option Language
+language_of languages text = find (λ (l : Language). bytes_eq l.0 text) languages
+
+-- the tags of a language, else those of its primary part
+abbrev pub language_tags : List Language → List ℕ → List Tag
+language_tags languages text =
+    option_map_or (λ (l : Language). l.1) (language_of languages text) (option_map_or (λ (l : Language). l.1) (language_of languages (primary_part text)) [])

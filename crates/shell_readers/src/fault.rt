@@ -1,0 +1,134 @@
+ghost use Rattle.std.specs.Prelude.{◌≡◌};
+ghost use Rattle.shell_readers.specs.Fault.{name_of, status_of};
+
+use buffer_glyphs::cause::ShapeCause;
+use shell_json_values::fault::JsonFault;
+use std::alloc::{AllocError, AllocFailed};
+use std::error::Error;
+use std::fmt;
+
+/// Why a run gave no glyphs. Want of memory is `OutOfMemory`, wherever it showed.
+#[derive(Clone, Copy, PartialEq, Eq, Debug)]
+pub enum RunFault {
+    /// The words of the command line are no options and three file names.
+    Words,
+    /// A file can't be opened, or a read failed.
+    Read,
+    /// A reader gave no end in 2^26 reads.
+    ReadLimit,
+    /// Tables or a font are not of their format.
+    Json(JsonFault),
+    /// Tables are of their format, and equivalent texts would be shaped apart by them.
+    Unlawful,
+    /// The text is not UTF-8.
+    NotUtf8,
+    /// The text is of a script that waits for its shaper: one of the nine of the Indic shaper.
+    NotYet,
+    /// The text can't be shaped.
+    Shape(ShapeCause),
+    Write,
+    OutOfMemory,
+}
+
+impl RunFault {
+    /// The exit status of the program: 2 for words, 3 for tables and fonts, 4 for a text that is not UTF-8, 5 for
+    /// what can't be shaped and for want of memory, 6 for input and output.
+    pub fn status(self) -> u8
+        ensures { result ≡ status_of self }
+    {
+        match self {
+            RunFault::Words => 2,
+            RunFault::Json(JsonFault::OutOfMemory) => 5,
+            RunFault::Json(_) | RunFault::Unlawful => 3,
+            RunFault::NotUtf8 => 4,
+            RunFault::NotYet | RunFault::Shape(_) | RunFault::OutOfMemory => 5,
+            RunFault::Read | RunFault::ReadLimit | RunFault::Write => 6,
+        }
+    }
+}
+
+impl RunFault {
+    /// The name under which it is printed, with its number where it has one.
+    pub fn name(self) -> &'static str
+        ensures { result.now ≡ name_of self }
+    {
+        match self {
+            RunFault::Words => "words",
+            RunFault::Read => "Read",
+            RunFault::ReadLimit => "ReadLimit",
+            RunFault::Json(fault) => fault.name(),
+            RunFault::Unlawful => "Unlawful",
+            RunFault::NotUtf8 => "NotUtf8",
+            RunFault::NotYet => "NotYet",
+            RunFault::Shape(ShapeCause::OutOfMemory) => "S1 OutOfMemory",
+            RunFault::Shape(ShapeCause::TooLong) => "S2 TooLong",
+            RunFault::Shape(ShapeCause::StretchRange) => "S3 StretchRange",
+            RunFault::Shape(ShapeCause::UnknownSyllableKind) => "S4 UnknownSyllableKind",
+            RunFault::Write => "Write",
+            RunFault::OutOfMemory => "OutOfMemory",
+        }
+    }
+}
+
+impl fmt::Display for RunFault {
+    ghost use Rattle.std.specs.Prelude.{Some};
+    ghost use Rattle.shell_readers.specs.Fault.{name_of};
+
+    ghost output = { λ fault. Some (name_of fault) };
+
+    fn fmt<W: fmt::Write>(&self, f: &mut fmt::Formatter<W>) -> fmt::Result {
+        f.write_str(self.name())
+    }
+}
+
+impl Error for RunFault {}
+
+impl From<JsonFault> for RunFault {
+    ghost use Rattle.std.specs.Prelude.{◌≡◌};
+    ghost use Rattle.shell_readers.specs.Fault.{run_fault_of};
+
+    ghost from_gives = { λ j e. e ≡ run_fault_of j };
+
+    fn from(fault: JsonFault) -> RunFault {
+        match fault {
+            JsonFault::OutOfMemory => RunFault::OutOfMemory,
+            fault => RunFault::Json(fault),
+        }
+    }
+}
+
+impl From<ShapeCause> for RunFault {
+    ghost use Rattle.std.specs.Prelude.{◌≡◌};
+    ghost use Rattle.shell_readers.specs.Fault.{fault_of_cause};
+
+    ghost from_gives = { λ c e. e ≡ fault_of_cause c };
+
+    fn from(cause: ShapeCause) -> RunFault {
+        match cause {
+            ShapeCause::OutOfMemory => RunFault::OutOfMemory,
+            cause => RunFault::Shape(cause),
+        }
+    }
+}
+
+impl From<AllocError> for RunFault {
+    ghost use Rattle.std.specs.Prelude.{◌≡◌};
+    ghost use Rattle.shell_readers.specs.declared.fault.RunFault.TheVariants.{OutOfMemory};
+
+    ghost from_gives = { λ _ e. e ≡ OutOfMemory };
+
+    fn from(_error: AllocError) -> RunFault {
+        RunFault::OutOfMemory
+    }
+}
+
+impl<T: Drop> From<AllocFailed<T>> for RunFault {
+    ghost use Rattle.std.specs.Prelude.{◌≡◌};
+    ghost use Rattle.shell_readers.specs.declared.fault.RunFault.TheVariants.{OutOfMemory};
+
+    ghost from_gives = { λ _ e. e ≡ OutOfMemory };
+
+    fn from(_error: AllocFailed<T>) -> RunFault {
+        RunFault::OutOfMemory
+    }
+}

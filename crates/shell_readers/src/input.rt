@@ -1,0 +1,58 @@
+//! Tables and a font, in this order.
+ghost use Rattle.std.specs.Prelude.{◌≡◌, ◌≢◌, Ok, Err, IfOk, IfErr};
+ghost use Rattle.shell_readers.specs.Faults.{IsOfRun};
+ghost use Rattle.shell_readers.specs.Input.{IsInput, font_in, input_value};
+ghost use Rattle.shell_readers.specs.Tables.{IfLawful, tables_value};
+
+use crate::fault::RunFault;
+use crate::tables::{TextTables, check_laws, tables_in};
+use crate::values::utf8;
+use layout_face::Face;
+use shell_face_text::read_face_text;
+use shell_json_values::fault::JsonFault;
+use std::alloc::Global;
+
+/// What a run goes by, beside its words and its text.
+#[derive(Drop)]
+pub struct RunInput {
+    /// What is known of characters and languages.
+    pub tables: TextTables,
+    /// The font.
+    pub face: Face,
+}
+
+#[tactic(auto, using(crate::proofs::Fonts::font_of_text, crate::proofs::Fonts::no_font), unfolding(crate::specs::Input::font_in))]
+fn font_in(alloc: Global, bytes: &[u8]) -> Result<Face, RunFault>
+    ensures ok { IfOk result (λ face. font_in bytes.now ≡ Ok face) }
+    ensures refused { IfErr result (λ e. e ≢ RunFault.OutOfMemory → font_in bytes.now ≡ Err e) }
+    ensures kind { IfErr result IsOfRun }
+{
+    let Some(text) = utf8(bytes) else {
+        return Err(RunFault::Json(JsonFault::NotJson));
+    };
+    let face = read_face_text(alloc, text)?;
+    Ok(face)
+}
+
+/// The font of bytes, which is read once the tables were found lawful.
+fn lawful_font(alloc: Global, tables: &TextTables, font: &[u8]) -> Result<Face, RunFault>
+    ensures ok { IfOk result (λ face. IfLawful (λ _. font_in font.now) (tables_value tables.now) (Ok face)) }
+    ensures refused { IfErr result (λ e. e ≢ RunFault.OutOfMemory
+        → IfLawful (λ _. font_in font.now) (tables_value tables.now) (Err e)) }
+    ensures kind { IfErr result IsOfRun }
+{
+    check_laws(&tables.characters)?;
+    font_in(alloc, font)
+}
+
+/// Reads tables and a font. The tables are asked whether they are lawful before the font is read; the first fault ends
+/// it, one of the tables' format, `Unlawful`, or one of the font's format.
+pub fn read_input(alloc: Global, tables: &[u8], font: &[u8]) -> Result<RunInput, RunFault>
+    ensures ok { IfOk result (λ input. IsInput tables.now font.now (Ok (input_value input))) }
+    ensures refused { IfErr result (λ e. e ≢ RunFault.OutOfMemory → IsInput tables.now font.now (Err e)) }
+    ensures kind { IfErr result IsOfRun }
+{
+    let tables = tables_in(alloc, tables)?;
+    let face = lawful_font(alloc, &tables, font)?;
+    Ok(RunInput { tables, face })
+}

@@ -1,0 +1,42 @@
+use Rattle.std.proofs.Common.{◌≡◌, List, subst, sym, ◌∙◌, ap, string_bytes}
+use Rattle.buffer_glyphs.specs.declared.flags.SerializeFlags.{SerializeFlags}
+use Rattle.buffer_features.specs.declared.feature.Feature.{Feature}
+use Rattle.buffer_core.specs.Readings.{Follows}
+use Rattle.buffer_core.specs.Segment.{guessed}
+use Rattle.buffer_core.specs.Sides.{Sides, all_glyphs, run_of}
+use Rattle.shape_pipeline.specs.Dispatch.{script_waits}
+use Rattle.shape_pipeline.specs.Shaped.{text_reading}
+use Rattle.shell_run.specs.Answer.{IsUnshaped, printed_line, shaping}
+use Rattle.shell_run.specs.Asked.{text_buffer}
+use Rattle.shell_readers.specs.Tables.{tables_value}
+use Rattle.shell_readers.proofs.Faults.{passed_on}
+use Rattle.shell_run.proofs.Guessed.{guessed_text}
+use Rattle.shell_run.proofs.Printing.{line_shaped, line_unshaped}
+use Rattle.shell_run.proofs.answer.line.Goals as goal
+
+pub returns-clause-ok : goal.returns-clause-ok
+returns-clause-ok c =
+    let options = c.args.options in
+    let face = c.args.face.now in
+    let t = tables_value c.args.tables.now in
+    let s = c.in_ok-text.text in
+    let glyphs = c.in_ok-glyphs.glyphs in
+    let same : guessed s ≡ s = guessed_text options c.args.text.now s c.in_ok-text.ensures.text in
+    let F : List Feature → Sides → Type 0 = λ fs x. Follows (text_reading (shaping t face fs x) (run_of x)) (run_of x) (run_of glyphs) in
+    let follows = subst (F options.features.items) same (subst (λ (fs : List Feature). F fs (guessed s)) (c.deref.ensures.value ∙ c.in_ok-text.ensures.features) c.in_ok-glyphs.ensures.ok) in
+    let P : SerializeFlags → Type 0 = λ flags. string_bytes c.in_ok-line.line ≡ printed_line face flags (all_glyphs glyphs) glyphs.positions in
+    line_shaped options t face c.args.text.now s glyphs _ c.in_ok-text.ensures.text c.in_ok-text.ensures.fits c.in_ok-glyphs.ensures.shaped follows (subst P c.in_ok-text.ensures.flags c.in_ok-line.ensures)
+
+pub returns-in_err-glyphs-clause-refused : goal.returns-in_err-glyphs-clause-refused
+returns-in_err-glyphs-clause-refused c =
+    let options = c.args.options in
+    let face = c.args.face.now in
+    let t = tables_value c.args.tables.now in
+    let s = c.in_ok-text.text in
+    let fault = c.in_err-glyphs.field-0.0 in
+    let same : guessed s ≡ s = guessed_text options c.args.text.now s c.in_ok-text.ensures.text in
+    let U : List Feature → Sides → Type 0 = λ fs x. IsUnshaped (script_waits s.script) (text_reading (shaping t face fs x) (run_of x)) fault in
+    passed_on c.from_residual-in_err-glyphs.result fault _ c.from_residual-in_err-glyphs.ensures.1
+    (λ not_memory.
+    line_unshaped options t face c.args.text.now s fault c.in_ok-text.ensures.text c.in_ok-text.ensures.fits
+    (subst (U options.features.items) same (subst (λ (fs : List Feature). U fs (guessed s)) (c.deref.ensures.value ∙ c.in_ok-text.ensures.features) (c.in_err-glyphs.ensures.refused not_memory))))

@@ -1,0 +1,17 @@
+-- What holds of every run.
+use Rattle.std.specs.Prelude.{ℕ, ◌≡◌, false, List, [], ◌∷◌, Result, Ok}
+use Rattle.shell_readers.specs.declared.options.Options.{Options}
+use Rattle.layout_face.specs.declared.parts.FaceParts.{FaceParts}
+use Rattle.shape_pipeline.specs.Dispatch.{script_waits}
+use Rattle.shell_readers.specs.declared.fault.RunFault.{RunFault}
+use Rattle.shell_run.specs.Answer.{IsAnswer, line_of}
+use Rattle.shell_readers.specs.Tables.{RunTables}
+
+-- no glyphs and a line feed, where such a text does not wait
+abbrev pub EmptyTextGivesEmptyLine : Type 0
+EmptyTextGivesEmptyLine = (options : Options) (t : RunTables) (font : FaceParts) → script_waits options.script ≡ false → line_of options t font [] ≡ Ok (10 ∷ [])
+
+-- tables, a font and a text have one answer at most
+abbrev pub AnswersAreOne : Type 0
+AnswersAreOne = (options : Options) (tables font text : List ℕ) (r s : Result (List ℕ) RunFault)
+    → IsAnswer options tables font text r → IsAnswer options tables font text s → r ≡ s

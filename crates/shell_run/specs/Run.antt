@@ -1,0 +1,19 @@
+-- What a run says of its readers.
+use Rattle.std.specs.Prelude.{ℕ, ⊤, List, Option, Some, None, Result, Ok, take}
+use Rattle.std.specs.Io.KnownBytes.{Appends}
+use Rattle.shell_readers.specs.declared.fault.RunFault.{RunFault}
+
+-- a fact about the bytes that three readers have left, where those are known
+abbrev pub OnKnown : Option (List ℕ) → Option (List ℕ) → Option (List ℕ) → (List ℕ → List ℕ → List ℕ → Type 0) → Type 0
+OnKnown (Some a) (Some b) (Some c) P = P a b c
+OnKnown (Some a) (Some b) None P = ⊤
+OnKnown (Some a) None c P = ⊤
+OnKnown None b c P = ⊤
+
+-- known bytes grow by a front of the line
+abbrev pub AppendsFront : Option (List ℕ) → Option (List ℕ) → List ℕ → Type 0
+AppendsFront old new line = (count : ℕ) × Appends old new (take count line)
+
+-- a fact about a line that is an answer
+abbrev pub SomeLine : (Result (List ℕ) RunFault → Type 0) → (List ℕ → Type 0) → Type 0
+SomeLine Answers P = (line : List ℕ) × Answers (Ok line) × P line

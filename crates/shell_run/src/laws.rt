@@ -1,0 +1,29 @@
+ghost use Rattle.std.specs.Prelude.{◌≡◌, ◌≢◌, MatchBool};
+ghost use Rattle.shell_run.specs.Laws.{AnswersAreOne, EmptyTextGivesEmptyLine};
+
+use shell_json_values::fault::JsonFault;
+use shell_readers::fault::RunFault;
+
+/// The empty text gives the empty line, in every font.
+#[tactic(auto, using(crate::proofs::Empty::empty_text_gives_empty_line))]
+pub fn empty_text_gives_empty_line()
+    ensures { EmptyTextGivesEmptyLine }
+{}
+
+/// Tables, a font and a text have one answer at most: the relation by which a run is described is a function.
+#[tactic(auto, using(crate::proofs::Reading::answers_are_one))]
+pub fn answers_are_one()
+    ensures { AnswersAreOne }
+{}
+
+pub fn json_faults_are_equal(left: JsonFault, right: JsonFault) -> bool
+    ensures { MatchBool result (left ≡ right) (left ≢ right) }
+{
+    left == right
+}
+
+pub fn run_faults_are_equal(left: RunFault, right: RunFault) -> bool
+    ensures { MatchBool result (left ≡ right) (left ≢ right) }
+{
+    left == right
+}

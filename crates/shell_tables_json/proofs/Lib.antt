@@ -1,0 +1,4 @@
+pub mod Orders
+mod Keys
+pub mod Shallow
+pub mod Texts

@@ -1,0 +1,13 @@
+// Reads tables from JSON values: rows of characters, names that stand for numbers, languages, and the machines that find syllables.
+#![tactic(auto)]
+
+pub mod characters;
+mod languages;
+pub mod names;
+pub mod rows;
+mod syllables;
+mod unicode;
+
+pub use languages::read_languages;
+pub use syllables::read_syllables;
+pub use unicode::read_tables;

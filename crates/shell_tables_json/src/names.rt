@@ -1,0 +1,70 @@
+//! Names that stand for numbers.
+ghost use Rattle.std.specs.Prelude.{◌≡◌};
+ghost use Rattle.serde_json.specs.View.{view};
+ghost use Rattle.script_categories.specs.Indic.{ot_categories, ot_positions};
+ghost use Rattle.script_categories.specs.Joining.{joining_type_names};
+ghost use Rattle.script_categories.specs.Shapers.{categories_of, kinds_of};
+ghost use Rattle.script_categories.specs.Thai.{thai_actions};
+ghost use Rattle.script_categories.specs.Universal.{universal_categories};
+ghost use Rattle.shell_tables_json.specs.Rows.{named};
+
+use script_categories::{
+    hb_ot_script_shaper_t, indic_category_number, indic_position_number, joining_type_number,
+    thai_action_number, universal_category_number,
+};
+use serde_json::Value;
+use shell_json_values::fault::JsonFault;
+use shell_json_values::parts::text;
+
+/// The number of a joining type, by its name.
+pub fn joining_type(value: &Value) -> Result<u8, JsonFault>
+    ensures { result ≡ named joining_type_names (view value.now) }
+{
+    joining_type_number(text(value)?).ok_or(JsonFault::UnknownName)
+}
+
+/// The number of an Indic syllabic category, by its name.
+pub fn indic_category(value: &Value) -> Result<u8, JsonFault>
+    ensures { result ≡ named ot_categories (view value.now) }
+{
+    indic_category_number(text(value)?).ok_or(JsonFault::UnknownName)
+}
+
+/// The number of an Indic position, by its name.
+pub fn indic_position(value: &Value) -> Result<u8, JsonFault>
+    ensures { result ≡ named ot_positions (view value.now) }
+{
+    indic_position_number(text(value)?).ok_or(JsonFault::UnknownName)
+}
+
+/// The number of a category of the universal shaper, by its name.
+pub fn universal_category(value: &Value) -> Result<u8, JsonFault>
+    ensures { result ≡ named universal_categories (view value.now) }
+{
+    universal_category_number(text(value)?).ok_or(JsonFault::UnknownName)
+}
+
+/// The number of a Thai action, by its name.
+pub fn thai_action(value: &Value) -> Result<u8, JsonFault>
+    ensures { result ≡ named thai_actions (view value.now) }
+{
+    thai_action_number(text(value)?).ok_or(JsonFault::UnknownName)
+}
+
+/// The number of a category of a shaper's syllables, by its name.
+pub fn category(shaper: hb_ot_script_shaper_t, value: &Value) -> Result<u8, JsonFault>
+    ensures { result ≡ named (categories_of shaper) (view value.now) }
+{
+    shaper
+        .category_number(text(value)?)
+        .ok_or(JsonFault::UnknownName)
+}
+
+/// The number of a kind of a shaper's syllables, by its name.
+pub fn kind(shaper: hb_ot_script_shaper_t, value: &Value) -> Result<u8, JsonFault>
+    ensures { result ≡ named (kinds_of shaper) (view value.now) }
+{
+    shaper
+        .kind_number(text(value)?)
+        .ok_or(JsonFault::UnknownName)
+}

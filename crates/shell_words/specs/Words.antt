@@ -1,0 +1,262 @@
+-- The command line of the program: hb_shape [options] TABLES FONT TEXT.
+use Rattle.std.specs.Prelude.{ℕ, Bool, true, false, List, [], ◌∷◌, codes, if◌then◌else◌, Option, Some, None, Result, Ok, Err, string_bytes, unwrap_or, ◌++◌, ◌==◌, ◌+◌}
+use Rattle.std.specs.List.{slice_split, flat_map}
+use Rattle.buffer_features.specs.declared.feature.Feature.{Feature}
+use Rattle.buffer_features.specs.FeatureText.{feature_of_text}
+use Rattle.std.specs.Str.{bytes_eq, str_to_ascii_lowercase}
+use Rattle.std.specs.Option.{option_map, option_map_or, ok_or}
+use Rattle.std.specs.Result.{result_map_both}
+use Rattle.clap.specs.Words.{App, Kinds, Row, Rule, all_of, fault_of, first_of, matched_of, matches_of, new_app, new_rule, raw_values, with_rule}
+use Rattle.clap.specs.declared.parser.matches.Found.{Found}
+use Rattle.clap.specs.declared.builder.ArgAction.TheVariants.{Set, SetTrue, Append}
+use Rattle.clap.specs.declared.error.kind.ErrorKind.{ErrorKind}
+use Rattle.clap.specs.declared.error.kind.ErrorKind.TheVariants as kind
+use Rattle.buffer_glyphs.specs.declared.flags.SerializeFlags.{SerializeFlags}
+use Rattle.buffer_glyphs.specs.declared.level.BufferClusterLevel.{BufferClusterLevel}
+use Rattle.buffer_glyphs.specs.declared.level.BufferClusterLevel.TheVariants.{MonotoneGraphemes, MonotoneCharacters, Characters}
+use Rattle.shell_readers.specs.declared.fault.RunFault.{RunFault}
+use Rattle.shell_readers.specs.declared.fault.RunFault.TheVariants.{Words, OutOfMemory}
+use Rattle.shell_words.specs.declared.command.Kind.{Kind}
+use Rattle.shell_words.specs.declared.command.Kind.TheVariants.{Value, Values, Switch, File}
+use Rattle.shell_words.specs.declared.options.CommandLine.{CommandLine}
+use Rattle.buffer_common.specs.declared.constants.BufferFlags.{BufferFlags}
+use Rattle.buffer_common.specs.Language.{language_text}
+use Rattle.buffer_common.specs.declared.direction.Direction.{Direction}
+use Rattle.buffer_common.specs.declared.direction.Direction.TheVariants.{Invalid}
+use Rattle.buffer_common.specs.declared.script.Script.{Script}
+use Rattle.buffer_common.specs.declared.script.InvalidScript.{InvalidScript}
+use Rattle.buffer_common.specs.Direction.{direction_of_text}
+use Rattle.buffer_common.specs.Script.{script_of_text}
+
+-- ---- the command
+
+-- a file name, which has to be there
+abbrev pub file_rule : List ℕ → Rule
+file_rule id = record (new_rule id) { required = true; action = Some Set }
+
+-- an option with a value: `--name value` or `--name=value`
+abbrev pub option_rule : List ℕ → Rule
+option_rule id = record (new_rule id) { long = Some id; action = Some Set }
+
+-- an option with a value that may be given several times
+abbrev pub list_rule : List ℕ → Rule
+list_rule id = record (new_rule id) { long = Some id; action = Some Append }
+
+-- an option without a value
+abbrev pub switch_rule : List ℕ → Rule
+switch_rule id = record (new_rule id) { long = Some id; action = Some SetTrue }
+
+abbrev pub rule_by : Kind → List ℕ → Rule
+rule_by Value id = option_rule id
+rule_by Values id = list_rule id
+rule_by Switch id = switch_rule id
+rule_by File id = file_rule id
+
+-- a command with an argument for each name
+abbrev pub with_all : (List ℕ → Rule) → List (List ℕ) → App → App
+with_all rule [] app = app
+with_all rule (id ∷ ids) app = with_all rule ids (with_rule app (rule id))
+
+-- options with a value
+abbrev pub value_names : List (List ℕ)
+value_names = codes "direction" ∷ codes "script" ∷ codes "language" ∷ codes "cluster-level" ∷ []
+
+-- switches, of the text and then of what is printed
+abbrev pub switch_names : List (List ℕ)
+switch_names = codes "bot" ∷ codes "eot" ∷ codes "preserve-default-ignorables" ∷ codes "remove-default-ignorables" ∷ codes "no-dotted-circle"
+    ∷ codes "unsafe-to-concat" ∷ codes "safe-to-insert-tatweel"
+    ∷ codes "no-clusters" ∷ codes "no-positions" ∷ codes "no-glyph-names" ∷ codes "show-extents" ∷ codes "show-flags" ∷ codes "no-advances" ∷ []
+
+-- the names of the three files
+abbrev pub file_names : List (List ℕ)
+file_names = codes "tables" ∷ codes "font" ∷ codes "text" ∷ []
+
+-- the features are the one option that may be given several times
+abbrev pub hb_shape : App
+hb_shape =
+    with_all file_rule file_names
+    (with_all switch_rule switch_names
+    (with_all list_rule (codes "features" ∷ [])
+    (with_all option_rule value_names (new_app (codes "hb_shape")))))
+
+-- ---- what it asks for
+
+-- the texts and values of options, without what their strings keep of memory
+pub record Settings : Type 0 where
+  pub tables : List ℕ
+  pub font : List ℕ
+  pub text : List ℕ
+  pub direction : Direction
+  pub script : Option Script
+  -- a tag of BCP 47 in small letters
+  pub language : Option (List ℕ)
+  pub features : List Feature
+  pub cluster_level : BufferClusterLevel
+  pub buffer_flags : BufferFlags
+  pub flags : SerializeFlags
+
+abbrev pub settings_in : CommandLine → Settings
+settings_in c = record {
+  tables = string_bytes c.tables;
+  font = string_bytes c.font;
+  text = string_bytes c.text;
+  direction = c.options.direction;
+  script = c.options.script;
+  language = option_map language_text c.options.language;
+  features = c.options.features.items;
+  cluster_level = c.options.cluster_level;
+  buffer_flags = c.options.buffer_flags;
+  flags = c.options.flags;
+}
+
+-- the value of an id, where the words give one
+abbrev pub Lookup : Type 0
+Lookup = List ℕ → Option (List ℕ)
+
+abbrev pub and_then : {A B : Type 0} → Result A RunFault → (A → Result B RunFault) → Result B RunFault
+and_then (Ok a) next = next a
+and_then (Err e) next = Err e
+
+abbrev pub or_words : {A E : Type 0} → Result A E → Result A RunFault
+or_words (Ok a) = Ok a
+or_words (Err e) = Err Words
+
+-- the value of an option as its type reads it, or `missing` where the option is not there
+abbrev pub read_or : {A E : Type 0} → A → (List ℕ → Result A E) → Option (List ℕ) → Result A RunFault
+read_or missing read None = Ok missing
+read_or missing read (Some text) = or_words (read text)
+
+abbrev pub file_in : List ℕ → Lookup → Result (List ℕ) RunFault
+file_in id value = ok_or (value id) Words
+
+abbrev pub direction_in : Lookup → Result Direction RunFault
+direction_in value = read_or Invalid direction_of_text (value (codes "direction"))
+
+abbrev pub some_script : List ℕ → Result (Option Script) InvalidScript
+some_script text = result_map_both Some (λ e. e) (script_of_text text)
+
+abbrev pub script_in : Lookup → Result (Option Script) RunFault
+script_in value = read_or None some_script (value (codes "script"))
+
+-- the tag of a language: any text but the empty one, in small letters
+abbrev pub language_of_text : List ℕ → Result (Option (List ℕ)) RunFault
+language_of_text [] = Err Words
+language_of_text (byte ∷ bytes) = Ok (Some (str_to_ascii_lowercase (byte ∷ bytes)))
+
+abbrev pub language_or_none : Option (List ℕ) → Result (Option (List ℕ)) RunFault
+language_or_none None = Ok None
+language_or_none (Some text) = language_of_text text
+
+abbrev pub language_in : Lookup → Result (Option (List ℕ)) RunFault
+language_in value = language_or_none (value (codes "language"))
+
+-- the level of a number, 0 to 2
+abbrev pub level_of_text : List ℕ → Result BufferClusterLevel RunFault
+level_of_text text =
+    if bytes_eq text (codes "0") then Ok MonotoneGraphemes
+    else if bytes_eq text (codes "1") then Ok MonotoneCharacters
+    else if bytes_eq text (codes "2") then Ok Characters
+    else Err Words
+
+abbrev pub level_or_default : Option (List ℕ) → Result BufferClusterLevel RunFault
+level_or_default None = Ok MonotoneGraphemes
+level_or_default (Some text) = level_of_text text
+
+abbrev pub level_in : Lookup → Result BufferClusterLevel RunFault
+level_in value = level_or_default (value (codes "cluster-level"))
+
+-- the parts of a text between its commas
+abbrev pub parts_of : List ℕ → List (List ℕ)
+parts_of text = slice_split (λ byte. byte == 44) text
+
+-- features in front of others
+abbrev pub after : List Feature → Result (List Feature) RunFault → Result (List Feature) RunFault
+after features (Ok rest) = Ok (features ++ rest)
+after features (Err e) = Err e
+
+-- the features that the parts write
+abbrev pub features_of : List (List ℕ) → Result (List Feature) RunFault
+features_of [] = Ok []
+features_of (part ∷ parts) = and_then (or_words (feature_of_text part)) (λ feature. after (feature ∷ []) (features_of parts))
+
+-- the features of the values of an option
+abbrev pub features_in : List (List ℕ) → Result (List Feature) RunFault
+features_in values = features_of (flat_map parts_of values)
+
+-- a switch has the value "true" where it is given
+abbrev pub is_given : List ℕ → Lookup → Bool
+is_given id value = option_map_or (λ text. bytes_eq text (codes "true")) (value id) false
+
+-- a flag where its switch is given
+abbrev pub flag_of : List ℕ → ℕ → Lookup → ℕ
+flag_of id flag value = if is_given id value then flag else 0
+
+-- what is printed: each switch has its flag
+abbrev pub flags_in : Lookup → SerializeFlags
+flags_in value = record {
+  0 = flag_of (codes "no-clusters") 1 value
+      + (flag_of (codes "no-positions") 2 value
+      + (flag_of (codes "no-glyph-names") 4 value
+      + (flag_of (codes "show-extents") 8 value
+      + (flag_of (codes "show-flags") 16 value
+      + flag_of (codes "no-advances") 32 value))));
+}
+
+-- what the buffer of the text is asked for: each switch has its flag
+abbrev pub buffer_flags_in : Lookup → BufferFlags
+buffer_flags_in value = record {
+  0 = flag_of (codes "bot") 1 value
+      + (flag_of (codes "eot") 2 value
+      + (flag_of (codes "preserve-default-ignorables") 4 value
+      + (flag_of (codes "remove-default-ignorables") 8 value
+      + (flag_of (codes "no-dotted-circle") 16 value
+      + (flag_of (codes "unsafe-to-concat") 64 value
+      + flag_of (codes "safe-to-insert-tatweel") 128 value)))));
+}
+
+-- what the first value of each id and all values of `features` ask for
+abbrev pub settings_of : Lookup → List (List ℕ) → Result Settings RunFault
+settings_of value features =
+    and_then (file_in (codes "tables") value) (λ tables.
+    and_then (file_in (codes "font") value) (λ font.
+    and_then (file_in (codes "text") value) (λ text.
+    and_then (direction_in value) (λ direction.
+    and_then (script_in value) (λ script.
+    and_then (language_in value) (λ language.
+    and_then (features_in features) (λ requests.
+    and_then (level_in value) (λ level.
+    Ok (record {
+      tables = tables;
+      font = font;
+      text = text;
+      direction = direction;
+      script = script;
+      language = language;
+      features = requests;
+      cluster_level = level;
+      buffer_flags = buffer_flags_in value;
+      flags = flags_in value;
+    })))))))))
+
+-- an error of the parse as a fault of the run
+abbrev pub refusal_of : ErrorKind → RunFault
+refusal_of kind.OutOfMemory = OutOfMemory
+refusal_of _ = Words
+
+-- all values of an id, where the words give some
+abbrev pub values_in : Option (List (List ℕ)) → List (List ℕ)
+values_in found = unwrap_or found []
+
+-- all values of `features` that a parse found
+abbrev pub feature_values : Found → List (List ℕ)
+feature_values found = values_in (option_map raw_values (matched_of found (codes "features")))
+
+-- what is asked for where the command has these faults and finds these values
+abbrev pub asked : Kinds → List Row → Result Settings RunFault
+asked [] rows = settings_of (λ id. first_of id rows) (values_in (all_of (codes "features") rows))
+asked (fault ∷ faults) rows = Err Words
+
+-- what the words ask for, the first of which is the program's name: they are refused where the command has a fault at
+-- them, and where the value of an option is none of its type's
+unfoldable pub options_of : List (List ℕ) → Result Settings RunFault
+options_of words = asked (fault_of hb_shape words) (matches_of hb_shape words)

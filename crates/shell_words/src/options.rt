@@ -1,0 +1,278 @@
+ghost use Rattle.std.specs.Prelude.{◌≡◌, ◌≢◌, ◌≤◌, IfOk, IfErr, OnOk, Ok, Err, map, string_bytes};
+ghost use Rattle.buffer_features.specs.FeatureText.{feature_of_text};
+ghost use Rattle.clap.specs.Words.{found_of, first_value};
+ghost use Rattle.shell_words.specs.Words.{options_of, refusal_of, settings_of, settings_in, file_in, direction_in, script_in, flag_of, flags_in, feature_values, features_in, features_of, parts_of, after, or_words, language_in, language_of_text, level_in, level_of_text, buffer_flags_in};
+ghost use Rattle.std.specs.Option.{option_map};
+ghost use Rattle.buffer_common.specs.Language.{language_text};
+
+use crate::command::command;
+use buffer_common::constants::BufferFlags;
+use buffer_common::direction::Direction;
+use buffer_common::language::{Language, LanguageFault};
+use buffer_common::script::Script;
+use buffer_features::feature::Feature;
+use buffer_glyphs::flags::SerializeFlags;
+use buffer_glyphs::level::BufferClusterLevel;
+use clap::ArgMatches;
+use clap::error::ErrorKind;
+use shell_readers::fault::RunFault;
+use shell_readers::options::Options;
+use std::alloc::{AllocError, Global};
+use std::convert::AsStr;
+use std::str::FromStr;
+
+/// What the words of the command line ask for.
+#[derive(Drop)]
+pub struct CommandLine {
+    /// The name of the file of the tables.
+    pub tables: String,
+    /// The name of the file of the font.
+    pub font: String,
+    /// The name of the file of the text.
+    pub text: String,
+    pub options: Options,
+}
+
+/// Reads the words of the command line, `hb_shape [options] TABLES FONT TEXT`, of which the first is the program's name.
+/// The options stand anywhere among the names of the files, each at most once: `--direction D`, `--script S`,
+/// `--language L`, `--cluster-level 0` to `2`; of the text `--bot`, `--eot`, `--preserve-default-ignorables`,
+/// `--remove-default-ignorables`, `--no-dotted-circle`, `--unsafe-to-concat` and `--safe-to-insert-tatweel`; of what is
+/// printed `--no-clusters`, `--no-positions`, `--no-glyph-names`, `--show-extents`, `--show-flags` and `--no-advances`.
+/// Only `--features F` may be repeated and then adds, and each F is features with commas between them. Words that are
+/// anything else, `--help` among them, are refused.
+pub fn parse_options<'a, S: AsStr>(alloc: Global, words: &'a [S]) -> Result<CommandLine, RunFault>
+    ensures ok { IfOk result (λ o. options_of (map S.text words.entry.now) ≡ Ok (settings_in o)) }
+    ensures refused { IfErr result (λ e. e ≢ RunFault.OutOfMemory
+        → options_of (map S.text words.entry.now) ≡ Err e) }
+    ensures faults { IfErr result (λ e. e ≢ RunFault.OutOfMemory → e ≡ RunFault.Words) }
+{
+    match command(alloc)?.try_get_matches_from(words) {
+        Ok(matches) => read_options(alloc, &matches),
+        Err(error) => Err(refusal(error.kind())),
+    }
+}
+
+fn refusal(kind: ErrorKind) -> RunFault
+    ensures { result ≡ refusal_of kind }
+{
+    match kind {
+        ErrorKind::OutOfMemory => RunFault::OutOfMemory,
+        _ => RunFault::Words,
+    }
+}
+
+fn read_options(alloc: Global, matches: &ArgMatches<'_>) -> Result<CommandLine, RunFault>
+    ensures ok { IfOk result
+        (λ o. settings_of (first_value (found_of matches.now)) (feature_values (found_of matches.now))
+        ≡ Ok (settings_in o)) }
+    ensures refused { IfErr result (λ e. e ≢ RunFault.OutOfMemory
+        → settings_of (first_value (found_of matches.now)) (feature_values (found_of matches.now)) ≡ Err e) }
+{
+    Ok(CommandLine {
+        tables: read_name(alloc, matches, "tables")?,
+        font: read_name(alloc, matches, "font")?,
+        text: read_name(alloc, matches, "text")?,
+        options: Options {
+            direction: read_direction(matches)?,
+            script: read_script(matches)?,
+            language: read_language(alloc, matches)?,
+            features: read_features(alloc, matches)?,
+            cluster_level: read_level(matches)?,
+            buffer_flags: read_buffer_flags(matches),
+            flags: read_flags(matches),
+        },
+    })
+}
+
+fn read_name(alloc: Global, matches: &ArgMatches<'_>, id: &str) -> Result<String, RunFault>
+    ensures ok { IfOk result (λ s. file_in id.now (first_value (found_of matches.now)) ≡ Ok (string_bytes s)) }
+    ensures refused { IfErr result (λ e. e ≢ RunFault.OutOfMemory
+        → file_in id.now (first_value (found_of matches.now)) ≡ Err e) }
+{
+    match matches.get_str(id) {
+        Some(name) => Ok(String::from_str(alloc, name)?),
+        None => Err(RunFault::Words),
+    }
+}
+
+fn read_direction(matches: &ArgMatches<'_>) -> Result<Direction, RunFault>
+    ensures { result ≡ direction_in (first_value (found_of matches.now)) }
+{
+    let Some(text) = matches.get_str("direction") else {
+        return Ok(Direction::Invalid);
+    };
+    Direction::from_str(text).map_err(|_| RunFault::Words)
+}
+
+fn read_script(matches: &ArgMatches<'_>) -> Result<Option<Script>, RunFault>
+    ensures { result ≡ script_in (first_value (found_of matches.now)) }
+{
+    let Some(text) = matches.get_str("script") else {
+        return Ok(None);
+    };
+    match Script::from_str(text) {
+        Ok(script) => Ok(Some(script)),
+        Err(_) => Err(RunFault::Words),
+    }
+}
+
+fn read_language(alloc: Global, matches: &ArgMatches<'_>) -> Result<Option<Language>, RunFault>
+    ensures ok { IfOk result (λ l.
+        language_in (first_value (found_of matches.now)) ≡ Ok (option_map language_text l)) }
+    ensures refused { IfErr result (λ e. e ≢ RunFault.OutOfMemory
+        → language_in (first_value (found_of matches.now)) ≡ Err e) }
+{
+    match matches.get_str("language") {
+        Some(text) => Ok(Some(language(alloc, text)?)),
+        None => Ok(None),
+    }
+}
+
+fn language(alloc: Global, text: &str) -> Result<Language, RunFault>
+    ensures ok { IfOk result (λ l. language_of_text text.now ≡ Ok (Some (language_text l))) }
+    ensures refused { IfErr result (λ e. e ≢ RunFault.OutOfMemory → language_of_text text.now ≡ Err e) }
+{
+    match Language::from_str(alloc, text) {
+        Ok(language) => Ok(language),
+        Err(LanguageFault::Invalid) => Err(RunFault::Words),
+        Err(LanguageFault::OutOfMemory) => Err(RunFault::OutOfMemory),
+    }
+}
+
+fn read_level(matches: &ArgMatches<'_>) -> Result<BufferClusterLevel, RunFault>
+    ensures { result ≡ level_in (first_value (found_of matches.now)) }
+{
+    match matches.get_str("cluster-level") {
+        Some(text) => level(text),
+        None => Ok(BufferClusterLevel::MonotoneGraphemes),
+    }
+}
+
+fn level(text: &str) -> Result<BufferClusterLevel, RunFault>
+    ensures { result ≡ level_of_text text.now }
+{
+    if text == "0" {
+        Ok(BufferClusterLevel::MonotoneGraphemes)
+    } else if text == "1" {
+        Ok(BufferClusterLevel::MonotoneCharacters)
+    } else if text == "2" {
+        Ok(BufferClusterLevel::Characters)
+    } else {
+        Err(RunFault::Words)
+    }
+}
+
+fn read_features(alloc: Global, matches: &ArgMatches<'_>) -> Result<Vec<Feature>, RunFault>
+    ensures ok { IfOk result (λ v. features_in (feature_values (found_of matches.now)) ≡ Ok v.items) }
+    ensures refused { IfErr result
+        (λ e. e ≢ RunFault.OutOfMemory → features_in (feature_values (found_of matches.now)) ≡ Err e) }
+{
+    match matches.get_strs("features") {
+        Some(values) => read_values(alloc, values),
+        None => Ok(Vec::new(alloc)),
+    }
+}
+
+fn read_values(alloc: Global, values: &[&str]) -> Result<Vec<Feature>, RunFault>
+    ensures ok { IfOk result (λ v. features_in (map (λ t. t.now) values.now) ≡ Ok v.items) }
+    ensures refused { IfErr result (λ e. e ≢ RunFault.OutOfMemory
+        → features_in (map (λ t. t.now) values.now) ≡ Err e) }
+{
+    let mut features = Vec::new(alloc);
+    for value in values {
+        add_features(alloc, &mut features, value)?;
+    }
+    Ok(features)
+}
+
+/// Adds the features of a value, with commas between them.
+fn add_features(alloc: Global, features: &mut Vec<Feature>, value: &str) -> Result<(), RunFault>
+    ensures ok { OnOk result (after features.old.items (features_of (parts_of value.now)) ≡ Ok features.new.items) }
+    ensures refused { IfErr result (λ e. e ≢ RunFault.OutOfMemory
+        → after features.old.items (features_of (parts_of value.now)) ≡ Err e) }
+{
+    let parts = split_at_commas(alloc, value)?;
+    for part in &parts {
+        features.push(read_feature(part)?)?;
+    }
+    Ok(())
+}
+
+fn split_at_commas<'a>(alloc: Global, text: &'a str) -> Result<Vec<&'a str>, AllocError>
+    ensures { IfOk result (λ v. map (λ t. t.now) v.items ≡ parts_of text.entry.now) }
+{
+    text.split(',').collect(alloc)
+}
+
+fn read_feature(text: &str) -> Result<Feature, RunFault>
+    ensures { result ≡ or_words (feature_of_text text.now) }
+{
+    Feature::from_str(text).map_err(|_| RunFault::Words)
+}
+
+fn read_flags(matches: &ArgMatches<'_>) -> SerializeFlags
+    ensures { result ≡ flags_in (first_value (found_of matches.now)) }
+{
+    SerializeFlags(
+        flag_of(matches, "no-clusters", SerializeFlags::NO_CLUSTERS)
+            + (flag_of(matches, "no-positions", SerializeFlags::NO_POSITIONS)
+                + (flag_of(matches, "no-glyph-names", SerializeFlags::NO_GLYPH_NAMES)
+                    + (flag_of(matches, "show-extents", SerializeFlags::GLYPH_EXTENTS)
+                        + (flag_of(matches, "show-flags", SerializeFlags::GLYPH_FLAGS)
+                            + flag_of(matches, "no-advances", SerializeFlags::NO_ADVANCES))))),
+    )
+}
+
+fn read_buffer_flags(matches: &ArgMatches<'_>) -> BufferFlags
+    ensures { result ≡ buffer_flags_in (first_value (found_of matches.now)) }
+{
+    BufferFlags(
+        buffer_flag_of(matches, "bot", BufferFlags::BEGINNING_OF_TEXT)
+            + (buffer_flag_of(matches, "eot", BufferFlags::END_OF_TEXT)
+                + (buffer_flag_of(
+                    matches,
+                    "preserve-default-ignorables",
+                    BufferFlags::PRESERVE_DEFAULT_IGNORABLES,
+                ) + (buffer_flag_of(
+                    matches,
+                    "remove-default-ignorables",
+                    BufferFlags::REMOVE_DEFAULT_IGNORABLES,
+                ) + (buffer_flag_of(
+                    matches,
+                    "no-dotted-circle",
+                    BufferFlags::DO_NOT_INSERT_DOTTED_CIRCLE,
+                ) + (buffer_flag_of(
+                    matches,
+                    "unsafe-to-concat",
+                    BufferFlags::PRODUCE_UNSAFE_TO_CONCAT,
+                ) + buffer_flag_of(
+                    matches,
+                    "safe-to-insert-tatweel",
+                    BufferFlags::PRODUCE_SAFE_TO_INSERT_TATWEEL,
+                )))))),
+    )
+}
+
+/// The bits of a buffer's flag where its switch is given.
+fn buffer_flag_of(matches: &ArgMatches<'_>, id: &str, flag: BufferFlags) -> u32
+    ensures value { result ≡ flag_of id.now flag.0 (first_value (found_of matches.now)) }
+    ensures below { result ≤ flag.0 }
+{
+    if matches.get_str(id) == Some("true") {
+        flag.0
+    } else {
+        0
+    }
+}
+
+/// The bits of a flag where its switch is given.
+fn flag_of(matches: &ArgMatches<'_>, id: &str, flag: SerializeFlags) -> u8
+    ensures value { result ≡ flag_of id.now flag.0 (first_value (found_of matches.now)) }
+    ensures below { result ≤ flag.0 }
+{
+    if matches.get_str(id) == Some("true") {
+        flag.0
+    } else {
+        0
+    }
+}

@@ -1,4 +1,0 @@
-pub mod Keys
-pub mod Searched
-pub mod Pages
-pub mod Paged

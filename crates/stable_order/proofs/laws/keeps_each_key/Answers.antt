@@ -1,5 +1,0 @@
-use Rattle.stable_order.specs.Orders.{keeps_key}
-use Rattle.stable_order.proofs.laws.keeps_each_key.Goals as goal
-
-pub returns : goal.returns
-returns c = λ key c xs. keeps_key key c xs

@@ -1,4 +1,0 @@
-pub mod Keys
-pub mod Laws
-pub mod Orders
-pub mod StableSort

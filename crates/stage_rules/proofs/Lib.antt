@@ -1,7 +1,0 @@
-pub mod Loops
-mod Placing
-pub mod Halves
-pub mod Moved
-pub mod Put
-pub mod Front
-pub mod SyllableWalks

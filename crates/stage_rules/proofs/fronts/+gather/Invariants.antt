@@ -1,5 +1,0 @@
-use Rattle.std.proofs.Common.{◌-◌}
-use Rattle.stage_rules.proofs.fronts.+gather.Given as goal
-
-abbrev pub decreases-gather : goal.decreases-gather
-decreases-gather g l = l.to - l.from

@@ -1,6 +1,0 @@
-use Rattle.std.proofs.Common.{◌≡◌, ◌++◌, take}
-use Rattle.stage_rules.proofs.walks.replace_current.Given as goal
-
--- so many of the glyphs stand behind
-abbrev pub invariant-loop-glyph : goal.invariant-loop-glyph
-invariant-loop-glyph l = l.buffer ≡ record l.initial.buffer { behind = l.initial.buffer.behind ++ take l.glyph-index l.glyphs }

@@ -1,8 +1,0 @@
-//! Laws of rules that are used syllable by syllable.
-ghost use Rattle.stage_rules.specs.SyllableLaws.{PermutesEachSyllable};
-
-/// A rule that permutes each list leaves each syllable permuted by itself.
-#[tactic(auto, using(crate::specs::Lemmas::Permuted::permutes_each_syllable))]
-pub fn law_permutes_each_syllable()
-    ensures { PermutesEachSyllable }
-{}

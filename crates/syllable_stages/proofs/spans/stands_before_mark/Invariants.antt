@@ -1,8 +1,0 @@
-use Rattle.std.proofs.Common.{◌≡◌, drop}
-use Rattle.glyph_lists.specs.Items.{strip}
-use Rattle.syllable_stages.specs.Spans.{stands_before_mark}
-use Rattle.syllable_stages.proofs.spans.stands_before_mark.Given as goal
-
--- what is left stands before a mark where all does
-abbrev pub invariant-loop-next : goal.invariant-loop-next
-invariant-loop-next l = stands_before_mark (strip (drop l.next-index l.behind)) ≡ stands_before_mark (strip l.behind)

@@ -1,6 +1,0 @@
-use Rattle.std.proofs.Common.{◌≡◌, ◌++◌, map, take, drop}
-use Rattle.syllable_stages.specs.Rules.{glyph_with_byte}
-use Rattle.syllable_stages.proofs.syllables.byte_each.Given as goal
-
-abbrev pub invariant-loop-glyph : goal.invariant-loop-glyph
-invariant-loop-glyph l = l.glyphs ≡ map (glyph_with_byte l.byte) (take l.glyph-index l.initial.glyphs) ++ drop l.glyph-index l.initial.glyphs

@@ -1,3 +1,0 @@
-mod Keys
-pub mod Shallow
-pub mod Texts

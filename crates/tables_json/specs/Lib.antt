@@ -1,3 +1,0 @@
-pub mod Unicode
-pub mod Deep
-pub mod Languages

@@ -1,0 +1,89 @@
+//! Look-ups in the tables of a large font: what a glyph has, its class, and whether a set of glyphs has it.
+use super::{COUNT, tell};
+use buffer_rows::{SortedRows, is_rising};
+use layout_common::class_definition::ClassDefinition;
+use layout_common::coverage::Coverage;
+use layout_common::glyph_row::{GlyphRow, find_value};
+use std::alloc::{AllocError, Global};
+use std::io;
+use std::time::Instant;
+
+const GLYPHS: u16 = 65_000;
+
+fn glyph_rows(alloc: Global) -> Result<Vec<GlyphRow<u16>>, AllocError> {
+    let mut rows = Vec::new(alloc);
+    for glyph in 0..GLYPHS {
+        rows.push(GlyphRow {
+            glyph,
+            value: glyph % 1_000,
+        })?;
+    }
+    Ok(rows)
+}
+
+/// Every eighth glyph.
+fn covered_glyphs(alloc: Global) -> Result<Vec<u16>, AllocError> {
+    let mut glyphs = Vec::new(alloc);
+    for index in 0..GLYPHS / 8 {
+        glyphs.push(index.wrapping_mul(8))?;
+    }
+    Ok(glyphs)
+}
+
+/// Glyphs in no order, of which each comes up.
+fn asked_glyphs(alloc: Global) -> Result<Vec<u16>, AllocError> {
+    let mut glyphs = Vec::new(alloc);
+    for index in 0..COUNT {
+        glyphs.push((index.wrapping_mul(40_503) % 0x1_0000) as u16)?;
+    }
+    Ok(glyphs)
+}
+
+fn rows_found(rows: &SortedRows<GlyphRow<u16>>, glyphs: &[u16]) -> usize {
+    glyphs
+        .iter()
+        .filter(|glyph| find_value(rows, **glyph).is_some())
+        .count()
+}
+
+fn classes_found(classes: &ClassDefinition, glyphs: &[u16]) -> usize {
+    glyphs
+        .iter()
+        .filter(|glyph| classes.class_of(**glyph) != 0)
+        .count()
+}
+
+fn glyphs_covered(coverage: &Coverage, glyphs: &[u16]) -> usize {
+    glyphs
+        .iter()
+        .filter(|glyph| coverage.contains(**glyph))
+        .count()
+}
+
+fn tell_coverage(rt: &HostRuntime, coverage: &Coverage, glyphs: &[u16]) -> io::Result<()> {
+    let start = Instant::now(rt)?;
+    let found = glyphs_covered(coverage, glyphs);
+    tell(rt, "coverage", start, found)
+}
+
+fn tell_classes(rt: &HostRuntime, classes: &ClassDefinition, glyphs: &[u16]) -> io::Result<()> {
+    let start = Instant::now(rt)?;
+    let found = rows_found(&classes.rows, glyphs);
+    tell(rt, "glyph row", start, found)?;
+    let start = Instant::now(rt)?;
+    let found = classes_found(classes, glyphs);
+    tell(rt, "class", start, found)
+}
+
+/// Asks a million times of each kind.
+pub(crate) fn ask_font(rt: &HostRuntime) -> io::Result<()> {
+    let glyphs = asked_glyphs(rt.alloc())?;
+    let rows = glyph_rows(rt.alloc())?;
+    if !is_rising(&rows) {
+        return Ok(());
+    }
+    let rows = SortedRows::new(rows);
+    tell_classes(rt, &ClassDefinition { rows }, &glyphs)?;
+    let coverage = Coverage::new(covered_glyphs(rt.alloc())?);
+    tell_coverage(rt, &coverage, &glyphs)
+}

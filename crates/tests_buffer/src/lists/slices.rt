@@ -1,0 +1,120 @@
+use super::rows::{
+    are, glyphs_of, have_advances, is_so, level_of, positions_of, size, stand_in_order,
+};
+use crate::parts::part;
+use buffer_glyphs::flags::UnicodeProps;
+use buffer_glyphs::info::hb_glyph_info_t;
+use buffer_glyphs::level::BufferClusterLevel;
+use buffer_groups::deletion::delete_within;
+use buffer_groups::flags::{AskedFlags, propagate_flags};
+use buffer_groups::groups::{group_end, next_cluster, next_grapheme, next_syllable};
+use buffer_groups::reversal::reverse_groups;
+use buffer_groups::sorting::sort;
+use std::alloc::{AllocError, Global};
+
+/// In the row stand the level, where the range that is sorted ends, whether the clusters stand in order, whether a glyph is
+/// marked and whether the clusters stand in order after it, the glyphs, and what is wanted: whether a sort by number, told of the order or not, leaves what is wanted.
+pub fn sorts(alloc: Global, row: &str, tell: bool) -> Result<bool, AllocError> {
+    let mut glyphs = glyphs_of(alloc, part(row, 5))?;
+    let seen = stand_in_order(&glyphs);
+    let end = size(row, 1);
+    if glyphs.len() < end || seen != is_so(row, 2) {
+        return Ok(false);
+    }
+    let (marked, in_order) = (is_so(row, 3), is_so(row, 4));
+    let key = |info: &hb_glyph_info_t| info.glyph_id;
+    let sorted = sort(alloc, &mut glyphs, level_of(row), tell && seen, 0, end, key)?;
+    Ok(are(&glyphs, part(row, 6)) && sorted.marked == marked && sorted.in_order == in_order)
+}
+
+/// In the row stand the level, whether neighbours of one number, or of one cluster, are a group, whether groups are merged,
+/// whether the clusters stand in order, the glyphs, what is wanted, and the advances after the call of positions that had 10,
+/// 20, 30 and so on: whether a reversal of groups, told of the order or not, leaves what is wanted and marks no glyph.
+pub fn turns(alloc: Global, row: &str, tell: bool) -> Result<bool, AllocError> {
+    let mut glyphs = glyphs_of(alloc, part(row, 5))?;
+    let mut positions = positions_of(alloc, glyphs.len())?;
+    let seen = stand_in_order(&glyphs);
+    if positions.len() != glyphs.len() || seen != is_so(row, 4) {
+        return Ok(false);
+    }
+    let told = tell && seen;
+    let (by_number, by_cluster) = (is_so(row, 1), is_so(row, 2));
+    let group = |before: &hb_glyph_info_t, after: &hb_glyph_info_t| {
+        (by_number && before.glyph_id == after.glyph_id)
+            || (by_cluster && before.cluster == after.cluster)
+    };
+    let merge = is_so(row, 3);
+    let marked = reverse_groups(
+        &mut glyphs,
+        &mut positions,
+        level_of(row),
+        told,
+        merge,
+        group,
+    );
+    Ok(are(&glyphs, part(row, 6)) && have_advances(&positions, part(row, 7)) && !marked)
+}
+
+/// In the row stand the glyphs before, after, the advances after: whether a deletion of the glyphs under the number 0, told of the order or not, leaves what is wanted.
+pub fn deletes(alloc: Global, row: &str, tell: bool) -> Result<bool, AllocError> {
+    let mut glyphs = glyphs_of(alloc, part(row, 0))?;
+    let mut positions = positions_of(alloc, glyphs.len())?;
+    let seen = stand_in_order(&glyphs);
+    if positions.len() != glyphs.len() || !seen {
+        return Ok(false);
+    }
+    let told = tell && seen;
+    let level = BufferClusterLevel::MonotoneGraphemes;
+    let goes = |info: &hb_glyph_info_t| info.glyph_id == 0;
+    let (kept, marked) = delete_within(&mut glyphs, &mut positions, level, told, goes);
+    glyphs.truncate(kept);
+    positions.truncate(kept);
+    Ok(are(&glyphs, part(row, 1)) && have_advances(&positions, part(row, 2)) && !marked)
+}
+
+/// In the row stand whether concat is asked for, whether tatweels are, the glyphs before, after: whether a spread of flags
+/// leaves such masks.
+pub fn spreads(alloc: Global, row: &str) -> Result<bool, AllocError> {
+    let mut glyphs = glyphs_of(alloc, part(row, 2))?;
+    let asked = AskedFlags {
+        concat: is_so(row, 0),
+        tatweel: is_so(row, 1),
+    };
+    propagate_flags(&mut glyphs, asked);
+    Ok(are(&glyphs, part(row, 3)))
+}
+
+/// Glyphs by syllable and properties, of one cluster up to the second.
+fn run_glyphs() -> [hb_glyph_info_t; 4] {
+    [(3, 0, 0), (3, 0x80, 0), (4, 0x81, 5), (4, 1, 5)].map(|(syllable, props, cluster)| {
+        hb_glyph_info_t {
+            syllable,
+            unicode_props: UnicodeProps(props),
+            cluster,
+            ..hb_glyph_info_t::default()
+        }
+    })
+}
+
+// Where it begins, the end of its cluster, of its syllable, of its grapheme.
+static ENDS: &str = "0;2;2;3
+1;2;2;3
+3;4;4;4
+7;7;7;7";
+
+fn ends(glyphs: &[hb_glyph_info_t], row: &str) -> bool {
+    let start = size(row, 0);
+    next_cluster(glyphs, start) == size(row, 1)
+        && next_syllable(glyphs, start) == size(row, 2)
+        && next_grapheme(glyphs, start) == size(row, 3)
+}
+
+#[test]
+fn ends_runs(rt: HostRuntime) {
+    let glyphs = run_glyphs();
+    for row in ENDS.lines() {
+        assert!(&rt; ends(&glyphs, row), "{row}");
+    }
+    let end = group_end(&glyphs, 0, |before, after| before.cluster == after.cluster);
+    assert_eq!(&rt; end, 2);
+}

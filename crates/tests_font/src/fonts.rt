@@ -1,0 +1,194 @@
+//! What a font answers of characters and glyphs.
+use crate::rows::{first_wrong, prints};
+use crate::{positions, substitutions};
+use buffer_glyphs::names::{GlyphId, GlyphNames};
+use layout_face::Face;
+use shell_face_text::read_by_parts;
+use std::alloc::{AllocError, Global};
+use std::test::Fail;
+
+const FONT: &str = r#"{"upem":1000,"ascender":-800,"cmap":[[97,1],[98,2]],"variants":[[97,65024,7]],
+"h":[[1,501]],"v":[[1,900]],"origins":[[1,880]],"extents":[[1,10,700,480,-710]],"names":[[1,"alpha"]],"kern":1.5,
+"gdef":{"classes":[[1,1],[5,300],[7,0],[9,3]],"attach":[[9,2]],"sets":[[9,3,65535,3,0],[4],[]]}}"#;
+
+/// Of a character and a selector: the glyph, whether it has one, and the glyph with the selector. Of lengths: the units
+/// of an em, the advances and the origin of a glyph. Of classes: the class of a glyph and its attachment class. Of sets:
+/// whether a glyph is in the sets 0 to 3, of which the third is empty and the last is none of the font's.
+const ANSWERS: &str = r#"character 97 65024: (Some(1), true, Some(7))
+character 97 65025: (Some(1), true, None)
+character 98 65024: (Some(2), true, None)
+character 99 65024: (None, false, None)
+font lengths 1: [1000, 501, -900, 250, 880]
+font lengths 2: [1000, 0, -1000, 0, -800]
+font extents 1: Some(hb_glyph_extents_t { x_bearing: 10, y_bearing: 700, width: 480, height: -710 })
+font name 1: Some("alpha")
+font extents 2: None
+font name 2: None
+font classes 0: (0, 0)
+font sets 0: [true, false, false, false]
+font classes 1: (1, 0)
+font sets 1: [false, false, false, false]
+font classes 3: (0, 0)
+font sets 3: [true, false, false, false]
+font classes 4: (0, 0)
+font sets 4: [false, true, false, false]
+font classes 5: (300, 0)
+font sets 5: [false, false, false, false]
+font classes 7: (0, 0)
+font sets 7: [false, false, false, false]
+font classes 9: (3, 2)
+font sets 9: [true, false, false, false]
+font classes 10: (0, 0)
+font sets 10: [false, false, false, false]
+font classes 65535: (0, 0)
+font sets 65535: [true, false, false, false]"#;
+
+fn glyphs_of(font: &Face, character: char, selector: char) -> (Option<u16>, bool, Option<u16>) {
+    (
+        font.get_nominal_glyph(character),
+        font.has_glyph(character),
+        font.glyph_variation_index(character, selector),
+    )
+}
+
+fn lengths_of(font: &Face, glyph: u16) -> [i32; 5] {
+    [
+        font.units_per_em(),
+        font.glyph_h_advance(glyph),
+        font.glyph_v_advance(glyph),
+        font.glyph_h_origin(glyph),
+        font.glyph_v_origin(glyph),
+    ]
+}
+
+fn name_of(font: &Face, glyph: u16) -> Option<&str> {
+    GlyphNames::glyph_name(font, GlyphId(glyph))
+}
+
+fn classes_of(font: &Face, glyph: u16) -> (u16, u16) {
+    (font.glyph_class(glyph), font.mark_attachment_class(glyph))
+}
+
+fn sets_with(font: &Face, glyph: u16) -> [bool; 4] {
+    [
+        font.is_in_mark_set(0, glyph),
+        font.is_in_mark_set(1, glyph),
+        font.is_in_mark_set(2, glyph),
+        font.is_in_mark_set(3, glyph),
+    ]
+}
+
+fn tables_of(font: &Face) -> (bool, bool, bool) {
+    (
+        font.has_glyph_classes(),
+        font.gsub().is_some(),
+        font.gpos().is_some(),
+    )
+}
+
+/// A character by its number.
+fn character(number: &str) -> Option<char> {
+    char::from_u32(number.parse::<u32>().ok()?)
+}
+
+/// Whether a font answers as a row says of a character, alone or with a variation selector.
+pub(crate) fn answers_of_characters(
+    alloc: Global,
+    font: &Face,
+    numbers: &str,
+    answer: &str,
+) -> Option<bool> {
+    let Some((letter, selector)) = numbers.split_once(' ') else {
+        return prints(alloc, &font.get_nominal_glyph(character(numbers)?), answer);
+    };
+    let glyphs = glyphs_of(font, character(letter)?, character(selector)?);
+    prints(alloc, &glyphs, answer)
+}
+
+/// Whether a font answers a question as its row says.
+pub(crate) fn answers(
+    alloc: Global,
+    font: &Face,
+    question: &str,
+    [glyph, _, _]: [u16; 3],
+    answer: &str,
+) -> Option<bool> {
+    match question {
+        "lengths" => prints(alloc, &lengths_of(font, glyph), answer),
+        "extents" => prints(alloc, &font.glyph_extents(glyph), answer),
+        "name" => prints(alloc, &name_of(font, glyph), answer),
+        "classes" => prints(alloc, &classes_of(font, glyph), answer),
+        "sets" => prints(alloc, &sets_with(font, glyph), answer),
+        "tables" => prints(alloc, &tables_of(font), answer),
+        _ => None,
+    }
+}
+
+#[test]
+fn answers_of_a_font(rt: HostRuntime) -> Result<(), Fail> {
+    assert_eq!(rt; first_wrong(rt.alloc(), FONT, ANSWERS), Ok(None));
+    Ok(())
+}
+
+/// Fonts, and whether they have classes of glyphs, substitution and positioning.
+static TABLES: [(&str, &str); 4] = [
+    ("{}", "font tables: (false, false, false)"),
+    (
+        r#"{"gdef":{"classes":[]}}"#,
+        "font tables: (true, false, false)",
+    ),
+    (
+        r#"{"gdef":{},"gsub":{}}"#,
+        "font tables: (false, true, false)",
+    ),
+    (r#"{"gpos":{}}"#, "font tables: (false, false, true)"),
+];
+
+#[test]
+fn tables_of_a_font(rt: HostRuntime) -> Result<(), Fail> {
+    for (text, row) in &TABLES {
+        assert_eq!(rt; first_wrong(rt.alloc(), text, row), Ok(None), "{text}");
+    }
+    Ok(())
+}
+
+// A font with each key of the format and some others.
+const ALL_KEYS: &str =
+    r#"{"names":[[1,"\u0061lpha"],[2,"beta"]],"kern":[{"a":[null,true,[]]},"b"],"upem":1000,"h":[[1,501]],
+"v":[[1,900]],"origins":[[1,-880]],"extents":[[1,10,700,480,-710]],"cmap":[[97,1]],"variants":[[97,65024,7]],"ascender":-8,
+"gsub":{"lookups":[{"set":1,"flags":16,"type":"single","subtables":[[[1,2]]]}],"features":[["liga",[0]],["kern",[]]],
+"scripts":[["DFLT",null,[]],["latn",{"required":1,"features":[0]},[["DEU ",{}]]]],"size":3},"gpos":{"scripts":[]},
+"gdef":{"sets":[[9],[]],"attach":[[9,2]],"classes":[[1,1],[9,3]],"carets":{"1":[250]}}}"#;
+
+fn is_read_by_parts(alloc: Global, text: &str) -> bool {
+    read_by_parts(alloc, text).is_ok()
+}
+
+// A font that is read whole takes several times the memory.
+#[test]
+fn fonts_are_read_by_parts(rt: HostRuntime) -> Result<(), Fail> {
+    for text in ["{}", ALL_KEYS, substitutions::FONT, positions::FONT] {
+        assert!(rt; is_read_by_parts(rt.alloc(), text), "{text}");
+    }
+    Ok(())
+}
+
+fn many_rows(alloc: Global) -> Result<String, AllocError> {
+    let mut text = String::from_str(alloc, r#"{"cmap":[[131072,0]"#)?;
+    for row in 1..70_000u32 {
+        text.push_str(&format!(in alloc; ",[{},{}]", 131072 + row, row % 1000)?)?;
+    }
+    text.push_str("]}")?;
+    Ok(text)
+}
+
+// Past 65,536 rows.
+#[test]
+fn many_characters(rt: HostRuntime) -> Result<(), Fail> {
+    let text = many_rows(rt.alloc())?;
+    assert_eq!(rt;
+        first_wrong(rt.alloc(), &text, "character 201071: Some(999)"),
+        Ok(None)
+    );
+    Ok(())
+}

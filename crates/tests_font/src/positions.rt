@@ -1,0 +1,173 @@
+//! The subtables of glyph positioning.
+use crate::rows::{first_wrong, prints};
+use layout_face::positioning::{PositioningSubtables, PositioningTable};
+use layout_subtables::cursive::EntryExit;
+use layout_subtables::mark::{MarkLigPos, MarkRecord};
+use layout_subtables::pair::{PairPos, PairValues};
+use layout_subtables::value::{Anchor, ValueRecord};
+use std::alloc::Global;
+use std::test::Fail;
+
+pub(crate) const FONT: &str = r#"{"gpos":{"lookups":[
+{"type":"single","subtables":[[[1,[1,2,-30,4]],[4,[0,0,9,0]]]]},
+{"type":"pair","subtables":[[[1,2,[0,0,-40,0],null],[1,9,[0,0,7,0],[0,0,0,0]],[2,1,[0,0,3,0],null]],
+{"first":[3,1],"class1":[[3,1]],"class2":[[7,1]],
+"records":[[[[0,0,0,0],null],[[0,0,5,0],null]],[[[0,0,6,0],null],[[0,0,8,0],null]]]}]},
+{"type":"cursive","subtables":[[[1,null,[450,100]]]]},
+{"type":"markbase","subtables":[{"marks":[[9,1,[5,-5]]],"bases":[[2,[null,[100,700]]]]}]},
+{"type":"marklig","subtables":[{"marks":[[9,1,null]],"bases":[[4,[[null,null],[null,[100,700]]]]]}]},
+{"type":"markmark","subtables":[{"marks":[[9,0,[0,0]]],"bases":[[9,[[1,2]]]]}]},
+{"flags":8,"type":"context","subtables":[{"format":"coverage"}]},
+{"type":"chain","subtables":[]}]}}"#;
+
+/// Of pairs, by the subtable and two glyphs: the advance of the first, and whether the second has an adjustment.
+const ANSWERS: &str = "\
+gpos single 1: Some(ValueRecord { x_placement: 1, y_placement: 2, x_advance: -30, y_advance: 4 })
+gpos single 2: None
+gpos cursive 1: Some(EntryExit { entry: None, exit: Some(Anchor { x: 450, y: 100 }) })
+gpos cursive 0: None
+gpos pair 0 1 2: Some((-40, false))
+gpos pair 1 1 2: Some((0, false))
+gpos pair 0 1 9: Some((7, true))
+gpos pair 1 1 9: Some((0, false))
+gpos pair 0 2 9: None
+gpos pair 1 2 9: None
+gpos pair 0 1 7: None
+gpos pair 1 1 7: Some((5, false))
+gpos pair 0 3 7: None
+gpos pair 1 3 7: Some((8, false))
+gpos pair 0 3 4: None
+gpos pair 1 3 4: Some((6, false))
+gpos mark 3: Some(MarkRecord { class: 1, anchor: Some(Anchor { x: 5, y: -5 }) })
+gpos mark 4: Some(MarkRecord { class: 1, anchor: None })
+gpos mark 5: Some(MarkRecord { class: 0, anchor: Some(Anchor { x: 0, y: 0 }) })
+gpos mark 6: None
+gpos base 2 1: Some(Anchor { x: 100, y: 700 })
+gpos base 2 0: None
+gpos base 2 2: None
+gpos base 3 1: None
+gpos component 1 1: Some(Anchor { x: 100, y: 700 })
+gpos component 0 1: None
+gpos component 1 0: None
+gpos component 2 1: None
+gpos components 4: Some(2)
+gpos components 5: None
+gpos properties 6: Some((8, false))
+gpos properties 7: Some((0, false))
+gpos properties 8: None";
+
+fn subtables(table: &PositioningTable, index: u16) -> Option<&PositioningSubtables> {
+    Some(&table.get_lookup(index)?.subtables)
+}
+
+fn single_value(table: &PositioningTable, glyph: u16) -> Option<ValueRecord> {
+    match subtables(table, 0)? {
+        PositioningSubtables::Single(subtables) => subtables.get(0)?.value(glyph),
+        _ => None,
+    }
+}
+
+fn entry_exit(table: &PositioningTable, glyph: u16) -> Option<EntryExit> {
+    match subtables(table, 2)? {
+        PositioningSubtables::Cursive(subtables) => subtables.get(0)?.entry_exit(glyph),
+        _ => None,
+    }
+}
+
+fn pair_values(
+    table: &PositioningTable,
+    subtable: usize,
+    first: u16,
+    second: u16,
+) -> Option<PairValues> {
+    let PositioningSubtables::Pair(subtables) = subtables(table, 1)? else {
+        return None;
+    };
+    match subtables.get(subtable)? {
+        PairPos::Glyphs(pairs) => pairs.values(first, second),
+        PairPos::Classes(pairs) => pairs.values(first, second),
+    }
+}
+
+fn pair_advance(
+    table: &PositioningTable,
+    subtable: usize,
+    first: u16,
+    second: u16,
+) -> Option<(i16, bool)> {
+    let values = pair_values(table, subtable, first, second)?;
+    Some((values.first.x_advance, values.second.is_some()))
+}
+
+/// What a lookup says of the mark 9.
+fn mark(table: &PositioningTable, index: u16) -> Option<MarkRecord> {
+    match subtables(table, index)? {
+        PositioningSubtables::MarkToBase(subtables) | PositioningSubtables::MarkToMark(subtables) =>
+            subtables.get(0)?.mark(9),
+        PositioningSubtables::MarkToLigature(subtables) => subtables.get(0)?.mark(9),
+        _ => None,
+    }
+}
+
+fn base_anchor(table: &PositioningTable, glyph: u16, class: u16) -> Option<Anchor> {
+    match subtables(table, 3)? {
+        PositioningSubtables::MarkToBase(subtables) => subtables.get(0)?.base_anchor(glyph, class),
+        _ => None,
+    }
+}
+
+fn ligature_marks(table: &PositioningTable) -> Option<&MarkLigPos> {
+    match subtables(table, 4)? {
+        PositioningSubtables::MarkToLigature(subtables) => subtables.get(0),
+        _ => None,
+    }
+}
+
+fn component_anchor(table: &PositioningTable, component: usize, class: u16) -> Option<Anchor> {
+    ligature_marks(table)?.component_anchor(4, component, class)
+}
+
+fn component_count(table: &PositioningTable, glyph: u16) -> Option<usize> {
+    ligature_marks(table)?.component_count(glyph)
+}
+
+/// The properties of a lookup, and whether it is applied from the end of the text.
+fn properties(table: &PositioningTable, index: u16) -> Option<(u32, bool)> {
+    let lookup = table.get_lookup(index)?;
+    Some((lookup.props(), lookup.is_reverse()))
+}
+
+/// Whether a table answers a question as its row says.
+pub(crate) fn answers(
+    alloc: Global,
+    table: &PositioningTable,
+    question: &str,
+    [first, second, third]: [u16; 3],
+    answer: &str,
+) -> Option<bool> {
+    match question {
+        "single" => prints(alloc, &single_value(table, first), answer),
+        "cursive" => prints(alloc, &entry_exit(table, first), answer),
+        "pair" => prints(
+            alloc,
+            &pair_advance(table, usize::from(first), second, third),
+            answer,
+        ),
+        "mark" => prints(alloc, &mark(table, first), answer),
+        "base" => prints(alloc, &base_anchor(table, first, second), answer),
+        "component" => prints(
+            alloc,
+            &component_anchor(table, usize::from(first), second),
+            answer,
+        ),
+        "components" => prints(alloc, &component_count(table, first), answer),
+        "properties" => prints(alloc, &properties(table, first), answer),
+        _ => None,
+    }
+}
+
+#[test]
+fn positioning_subtables(rt: HostRuntime) -> Result<(), Fail> {
+    assert_eq!(rt; first_wrong(rt.alloc(), FONT, ANSWERS), Ok(None));
+    Ok(())
+}

@@ -1,0 +1,41 @@
+//! What texts are shaped by.
+use buffer_languages::language_table::LanguageTable;
+use buffer_unicode_tables::UnicodeTables;
+use layout_face::Face;
+use script_categories::SyllableTable;
+use serde_json::Value;
+use shape_pipeline::hb_shape_data_t;
+use shell_face_json::read_face;
+use std::alloc::Global;
+use std::test::Fail;
+
+const TABLES: &str =
+    "{\"splits\":[[225,97,769]],\"pairs\":[[97,769,225]],\"classes\":[[769,230],[803,220]]}";
+
+/// What shaping goes by, beside a font.
+#[derive(Clone, Copy)]
+pub(crate) struct Tables<'a> {
+    pub characters: &'a UnicodeTables,
+    pub spans: &'a SyllableTable,
+    pub languages: &'a LanguageTable,
+}
+
+impl<'a> Tables<'a> {
+    pub(crate) fn data(self) -> hb_shape_data_t<'a, SyllableTable, LanguageTable> {
+        hb_shape_data_t {
+            tables: self.characters,
+            spans: self.spans,
+            languages: self.languages,
+        }
+    }
+}
+
+/// The value of tables.
+pub(crate) fn value(alloc: Global) -> Result<Value, Fail> {
+    Ok(Value::from_str(alloc, TABLES)?)
+}
+
+pub(crate) fn face_of(alloc: Global, font: &str) -> Result<Face, Fail> {
+    let value = Value::from_str(alloc, font)?;
+    Ok(read_face(alloc, &value)?)
+}

@@ -1,0 +1,163 @@
+//! Texts that are shaped with a plan and without one.
+use crate::data::{Tables, face_of, value};
+use crate::plans::{decomposing_plan_of_row, plan_of_row};
+use crate::rows::{flags_of, part, text_of};
+use buffer_unicode_tables::UnicodeTables;
+use buffer_wrappers::glyphs::GlyphBuffer;
+use buffer_wrappers::unicode_buffer::UnicodeBuffer;
+use layout_face::Face;
+use script_categories::SyllableTable;
+use script_plan::hb_ot_shaper_t;
+use script_plan::plan::hb_ot_shape_plan_t;
+use serde_json::Value;
+use shape_pipeline::hb_ot_any_shaper_t;
+use shape_pipeline::shape::{ShapeFault, shape, shape_with_plan};
+use shell_tables_json::{read_languages, read_syllables, read_tables};
+use std::alloc::{AllocError, Global};
+use std::process::Abort;
+use std::test::Fail;
+
+// In each row stand the level, what is printed, the characters with their clusters, the font, and the line; the shaper, where it
+// is not the stack's own. A ligature has the cluster of its first part, also where the numbers have gaps and characters are kept
+// apart. A mark composes with its letter, past a mark of a lesser class too, but with a shaper that wants characters split marks
+// are only put in the order of their classes. Of one character at most 16,384 glyphs may come, and the text's buffer is handed
+// back empty.
+const ROWS: &str =
+    r#"graphemes;;97,0 102,1 105,2;{"upem":1000,"cmap":[[97,1],[102,3],[105,4]],"h":[[1,500],[3,300],[4,250],[7,520]],"gsub":{"scripts":[["DFLT",{"features":[0]},[]]],"features":[["liga",[0]]],"lookups":[{"type":"ligature","subtables":[[[3,[[[4],7]]]]]}]}};1=0+500|7=1+520
+characters;;102,10 105,40;{"upem":1000,"cmap":[[97,1],[102,3],[105,4]],"h":[[1,500],[3,300],[4,250],[7,520]],"gsub":{"scripts":[["DFLT",{"features":[0]},[]]],"features":[["liga",[0]]],"lookups":[{"type":"ligature","subtables":[[[3,[[[4],7]]]]]}]}};7=10+520
+monotone;;;{};
+graphemes;;97,0 769,1;{"upem":1000,"cmap":[[97,1],[225,8],[769,9],[803,10]],"h":[[1,500],[8,510]]};8=0+510
+graphemes;glyphs;97,0 769,1 803,2;{"upem":1000,"cmap":[[97,1],[225,8],[769,9],[803,10]],"h":[[1,500],[8,510]]};8|10
+graphemes;glyphs;97,0 769,1 803,2;{"upem":1000,"cmap":[[97,1],[225,8],[769,9],[803,10]],"h":[[1,500],[8,510]]};1|10|9;decomposing
+graphemes;;97,0;{"cmap":[[97,1]],"gsub":{"scripts":[["DFLT",{"features":[0]},[]]],"features":[["ccmp",[0,1,2,3]]],"lookups":[{"type":"multiple","subtables":[[[1,[1,1,1,1,1,1,1,1,1,1,1,1]]]]},{"type":"multiple","subtables":[[[1,[1,1,1,1,1,1,1,1,1,1,1,1]]]]},{"type":"multiple","subtables":[[[1,[1,1,1,1,1,1,1,1,1,1,1,1]]]]},{"type":"multiple","subtables":[[[1,[1,1,1,1,1,1,1,1,1,1,1,1]]]]}]}};S2 TooLong 0"#;
+
+/// What is printed of glyphs, or why there are none, with the number of characters that are left.
+fn answer(
+    alloc: Global,
+    row: &str,
+    face: &Face,
+    shaped: Result<GlyphBuffer, ShapeFault>,
+) -> Result<String, AllocError> {
+    match shaped {
+        Ok(glyphs) => glyphs.serialize(alloc, face, flags_of(row)),
+        Err(fault) => format!(in alloc; "{} {}", fault.cause, fault.buffer.len()),
+    }
+}
+
+/// A text without a plan becomes the line.
+fn gives_by_itself(
+    alloc: Global,
+    row: &str,
+    face: &Face,
+    tables: Tables<'_>,
+) -> Result<bool, Fail> {
+    let text = text_of(alloc, row)?;
+    let shaped = shape(alloc, face, tables.data(), &[], text);
+    let line = answer(alloc, row, face, shaped)?;
+    Ok(line.as_str() == part(row, 4))
+}
+
+/// A plan fits the text, which becomes the line by it.
+fn gives_by_plan<S: hb_ot_shaper_t>(
+    alloc: Global,
+    row: &str,
+    face: &Face,
+    tables: Tables<'_>,
+    plan: &hb_ot_shape_plan_t<S>,
+) -> Result<bool, Fail> {
+    let text = text_of(alloc, row)?;
+    let fits = plan.fits(&text);
+    let shaped = shape_with_plan(alloc, face, tables.data(), plan, text);
+    let line = answer(alloc, row, face, shaped)?;
+    Ok(fits && line.as_str() == part(row, 4))
+}
+
+/// A plan gives the line each time.
+fn gives_as_often(
+    alloc: Global,
+    row: &str,
+    face: &Face,
+    tables: Tables<'_>,
+    plan: &hb_ot_shape_plan_t<hb_ot_any_shaper_t>,
+) -> Result<bool, Fail> {
+    let first = gives_by_plan(alloc, row, face, tables, plan)?;
+    let second = gives_by_plan(alloc, row, face, tables, plan)?;
+    Ok(first && second)
+}
+
+/// The stack's own shaper gives the line by a plan, as often as it is used.
+fn gives_planned(alloc: Global, row: &str, face: &Face, tables: Tables<'_>) -> Result<bool, Fail> {
+    let plan = plan_of_row(alloc, face, tables.languages, row)?;
+    gives_as_often(alloc, row, face, tables, &plan)
+}
+
+/// A shaper that is handed in gives the line.
+fn gives_decomposed(
+    alloc: Global,
+    row: &str,
+    face: &Face,
+    tables: Tables<'_>,
+) -> Result<bool, Fail> {
+    let plan = decomposing_plan_of_row(alloc, face, tables.languages, row)?;
+    gives_by_plan(alloc, row, face, tables, &plan)
+}
+
+/// The row's line is what its shaper gives: the stack's own without a plan too.
+fn gives(alloc: Global, row: &str, face: &Face, tables: Tables<'_>) -> Result<bool, Fail> {
+    if part(row, 5) == "decomposing" {
+        return gives_decomposed(alloc, row, face, tables);
+    }
+    let by_itself = gives_by_itself(alloc, row, face, tables)?;
+    let planned = gives_planned(alloc, row, face, tables)?;
+    Ok(by_itself && planned)
+}
+
+fn row_agrees(alloc: Global, row: &str, tables: Tables<'_>) -> Result<bool, Fail> {
+    let face = face_of(alloc, part(row, 3))?;
+    gives(alloc, row, &face, tables)
+}
+
+fn rows_agree(rt: &impl Abort, alloc: Global, tables: Tables<'_>) -> Result<(), Fail> {
+    for row in ROWS.lines() {
+        let agrees = row_agrees(alloc, row, tables)?;
+        assert!(rt; agrees, "{row}");
+    }
+    Ok(())
+}
+
+fn agree_by_languages(
+    rt: &impl Abort,
+    alloc: Global,
+    value: &Value,
+    characters: &UnicodeTables,
+    spans: &SyllableTable,
+) -> Result<(), Fail> {
+    let languages = read_languages(alloc, value)?;
+    let tables = Tables {
+        characters,
+        spans,
+        languages: &languages,
+    };
+    rows_agree(rt, alloc, tables)
+}
+
+fn agree_by_spans(
+    rt: &impl Abort,
+    alloc: Global,
+    value: &Value,
+    characters: &UnicodeTables,
+) -> Result<(), Fail> {
+    let spans = read_syllables(alloc, value)?;
+    agree_by_languages(rt, alloc, value, characters, &spans)
+}
+
+fn agree(rt: &impl Abort, alloc: Global, value: &Value) -> Result<(), Fail> {
+    let characters = read_tables(alloc, value)?;
+    agree_by_spans(rt, alloc, value, &characters)
+}
+
+#[test]
+fn texts(rt: HostRuntime) -> Result<(), Fail> {
+    let value = value(rt.alloc())?;
+    agree(&rt, rt.alloc(), &value)
+}

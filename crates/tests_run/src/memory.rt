@@ -1,0 +1,40 @@
+//! Runs over memory.
+use buffer_common::constants::BufferFlags;
+use buffer_common::direction::Direction;
+use buffer_glyphs::flags::SerializeFlags;
+use buffer_glyphs::level::BufferClusterLevel;
+use shell_readers::fault::RunFault;
+use shell_readers::options::Options;
+use shell_run::run::run;
+use std::alloc::Global;
+
+const NUMBERS: SerializeFlags = SerializeFlags(4);
+
+/// What is asked where nothing is told, but that glyphs are printed by their numbers.
+pub(crate) fn plain_options(alloc: Global) -> Options {
+    Options {
+        direction: Direction::Invalid,
+        script: None,
+        language: None,
+        features: Vec::new(alloc),
+        cluster_level: BufferClusterLevel::MonotoneGraphemes,
+        buffer_flags: BufferFlags(0),
+        flags: NUMBERS,
+    }
+}
+
+/// What a run writes of bytes over memory, and its answer.
+pub(crate) fn ran(
+    alloc: Global,
+    options: Options,
+    tables: &str,
+    font: &str,
+    text: &[u8],
+) -> (Result<(), RunFault>, Vec<u8>) {
+    let mut tables = tables.as_bytes();
+    let mut font = font.as_bytes();
+    let mut text = text;
+    let mut out = Vec::new(alloc);
+    let answer = run(alloc, options, &mut tables, &mut font, &mut text, &mut out);
+    (answer, out)
+}

@@ -1,0 +1,86 @@
+//! Texts of scripts with a shaper of their own: letters that join, vowels and syllables, circles.
+use crate::memory::{plain_options, ran};
+use crate::rows::follow;
+use buffer_glyphs::cause::ShapeCause;
+use shell_readers::fault::RunFault;
+use std::alloc::{AllocError, Global};
+use std::test::Fail;
+
+/// A machine of the universal shaper: bases with vowels are a syllable, and so are rephas alone, a broken one.
+const TABLES: &str =
+    "{\"splits\":[[6918,6917,6965]],\"pairs\":[[6917,6965,6918]],\"mirrored\":[[40,41],[41,40]],\
+    \"joining\":[[1575,\"R\"],[1576,\"D\"]],\
+    \"universal\":[[6917,\"B\"],[6965,\"VPst\"],[6966,\"VAbv\"],[72001,\"R\"]],\
+    \"syllables\":{\"universal\":{\"states\":3,\
+    \"next\":[[0,\"B\",1],[0,\"R\",2],[1,\"VAbv\",1],[1,\"VPst\",1],[2,\"R\",2]],\
+    \"accept\":[[1,\"standard\"],[2,\"broken\"]]}}}";
+
+// The letters beh and alef and a mark, with forms by their neighbours; a mark is transparent: the letters on both sides of it
+// join. A sign that becomes two tiles, of which the second repeats: a tile 300 wide is laid four times over a word of 1100,
+// beside one of 100, and each copy lies 66 over its neighbour. A Balinese character, and what it splits to. A syllable of
+// Hangul, and a bracket before a Hebrew letter. The first part of a Thai vowel goes before the tone mark. At last a repha of
+// Dives Akuru, and a circle, which stands after two rephas with the second one's cluster, and then the first goes after
+// it.
+static ROWS: &str =
+    r#"{"upem":1000,"cmap":[[1575,10],[1576,20],[1611,30]],"h":[[10,200],[13,250],[20,400],[21,400],[22,400],[23,400],[30,100]],"gsub":{"scripts":[["arab",{"features":[0,1,2]},[]]],"features":[["fina",[2]],["init",[0]],["medi",[1]]],"lookups":[{"type":"single","subtables":[[[20,21]]]},{"type":"single","subtables":[[[20,22]]]},{"type":"single","subtables":[[[10,13],[20,23]]]}]}}
+direction=r;U+628 628 628;23=4+400|22=2+400|21=0+400
+;U+628 64B 627;13=4+250|30=0+0|21=0+400
+
+{"upem":1000,"cmap":[[1569,40],[1576,20]],"h":[[20,1100],[41,100],[42,300]],"gsub":{"scripts":[["arab",{"features":[0]},[]]],"features":[["stch",[0]]],"lookups":[{"type":"multiple","subtables":[[[40,[41,42]]]]}]}}
+;U+621 628;20=2+1100|42=0@-1102,0+0|42=0@-868,0+0|42=0@-634,0+0|42=0@-400,0+0|41=0@-100,0+0
+
+{"upem":1000,"cmap":[[6917,1],[6965,2],[6966,3]],"h":[[1,500],[2,200],[3,100]],"gsub":{"scripts":[["bali",{"features":[]},[]]]}}
+;U+1B06 1B36;1=0+500|2=0+200|3=0@-100,0+0
+;U+1B05 1B35 1B36;1=0+500|2=0+200|3=0@-100,0+0
+
+{"upem":1000,"cmap":[[44032,19]],"h":[[19,900]]}
+;U+1100 1161;19=0+900
+
+{"upem":1000,"cmap":[[40,12],[41,13]],"h":[[12,300],[13,300]]}
+direction=r;U+28 5D0;0=1+0|13=0+300
+
+{"upem":1000,"cmap":[[3604,30],[3634,33],[3659,32],[3661,31]],"h":[[30,500],[33,400]],"gsub":{"scripts":[["thai",{"features":[]},[]]]}}
+;U+E14 E4B E33;30=0+500|31=0+0|32=0+0|33=0+400
+
+{"upem":1000,"cmap":[[9676,10],[72001,5]],"h":[[5,200],[10,600]]}
+level=2;U+11941 11941;5=4+200|10=4+600|5=0+200"#;
+
+#[test]
+fn scripts_are_shaped(rt: HostRuntime) -> Result<(), Fail> {
+    follow(&rt, rt.alloc(), TABLES, ROWS)
+}
+
+/// A sign that becomes two tiles, of which the second repeats, and the widest letter that a font may have.
+const WIDE: &str =
+    "{\"upem\":1000,\"cmap\":[[1569,40],[1576,20]],\"h\":[[20,65535],[41,100],[42,300]],\
+    \"gsub\":{\"scripts\":[[\"arab\",{\"features\":[0]},[]]],\"features\":[[\"stch\",[0]]],\
+    \"lookups\":[{\"type\":\"multiple\",\"subtables\":[[[40,[41,42]]]]}]}}";
+
+fn stretched(alloc: Global, letters: u32) -> Result<String, AllocError> {
+    let mut text = String::from_str(alloc, "\u{621}")?;
+    for _ in 0..letters {
+        text.push('\u{628}')?;
+    }
+    Ok(text)
+}
+
+fn is_refused(alloc: Global, letters: u32, cause: ShapeCause) -> Result<bool, AllocError> {
+    let text = stretched(alloc, letters)?;
+    let options = plain_options(alloc);
+    let (answer, out) = ran(alloc, options, TABLES, WIDE, text.as_bytes());
+    Ok(answer == Err(RunFault::Shape(cause)) && out.is_empty())
+}
+
+// 32,768 letters are nearly 2^31 wide: so many copies of a tile no text may have. A letter more, and the width is no number
+// of 32 bits.
+#[test]
+fn words_are_stretched_within_limits(rt: HostRuntime) -> Result<(), Fail> {
+    for (letters, cause) in [
+        (32_768, ShapeCause::TooLong),
+        (32_769, ShapeCause::StretchRange),
+    ] {
+        let is_refused = is_refused(rt.alloc(), letters, cause)?;
+        assert!(rt; is_refused, "{letters}");
+    }
+    Ok(())
+}

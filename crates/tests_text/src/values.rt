@@ -1,0 +1,123 @@
+//! Parts of rows, each with its fault.
+use buffer_common::tag::Tag;
+use serde_json::Value;
+use shell_json_values::cell::Cell;
+use shell_json_values::fault::JsonFault;
+use shell_json_values::keys::read_key;
+use shell_json_values::parts::{four_parts, list_at, natural_number_below, three_parts, two_parts};
+use std::alloc::Global;
+use std::process::Abort;
+use std::test::Fail;
+
+// What is asked of a value, the answer, and the value, with semicolons between: a character with a word after it, of two faults
+// the one that comes first by its kind; a byte, a number below 70000 and a tag; a row of two, of three and of four; and how
+// many items stand in `k`, none where that is no list.
+const ANSWERS: &str = r#"pair;read;[97,-2]
+pair;U2 OutOfRange;[97,-32769]
+pair;U2 OutOfRange;[55296,0]
+pair;J2 WrongShape;[55296,"x"]
+pair;J3 FloatNumber;[1114112,1.5]
+pair;J3 FloatNumber;[18446744073709551616,0]
+pair;J2 WrongShape;[97]
+pair;J2 WrongShape;3
+byte;read;255
+number;read;255
+tag;J2 WrongShape;255
+byte;U2 OutOfRange;256
+number;read;256
+tag;J2 WrongShape;256
+byte;U2 OutOfRange;70000
+number;U2 OutOfRange;70000
+tag;J2 WrongShape;70000
+byte;U2 OutOfRange;-1
+number;U2 OutOfRange;-1
+tag;J2 WrongShape;-1
+byte;J2 WrongShape;"liga"
+number;J2 WrongShape;"liga"
+tag;read;"liga"
+byte;J2 WrongShape;""
+number;J2 WrongShape;""
+tag;J2 WrongShape;""
+two;J2 WrongShape;{}
+three;J2 WrongShape;{}
+four;J2 WrongShape;{}
+two;J2 WrongShape;[1]
+three;J2 WrongShape;[1]
+four;J2 WrongShape;[1]
+two;read;[1,2]
+three;J2 WrongShape;[1,2]
+four;J2 WrongShape;[1,2]
+two;J2 WrongShape;[1,2,3]
+three;read;[1,2,3]
+four;J2 WrongShape;[1,2,3]
+two;J2 WrongShape;[1,2,3,4]
+three;J2 WrongShape;[1,2,3,4]
+four;read;[1,2,3,4]
+two;J2 WrongShape;[1,2,3,4,5]
+three;J2 WrongShape;[1,2,3,4,5]
+four;J2 WrongShape;[1,2,3,4,5]
+list;0;{}
+list;3;{"k":[1,2,3]}
+list;none;{"k":1}"#;
+
+fn part(row: &str, at: usize) -> &str {
+    row.split(';').nth(at).unwrap_or("")
+}
+
+fn name_of(fault: Option<JsonFault>) -> &'static str {
+    match fault {
+        Some(fault) => fault.name(),
+        None => "read",
+    }
+}
+
+fn count_in_k(value: &Value) -> Option<usize> {
+    match list_at(value, "k") {
+        Ok(items) => Some(items.len()),
+        Err(_) => None,
+    }
+}
+
+fn is_answer(value: &Value, asked: &str, answer: &str) -> bool {
+    match asked {
+        "pair" => name_of(<(char, i16)>::read(value).err()) == answer,
+        "byte" => name_of(u8::read(value).err()) == answer,
+        "number" => name_of(natural_number_below(value, 70_000).err()) == answer,
+        "tag" => name_of(Tag::read(value).err()) == answer,
+        "two" => name_of(two_parts(value).err()) == answer,
+        "three" => name_of(three_parts(value).err()) == answer,
+        "four" => name_of(four_parts(value).err()) == answer,
+        _ => count_in_k(value) == answer.parse::<usize>().ok(),
+    }
+}
+
+fn is_answered(alloc: Global, row: &str) -> Result<bool, Fail> {
+    let value = Value::from_str(alloc, part(row, 2))?;
+    Ok(is_answer(&value, part(row, 0), part(row, 1)))
+}
+
+#[test]
+fn parts(rt: HostRuntime) -> Result<(), Fail> {
+    for row in ANSWERS.lines() {
+        let is_answered = is_answered(rt.alloc(), row)?;
+        assert!(rt; is_answered, "{row}");
+    }
+    Ok(())
+}
+
+fn keys_are_read(rt: &impl Abort, value: &Value) {
+    for (key, want) in [
+        ("a", Ok('A')),
+        ("b", Err(JsonFault::OutOfRange)),
+        ("c", Ok('x')),
+    ] {
+        assert_eq!(rt; read_key(value, key, 'x'), want);
+    }
+}
+
+#[test]
+fn missing_keys(rt: HostRuntime) -> Result<(), Fail> {
+    let value = Value::from_str(rt.alloc(), r#"{"a":65,"b":55296}"#)?;
+    keys_are_read(&rt, &value);
+    Ok(())
+}

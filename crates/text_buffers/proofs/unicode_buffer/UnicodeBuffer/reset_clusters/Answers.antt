@@ -1,5 +1,0 @@
-use Rattle.text_buffers.proofs.Characters.{text_counted}
-use Rattle.text_buffers.proofs.unicode_buffer.UnicodeBuffer.reset_clusters.Goals as goal
-
-pub invariant_of-self : goal.invariant_of-self
-invariant_of-self c = text_counted c.self.inside.buffer c.reset_clusters.new.self c.reset_clusters.ensures.counted c.self.invariant

@@ -1,6 +1,0 @@
-use Rattle.std.proofs.Common.{◌≡◌, ◌++◌, drop}
-use Rattle.unicode_rows.specs.Ranges.{widened}
-use Rattle.unicode_rows.proofs.ranges.widen.Given as goal
-
-abbrev pub invariant-loop-row : goal.invariant-loop-row
-invariant-loop-row l = l.wide.items ++ widened l.reach (drop l.row-index l.rows) ≡ widened 0 l.rows

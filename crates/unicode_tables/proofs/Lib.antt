@@ -1,6 +1,0 @@
-pub mod Chains
-pub mod Decisions
-pub mod Expansions
-mod Faults
-pub mod Steps
-pub mod Syllables
