@@ -2,11 +2,11 @@
 use Rattle.std.specs.Prelude.{◌≡◌, ◌^◌, ℕ, List, [], ◌∷◌, All}
 use Rattle.buffer_common.specs.declared.constants.TheConstants as constants
 
--- each constant is the number beside it
+-- each constant has the number listed with it
 abbrev pub AreAsListed : List (ℕ × ℕ) → Type 0
 AreAsListed rows = All (λ row. row.0 ≡ row.1) rows
 
--- Unicode's combining classes, in an order of marks that fonts expect
+-- Unicode's combining classes (UAX 44), permuted to an order of combining marks that fonts expect
 abbrev pub combining_classes : List (ℕ × ℕ)
 combining_classes =
     (constants.CCC10, 22) ∷
@@ -47,9 +47,11 @@ combining_classes =
     (constants.CCC132, 131) ∷
     []
 
+-- each modified combining class has its number
 abbrev pub CombiningClassesAreListed : Type 0
 CombiningClassesAreListed = AreAsListed combining_classes
 
+-- the scratch flags with their numbers
 abbrev pub scratch_flags : List (ℕ × ℕ)
 scratch_flags =
     (constants.HB_BUFFER_SCRATCH_FLAG_DEFAULT, 0) ∷
@@ -64,5 +66,6 @@ scratch_flags =
     (constants.HB_BUFFER_SCRATCH_FLAG_SHAPER0, 2 ^ 24) ∷
     []
 
+-- each scratch flag has its number
 abbrev pub ScratchFlagsAreListed : Type 0
 ScratchFlagsAreListed = AreAsListed scratch_flags

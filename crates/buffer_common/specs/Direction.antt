@@ -52,10 +52,11 @@ right_to_left_scripts =
 abbrev pub either_way_scripts : List Script
 either_way_scripts = script.RUNIC ∷ script.OLD_ITALIC ∷ script.TIFINAGH ∷ script.OLD_HUNGARIAN ∷ []
 
+-- whether a script is in a list
 abbrev pub is_among : List Script → Script → Bool
 is_among scripts s = list_any (λ t. t.0.0 == s.0.0) scripts
 
--- the direction of a script, if it has but one
+-- the horizontal direction of a script, if it has only one
 abbrev pub direction_of_script : Script → Option Direction
 direction_of_script s =
     if is_among right_to_left_scripts s then Some RightToLeft
@@ -71,32 +72,36 @@ direction_of_letter letter =
     else if letter == 98 then Ok BottomToTop  -- b
     else Err (record {})
 
--- the direction of a text goes by its first letter
+-- the direction of a text, by its first letter
 abbrev pub direction_of_text : List ℕ → Result Direction InvalidDirection
 direction_of_text [] = Err (record {})
 direction_of_text (first ∷ rest) = direction_of_letter (to_ascii_lowercase first)
 
+-- whether a direction is horizontal
 abbrev pub is_horizontal : Direction → Bool
 is_horizontal LeftToRight = true
 is_horizontal RightToLeft = true
 is_horizontal _ = false
 
+-- whether a direction is vertical
 abbrev pub is_vertical : Direction → Bool
 is_vertical TopToBottom = true
 is_vertical BottomToTop = true
 is_vertical _ = false
 
+-- whether a direction runs rightward or downward
 abbrev pub is_forward : Direction → Bool
 is_forward LeftToRight = true
 is_forward TopToBottom = true
 is_forward _ = false
 
+-- whether a direction runs leftward or upward
 abbrev pub is_backward : Direction → Bool
 is_backward RightToLeft = true
 is_backward BottomToTop = true
 is_backward _ = false
 
--- the other way along the same line
+-- the opposite direction along the same line
 abbrev pub opposite : Direction → Direction
 opposite Invalid = Invalid
 opposite LeftToRight = RightToLeft

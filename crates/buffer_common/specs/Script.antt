@@ -9,7 +9,7 @@ use Rattle.buffer_common.specs.declared.script.InvalidScript.{InvalidScript}
 use Rattle.buffer_common.specs.declared.script.TheConstants as script
 use Rattle.buffer_common.specs.Tag.{tag_of, bytes_of, tag_of_text}
 
--- the first letter a capital, the others small
+-- a text with its first letter a capital, the others small
 abbrev pub title_case : List ℕ → List ℕ
 title_case [] = []
 title_case (first ∷ rest) = to_ascii_uppercase first ∷ map to_ascii_lowercase rest
@@ -40,7 +40,7 @@ alias_in rows title = option_map (λ row. row.1) (find (λ row. row.0.0 == title
 abbrev pub script_named : Tag → Script
 script_named title = unwrap_or (alias_in aliases title) (record { 0 = title })
 
--- the script of a tag in any case: none for the zero tag, Zzzz for what is no four letters
+-- the script of a tag in any case: none for the zero tag, Zzzz for a tag that is not four letters
 abbrev pub script_of_tag : Tag → Option Script
 script_of_tag tag =
     if tag.0 == 0 then None
@@ -229,8 +229,10 @@ named_scripts =
     (script.MYANMAR_ZAWGYI, codes "Qaag") ∷
     []
 
+-- each script has its ISO 15924 tag
 abbrev pub ScriptsAreNamed : Type 0
 ScriptsAreNamed = All (λ named. named.0.0 ≡ tag_of named.1) named_scripts
 
+-- the tag of each script gives back the script
 abbrev pub TagsLeadBack : Type 0
 TagsLeadBack = All (λ named. script_of_tag named.0.0 ≡ Some named.0) named_scripts

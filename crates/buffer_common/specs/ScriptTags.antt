@@ -10,10 +10,11 @@ use Rattle.buffer_common.specs.Tag.{tag_of, bytes_of}
 use Rattle.buffer_common.specs.Language.{language_text}
 use Rattle.buffer_common.specs.Direction.{is_among}
 
+-- the tag of a script's row
 abbrev pub tag_of_row : List (Script × Tag) → Script → Option Tag
 tag_of_row rows s = option_map (λ row. row.1) (find (λ row. row.0.0.0 == s.0.0) rows)
 
--- tags of the second shaping model
+-- script tags of the second shaping model (OpenType registry)
 abbrev pub new_tags : List (Script × Tag)
 new_tags =
     (script.BENGALI, tag_of (codes "bng2")) ∷
@@ -28,16 +29,17 @@ new_tags =
     (script.MYANMAR, tag_of (codes "mym2")) ∷
     []
 
+-- the script's tag of the second shaping model
 abbrev pub new_tag : Script → Option Tag
 new_tag s = tag_of_row new_tags s
 
--- that of the third model has a 3 for the 2; Myanmar has none
+-- the script's tag of the third shaping model, which ends in 3; Myanmar has none
 abbrev pub newest_tag : Script → Option Tag
 newest_tag s =
     if s.0.0 == script.MYANMAR.0.0 then None
     else option_map (λ tag. tag_of (take 3 (bytes_of tag) ++ codes "3")) (new_tag s)
 
--- old tags that are no other spelling of the script's own
+-- old tags that are not the script's own tag in small letters
 abbrev pub old_tags : List (Script × Tag)
 old_tags =
     (script.HIRAGANA, tag_of (codes "kana")) ∷
@@ -48,21 +50,22 @@ old_tags =
     (script.SCRIPT_MATH, tag_of (codes "math")) ∷
     []
 
--- with a small first letter
+-- a text with a small first letter
 abbrev pub small_first : List ℕ → List ℕ
 small_first [] = []
 small_first (first ∷ rest) = to_ascii_lowercase first ∷ rest
 
--- no tag is wanted for what is no script of its own
+-- the script's old tag; none for Common, Inherited and Unknown
 abbrev pub old_tag : Script → Option Tag
 old_tag s =
     if is_among (script.COMMON ∷ script.INHERITED ∷ script.UNKNOWN ∷ []) s then None
     else Some (unwrap_or (tag_of_row old_tags s) (tag_of (small_first (bytes_of s.0))))
 
+-- the tags of a script, the newest first
 abbrev pub wanted_tags : Option Script → List Tag
 wanted_tags None = []
 wanted_tags (Some s) = option_to_list (newest_tag s) ++ option_to_list (new_tag s) ++ option_to_list (old_tag s)
 
--- the tags of the language, where there is one
+-- the tags of a language, where the text has one
 abbrev pub wanted_language_tags : (List ℕ → List Tag) → Option Language → List Tag
 wanted_language_tags tags_of language = option_map_or (λ found. tags_of (language_text found)) language []

@@ -4,11 +4,11 @@ use Rattle.std.specs.Int.{w32, to_be_bytes, from_be_bytes}
 use Rattle.std.specs.Char.{to_ascii_uppercase}
 use Rattle.buffer_common.specs.declared.tag.Tag.{Tag}
 
--- the tag that four bytes spell
+-- the tag of four bytes
 abbrev pub tag_of : List ℕ → Tag
 tag_of bytes = record { 0 = from_be_bytes w32 bytes }
 
--- the four bytes that a tag is spelled with
+-- the four bytes of a tag
 abbrev pub bytes_of : Tag → List ℕ
 bytes_of tag = to_be_bytes w32 tag.0
 
@@ -17,6 +17,6 @@ abbrev pub tag_of_text : List ℕ → Tag
 tag_of_text [] = record { 0 = 0 }
 tag_of_text (first ∷ rest) = tag_of (take 4 ((first ∷ rest) ++ codes "    "))
 
--- the tag with capitals for the small letters of ASCII
+-- a tag with its small ASCII letters made capitals
 abbrev pub uppercase_tag : Tag → Tag
 uppercase_tag tag = tag_of (map to_ascii_uppercase (bytes_of tag))

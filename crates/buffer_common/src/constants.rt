@@ -1,9 +1,10 @@
+//! The flags of buffers, and the modified combining classes (rustybuzz: hb/buffer.rs, hb/unicode.rs).
 ghost use Rattle.std.specs.Prelude.{⊤, ◌≡◌, ◌^◌, ◌<◌, ◌≤◌, ◌+◌, ◌-◌, if◌then◌else◌, nat_lt, [], ◌∷◌, codes};
 ghost use Rattle.buffer_common.specs.Constants.{CombiningClassesAreListed, ScratchFlagsAreListed};
 
 use bitflags::{Flag, Flags, bitflag_items};
 
-/// What is asked of the shaping of a text.
+/// The requests for the shaping of a text (`hb_buffer_flags_t`).
 #[derive(Clone, Copy, PartialEq, Eq, Debug, Default)]
 pub struct BufferFlags(pub u32);
 
@@ -43,7 +44,7 @@ impl Flags for BufferFlags {
     }
 }
 
-/// What is known of the glyphs of a buffer while it is shaped.
+/// The flags that the stages of shaping set for each other (`hb_buffer_scratch_flags_t`).
 pub type hb_buffer_scratch_flags_t = u32;
 
 pub const HB_BUFFER_SCRATCH_FLAG_DEFAULT: hb_buffer_scratch_flags_t = 0;
@@ -64,7 +65,7 @@ pub const HB_BUFFER_SCRATCH_FLAG_HAS_BROKEN_SYLLABLE: hb_buffer_scratch_flags_t 
 
 pub const HB_BUFFER_SCRATCH_FLAG_HAS_VARIATION_SELECTOR_FALLBACK: hb_buffer_scratch_flags_t = 128;
 
-/// The first of the flags that are a shaper's own.
+/// The first of the flags for a shaper's own use.
 pub const HB_BUFFER_SCRATCH_FLAG_SHAPER0: hb_buffer_scratch_flags_t = 0x1000000;
 
 /// The class by which sheva is ordered.
@@ -183,7 +184,7 @@ pub const fn rb_flag(bit: u32) -> u32
     1u32 << bit
 }
 
-/// The number with the one bit, or 0 where 32 bits have no such bit.
+/// The number with the one bit, or 0 where 32 bits lack that bit.
 pub const fn rb_flag_unsafe(bit: u32) -> u32
     ensures { result ≡ (if nat_lt bit 32 then 2 ^ bit else 0) }
 {
@@ -207,7 +208,7 @@ pub const fn rb_flag64(bit: u32) -> u64
     1u64 << bit
 }
 
-/// The number with the one bit, or 0 where 64 bits have no such bit.
+/// The number with the one bit, or 0 where 64 bits lack that bit.
 pub const fn rb_flag64_unsafe(bit: u32) -> u64
     ensures { result ≡ (if nat_lt bit 64 then 2 ^ bit else 0) }
 {

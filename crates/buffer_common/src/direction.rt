@@ -1,3 +1,4 @@
+//! The direction of a line of text (rustybuzz: hb/common.rs, `Direction`).
 ghost use Rattle.std.specs.Prelude.{◌≡◌};
 ghost use Rattle.buffer_common.specs.Direction.{direction_of_script, is_horizontal, is_vertical, is_forward, is_backward, opposite};
 
@@ -24,7 +25,7 @@ pub enum Direction {
     BottomToTop,
 }
 
-/// The text begins with no letter of a direction.
+/// The error of a text that begins with no letter of a direction.
 #[derive(Clone, Copy, PartialEq, Eq, Debug, Error)]
 #[error("invalid direction")]
 pub struct InvalidDirection;
@@ -83,33 +84,35 @@ impl Direction {
         Some(Direction::LeftToRight)
     }
 
+    /// Whether the line runs leftward or rightward.
     pub fn is_horizontal(self) -> bool
         ensures { result ≡ is_horizontal self }
     {
         matches!(self, Direction::LeftToRight | Direction::RightToLeft)
     }
 
+    /// Whether the line runs upward or downward.
     pub fn is_vertical(self) -> bool
         ensures { result ≡ is_vertical self }
     {
         matches!(self, Direction::TopToBottom | Direction::BottomToTop)
     }
 
-    /// Whether the line goes rightward or downward.
+    /// Whether the line runs rightward or downward.
     pub fn is_forward(self) -> bool
         ensures { result ≡ is_forward self }
     {
         matches!(self, Direction::LeftToRight | Direction::TopToBottom)
     }
 
-    /// Whether the line goes leftward or upward.
+    /// Whether the line runs leftward or upward.
     pub fn is_backward(self) -> bool
         ensures { result ≡ is_backward self }
     {
         matches!(self, Direction::RightToLeft | Direction::BottomToTop)
     }
 
-    /// The direction along the same line the other way.
+    /// The opposite direction along the same line.
     pub fn reverse(self) -> Direction
         ensures { result ≡ opposite self }
     {

@@ -1,3 +1,4 @@
+//! The language of a text (rustybuzz: hb/common.rs, `Language`).
 ghost use Rattle.std.specs.Prelude.{◌≡◌, ◌↔◌, [], IfOk};
 ghost use Rattle.std.specs.Str.{str_to_ascii_lowercase};
 ghost use Rattle.buffer_common.specs.Language.{language_text};
@@ -9,7 +10,7 @@ use thiserror::Error;
 #[derive(Debug, PartialEq, Eq, Drop)]
 pub struct Language(String);
 
-/// Why a text gave no language.
+/// The error of a text that gives no language.
 #[derive(Clone, Copy, PartialEq, Eq, Debug, Error)]
 pub enum LanguageFault {
     /// The text is empty.
@@ -31,6 +32,7 @@ impl From<AllocError> for LanguageFault {
 }
 
 impl Language {
+    /// The language of a BCP 47 tag, in small letters; an empty text is refused, and want of memory.
     pub fn from_str(alloc: Global, text: &str) -> Result<Language, LanguageFault>
         ensures lowered { IfOk result (λ language. language_text language ≡ str_to_ascii_lowercase text.now) }
         ensures invalid { (result ≡ Err LanguageFault.Invalid) ↔ (text.now ≡ []) }
@@ -41,6 +43,7 @@ impl Language {
         Ok(Language(text.to_ascii_lowercase(alloc)?))
     }
 
+    /// The BCP 47 tag, in small letters.
     pub fn as_str(&self) -> &str
         ensures { result.now ≡ language_text self.now }
     {

@@ -1,4 +1,5 @@
-// Tags, scripts, directions and languages of a text, and the constants of its shaping.
+//! Tags, scripts, directions and languages of a text, and the constants of its shaping (rustybuzz: hb/common.rs,
+//! hb/tag.rs, hb/unicode.rs, hb/buffer.rs).
 #![tactic(auto)]
 
 pub mod constants;

@@ -1,3 +1,4 @@
+//! Scripts by their ISO 15924 tags (rustybuzz: hb/common.rs, `Script`).
 ghost use Rattle.std.specs.Prelude.{◌≡◌};
 ghost use Rattle.buffer_common.specs.Script.{script_of_tag, script_named, alias_in, script_of_text, ScriptsAreNamed, TagsLeadBack};
 
@@ -372,13 +373,13 @@ const ALIASES: [(Tag, Script); 13] = [
     (tag!(b"Syrn"), SYRIAC),
 ];
 
-/// The text is empty or names no script.
+/// The error of a text that is empty or names no script.
 #[derive(Clone, Copy, PartialEq, Eq, Debug, Error)]
 #[error("invalid script")]
 pub struct InvalidScript;
 
 impl Script {
-    /// The script of an ISO 15924 tag in any case. What is no tag of four letters is UNKNOWN.
+    /// The script of an ISO 15924 tag in any case. A tag that is not four letters gives UNKNOWN, the zero tag none.
     pub fn from_iso15924_tag(tag: Tag) -> Option<Script>
         ensures { result ≡ script_of_tag tag }
     {

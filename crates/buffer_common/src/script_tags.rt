@@ -1,3 +1,4 @@
+//! The OpenType tags of a script and a language (rustybuzz: hb/tag.rs, `tags_from_script_and_language`).
 ghost use Rattle.std.specs.Prelude.{◌≡◌, ◌<◌, ◌++◌, option_to_list};
 ghost use Rattle.std.specs.Option.{option_copied};
 ghost use Rattle.arrayvec.specs.ArrayVec.{array_vec_len};
@@ -9,7 +10,7 @@ use crate::script::*;
 use crate::tag::{Tag, tag};
 use arrayvec::ArrayVec;
 
-/// The OpenType tags that a script and a language are looked for by, those wanted most first.
+/// The OpenType tags by which a script and a language are looked up, those wanted most first.
 pub fn tags_from_script_and_language<L: LanguageTags>(
     script: Option<Script>,
     language: Option<&Language>,

@@ -1,3 +1,4 @@
+//! OpenType tags (rustybuzz: hb/common.rs, `TagExt`).
 ghost use Rattle.std.specs.Prelude.{◌≡◌, codes};
 ghost use Rattle.std.specs.List.{slice_index_or};
 ghost use Rattle.buffer_common.specs.Tag.{tag_of, bytes_of, tag_of_text, uppercase_tag};
@@ -6,6 +7,7 @@ ghost use Rattle.buffer_common.specs.Tag.{tag_of, bytes_of, tag_of_text, upperca
 #[derive(Clone, Copy, PartialEq, Eq, Debug, Default, Hash)]
 pub struct Tag(pub u32);
 
+/// HarfBuzz's name of a tag.
 pub type hb_tag_t = Tag;
 
 macro_rules! tag {
@@ -22,6 +24,7 @@ macro_rules! tag {
 pub(crate) use tag;
 
 impl Tag {
+    /// The tag of four bytes.
     pub const fn from_bytes(bytes: &[u8; 4]) -> Tag
         ensures { result ≡ tag_of bytes.now }
     {
@@ -44,6 +47,7 @@ impl Tag {
         ])
     }
 
+    /// The four bytes of the tag.
     pub const fn to_bytes(self) -> [u8; 4]
         ensures { result ≡ bytes_of self }
     {
@@ -57,17 +61,17 @@ fn byte_or_space(bytes: &[u8], index: usize) -> u8
     bytes.get(index).copied().unwrap_or(b' ')
 }
 
-/// Tags that the registry of OpenType gives a meaning of its own.
+/// Tags with a meaning of their own in OpenType's registry.
 pub trait TagExt: Sized {
     ghost use Rattle.buffer_common.specs.declared.tag.Tag.{Tag};
 
     ghost tag_value: { Self → Tag };
 
-    /// The script system of a font for scripts that it has no other for.
+    /// The script `DFLT` of a font, for scripts without a script table.
     fn default_script() -> Self
         ensures { tag_value result ≡ tag_of (codes "DFLT") };
 
-    /// The language system of a script for languages that it has no other for.
+    /// The language system `dflt` of a script, for languages without one.
     fn default_language() -> Self
         ensures { tag_value result ≡ tag_of (codes "dflt") };
 

@@ -1,4 +1,4 @@
--- What the deletion of a glyph does to where the others come from.
+-- What the deletion of a glyph does to the origins of the others.
 use Rattle.std.proofs.Common.{◌≡◌, List, [], ◌∷◌, ◌++◌, length, ap, sym, ◌∙◌}
 use Rattle.buffer_glyphs.specs.declared.info.hb_glyph_info_t.{hb_glyph_info_t}
 use Rattle.buffer_glyphs.specs.Origins.{origins, origins_deleted}

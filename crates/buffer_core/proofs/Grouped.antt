@@ -1,4 +1,4 @@
--- What a reversal of groups, a sort and deletions in place do to items and positions, and where the glyphs come from.
+-- What a reversal of groups, a sort and deletions in place do to items and positions, and the origins of the glyphs.
 use Rattle.std.specs.Prelude.{slice_range}
 use Rattle.std.specs.Global.{Vec}
 use Rattle.std.proofs.Common.{ℕ, ◌≡◌, ◌≤◌, Bool, false, [], ◌∷◌, ◌++◌, length, map, min, take, drop, refl, ap, ◌∙◌}
@@ -62,7 +62,7 @@ sorted_items start end k s = ap strip (all_sorted start end (λ g. k (item_of g)
 pub sorted_origins : (start end : ℕ) (k : Item → ℕ) (s : Sides) → start ≤ end → end ≤ length (all_glyphs s) → origins_of (with_range_sorted start end (λ g. k (item_of g)) s) ≡ origins_by (Sort start (order_of (map k (slice_range (items_of s) start end))) ∷ []) s
 sorted_origins start end k s le within = ap origins (all_sorted start end (λ g. k (item_of g)) s) ∙ sort_is_event (asks_of s) s.level start end k (all_glyphs s) le within
 
--- both vectors, with the groups turned round
+-- both vectors, with the groups reversed
 pub grouped_view : (merge : Bool) (joins : Glyph → Glyph → Bool) (b : Inside) (info : Vec Glyph) (positions : Vec GlyphPosition) (order : ClusterOrder) (flags : ℕ) → b.have_output ≡ false
     → info.items ≡ (turning_of merge b.cluster_level joins b.info.items b.pos.items).glyphs → positions.items ≡ (turning_of merge b.cluster_level joins b.info.items b.pos.items).positions
     → flags ≡ telling_flags (turning_of merge b.cluster_level joins b.info.items b.pos.items).is_marked b.scratch_flags

@@ -14,7 +14,7 @@ use Rattle.buffer_core.specs.Inside.{sides_of}
 use Rattle.buffer_core.specs.Sides.{Sides, all_glyphs, items_of, moved_on, reversed, origins_of}
 use Rattle.buffer_glyphs.specs.Origins.{origin_of}
 
--- glyphs that go behind the cursor stay in the list
+-- glyphs that are appended behind the cursor stay in the list
 pub moved_all : (n : ℕ) (s : Sides) → all_glyphs (moved_on n s) ≡ all_glyphs s
 moved_all n s = append_assoc s.behind (take n s.ahead) (drop n s.ahead) ∙ ap (λ gs. s.behind ++ gs) (take-append-drop n s.ahead)
 
@@ -28,12 +28,12 @@ map-reverse f (x ∷ xs) = rw (reverse_onto xs x [], map-append, map-reverse f x
 pub reversed_items : (s : Sides) → items_of (reversed s) ≡ reverse (items_of s)
 reversed_items s = ap strip (all_reversed s) ∙ map-reverse item_of (all_glyphs s)
 
--- both vectors turned round
+-- both vectors reversed
 pub turned_view : (b : Inside) (info : Vec hb_glyph_info_t) (positions : Vec GlyphPosition) → b.have_output ≡ false → info.items ≡ reverse b.info.items → positions.items ≡ reverse b.pos.items
     → sides_of (record b { info = info; pos = positions }) ≡ reversed (sides_of b)
 turned_view b info positions h i p = rw (h, i, p, take-append-drop b.idx b.info.items) refl
 
--- a glyph that goes behind the cursor under another number
+-- a glyph that is appended behind the cursor under another number
 renumbered_seen : {Y : Type 0} (v : hb_glyph_info_t → Y) → ((g : hb_glyph_info_t) (n : ℕ) → v (glyph_numbered g n) ≡ v g) → (n : ℕ) (behind ahead : List hb_glyph_info_t)
     → map v ((behind ++ map (λ (g : hb_glyph_info_t). glyph_numbered g n) (take 1 ahead)) ++ drop 1 ahead) ≡ map v (behind ++ ahead)
 renumbered_seen v same n behind [] = ap (map v) (append_assoc behind [] [])

@@ -77,7 +77,7 @@ flagged_view b info order bits from start end flags le before unread begins i f 
         let input : info.items ≡ glyphs_flagged bits start end b.info.items = rw (here, one, two) at i in
         rw (e, input, long, at, to, take-append-drop b.idx b.info.items, f) refl
 
--- with no output open as many glyphs stand behind the cursor as it has passed, and indices are those of the list
+-- with no output open as many glyphs are behind the cursor as it has passed, and indices are those of the list
 pub closed_behind : (b : Inside) → b.have_output ≡ false → b.idx ≤ length b.info.items → length (sides_of b).behind ≡ (sides_of b).read
 closed_behind b h le = rw h (length-take-le b.idx b.info.items le)
 

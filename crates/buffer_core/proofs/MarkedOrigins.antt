@@ -1,4 +1,4 @@
--- What requests for glyph flags do to items, and to where glyphs come from.
+-- What requests for glyph flags do to items, and to the origins of glyphs.
 use Rattle.std.proofs.Common.{ℕ, ◌≡◌, ◌≤◌, ◌<◌, ◌+◌, true, false, if◌then◌else◌, [], ◌∷◌, length, refl, ap, ◌∙◌, arith}
 use Rattle.std.specs.Prelude.{Option, unwrap_or}
 use Rattle.buffer_glyphs.specs.Origins.{origins, origins_marked, origins_flagged}

@@ -63,7 +63,7 @@ high_set value under m = or_shr (m - bit_and m under) (bit_and value under) 3 �
 without_flags_is : (m : ℕ) → without_flags m ≡ m / 8 * 8
 without_flags_is m = let low = and_mask m 3 in omega (arith, low)
 
--- the three flags don't tell what the bits above them become
+-- the three flags don't determine the bits above them
 pub set_above : (value under m : ℕ) → without_flags (bits_set value under m) ≡ without_flags (bits_set value under (without_flags m))
 set_above value under m =
     let high : without_flags m / 8 ≡ m / 8 = (let is = without_flags_is m in omega (arith, is)) in
@@ -99,7 +99,7 @@ masked_origins m s = ap origins (all_masked m s) ∙ map_map (glyph_masked m) or
 pub reset_origins : (m : ℕ) (s : Sides) → bit_and m 7 ≡ 0 → origins_of (with_masks m s) ≡ origins_by (Reset ∷ []) s
 reset_origins m s none = masked_origins m s ∙ ap (λ n. map (λ (o : Origin). record o { flags = n }) (origins_of s)) none
 
--- the bits above the three flags don't tell what these become
+-- the bits above the three flags don't determine the flags
 low_cleared : (m under : ℕ) → (m - bit_and m under) % 8 ≡ m % 8 - bit_and (m % 8) (under % 8)
 low_cleared m under =
     let high = and_shr m under 3 in

@@ -1,4 +1,4 @@
--- The cursor at another place, and a range turned round.
+-- The cursor at another index, and a range reversed.
 use Rattle.std.specs.Global.{Vec}
 use Rattle.std.proofs.Common.{ℕ, ◌≡◌, ◌≤◌, ◌+◌, ◌-◌, ◌++◌, true, false, List, length, take, drop, refl, ap, sym, subst, arith, append_assoc, ◌∙◌, [], ◌∷◌}
 use Rattle.std.proofs.lemmas.List.{map-append, take-append-drop, take-append-le, drop-append-le}
@@ -18,7 +18,7 @@ use Rattle.buffer_glyphs.specs.Origins.{origins}
 use Rattle.buffer_glyphs.specs.Events.{Arrange}
 use Rattle.buffer_groups.specs.Lemmas.ReversedEvents.{range_origins as reversed_range, range_seen}
 
--- no glyph goes where the cursor moves
+-- no glyph is deleted where the cursor moves
 pub moved_to_all : (i : ℕ) (s : Sides) → all_glyphs (moved_to i s) ≡ all_glyphs s
 moved_to_all i s = take-append-drop i (all_glyphs s)
 
@@ -28,7 +28,7 @@ moved_forth i n s e =
     let read : s.read + i - length s.behind ≡ s.read + n = omega (arith, e) in
     rw (read, e, take-append-add s.behind s.ahead n, drop-append-add s.behind s.ahead n) refl
 
--- back the end of the output goes in front of the input
+-- a move back puts the end of the output before the input
 pub moved_back : (b : Inside) (info out : Vec hb_glyph_info_t) (order : ClusterOrder) (i first : ℕ) → b.have_output ≡ true → i ≤ length b.out_info.items → first ≡ b.idx - (length b.out_info.items - i)
     → drop first info.items ≡ drop i b.out_info.items ++ drop b.idx b.info.items → out.items ≡ take i b.out_info.items
     → sides_of (record b { info = info; out_info = out; idx = first; order = order }) ≡ moved_to i (sides_of b)

@@ -22,7 +22,7 @@ use Rattle.buffer_core.proofs.Kept.{map-reverse}
 cluster_of : hb_glyph_info_t → ℕ
 cluster_of g = g.cluster
 
--- a glyph went from the input behind the output
+-- a glyph moved from the input to the output
 pub order_moved : (o : KnownOrder) (out info new : List hb_glyph_info_t) (n : ℕ) (d : hb_glyph_info_t) → n < length info → new ≡ out ++ get_or info n d ∷ [] → HasOrder o (clusters out ++ drop n (clusters info)) → HasOrder o (clusters new ++ drop (n + 1) (clusters info))
 order_moved o out info new n d lt e h =
     let first : drop n (clusters info) ≡ (get_or info n d).cluster ∷ drop (n + 1) (clusters info) =
@@ -56,7 +56,7 @@ known_ahead o out info n m e h = rw e (subst (λ ns. HasOrder o (clusters out ++
 pub known_back : (o : KnownOrder) (out info : List hb_glyph_info_t) (n m : ℕ) → n ≡ m → HasOrder o (clusters out ++ clusters (drop n info)) → HasOrder o (clusters out ++ drop m (clusters info))
 known_back o out info n m e h = subst (λ ns. HasOrder o (clusters out ++ ns)) (sym (drop-map (λ (g : hb_glyph_info_t). g.cluster) m info)) (rw e at h)
 
--- a glyph of the same cluster went from the input behind the output
+-- a glyph of the same cluster moved from the input to the output
 pub order_renumbered : (o : KnownOrder) (out info new : List hb_glyph_info_t) (n : ℕ) (g d : hb_glyph_info_t) → n < length info → new ≡ out ++ g ∷ [] → g.cluster ≡ (get_or info n d).cluster → HasOrder o (clusters out ++ drop n (clusters info)) → HasOrder o (clusters new ++ drop (n + 1) (clusters info))
 order_renumbered o out info new n g d lt e same h =
     let moved = order_moved o out info (out ++ get_or info n d ∷ []) n d lt refl h in
@@ -64,7 +64,7 @@ order_renumbered o out info new n g d lt e same h =
     let seen : clusters (out ++ get_or info n d ∷ []) ≡ clusters new = map-append f out (get_or info n d ∷ []) ∙ ap (λ c. clusters out ++ c ∷ []) (sym same) ∙ sym (map-append f out (g ∷ [])) ∙ ap clusters (sym e) in
     subst (λ ns. HasOrder o (ns ++ drop (n + 1) (clusters info))) seen moved
 
--- some glyphs went from the input behind the output
+-- some glyphs moved from the input to the output
 pub order_moved_on : (o : KnownOrder) (out info new : List hb_glyph_info_t) (n k : ℕ) → new ≡ out ++ take k (drop n info) → HasOrder o (clusters out ++ drop n (clusters info)) → HasOrder o (clusters new ++ drop (n + k) (clusters info))
 order_moved_on o out info new n k e h =
     let f : hb_glyph_info_t → ℕ = λ g. g.cluster in
@@ -97,7 +97,7 @@ drawn_pass : (xs ys : List ℕ) → IsDrawn (xs ++ ys) ys
 drawn_pass [] ys = drawn_drop 0 ys
 drawn_pass (x ∷ xs) ys = past x (xs ++ ys) ys (drawn_pass xs ys)
 
--- a stretch of what is left of the input stands in order
+-- a range of what is left of the input is in order
 pub range_ordered : (o : KnownOrder) (start end n : ℕ) (out info : List hb_glyph_info_t) → n ≤ start → is_known o ≡ true → HasOrder o (clusters out ++ drop n (clusters info)) → IsOrdered (stretch start end (clusters info))
 range_ordered o start end n out info le is h =
     let ns = clusters info in

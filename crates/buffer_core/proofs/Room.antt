@@ -19,11 +19,11 @@ some_ahead xs n some = let rest = length-drop n xs in omega (arith, rest, some)
 pub more_ahead : (xs : List hb_glyph_info_t) (n k : ℕ) → n ≤ length xs → k ≤ length (drop n xs) → n + k ≤ length xs
 more_ahead xs n k le more = let rest = length-drop n xs in omega (arith, rest, le, more)
 
--- the next element went behind others
+-- the next element is appended to others
 pub one_behind : (out new xs : List hb_glyph_info_t) (n : ℕ) (d x : hb_glyph_info_t) → n < length xs → x ≡ get_or xs n d → new ≡ out ++ x ∷ [] → new ≡ out ++ take 1 (drop n xs)
 one_behind out new xs n d x lt is e = e ∙ ap (λ y. out ++ y ∷ []) is ∙ ap (λ ys. out ++ ys) (sym (take_one xs n d lt))
 
--- what was put behind others is within the limit
+-- the elements that were appended to others are within the limit
 pub put_within : (out gs new : List hb_glyph_info_t) (n m : ℕ) → new ≡ out ++ gs → length gs ≡ n → nat_le (length out + n) m ≡ true → length new ≤ m
 put_within out gs new n m e long fits =
     let room : length out + n ≤ m = grind (arith, nat_tests, fits) in

@@ -1,4 +1,4 @@
--- What the stages of shaping tell each other, besides that there are glyph flags.
+-- The scratch flags without HAS_GLYPH_FLAGS.
 use Rattle.std.proofs.Common.{ℕ, ◌≡◌, Bool, true, false, refl}
 use Rattle.std.proofs.lemmas.Nat.{and_or_apart}
 use Rattle.buffer_core.specs.Sides.{told_of}

@@ -1,4 +1,4 @@
--- A list that is turned round twice.
+-- A list that is reversed twice.
 use Rattle.std.proofs.Common.{◌≡◌, length, reverse, refl}
 use Rattle.std.proofs.lemmas.List.{take-append-drop, reverse-reverse}
 use Rattle.std.proofs.Math.Seq.{take-append_seam, drop-append_seam}

@@ -1,4 +1,4 @@
--- To delete glyphs in place is a walk of deletions.
+-- Deletion in place is a walk of deletions.
 use Rattle.std.proofs.Common.{ℕ, zero, suc, ◌≡◌, ◌≤◌, ◌||◌, Bool, true, false, if◌then◌else◌, List, [], ◌∷◌, ◌++◌, length, drop, take, refl, arith, ap, sym, ◌∙◌}
 use Rattle.std.specs.Int.Bits.{or_add_and}
 use Rattle.std.specs.Int.RustNames.{bit_or}

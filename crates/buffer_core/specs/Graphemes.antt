@@ -1,4 +1,4 @@
--- What a character tells shaping by its properties.
+-- Graphemes and default ignorables, by the property words of items.
 use Rattle.std.specs.Prelude.{◌==◌, ◌&&◌, not, Bool}
 use Rattle.std.specs.Int.RustNames.{bit_and}
 use Rattle.buffer_glyphs.specs.Items.{Item}
@@ -7,6 +7,6 @@ use Rattle.buffer_glyphs.specs.Items.{Item}
 abbrev pub continues : Item → Bool
 continues x = not (bit_and x.unicode_props 0x80 == 0)
 
--- whether it is to leave no glyph: it is a default ignorable, and no substitution made it into a glyph
+-- whether it is deleted or hidden in the output: it is a default ignorable, and no substitution made it into a glyph
 abbrev pub is_default_ignorable : Item → Bool
 is_default_ignorable x = not (bit_and x.unicode_props 0x20 == 0) && bit_and x.glyph_props 16 == 0

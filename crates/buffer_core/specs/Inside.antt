@@ -6,6 +6,7 @@ use Rattle.buffer_glyphs.specs.Items.{clusters}
 use Rattle.buffer_lists.specs.Known.{HasOrder, put_back_ahead, put_back_behind}
 use Rattle.buffer_core.specs.Sides.{Sides}
 
+-- the sides that clients see, of a buffer's fields
 abbrev pub sides_of : Inside → Sides
 sides_of b = record {
   behind = if b.have_output then b.out_info.items else take b.idx b.info.items;
@@ -29,7 +30,7 @@ sides_of b = record {
   flags = b.flags;
 }
 
--- where in the input the glyphs ahead, or with no output open all glyphs, begin
+-- the index in the input of the first glyph ahead; with no output open, 0
 abbrev pub start_of : Inside → ℕ
 start_of b = if b.have_output then b.idx else 0
 
@@ -37,6 +38,7 @@ start_of b = if b.have_output then b.idx else 0
 abbrev pub known_clusters : Inside → List ℕ
 known_clusters b = put_back_behind b.order.lent (clusters b.out_info.items) ++ drop (start_of b) (put_back_ahead b.order.lent (clusters b.info.items))
 
+-- the invariant of a buffer's fields
 pub record IsSound (b : Inside) : Type 0 where
   pub cursor : b.idx ≤ length b.info.items
   pub input_within : length b.info.items ≤ b.max_len

@@ -5,15 +5,15 @@ use Rattle.buffer_core.specs.Grouping.{walked_over, with_picked_deleted}
 use Rattle.buffer_core.specs.Lending.{with_output_refilled}
 use Rattle.buffer_core.specs.Sides.{Sides, all_glyphs, reversed, with_output}
 
--- what is turned round twice is as it was; with no output open as many glyphs were read as stand behind the cursor
+-- two reversals give the buffer back; with no output open, as many glyphs were read as are behind the cursor
 abbrev pub ReverseTwice : Type 0
 ReverseTwice = (s : Sides) → s.read ≡ length s.behind → reversed (reversed s) ≡ s
 
--- to delete glyphs in place leaves the glyphs that the walk over an open output leaves, and tells as much of flags
+-- `delete_glyphs_inplace` leaves the glyphs and the scratch flags that the walk over an open output leaves
 abbrev pub DeletesAsWalk : Type 0
 DeletesAsWalk = (goes : hb_glyph_info_t → Bool) (s : Sides) → let walked = walked_over goes (length (all_glyphs s)) (with_output s) in
     (all_glyphs (with_picked_deleted goes s) ≡ all_glyphs walked) × ((with_picked_deleted goes s).scratch_flags ≡ walked.scratch_flags)
 
--- as many glyphs as were lent of those behind the cursor stand in their place, and nothing else changes
+-- as many glyphs as `out_info_mut` lent come back to the same indices, and nothing else changes
 abbrev pub OutputComesBack : Type 0
 OutputComesBack = (s : Sides) (gs : List hb_glyph_info_t) → length gs ≡ length s.behind → with_output_refilled gs s ≡ record s { behind = gs }

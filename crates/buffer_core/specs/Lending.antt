@@ -1,4 +1,4 @@
--- What a buffer is once a glyph or a place that it lent comes back.
+-- A buffer once a glyph or a position that it lent comes back.
 use Rattle.std.specs.Prelude.{ℕ, ◌-◌, ◌++◌, if◌then◌else◌, List, length, take, drop, slice_set}
 use Rattle.std.specs.Borrow.{Lends, MutBor, Fml, Array}
 use Rattle.buffer_glyphs.specs.declared.info.hb_glyph_info_t.{hb_glyph_info_t}
@@ -10,11 +10,11 @@ use Rattle.buffer_glyphs.specs.Items.{Position}
 use Rattle.buffer_core.specs.Merging.{with_glyphs}
 use Rattle.buffer_core.specs.Sides.{Sides, all_glyphs}
 
--- another glyph at the i-th place from the cursor on
+-- another glyph at the i-th index from the cursor on
 abbrev pub with_glyph_ahead : ℕ → hb_glyph_info_t → Sides → Sides
 with_glyph_ahead i g s = record s { ahead = slice_set s.ahead i g }
 
--- another place for the glyph at the cursor
+-- another position for the glyph at the cursor
 abbrev pub with_current_position : GlyphPosition → Sides → Sides
 with_current_position p s = record s { positions = slice_set s.positions s.read p }
 
@@ -22,36 +22,42 @@ with_current_position p s = record s { positions = slice_set s.positions s.read 
 abbrev pub with_last_behind : hb_glyph_info_t → Sides → Sides
 with_last_behind g s = record s { behind = slice_set s.behind (length s.behind - 1) g }
 
--- as many elements as there were: those that come back, and where they are fewer the old ones behind them
+-- as many elements as there were: those that come back, and where they are fewer the last of the old ones
 abbrev pub refilled : {X : Type 0} → List X → List X → List X
 refilled new old = take (length old) (new ++ drop (length new) old)
 
--- other glyphs
+-- all glyphs replaced by those that come back
 abbrev pub with_refilled : List hb_glyph_info_t → Sides → Sides
 with_refilled gs s = with_glyphs (refilled gs (all_glyphs s)) s
 
--- of the glyphs behind the cursor as many come back as there were; with no output open they stand at the front of all glyphs
+-- the glyphs behind the cursor replaced by those that come back; with no output open, they are the first of all glyphs
 abbrev pub with_output_refilled : List hb_glyph_info_t → Sides → Sides
 with_output_refilled gs s = if s.is_open then record s { behind = refilled gs s.behind } else with_refilled gs s
 
--- other positions
+-- all positions replaced by those that come back
 abbrev pub with_positions_refilled : List Position → Sides → Sides
 with_positions_refilled ps s = record s { positions = refilled ps s.positions }
 
+-- a borrow of the i-th glyph from the cursor on, out of a borrow of the buffer
 abbrev pub LendsGlyph : ℕ → MutBor Sides → MutBor hb_glyph_info_t → Fml
 LendsGlyph i s r = Lends the_row info_row s r (λ g. with_glyph_ahead i g s.now)
 
+-- a borrow of the position at the cursor, out of a borrow of the buffer
 abbrev pub LendsPlace : MutBor Sides → MutBor GlyphPosition → Fml
 LendsPlace s r = Lends the_row place_row s r (λ p. with_current_position p s.now)
 
+-- a borrow of the last glyph behind the cursor, out of a borrow of the buffer
 abbrev pub LendsLast : MutBor Sides → MutBor hb_glyph_info_t → Fml
 LendsLast s r = Lends the_row info_row s r (λ g. with_last_behind g s.now)
 
+-- a borrow of all glyphs, out of a borrow of the buffer
 abbrev pub LendsGlyphs : MutBor Sides → MutBor (List hb_glyph_info_t) → Fml
 LendsGlyphs s r = Lends the_row (Array info_row 0) s r (λ gs. with_refilled gs s.now)
 
+-- a borrow of the glyphs behind the cursor, out of a borrow of the buffer
 abbrev pub LendsOutput : MutBor Sides → MutBor (List hb_glyph_info_t) → Fml
 LendsOutput s r = Lends the_row (Array info_row 0) s r (λ gs. with_output_refilled gs s.now)
 
+-- a borrow of all positions, out of a borrow of the buffer
 abbrev pub LendsPlaces : MutBor Sides → MutBor (List GlyphPosition) → Fml
 LendsPlaces s r = Lends the_row (Array place_row 0) s r (λ ps. with_positions_refilled ps s.now)

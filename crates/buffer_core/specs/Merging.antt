@@ -1,4 +1,4 @@
--- What merges and replacements of glyphs make of a buffer.
+-- Merges and replacements of a buffer's glyphs.
 use Rattle.std.specs.Prelude.{ℕ, ◌+◌, ◌-◌, ◌==◌, ◌||◌, Bool, if◌then◌else◌, List, [], ◌∷◌, ◌++◌, map, length, take, drop, Option}
 use Rattle.std.specs.Int.RustNames.{bit_or}
 use Rattle.buffer_glyphs.specs.declared.info.hb_glyph_info_t.{hb_glyph_info_t}
@@ -10,58 +10,58 @@ use Rattle.buffer_glyphs.specs.Glyphs.{glyphs_merged_as, glyphs_merged_at, is_ma
 use Rattle.buffer_glyphs.specs.Replacements.{copied, glyph_numbered}
 use Rattle.buffer_core.specs.Sides.{Sides, all_glyphs, has_output_room}
 
--- the place among all glyphs of an index of the input; with no output open the input is all glyphs
+-- the index among all glyphs of an index of the input; with no output open the input is all glyphs
 abbrev pub index_in_all : ℕ → Sides → ℕ
 index_in_all i s = length s.behind + i - s.read
 
--- other glyphs on both sides, as many as before
+-- other glyphs, with as many on each side as before
 abbrev pub with_glyphs : List hb_glyph_info_t → Sides → Sides
 with_glyphs gs s = record s { behind = take (length s.behind) gs; ahead = drop (length s.behind) gs }
 
--- the scratch flag that a glyph has one of the three flags
+-- scratch flags, with HAS_GLYPH_FLAGS set where a glyph got one of the three flags
 abbrev pub telling_flags : Bool → ℕ → ℕ
 telling_flags any flags = if any then bit_or flags 32 else flags
 
--- the indices from `from` up to before `to` merge; at the level that keeps characters apart they are marked
+-- the indices from `from` up to before `to` merged; at the level `Characters` they are flagged (`merge_clusters`)
 abbrev pub with_merged : ℕ → ℕ → Sides → Sides
 with_merged from to s = record (with_glyphs (glyphs_merged_at s.level from to (all_glyphs s)) s) { scratch_flags = telling_flags (is_marked_at s.level from to (clusters (all_glyphs s))) s.scratch_flags }
 
--- what a merge of such indices within the output leaves: at the level that keeps characters apart nothing changes
+-- such indices of the output merged at a level; at the level `Characters` nothing changes
 abbrev pub output_merged_at : BufferClusterLevel → ℕ → ℕ → List hb_glyph_info_t → List hb_glyph_info_t
 output_merged_at level from to gs = glyphs_merged_as (manner InOutput level) from to gs
 
--- the positions of the output from `from` up to before `to` merge
+-- the indices of the output from `from` up to before `to` merged (`merge_out_clusters`)
 abbrev pub with_output_merged : ℕ → ℕ → Sides → Sides
 with_output_merged from to s = with_glyphs (output_merged_at s.level from to (all_glyphs s)) s
 
--- what new glyphs are copies of: the glyph at the cursor, past the end the last behind it
+-- the glyph that new glyphs are copies of: the glyph at the cursor, else the last output glyph
 abbrev pub model : Sides → Option hb_glyph_info_t
 model s = or (first_of s.ahead) (last_of s.behind)
 
--- so many glyphs ahead make room for others behind the cursor
+-- so many glyphs ahead replaced by a copy of the model for each number, with no merge
 abbrev pub with_copied : ℕ → List ℕ → Sides → Sides
 with_copied taken numbers s = record s { behind = s.behind ++ copied glyph_numbered (model s) numbers; ahead = drop taken s.ahead; read = s.read + taken }
 
--- so many glyphs ahead merge, and make room for others
+-- so many glyphs ahead merged, and then replaced by a copy of the model for each number (`replace_glyphs`)
 abbrev pub with_replaced : ℕ → List ℕ → Sides → Sides
 with_replaced taken numbers s = with_copied taken numbers (with_merged (length s.behind) (length s.behind + taken) s)
 
--- whether so many copies may be put behind the output; without a glyph none is made
+-- whether so many copies may be appended to the output; without a glyph to copy none is
 abbrev pub fits_copies : ℕ → Sides → Bool
 fits_copies n s = (length (all_glyphs s) == 0) || has_output_room n s
 
--- a glyph goes behind the cursor
+-- a glyph appended behind the cursor (`output_info`)
 abbrev pub with_put : hb_glyph_info_t → Sides → Sides
 with_put g s = record s { behind = s.behind ++ g ∷ [] }
 
--- a copy of the model under a number goes behind the cursor
+-- a copy of the model under a number appended behind the cursor (`output_glyph`)
 abbrev pub with_copy : ℕ → Sides → Sides
 with_copy n s = record s { behind = s.behind ++ copied glyph_numbered (model s) (n ∷ []) }
 
--- the glyph at the cursor goes behind it under another number
+-- the glyph at the cursor moved behind it under another number (`replace_glyph`)
 abbrev pub with_renumbered : ℕ → Sides → Sides
 with_renumbered n s = record s { behind = s.behind ++ map (λ (g : hb_glyph_info_t). glyph_numbered g n) (take 1 s.ahead); ahead = drop 1 s.ahead; read = s.read + 1 }
 
--- the glyph at the cursor goes
+-- the glyph at the cursor deleted, with no merge (`skip_glyph`)
 abbrev pub with_skipped : Sides → Sides
 with_skipped s = record s { ahead = drop 1 s.ahead; read = s.read + 1 }

@@ -1,4 +1,4 @@
--- The cursor at another place, and lists cut, filled or turned round in part.
+-- Moves of the cursor, and lists truncated, filled up or reversed in a range.
 use Rattle.std.specs.Prelude.{ℕ, ◌+◌, ◌-◌, ◌&&◌, Bool, true, not, nat_le, nat_lt, if◌then◌else◌, List, ◌++◌, length, take, drop, replicate, min}
 use Rattle.buffer_glyphs.specs.declared.info.hb_glyph_info_t.{hb_glyph_info_t}
 pub use Rattle.buffer_groups.specs.Events.{indices_reversed}
@@ -7,34 +7,34 @@ use Rattle.buffer_core.specs.Sides.{Sides, all_glyphs, with_list}
 use Rattle.buffer_glyphs.specs.Items.{zero_position}
 use Rattle.buffer_core.specs.Text.{added_glyph}
 
--- the cursor stands in front of the i-th of all glyphs; glyphs that come back were not read
+-- the cursor before the i-th of all glyphs; glyphs that move back to the input no longer count as read
 abbrev pub moved_to : ℕ → Sides → Sides
 moved_to i s = record s { behind = take i (all_glyphs s); ahead = drop i (all_glyphs s); read = s.read + i - length s.behind }
 
--- whether the input may have what stands behind the cursor from the i-th on too
+-- whether the input may have the glyphs behind the cursor from the i-th on too
 abbrev pub has_room_back : ℕ → Sides → Bool
 has_room_back i s = nat_le (length s.ahead + (length s.behind - i)) s.max_len
 
--- whether the side that grows by that may have so many glyphs
+-- whether the side that grows by such a move may have so many glyphs
 abbrev pub side_holds : ℕ → Sides → Bool
 side_holds i s = if nat_lt (length s.behind) i then nat_le i s.max_len else has_room_back i s
 
--- whether the cursor may be moved there: with an output open, after no refusal, and where the side that grows holds it
+-- whether the cursor may be moved there: an output is open, no call was refused, and the side that grows may hold it
 abbrev pub fits_moved : ℕ → Sides → Bool
 fits_moved i s = if s.is_open then not s.has_refused && side_holds i s else true
 
--- a range of glyphs and positions turned round
+-- a range of glyphs and their positions reversed
 abbrev pub with_range_reversed : ℕ → ℕ → Sides → Sides
 with_range_reversed start end s = with_list (range_reversed start end (all_glyphs s)) (range_reversed start end s.positions) s
 
--- n elements: those behind are cut off, and those that are missing are x
+-- n elements: the first ones, and x for each that is missing
 abbrev pub of_length : {X : Type 0} → ℕ → X → List X → List X
 of_length n x xs = take n xs ++ replicate (n - length xs) x
 
--- a glyph of which nothing is known
+-- a glyph whose fields are all zero
 abbrev pub zero_glyph : hb_glyph_info_t
 zero_glyph = added_glyph 0 0
 
--- n glyphs and positions, with the cursor no further than behind the last
+-- n glyphs and positions, with the cursor at most after the last
 abbrev pub with_len : ℕ → Sides → Sides
 with_len n s = with_list (of_length n zero_glyph (all_glyphs s)) (of_length n zero_position s.positions) (record s { read = min s.read n })

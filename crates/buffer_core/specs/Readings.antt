@@ -1,4 +1,4 @@
--- The reading of a text: what its glyphs are, and what happens on the way to where they come from, or the cause of a refusal.
+-- The reading of a text: its glyphs, and the events that say where they come from, or the cause of a refusal.
 use Rattle.std.specs.Prelude.{ℕ, ℤ, ◌≡◌, List, [], ◌++◌, Result, Ok, Err}
 use Rattle.buffer_glyphs.specs.declared.cause.ShapeCause.{ShapeCause}
 use Rattle.buffer_glyphs.specs.declared.level.BufferClusterLevel.{BufferClusterLevel}
@@ -12,50 +12,50 @@ use Rattle.buffer_glyphs.specs.Events.{Event, origins_after}
 pub record View : Type 0 where
   pub items : List Item
   pub positions : List Position
-  -- the ligature number that was given last
+  -- the last ligature number given out
   pub lig_id : ℕ
-  -- how many nested lookups may still be done
+  -- how many nested lookups may still be applied
   pub max_ops : ℤ
-  -- the state from which alternates are drawn at random
+  -- the state of the random numbers for alternates (`random_state`)
   pub random : ℕ
-  -- how many items a side of the list may hold
+  -- how many items each side of the list may hold
   pub max_len : ℕ
   pub direction : Direction
-  -- what the stages tell each other, but that there are glyph flags
+  -- the scratch flags, without HAS_GLYPH_FLAGS
   pub told : ℕ
 
--- what was read, and the events on the way to it at each level
+-- the view after a pipeline stage, and the events on the way to it at each level
 pub record Read : Type 0 where
   pub view : View
   pub events : BufferClusterLevel → List Event
 
--- what was read, or the first cause of a refusal
+-- the outcome of pipeline stages: what was read, or the first cause of a refusal
 abbrev pub Reading : Type 0
 Reading = Result Read ShapeCause
 
--- a part of a reading
+-- a pipeline stage: a reading for each view
 abbrev pub Stage : Type 0
 Stage = View → Reading
 
--- what the second read, with the events of both
+-- what the second stage read, with the events of both
 abbrev pub then_read : Read → Read → Read
 then_read r s = record { view = s.view; events = λ level. r.events level ++ s.events level }
 
--- a reading that comes after the events of another
+-- a reading with the events of another before its own
 abbrev pub then_reading : Read → Reading → Reading
 then_reading r (Ok s) = Ok (then_read r s)
 then_reading r (Err e) = Err e
 
--- a reading, and then a stage
+-- a reading followed by a stage
 abbrev pub and_then : Reading → Stage → Reading
 and_then (Ok r) next = then_reading r (next r.view)
 and_then (Err e) next = Err e
 
--- a view on the way to which so much happened, at whatever level
+-- a view with the same events at every level
 abbrev pub with_events : List Event → View → Read
 with_events es v = record { view = v; events = λ level. es }
 
--- the stage that leaves all as it is
+-- the stage that changes nothing
 abbrev pub as_it_is : Stage
 as_it_is v = Ok (with_events [] v)
 
@@ -63,22 +63,22 @@ as_it_is v = Ok (with_events [] v)
 abbrev pub always : (View → Read) → Stage
 always f v = Ok (f v)
 
--- a buffer as stages of shaping know it
+-- the state of a buffer as pipeline stages know it: view, origins, settings
 pub record Run : Type 0 where
   pub view : View
   pub origins : List Origin
   pub level : BufferClusterLevel
   pub asks : Asks
 
--- a run after what was read
+-- the state after what was read
 abbrev pub run_after : Read → Run → Run
 run_after r run = record { view = r.view; origins = origins_after run.asks run.level (r.events run.level) run.origins; level = run.level; asks = run.asks }
 
--- the way from one run to another is a reading: all is told of the new one
+-- the new state is `run_after` of the reading and the old one; where the reading refuses, there is no new state
 abbrev pub Follows : Reading → Run → Run → Type 0
 Follows (Ok r) old new = new ≡ run_after r old
 Follows (Err e) old new = ⊥
 
--- a stage, at the view of a run
+-- a stage, at the view of a state
 abbrev pub read_of : Stage → Run → Reading
 read_of stage run = stage run.view

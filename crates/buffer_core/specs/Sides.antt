@@ -14,19 +14,20 @@ use Rattle.buffer_common.specs.declared.direction.Direction.TheVariants.{Invalid
 use Rattle.buffer_common.specs.declared.language.Language.{Language}
 use Rattle.buffer_common.specs.declared.script.Script.{Script}
 
+-- a buffer as its clients see it: the two sides of the cursor, positions and settings
 pub record Sides : Type 0 where
-  -- the output while one is open, else what the cursor has passed
+  -- the output while one is open, else the glyphs before the cursor
   pub behind : List hb_glyph_info_t
   pub ahead : List hb_glyph_info_t
-  -- a place for each glyph; an open output has none
+  -- a position for each glyph; none while an output is open
   pub positions : List Position
   pub is_open : Bool
-  -- how many glyphs were read since the output was opened, or stand behind the cursor
+  -- how many glyphs were read since the output was opened; with none open, how many are behind the cursor
   pub read : ℕ
   pub has_refused : Bool
   pub max_len : ℕ
   pub max_ops : ℤ
-  -- the ligature number that was given last, 0 for none
+  -- the last ligature number given out, 0 for none
   pub lig_id : ℕ
   pub level : BufferClusterLevel
   pub direction : Direction
@@ -35,12 +36,12 @@ pub record Sides : Type 0 where
   -- the characters before the text and after it, nearest first
   pub pre_context : List ℕ
   pub post_context : List ℕ
-  -- the glyphs that stand for what is not to be seen, and for a selector that the font does not know
+  -- the glyphs that replace invisible characters, and variation selectors that the font does not support
   pub invisible : Option ℕ
   pub not_found_variation_selector : Option ℕ
-  -- what the stages of shaping tell each other of the glyphs
+  -- the flags that the stages of shaping set for each other
   pub scratch_flags : ℕ
-  -- what is asked of the shaping
+  -- the requests for the shaping (`hb_buffer_flags_t`)
   pub flags : BufferFlags
 
 -- all glyphs, in order
@@ -51,31 +52,31 @@ all_glyphs s = s.behind ++ s.ahead
 abbrev pub items_of : Sides → List Item
 items_of s = strip (all_glyphs s)
 
--- the scratch flags but the one that there are glyph flags
+-- the scratch flags without HAS_GLYPH_FLAGS
 abbrev pub told_of : ℕ → ℕ
 told_of flags = bit_and flags 0xFFFF_FFDF
 
--- what the stages of shaping see of a buffer; it has no random state of its own, and each draws from 1
+-- what pipeline stages see of a buffer; each draws random numbers from the state 1
 abbrev pub view_of : Sides → View
 view_of s = record { items = items_of s; positions = s.positions; lig_id = s.lig_id; max_ops = s.max_ops; random = 1; max_len = s.max_len; direction = s.direction; told = told_of s.scratch_flags }
 
--- what is asked of glyph flags
+-- the requests for glyph flags
 abbrev pub asks_of : Sides → Asks
 asks_of s = record { concat = bit_and s.flags.0 64 == 64; tatweel = bit_and s.flags.0 128 == 128 }
 
--- where the glyphs come from
+-- the clusters and glyph flags of all glyphs
 abbrev pub origins_of : Sides → List Origin
 origins_of s = origins (all_glyphs s)
 
--- where they come from after events
+-- the clusters and glyph flags after events
 abbrev pub origins_by : List Event → Sides → List Origin
 origins_by es s = origins_after (asks_of s) s.level es (origins_of s)
 
--- a buffer as the stages of shaping know it
+-- the state of a buffer as pipeline stages know it
 abbrev pub run_of : Sides → Run
 run_of s = record { view = view_of s; origins = origins_of s; level = s.level; asks = asks_of s }
 
--- what is set for a text, and no stage of shaping changes
+-- the settings of a text that no pipeline stage changes
 pub record Settings : Type 0 where
   pub level : BufferClusterLevel
   pub script : Option Script
@@ -86,6 +87,7 @@ pub record Settings : Type 0 where
   pub not_found_variation_selector : Option ℕ
   pub flags : BufferFlags
 
+-- the settings of a buffer
 abbrev pub settings_of : Sides → Settings
 settings_of s = record {
   level = s.level;
@@ -98,11 +100,11 @@ settings_of s = record {
   flags = s.flags;
 }
 
--- so many positions of nothing
+-- so many zero positions
 abbrev pub zero_positions : ℕ → List Position
 zero_positions n = replicate n zero_position
 
--- what `new` leaves
+-- the buffer that `new` makes
 abbrev pub empty_buffer : Sides
 empty_buffer = record {
   behind = [];
@@ -126,19 +128,19 @@ empty_buffer = record {
   flags = record { 0 = 0 };
 }
 
--- more glyphs at the end, with positions of nothing
+-- glyphs appended to the list, with zero positions
 abbrev pub with_added : List hb_glyph_info_t → Sides → Sides
 with_added gs s = record s { ahead = s.ahead ++ gs; positions = s.positions ++ zero_positions (length gs) }
 
--- whether so many more glyphs may stand in the list
+-- whether the list may have so many more glyphs
 abbrev pub has_room : ℕ → Sides → Bool
 has_room n s = nat_le (length (all_glyphs s) + n) s.max_len
 
--- the cursor stands in front of all glyphs, and an empty output is open
+-- the cursor before all glyphs, and an empty output open (`clear_output`)
 abbrev pub with_output : Sides → Sides
 with_output s = record s { behind = []; ahead = all_glyphs s; positions = []; is_open = true; read = 0 }
 
--- the first n glyphs ahead go behind the cursor
+-- the first n glyphs ahead moved behind the cursor
 abbrev pub moved_on : ℕ → Sides → Sides
 moved_on n s = record s { behind = s.behind ++ take n s.ahead; ahead = drop n s.ahead; read = s.read + n }
 
@@ -146,11 +148,11 @@ moved_on n s = record s { behind = s.behind ++ take n s.ahead; ahead = drop n s.
 abbrev pub has_output_room : ℕ → Sides → Bool
 has_output_room n s = nat_le (length s.behind + n) s.max_len
 
--- whether the cursor may move on over n glyphs: an open output has to hold them
+-- whether the cursor may move over n glyphs: an open output must have room for them
 abbrev pub fits_next : ℕ → Sides → Bool
 fits_next n s = if s.is_open then has_output_room n s else true
 
--- a side would have grown past the limit: no later `sync` succeeds
+-- the buffer after a refusal for length: no later `sync` succeeds
 abbrev pub refused : Sides → Sides
 refused s = record s { has_refused = true }
 
@@ -158,7 +160,7 @@ refused s = record s { has_refused = true }
 abbrev pub fits_joined : Sides → Bool
 fits_joined s = not s.has_refused && has_room 0 s
 
--- both sides become one list with positions of nothing, and the cursor stands at its front
+-- both sides joined to one list with zero positions, and the cursor at its front (`sync`)
 abbrev pub synced : Sides → Sides
 synced s = record s { behind = []; ahead = all_glyphs s; positions = zero_positions (length (all_glyphs s)); is_open = false; read = 0 }
 
@@ -166,26 +168,26 @@ synced s = record s { behind = []; ahead = all_glyphs s; positions = zero_positi
 abbrev pub with_list : List hb_glyph_info_t → List Position → Sides → Sides
 with_list gs ps s = record s { behind = take s.read gs; ahead = drop s.read gs; positions = ps }
 
--- glyphs and positions turned round
+-- glyphs and positions reversed (`reverse`)
 abbrev pub reversed : Sides → Sides
 reversed s = with_list (reverse (all_glyphs s)) (reverse s.positions) s
 
--- another cluster level
+-- a buffer with another cluster level
 abbrev pub with_level : BufferClusterLevel → Sides → Sides
 with_level l s = record s { level = l }
 
--- other scratch flags
+-- a buffer with other scratch flags
 abbrev pub with_scratch_flags : ℕ → Sides → Sides
 with_scratch_flags f s = record s { scratch_flags = f }
 
--- other requests
+-- a buffer with other requests
 abbrev pub with_flags : BufferFlags → Sides → Sides
 with_flags f s = record s { flags = f }
 
--- another limit of the length
+-- a buffer with another limit of the length
 abbrev pub with_max_len : ℕ → Sides → Sides
 with_max_len n s = record s { max_len = n }
 
--- each place nothing
+-- a buffer with every position zero (`clear_positions`)
 abbrev pub with_cleared_positions : Sides → Sides
 with_cleared_positions s = record s { positions = zero_positions (length s.positions) }

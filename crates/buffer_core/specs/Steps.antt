@@ -1,4 +1,4 @@
--- One stage after another.
+-- Readings of one pipeline stage after another.
 use Rattle.std.proofs.Common.{◌≡◌, List, [], ◌++◌, Ok, Err, refl, sym, ap, subst, ◌∙◌, append_assoc}
 use Rattle.std.proofs.lemmas.List.{append-nil}
 use Rattle.std.proofs.lemmas.List.Sums.{fold-append}
@@ -16,7 +16,7 @@ follows_then_reading : (r : Read) (s : Reading) (old new : Run) → Follows s (r
 follows_then_reading r (Ok s) old new g = g ∙ run_after_both r s old
 follows_then_reading r (Err e) old new g = absurd g
 
--- a stage after a reading
+-- the state after a reading and a stage follows the stage after the reading
 pub follows_then : (r : Reading) (next : Stage) (old mid new : Run) → Follows r old mid → Follows (read_of next mid) mid new → Follows (and_then r next) old new
 follows_then (Ok r) next old mid new f g = let P : Run → Type 0 = λ m. Follows (read_of next m) m new in follows_then_reading r (next r.view) old new (subst P f g)
 follows_then (Err e) next old mid new f g = absurd f
@@ -30,7 +30,7 @@ refused_then (Err e') next old mid e f g = absurd f
 pub refused_first : (r : Reading) (next : Stage) (e : ShapeCause) → r ≡ Err e → and_then r next ≡ Err e
 refused_first r next e h = rw h refl
 
--- a run to which so much happened, at whatever level
+-- the state after events alone, at whatever level, follows their reading
 pub follows_events : (es : List Event) (v : View) (old new : Run) → new.view ≡ v → new.origins ≡ origins_after old.asks old.level es old.origins → new.level ≡ old.level → new.asks ≡ old.asks
     → Follows (Ok (with_events es v)) old new
 follows_events es v old new view origins level asks =
@@ -38,7 +38,7 @@ follows_events es v old new view origins level asks =
     ∙ ap (λ l. record { view = v; origins = origins_after old.asks old.level es old.origins; level = l; asks = new.asks }) level
     ∙ ap (λ a. record { view = v; origins = origins_after old.asks old.level es old.origins; level = old.level; asks = a }) asks
 
--- a run that stays as it is follows the reading of what it has
+-- a state that stays follows the reading that changes nothing
 pub follows_same : (run : Run) → Follows (read_of as_it_is run) run run
 follows_same run = refl
 
@@ -59,12 +59,12 @@ pub and_then_assoc : (r : Reading) (next last : Stage) → and_then (and_then r 
 and_then_assoc (Ok r) next last = then_reading_stage r (next r.view) last
 and_then_assoc (Err e) next last = refl
 
--- before a reading that has no events comes nothing
+-- a reading after one without events is that reading
 pub nothing_then : (v : View) (r : Reading) → then_reading (with_events [] v) r ≡ r
 nothing_then v (Ok s) = refl
 nothing_then v (Err e) = refl
 
--- the stage that leaves all as it is adds nothing, before a stage or after a reading
+-- the stage that changes nothing adds nothing, before a stage or after a reading
 pub as_it_is_then : (v : View) (next : Stage) → and_then (as_it_is v) next ≡ next v
 as_it_is_then v next = nothing_then v (next v)
 
@@ -81,7 +81,7 @@ follows_happened es v (Ok s) old mid new origins level asks f =
     ∙ ap (λ os. record { view = s.view; origins = os; level = old.level; asks = old.asks }) (sym (origins_after_both old.asks old.level es (s.events old.level) old.origins))
 follows_happened es v (Err e) old mid new origins level asks f = absurd f
 
--- what follows a reading from one run follows it from another that differs in its view alone
+-- a reading from one state is followed from another that differs only in its view
 pub follows_from : (q : Reading) (old other new : Run) → old.origins ≡ other.origins → old.level ≡ other.level → old.asks ≡ other.asks → Follows q old new → Follows q other new
 follows_from (Ok s) old other new origins level asks f =
     f ∙ ap (λ l. record { view = s.view; origins = origins_after old.asks l (s.events l) old.origins; level = l; asks = old.asks }) level
@@ -89,11 +89,11 @@ follows_from (Ok s) old other new origins level asks f =
     ∙ ap (λ os. record { view = s.view; origins = origins_after other.asks other.level (s.events other.level) os; level = other.level; asks = other.asks }) origins
 follows_from (Err e) old other new origins level asks f = absurd f
 
--- a reading leaves one run
+-- a reading leaves one state
 pub follows_once : (r : Reading) (old new other : Run) → Follows r old new → Follows r old other → new ≡ other
 follows_once (Ok r) old new other f g = f ∙ sym g
 follows_once (Err e) old new other f g = absurd f
 
--- runs that are seen alike are read alike, whatever their clusters, levels and flags are
+-- states with the same view have the same reading, whatever their clusters, levels and flags are
 pub seen_alike : (stage : Stage) (old other : Run) → old.view ≡ other.view → read_of stage old ≡ read_of stage other
 seen_alike stage old other e = ap stage e

@@ -1,3 +1,4 @@
+//! The buffer's type, and its making (rustybuzz: hb/buffer.rs, `hb_buffer_t`).
 ghost use Rattle.std.specs.Prelude.{◌≡◌};
 ghost use Rattle.buffer_core.specs.Sides.{empty_buffer};
 
@@ -39,8 +40,8 @@ use buffer_lists::order::{ClusterOrder, KnownOrder};
 use std::alloc::Global;
 use std::marker::Model;
 
-/// A buffer of characters, later of glyphs: a list with a cursor, or while an output is open two lists, of which calls
-/// take glyphs from the one and put others behind the other.
+/// A buffer of characters, later of glyphs: one list with a cursor, or while an output is open two lists: calls take
+/// glyphs from the input and append others to the output.
 #[derive(Drop)]
 pub struct hb_buffer_t {
     info: Vec<hb_glyph_info_t>,
@@ -51,7 +52,7 @@ pub struct hb_buffer_t {
     successful: bool,
     max_len: usize,
     max_ops: i32,
-    // The ligature number that was given last, 0 for none.
+    // The last ligature number given out, 0 for none.
     lig_id: u8,
     cluster_level: BufferClusterLevel,
     direction: Direction,
@@ -63,7 +64,7 @@ pub struct hb_buffer_t {
     not_found_variation_selector: Option<u32>,
     scratch_flags: hb_buffer_scratch_flags_t,
     flags: BufferFlags,
-    // So a merge need not walk the whole list.
+    // What is known of the order of clusters, so that a merge need not walk the whole list.
     order: ClusterOrder,
 }
 
@@ -80,22 +81,22 @@ impl Model for hb_buffer_t {
 }
 
 impl hb_buffer_t {
-    /// How many glyphs a list may have where nothing else was said.
+    /// How many glyphs a list may have where no other limit was set.
     pub const MAX_LEN_DEFAULT: usize = 0x3FFF_FFFF;
 
-    /// How many glyphs a list may have for each that there is when shaping begins.
+    /// How many glyphs a list may have for each glyph at the start of shaping.
     pub const MAX_LEN_FACTOR: usize = 64;
 
-    /// How many glyphs a list may have at least while it is shaped.
+    /// The least limit of a list's length while it is shaped.
     pub const MAX_LEN_MIN: usize = 16384;
 
-    /// How many steps may be taken where nothing else was said.
+    /// How many steps may be taken where no other limit was set.
     pub const MAX_OPS_DEFAULT: i32 = 0x1FFF_FFFF;
 
-    /// How many steps may be taken for each glyph that there is when shaping begins.
+    /// How many steps may be taken for each glyph at the start of shaping.
     pub const MAX_OPS_FACTOR: i32 = 1024;
 
-    /// How many steps may be taken at least while a list is shaped.
+    /// The least limit of the steps while a list is shaped.
     pub const MAX_OPS_MIN: i32 = 16384;
 
     /// An empty buffer with no direction and no script.
@@ -126,7 +127,7 @@ impl hb_buffer_t {
         }
     }
 
-    /// Leaves what `new` makes.
+    /// Resets the buffer to what `new` makes.
     pub fn clear(&mut self)
         ensures { self.new ≡ empty_buffer }
     {

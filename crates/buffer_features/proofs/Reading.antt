@@ -1,4 +1,4 @@
--- What is read of a text stands in the grammar.
+-- What is read of a text is in the grammar.
 use Rattle.std.proofs.Common.{◌≡◌, ◌⊎◌, inl, inr, ℕ, ◌+◌, ◌-◌, ◌^◌, ◌<◌, Bool, true, false, cond, List, [], ◌∷◌, ◌++◌, length, Option, Some, None, refl, sym, ap, ◌∙◌, ◌&&◌, append_assoc, nat_lt, ◌==◌, codes, map, subst}
 use Rattle.std.specs.Prelude.{nat_le, ℤ, pos, neg_ℤ, min}
 use Rattle.std.specs.List.{prefix_len, take_while}
@@ -38,11 +38,11 @@ natural_read most text value rest h =
     (digits, number, sym equal.0, rw rest_is at whole))
     (λ e. let none : None ≡ Some (value, rest) = rw e at h in cc)
 
--- the digits of a number, and what stands after them
+-- the digits of a number, and what is after them
 abbrev pub Digits : ℕ → List ℕ → ℕ × List ℕ → Type 0
 Digits most text found = (digits : List ℕ) × IsNumber most digits × (found.0 ≡ decimal_value digits) × (text ≡ digits ++ found.1)
 
--- a number of a range, and what stands after it
+-- a number of a range, and the text after it
 abbrev pub Integer : List ℕ → ℤ × List ℕ → Type 0
 Integer text found = (number : List ℕ) × IsInteger number found.0 × (text ≡ number ++ found.1)
 
@@ -130,7 +130,7 @@ place_moved text place other e is_place = record { value = is_place.value; writt
 pub place_is : (text : List ℕ) (value : ℤ) → IsInteger text value → IsPlace text (place_of_integer value)
 place_is text value written = record { value = value; written = written; is = refl }
 
--- a start, and the end of a range with what stands after it
+-- a start, and the end of a range with the text after it
 abbrev pub Placed : ℕ → List ℕ → (ℕ × ℕ) × List ℕ → Type 0
 Placed start text found = (b : List ℕ) × IsPlace b found.0.1 × (found.0.0 ≡ start) × (text ≡ b ++ (93 ∷ found.1))
 
@@ -253,7 +253,7 @@ bracketed_read text found h =
     let f : ℤ × List ℕ → Option ((ℕ × ℕ) × List ℕ) = λ number. started (place_of_integer number.0) number.1 in
     bracket_either text found (chosen f (integer_in text) (unstarted text) (Some found) h)
 
--- a range and what stands after it
+-- a range and the text after it
 abbrev pub Ranged : List ℕ → (ℕ × ℕ) × List ℕ → Type 0
 Ranged text found = (range : List ℕ) × IsRange range found.0.0 found.0.1 × (text ≡ range ++ found.1)
 
@@ -273,7 +273,7 @@ range_read (byte ∷ rest) found h =
     (λ e. let is : byte ≡ 91 = eqb-true byte 91 e in rw is (range_bracketed rest found (bracketed_read rest found (rw e at h))))
     (λ e. no_range_read (byte ∷ rest) found (rw e at h))
 
--- a name and what stands after it
+-- a name and the text after it
 abbrev pub Named : List ℕ → Tag × List ℕ → Type 0
 Named text found =
     (name : List ℕ) × IsTagName name × (found.0 ≡ tag_of_text name) × (text ≡ name ++ found.1) × BeginsWithout is_tag_byte found.1
@@ -296,7 +296,7 @@ tag_read text found h =
     (name, is_name, sym equal.0, rw rest_is at whole, rw rest_is at stops))
     (λ e. let none : None ≡ Some found = rw e at h in cc)
 
--- a tag, bare or in quotes, and what stands after it
+-- a tag, bare or in quotes, and the text after it
 abbrev pub Tagged : List ℕ → Tag × List ℕ → Type 0
 Tagged text found = (tag : List ℕ) × IsTagText tag found.0 found.1 × (text ≡ tag ++ found.1)
 
@@ -333,7 +333,7 @@ quoted_tag_read (first ∷ rest) found h =
     quoted_chain first rest found e (chained f (tag_in rest) found (rw e at h)))
     (λ e. bare_read (first ∷ rest) found (tag_read (first ∷ rest) found (rw e at h)))
 
--- a sign and what stands after it
+-- a sign and the text after it
 abbrev pub Signed : List ℕ → ℕ × List ℕ → Type 0
 Signed text found = (sign : List ℕ) × IsSign sign found.0 × (text ≡ sign ++ found.1)
 
@@ -346,7 +346,7 @@ sign_read (byte ∷ rest) =
     (λ d. let is : byte ≡ 43 = eqb-true byte 43 d in rw (e, d) (codes "+", plus_sign refl refl, ap (λ c. c ∷ rest) is))
     (λ d. rw (e, d) ([], no_sign refl refl, refl)))
 
--- a setting and what stands after it
+-- a setting and the text after it
 abbrev pub Set : List ℕ → ℕ × List ℕ → Type 0
 Set text found = (setting : List ℕ) × IsSetting setting found.0 × (text ≡ setting ++ found.1)
 
@@ -369,7 +369,7 @@ word_value word value h =
     switched_off (same_text (map to_ascii_lowercase word) (codes "off") (sym d)) (rw (← is) refl))
     (λ d. let none : None ≡ Some value = rw (e, d) at h in cc))
 
--- a word and what stands after it
+-- a word and the text after it
 abbrev pub Switched : List ℕ → Bool × List ℕ → Type 0
 Switched text found = (word : List ℕ) × IsSetting word (cond found.0 1 0) × (text ≡ word ++ found.1)
 
@@ -415,7 +415,7 @@ setting_read text found starts h =
     setting_either text found starts
     (chosen f (natural_in no_end text) (option_map (λ inner. (cond inner.0 1 0, inner.1)) (bool_in text)) (Some found) h)
 
--- a value and what stands after it
+-- a value and the text after it
 abbrev pub Valued : ℕ → List ℕ → ℕ × List ℕ → Type 0
 Valued default text found = (value : List ℕ) × IsValue default value found.0 × (text ≡ value ++ found.1)
 

@@ -32,7 +32,7 @@ take_while-run p run rest all stops = rw (prefix_len-run p run rest all stops) (
 pub after_run-run : (p : ℕ → Bool) (run rest : List ℕ) → list_all p run ≡ true → BeginsWithout p rest → after_run p (run ++ rest) ≡ rest
 after_run-run p run rest all stops = rw (prefix_len-run p run rest all stops) (drop-append_seam run rest)
 
--- a run before a text changes nothing of what stands after all runs
+-- a run before a text changes nothing of what is after all runs
 pub after_run-more : (p : ℕ → Bool) (run rest : List ℕ) → list_all p run ≡ true → after_run p (run ++ rest) ≡ after_run p rest
 after_run-more p [] rest all = refl
 after_run-more p (byte ∷ run) rest all =

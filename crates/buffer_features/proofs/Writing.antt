@@ -1,4 +1,4 @@
--- What stands in the grammar is read.
+-- What is in the grammar is read.
 use Rattle.std.proofs.Common.{◌≡◌, ◌⊎◌, inl, inr, ℕ, ◌+◌, ◌-◌, ◌^◌, Bool, true, false, cond, List, [], ◌∷◌, ◌++◌, length, Some, None, refl, sym, ap, arith, append_assoc, append-nil, nat_lt, ◌==◌, codes, map, subst}
 use Rattle.std.specs.Prelude.{nat_le, ℤ, pos, neg_ℤ, min}
 use Rattle.std.specs.Option.{option_map}

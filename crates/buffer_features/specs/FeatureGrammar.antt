@@ -25,7 +25,7 @@ pub record IsTagName (name : List ℕ) : Type 0 where
   pub at_most_four : length name ≤ 4
   pub bytes : list_all is_tag_byte name ≡ true
 
--- the text begins with no such byte
+-- the text's first byte, if it has one, doesn't pass a test
 abbrev pub BeginsWithout : (ℕ → Bool) → List ℕ → Type 0
 BeginsWithout test [] = Unit {0}
 BeginsWithout test (byte ∷ rest) = test byte ≡ false
@@ -48,18 +48,18 @@ pub data IsInteger (text : List ℕ) (value : ℤ) : Type 0 where
   positive : (digits : List ℕ) → IsNumber (2 ^ 31 - 1) digits → text ≡ 43 ∷ digits → value ≡ pos (decimal_value digits) → IsInteger text value
   negative : (digits : List ℕ) → IsNumber (2 ^ 31) digits → text ≡ 45 ∷ digits → value ≡ neg_ℤ (pos (decimal_value digits)) → IsInteger text value
 
--- a place of a range: such a number modulo 2 ^ 32
+-- a bound of a range: such a number modulo 2^32
 pub record IsPlace (text : List ℕ) (place : ℕ) : Type 0 where
   pub value : ℤ
   pub written : IsInteger text value
   pub is : place ≡ place_of_integer value
 
--- `]` or `b]`
+-- the end of a range: `]` or `b]`
 pub data IsEnd (text : List ℕ) (end : ℕ) : Type 0 where
   open_end : text ≡ codes "]" → end ≡ no_end → IsEnd text end
   placed_end : (b : List ℕ) → IsPlace b end → text ≡ b ++ codes "]" → IsEnd text end
 
--- nothing, `[]`, `[n]`, `[:]`, `[:b]`, `[a:]`, `[a:b]` or `[a;b]`
+-- a range: nothing, `[]`, `[n]`, `[:]`, `[:b]`, `[a:]`, `[a:b]` or `[a;b]`
 pub data IsRange (text : List ℕ) (start end : ℕ) : Type 0 where
   no_range : text ≡ [] → start ≡ 0 → end ≡ no_end → IsRange text start end
   every_place : text ≡ codes "[]" → start ≡ 0 → end ≡ no_end → IsRange text start end
@@ -68,7 +68,7 @@ pub data IsRange (text : List ℕ) (start end : ℕ) : Type 0 where
   from : (a b : List ℕ) → IsPlace a start → IsEnd b end → text ≡ 91 ∷ (a ++ (58 ∷ b)) → IsRange text start end
   from_to : (a b : List ℕ) → IsPlace a start → IsPlace b end → text ≡ 91 ∷ (a ++ (59 ∷ (b ++ codes "]"))) → IsRange text start end
 
--- a number below 2 ^ 32, or `on` for 1, or `off` for 0, in any case
+-- a setting: a number below 2^32, or `on` for 1, or `off` for 0, in any case
 pub data IsSetting (text : List ℕ) (value : ℕ) : Type 0 where
   numbered : IsNumber no_end text → value ≡ decimal_value text → IsSetting text value
   switched_on : map to_ascii_lowercase text ≡ codes "on" → value ≡ 1 → IsSetting text value
@@ -80,7 +80,7 @@ pub data IsValue (default : ℕ) (text : List ℕ) (value : ℕ) : Type 0 where
   plain : IsSetting text value → IsValue default text value
   after_equal : (spaces setting : List ℕ) → AreSpaces spaces → IsSetting setting value → text ≡ 61 ∷ (spaces ++ setting) → IsValue default text value
 
--- a sign, a tag, a range and a value, with white space round them
+-- a request: a sign, a tag, a range and a value, with white space around them
 pub record IsRequest (text : List ℕ) (feature : Feature) : Type 0 where
   pub default : ℕ
   pub before : List ℕ
@@ -99,7 +99,7 @@ pub record IsRequest (text : List ℕ) (feature : Feature) : Type 0 where
   pub range_is : IsRange range feature.start feature.end
   pub value_is : IsValue default value feature.value
 
--- the answer to a text: the request that it writes, exactly where it writes one
+-- the answer to a text is the request that it writes, exactly where it writes one
 pub record AnswersRequest (text : List ℕ) (answer : Result Feature InvalidFeature) : Type 0 where
   pub read : answer ≡ feature_of_text text
   pub grammar : (feature : Feature) → (answer ≡ Ok feature) ↔ IsRequest text feature

@@ -11,7 +11,7 @@ use Rattle.buffer_features.specs.TextParser.{after_spaces, is_quote, tag_in, nat
 abbrev pub no_end : ℕ
 no_end = 2 ^ 32 - 1
 
--- the value without one in the text: 0 after a minus, else 1
+-- the value of a text's sign, 0 after a minus and else 1, and the text after it
 abbrev pub sign_in : List ℕ → ℕ × List ℕ
 sign_in [] = (1, [])
 sign_in (byte ∷ rest) =
@@ -19,7 +19,7 @@ sign_in (byte ∷ rest) =
     else if byte == 43 then (1, rest)
     else (1, byte ∷ rest)
 
--- the text after that byte, which it begins with
+-- the text after its first byte, where that is the given one
 abbrev pub text_after : ℕ → List ℕ → Option (List ℕ)
 text_after byte [] = None
 text_after byte (first ∷ rest) = if first == byte then Some rest else None
@@ -31,24 +31,24 @@ quoted_tag_in (first ∷ rest) =
     if is_quote first then option_and_then (λ found. option_map (λ left. (found.0, left)) (text_after first found.1)) (tag_in rest)
     else tag_in (first ∷ rest)
 
--- a number of a range, modulo 2 ^ 32
+-- a bound of a range, modulo 2^32
 abbrev pub place_of_integer : ℤ → ℕ
 place_of_integer number = cast_unsigned w32 number
 
--- `]`
+-- the text after `]`
 abbrev pub closed : ℕ → ℕ → List ℕ → Option ((ℕ × ℕ) × List ℕ)
 closed start end text = option_map (λ left. ((start, end), left)) (text_after 93 text)
 
--- `b]`
+-- the end of a range, `b]`
 abbrev pub ended : ℕ → List ℕ → Option ((ℕ × ℕ) × List ℕ)
 ended start text = option_and_then (λ found. closed start (place_of_integer found.0) found.1) (integer_in text)
 
--- `b]` or `]`
+-- the end of a range, `b]` or `]`
 abbrev pub maybe_ended : ℕ → List ℕ → Option ((ℕ × ℕ) × List ℕ)
 maybe_ended start text =
     option_map_or (λ found. closed start (place_of_integer found.0) found.1) (integer_in text) (closed start no_end text)
 
--- after the start: `]` for that place alone, `:` with an end or none, `;` with an end
+-- the rest of a range after its start: `]` for that index only, `:` with an end or none, `;` with an end
 abbrev pub started : ℕ → List ℕ → Option ((ℕ × ℕ) × List ℕ)
 started start [] = None
 started start (byte ∷ rest) =
@@ -57,7 +57,7 @@ started start (byte ∷ rest) =
     else if byte == 59 then ended start rest
     else None
 
--- with no start: `]`, or `:` with an end or none
+-- a range without a start: `]`, or `:` with an end or none
 abbrev pub unstarted : List ℕ → Option ((ℕ × ℕ) × List ℕ)
 unstarted [] = None
 unstarted (byte ∷ rest) =
@@ -65,11 +65,11 @@ unstarted (byte ∷ rest) =
     else if byte == 58 then maybe_ended 0 rest
     else None
 
--- after `[`
+-- the rest of a range after `[`
 abbrev pub bracketed : List ℕ → Option ((ℕ × ℕ) × List ℕ)
 bracketed text = option_map_or (λ found. started (place_of_integer found.0) found.1) (integer_in text) (unstarted text)
 
--- a range in brackets, or none for every place
+-- a range in brackets, or none for every index
 abbrev pub range_in : List ℕ → Option ((ℕ × ℕ) × List ℕ)
 range_in [] = Some ((0, no_end), [])
 range_in (byte ∷ rest) = if byte == 91 then bracketed rest else Some ((0, no_end), byte ∷ rest)
@@ -79,27 +79,31 @@ abbrev pub setting_in : List ℕ → Option (ℕ × List ℕ)
 setting_in text =
     option_map_or Some (natural_in no_end text) (option_map (λ found. ((if found.0 then 1 else 0), found.1)) (bool_in text))
 
--- a value, with `=` or without; after `=` there has to be one
+-- a value, with `=` or without; after `=` a value is required
 abbrev pub value_in : ℕ → List ℕ → Option (ℕ × List ℕ)
 value_in default [] = Some (default, [])
 value_in default (byte ∷ rest) =
     if byte == 61 then setting_in (after_spaces rest)
     else option_map_or Some (setting_in (byte ∷ rest)) (Some (default, byte ∷ rest))
 
--- the request, where nothing else stands after its value
+-- the request, where its value ends the text
 abbrev pub whole_request : Tag → ℕ × ℕ → ℕ × List ℕ → Option Feature
 whole_request tag range (value, []) = Some (record { tag = tag; value = value; start = range.0; end = range.1 })
 whole_request tag range (value, (byte ∷ rest)) = None
 
+-- the request from its value on
 abbrev pub valued : Tag → ℕ × ℕ → ℕ × List ℕ → Option Feature
 valued tag range found = whole_request tag range (found.0, after_spaces found.1)
 
+-- the request from the text after its range on
 abbrev pub ranged : Tag → ℕ → (ℕ × ℕ) × List ℕ → Option Feature
 ranged tag default found = option_and_then (valued tag found.0) (value_in default (after_spaces found.1))
 
+-- the request from the text after its tag on
 abbrev pub tagged : ℕ → Tag × List ℕ → Option Feature
 tagged default found = option_and_then (ranged found.0 default) (range_in (after_spaces found.1))
 
+-- the request from the text after its sign on
 abbrev pub signed : ℕ × List ℕ → Option Feature
 signed found = option_and_then (tagged found.0) (quoted_tag_in (after_spaces found.1))
 
@@ -107,5 +111,6 @@ signed found = option_and_then (tagged found.0) (quoted_tag_in (after_spaces fou
 abbrev pub feature_of : List ℕ → Option Feature
 feature_of text = signed (sign_in (after_spaces text))
 
+-- the request of a text, or an error
 abbrev pub feature_of_text : List ℕ → Result Feature InvalidFeature
 feature_of_text text = ok_or (feature_of text) (record {})

@@ -1,4 +1,4 @@
--- What stands at the start of a text, and the text after it.
+-- What is parsed at the start of a text, and the text after it.
 use Rattle.std.specs.Prelude.{◌==◌, if◌then◌else◌, ℕ, ◌+◌, ◌-◌, ◌*◌, ◌^◌, Bool, true, false, List, [], ◌∷◌, Option, Some, None, ◌&&◌, ◌||◌, nat_lt, nat_le, fold, drop, map, codes, ℤ, pos, neg_ℤ}
 use Rattle.std.specs.List.{take_while, prefix_len}
 use Rattle.std.specs.Option.{option_map}
@@ -56,7 +56,7 @@ bool_of_word word =
     else if bytes_eq (map to_ascii_lowercase word) (codes "off") then Some false
     else None
 
--- such a word after white space
+-- `on` or `off` after white space
 abbrev pub bool_in : List ℕ → Option (Bool × List ℕ)
 bool_in text =
     option_map (λ value. (value, after_run is_ascii_alphabetic (after_spaces text)))

@@ -1,3 +1,4 @@
+//! A request for a feature (rustybuzz: hb/common.rs, `Feature`).
 ghost use Rattle.std.specs.Prelude.{◌≡◌, Some, None, IfSome, IfNone};
 ghost use Rattle.buffer_features.specs.Feature.{place_of, start_of, end_of, is_global};
 ghost use Rattle.buffer_features.specs.FeatureText.{sign_in, quoted_tag_in, maybe_ended, started, unstarted, range_in, setting_in, value_in, feature_of};
@@ -8,8 +9,10 @@ use std::ops::Bound;
 use std::str::FromStr;
 use thiserror::Error;
 
+/// The first cluster of a request for every glyph.
 pub const HB_FEATURE_GLOBAL_START: u32 = 0;
 
+/// The end of a request for every glyph.
 pub const HB_FEATURE_GLOBAL_END: u32 = u32::MAX;
 
 /// A request to give a feature a value, for the glyphs whose cluster is at least `start` and below `end`.
@@ -21,13 +24,14 @@ pub struct Feature {
     pub end: u32,
 }
 
-/// The text is no request for a feature.
+/// The error of a text that is no request for a feature.
 #[derive(Clone, Copy, PartialEq, Eq, Debug, Error)]
 #[error("invalid feature")]
 pub struct InvalidFeature;
 
 impl Feature {
-    /// A request for a range of clusters. The end is kept as it is given, so an included end is not reached.
+    /// A request for a range of clusters. The end is kept as it is given, so an included end is not reached, as in
+    /// rustybuzz.
     pub fn new(tag: Tag, value: u32, start: Bound<usize>, end: Bound<usize>) -> Feature
         ensures tag { result.tag ≡ tag }
         ensures value { result.value ≡ value }

@@ -1,4 +1,5 @@
-// Requests for features of a font, and the texts that they are read from.
+//! Requests for features of a font, and the parser of their texts (rustybuzz: hb/common.rs, `Feature`;
+//! hb/text_parser.rs).
 #![tactic(auto)]
 
 pub mod feature;

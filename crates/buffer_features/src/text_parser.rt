@@ -1,3 +1,4 @@
+//! A parser of short ASCII texts (rustybuzz: hb/text_parser.rs).
 ghost use Rattle.std.specs.Prelude.{◌≡◌, ◌≢◌, ◌==◌, ℕ, ◌<◌, ◌≤◌, ◌∷◌, ◌++◌, List, true, false, drop, length, slice_get, slice_index, Some, None, IfSome, IfNone};
 ghost use Rattle.std.specs.List.{prefix_len};
 ghost use Rattle.std.specs.Char.{is_ascii_whitespace, is_ascii_digit, is_ascii_alphabetic};
@@ -6,7 +7,7 @@ ghost use Rattle.buffer_features.specs.TextParser.{after_spaces, is_quote, is_ta
 use buffer_common::tag::Tag;
 use std::marker::Model;
 
-/// Reads a text from its start, byte by byte. A call that finds nothing leaves the text as it was.
+/// Parses a text from its start, byte by byte. A call that finds nothing leaves the text as it was.
 #[derive(Drop)]
 pub struct TextParser<'a> {
     rest: &'a [u8],
@@ -19,6 +20,7 @@ impl<'a> Model for TextParser<'a> {
 }
 
 impl<'a> TextParser<'a> {
+    /// A parser at the start of a text.
     pub fn new(text: &'a str) -> TextParser<'a>
         ensures { result ≡ text.now }
     {
@@ -27,25 +29,28 @@ impl<'a> TextParser<'a> {
         }
     }
 
+    /// Whether the whole text was parsed.
     pub fn at_end(&self) -> bool
         ensures { result ≡ (length self.now == 0) }
     {
         self.rest.is_empty()
     }
 
+    /// The next byte, none at the end.
     pub fn curr_byte(&self) -> Option<u8>
         ensures { result ≡ slice_get self.now 0 }
     {
         self.rest.first().copied()
     }
 
-    /// Goes on by `count` bytes, or to the end.
+    /// Moves on by `count` bytes, or to the end.
     pub fn advance(&mut self, count: usize)
         ensures { self.new ≡ drop count self.old }
     {
         self.rest = self.rest.get(count..).unwrap_or(&[]);
     }
 
+    /// Moves past the given byte, if it is the next; else None.
     pub fn consume_byte(&mut self, byte: u8) -> Option<()>
         ensures found { IfSome result (λ _. self.old ≡ byte ∷ self.new) }
         ensures absent { IfNone result (slice_get self.old 0 ≢ Some byte) }
@@ -76,7 +81,7 @@ impl<'a> TextParser<'a> {
         run
     }
 
-    /// Goes on to the first byte that is no white space of ASCII.
+    /// Moves on to the first byte that is no ASCII white space.
     pub fn skip_spaces(&mut self)
         ensures { self.new ≡ after_spaces self.old }
     {

@@ -156,7 +156,7 @@ back_stays c low at gs o stop = by_rest (drop at gs) refl
 in_it : (c low : ℕ) (g : hb_glyph_info_t) → g.cluster ≡ c → (if g.cluster == c then in_cluster low g else g) ≡ in_cluster low g
 in_it c low g e = let yes : (g.cluster == c) ≡ true = grind (arith, common_steps, e) in rw yes refl
 
--- one glyph more of the cluster, in front of those that were passed
+-- one glyph more of the cluster, before those that were passed
 pub passed_back : (c low at i : ℕ) (gs : List hb_glyph_info_t) (d : hb_glyph_info_t) → i + 1 ≡ at → at ≤ length gs → (get_or gs i d).cluster ≡ c
     → renamed c low (drop at gs) ≡ map (in_cluster low) (drop at gs) → renamed c low (drop i gs) ≡ map (in_cluster low) (drop i gs)
 passed_back c low at i gs d one le e before =

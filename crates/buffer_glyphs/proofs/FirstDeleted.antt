@@ -1,4 +1,4 @@
--- The first of some glyphs goes.
+-- The first of some glyphs deleted.
 use Rattle.std.proofs.Common.{ℕ, ◌≡◌, ◌≢◌, ◌≤◌, ◌<◌, ◌+◌, ◌==◌, true, false, Bool, List, [], ◌∷◌, ◌++◌, length, take, drop, get_or, arith, refl, ap, sym, subst, ◌∙◌}
 use Rattle.std.proofs.lemmas.Grind.{common_steps}
 use Rattle.std.proofs.lemmas.List.{drop_more, drop_all, length-take-le}
@@ -54,7 +54,7 @@ next_is gs at c d lt = rw (drop_more gs at d lt) refl
 pub next_none : (gs : List Glyph) (at c : ℕ) → length gs ≤ at → false ≡ is_number (first_of (clusters (drop at gs))) c
 next_none gs at c le = let none : drop at gs ≡ [] = drop_all at gs le in rw none refl
 
--- the rest of a list, from a place on
+-- the rest of a list, from an index on
 pub rest_deletes : (level : Level) (at : ℕ) (gs front rest new : List Glyph) (m : Bool) → at ≤ length gs → front ≡ take at gs → rest ≡ drop at gs → Deletes level [] rest [] (drop 1 new) m → Deletes level [] (drop at gs) [] (drop (at + 1) (front ++ new)) m
 rest_deletes level at gs front rest new m le f r gone =
     let beyond : drop (at + 1) (front ++ new) ≡ drop 1 new = ap (λ hs. drop (at + 1) (hs ++ new)) f ∙ beyond_front at gs new le in

@@ -60,7 +60,7 @@ by_range (x ∷ xs) first last f l k =
     let is : x ≡ first = some_is f in
     k xs (ap (λ n. n ∷ xs) is) (sym (some_is (sym (last_is x xs) ∙ l)) ∙ ap (λ n. last_from n xs) is)
 
--- the cluster that begins a range stands in order after those before it
+-- the cluster that begins a range is in order after those before it
 pub order_front : (gs : List hb_glyph_info_t) (i j first last : ℕ) → i ≤ j → first_of (clusters (slice_range gs i j)) ≡ Some first → last_of (clusters (slice_range gs i j)) ≡ Some last → IsOrdered (clusters gs) → IsOrdered (clusters (take i gs) ++ first ∷ [])
 order_front gs i j first last le f l o = by_range (clusters (slice_range gs i j)) first last f l (λ xs is _. by_order (clusters gs) o (λ falls chain.
     let whole = subst (IsChain (Stands falls)) ((cut_at gs i j le).whole ∙ ap (λ ns. clusters (take i gs) ++ (ns ++ clusters (drop j gs))) is) chain in

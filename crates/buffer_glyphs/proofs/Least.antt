@@ -36,7 +36,7 @@ copies_have : (given n : ℕ) → 0 < given → Has (copies given (Some n)) n
 copies_have zero n lt = absurd (omega arith)
 copies_have (suc given) n lt = has_here n (replicate given n)
 
--- copies of the first, in place of some that are all as the first
+-- copies of the first, instead of some that are all as the first
 has_copied : (given gone n : ℕ) (ns : List ℕ) → 0 < given → (Has (take gone ns) n → first_of ns ≡ Some n) → Has ns n → Has (copies given (first_of ns) ++ drop gone ns) n
 has_copied given gone n ns lt alike h = elim (has_at n gone ns h) [
   | inl there ↦ has_left n (copies given (first_of ns)) (drop gone ns) (let P : Option ℕ → Type 0 = λ o. Has (copies given o) n in subst P (sym (alike there)) (copies_have given n lt))
@@ -54,7 +54,7 @@ replaced_has_at at gone given n ns (m ∷ rest) e lt alike h = rw append_assoc (
   | inr beyond ↦ has_right n (take at ns) (replicate given m ++ drop gone (m ∷ rest)) (has_copied given gone n (m ∷ rest) lt alike (rw e at beyond))
 ])
 
--- items that are all of one part make room for others of it: its number stays
+-- items that are all of one part are replaced by others of it: its number stays
 replaced_has : (at gone given n : ℕ) (ns : List ℕ) → 0 < given → (Has (take gone (drop at ns)) n → first_of (drop at ns) ≡ Some n) → Has ns n → Has (replaced at gone given ns) n
 replaced_has at gone given n ns lt alike h = rw (← drop-drop gone at ns) (replaced_has_at at gone given n ns (drop at ns) refl lt alike h)
 
@@ -195,7 +195,7 @@ any_of q (n ∷ ns) h = by_first (q n) refl h (any_of q ns)
     by_first true e k later = (n, has_here n ns, e)
     by_first false e k later = let found = later k in (found.0, has_more n found.0 ns found.1, found.2)
 
--- those before and after a stretch of a changed list
+-- those before and after a range of a changed list
 others_map : (f : ℕ → ℕ) (at taken : ℕ) (ns : List ℕ) → take at (map f ns) ++ drop (at + taken) (map f ns) ≡ map f (take at ns ++ drop (at + taken) ns)
 others_map f at taken ns = ap (λ xs. xs ++ drop (at + taken) (map f ns)) (take-map f at ns) ∙ ap (λ xs. map f (take at ns) ++ xs) (drop-map f (at + taken) ns) ∙ sym (map-append f (take at ns) (drop (at + taken) ns))
 
@@ -203,11 +203,11 @@ no_copies : (o : Option ℕ) → copies 0 o ≡ []
 no_copies None = refl
 no_copies (Some n) = refl
 
--- a list whose stretch went
+-- a list whose range went
 gone_is : (at taken : ℕ) (ns : List ℕ) → replaced at taken 0 ns ≡ take at ns ++ drop (at + taken) ns
 gone_is at taken ns = ap (λ xs. take at ns ++ xs ++ drop (at + taken) ns) (no_copies (or (first_of (drop at ns)) (last_of (take at ns)))) ∙ ap (λ xs. xs ++ drop (at + taken) ns) (append-nil (take at ns))
 
--- what a joined stretch shares with a part that stays it shares after the join
+-- what a joined range shares with a part that stays it shares after the join
 shared_has : (falls : Bool) (at taken k : ℕ) (ns s : List ℕ) → stretch at (at + taken) ns ≡ s → IsInOrder falls s → list_any (has_number (take at ns ++ drop (at + taken) ns)) s ≡ true → Has (joined s ns) k
     → Has (take at (joined s ns) ++ drop (at + taken) (joined s ns)) k
 shared_has falls at taken k ns [] e o h there = cc

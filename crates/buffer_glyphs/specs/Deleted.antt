@@ -1,4 +1,4 @@
--- What a deletion leaves of clusters and items.
+-- The clusters and items that a deletion leaves.
 use Rattle.std.proofs.Common.{ℕ, ◌≡◌, ◌+◌, ◌-◌, ◌==◌, ◌||◌, nat_lt, ◌&&◌, Bool, true, false, if◌then◌else◌, List, [], ◌∷◌, ◌++◌, Option, Some, None, length, map, drop, arith, refl, ap, sym, ◌∙◌}
 use Rattle.std.specs.List.{list_all}
 use Rattle.std.specs.Int.RustNames.{bit_and}
@@ -62,14 +62,14 @@ end_items_from p g (h ∷ hs) = elim (list_all (λ (k : Glyph). k.cluster == p) 
   | false ↦ ap (λ xs. item_of h ∷ xs) (end_items_from p g hs)
 ]
 
--- the run at the end takes a number, as numbers alone do
+-- the last run with another number is so in cluster numbers
 pub end_clusters : (p : ℕ) (g : Glyph) (gs : List Glyph) → last_of (clusters gs) ≡ Some p → clusters (end_recast g gs) ≡ end_renumbered p g.cluster (clusters gs)
 end_clusters p g gs e = rw e (end_clusters_from p g gs)
 
 pub end_items : (g : Glyph) (gs : List Glyph) → strip (end_recast g gs) ≡ strip gs
 end_items g gs = elim (last_of (clusters gs)) as (λ o. strip (end_recast_if o g gs) ≡ strip gs) [ None ↦ refl | Some p ↦ end_items_from p g gs ]
 
--- as many glyphs as before
+-- a renumbering of the last run keeps the number of glyphs
 pub end_length : (g : Glyph) (gs : List Glyph) → length (end_recast g gs) ≡ length gs
 end_length g gs = sym (length-map (end_recast g gs) item_of) ∙ ap length (end_items g gs) ∙ length-map gs item_of
 
@@ -81,7 +81,7 @@ alone_clusters level None front g back e =
     let f : Glyph → ℕ = λ h. h.cluster in
     ap (λ ns. clusters front ++ ns) (sym (drop-map f 1 (glyphs_merged_at level 0 2 (g ∷ back))) ∙ ap (drop 1) (clusters_merged_at level 0 2 (g ∷ back) (omega arith)))
 
--- the clusters that a deletion leaves are those of the deletion of a number
+-- the clusters that a deletion leaves are those of a deletion from cluster numbers
 pub clusters_deleted : (level : BufferClusterLevel) (front : List Glyph) (g : Glyph) (back : List Glyph)
     → clusters (glyphs_deleted level front g back).front ++ clusters (glyphs_deleted level front g back).back ≡ deleted level (clusters front) g.cluster (clusters back)
 clusters_deleted level front g back =

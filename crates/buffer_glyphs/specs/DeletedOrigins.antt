@@ -1,4 +1,4 @@
--- Where the glyphs come from that a deletion leaves.
+-- The origins of the glyphs that a deletion leaves.
 use Rattle.std.proofs.Common.{ℕ, ◌≡◌, ◌+◌, ◌-◌, ◌==◌, ◌&&◌, ◌||◌, nat_lt, Bool, true, false, if◌then◌else◌, List, [], ◌∷◌, ◌++◌, Option, Some, None, length, map, take, drop, arith, refl, ap, sym, ◌∙◌}
 use Rattle.std.specs.Prelude.{bit_and}
 use Rattle.std.specs.List.{list_all}
@@ -43,7 +43,7 @@ end_origins p g (h ∷ hs) = rw (← all_of p (h ∷ hs)) (by_test (list_all (λ
     by_test true rest = all_recast g.cluster g.mask (h ∷ hs)
     by_test false rest = ap (λ os. origin_of h ∷ os) rest
 
--- all that is left
+-- all glyphs that are left
 abbrev pub together : Left → List Glyph
 together l = l.front ++ l.back
 
@@ -56,7 +56,7 @@ alone_origins level None front g back e =
     map-append origin_of front (drop 1 (glyphs_merged_at level 0 2 (g ∷ back)))
     ∙ ap (λ os. origins front ++ os) (sym (drop-map origin_of 1 (glyphs_merged_at level 0 2 (g ∷ back))) ∙ ap (drop 1) (origins_of_merged_at level 0 2 (g ∷ back) (omega arith)))
 
--- what is left before a glyph that went and after it is what a deletion leaves of origins
+-- the glyphs left before and after a deleted one have the origins that a deletion leaves
 pub one_origins : (level : Level) (front : List Glyph) (g : Glyph) (back : List Glyph) → origins (together (glyphs_deleted level front g back)) ≡ one_deleted level (origins front) (origin_of g) (origins back)
 one_origins level front g back = rw (numbers_origins front, numbers_origins back) (by_test (is_number (last_of (clusters front)) g.cluster || is_number (first_of (clusters back)) g.cluster))
   where
@@ -65,7 +65,7 @@ one_origins level front g back = rw (numbers_origins front, numbers_origins back
     by_test true = map-append origin_of front back
     by_test false = alone_origins level (last_of (clusters front)) front g back refl
 
--- the first of the glyphs after others goes: it is the one at the index of that many
+-- the deletion of the first glyph after others is that at the index of their number
 pub deleted_behind : (level : Level) (front : List Glyph) (g : Glyph) (back : List Glyph) → origins (together (glyphs_deleted level front g back)) ≡ origins_deleted level (length front) (origins (front ++ g ∷ back))
 deleted_behind level front g back =
     let all = origins (front ++ g ∷ back) in

@@ -1,4 +1,4 @@
--- What one call of a buffer does to where its glyphs come from.
+-- Events: what one call of a buffer does to clusters and glyph flags.
 use Rattle.std.specs.Prelude.{ℕ, ◌≡◌, ◌≤◌, ◌+◌, Bool, true, false, List, [], ◌∷◌, Some, fold, length, reverse, slice_get}
 use Rattle.buffer_glyphs.specs.declared.level.BufferClusterLevel.{BufferClusterLevel}
 use Rattle.buffer_glyphs.specs.Parts.{replaced_among}
@@ -6,40 +6,44 @@ use Rattle.buffer_glyphs.specs.Origins.{Origin, Merging, InList, manner, merged_
 
 -- one call, by indices of the whole list before it
 pub data Event : Type 0 where
-  -- the indices from `from` up to before `to` merge
+  -- the indices from `from` up to before `to` are merged (`merge_clusters`, `merge_out_clusters`)
   Merge : (how : Merging) → (from to : ℕ) → Event
-  -- so many glyphs at a place merge and make room for copies of the first, past the end of the one before; none may be taken, or none given
+  -- so many glyphs from an index on are merged and replaced by copies of the first, past the end of the one before;
+  -- none may be taken, or none given (`replace_glyphs`, `output_glyph`)
   Replace : (at taken given : ℕ) → Event
-  -- a glyph comes in before or after that at an index, of its cluster, with the flags of another
+  -- a glyph is inserted before or after that at an index, in its cluster, with the flags of another
   Circle : (after : Bool) → (beside like : ℕ) → Event
-  -- the glyph at a place goes, and its cluster stays somewhere
+  -- the glyph at an index is deleted, and its cluster stays somewhere (`delete_glyph`)
   Delete : (at : ℕ) → Event
-  -- the glyphs from a place on merge, as many as the order has, and come to stand in that order
+  -- the glyphs from an index on, as many as the order has, are merged and then permuted to that order
   Move : (how : Merging) → (from : ℕ) → (order : List ℕ) → Event
-  -- they come to stand in that order, and no more
+  -- such glyphs are permuted to that order, with no merge
   Arrange : (from : ℕ) → (order : List ℕ) → Event
-  -- the glyphs from an index on are sorted into that order: each smallest span that it permutes merges first
+  -- the glyphs from an index on are permuted to that order, after a merge of each smallest span that it permutes
+  -- (`sort`)
   Sort : (from : ℕ) → (order : List ℕ) → Event
   -- the list is reversed
   Reverse : Event
-  -- such indices are unsafe to break, where texts may not be put together, or safe for a tatweel
+  -- such indices are flagged as unsafe to break and to concat, as unsafe to concat, or as safe to insert a tatweel
   Break : (from to : ℕ) → Event
   Concat : (from to : ℕ) → Event
   Tatweel : (from to : ℕ) → Event
-  -- the glyphs of each cluster get one set of flags
+  -- the glyphs of each cluster get the same flags (`propagate_flags`)
   Spread : Event
-  -- all flags go
+  -- all flags are cleared
   Reset : Event
 
--- flags that are set only where that is asked for
+-- UNSAFE_TO_CONCAT set on such indices, where it is requested
 abbrev pub concat_marked : Bool → ℕ → ℕ → List Origin → List Origin
 concat_marked true from to os = origins_flagged 2 from to os
 concat_marked false from to os = os
 
+-- SAFE_TO_INSERT_TATWEEL, or where it isn't requested the two other flags, set on such indices
 abbrev pub tatweel_marked : Bool → ℕ → ℕ → List Origin → List Origin
 tatweel_marked true from to os = origins_marked 4 from to os
 tatweel_marked false from to os = origins_marked 3 from to os
 
+-- clusters and flags after one event
 abbrev pub origins_after_event : Asks → BufferClusterLevel → List Origin → Event → List Origin
 origins_after_event asks level os (Merge how from to) = merged_as (manner how level) from to os
 origins_after_event asks level os (Replace at taken given) = replaced_among at taken given (merged_as (manner InList level) at (at + taken) os)
@@ -55,16 +59,16 @@ origins_after_event asks level os (Tatweel from to) = tatweel_marked asks.tatwee
 origins_after_event asks level os Spread = origins_spread asks os
 origins_after_event asks level os Reset = without_marks os
 
--- where the glyphs come from after a list of events, at every level and for clusters in any order
+-- clusters and flags after a list of events, at every level and for clusters in any order
 abbrev pub origins_after : Asks → BufferClusterLevel → List Event → List Origin → List Origin
 origins_after asks level es os = fold (origins_after_event asks level) os es
 
--- no element of an order crosses a seam: none that stands from a seam on stood before it
+-- an order permutes within its spans only: no element that is at or after a seam was before it
 pub record StaysInSpans (order : List ℕ) : Type 0 where
   pub whole : is_seam order (length order) ≡ true
   pub stays : (i j k : ℕ) → slice_get order i ≡ Some j → is_seam order k ≡ true → k ≤ i → k ≤ j
 
--- a reversal of the list is the only order that a list without this gets
+-- no event of the list permutes, except by a reversal of the whole list
 abbrev pub IsPlain : List Event → Type 0
 IsPlain [] = Unit {0}
 IsPlain (Arrange from order ∷ es) = ⊥

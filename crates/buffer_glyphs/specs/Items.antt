@@ -1,10 +1,10 @@
--- Glyphs without their clusters.
+-- Items: glyphs without their clusters and glyph flags.
 use Rattle.std.specs.Prelude.{ℕ, ℤ, pos, ◌-◌, List, map}
 use Rattle.std.specs.Int.RustNames.{bit_and}
 use Rattle.buffer_glyphs.specs.declared.info.hb_glyph_info_t.{hb_glyph_info_t}
 use Rattle.buffer_glyphs.specs.declared.position.GlyphPosition.{GlyphPosition}
 
--- what shaping reads of a glyph: all but its cluster and the three glyph flags
+-- the fields of a glyph that shaping reads: all except its cluster and the three glyph flags
 pub record Item : Type 0 where
   pub number : ℕ
   pub glyph_index : ℕ
@@ -21,13 +21,15 @@ pub record Item : Type 0 where
 abbrev pub without_flags : ℕ → ℕ
 without_flags m = m - bit_and m 7
 
--- a glyph, an item with another mask
+-- a glyph with another mask
 abbrev pub glyph_masked : ℕ → hb_glyph_info_t → hb_glyph_info_t
 glyph_masked m g = record g { mask = m }
 
+-- an item with another mask, without the glyph flags
 abbrev pub item_masked : ℕ → Item → Item
 item_masked m x = record x { mask = without_flags m }
 
+-- the item of a glyph
 abbrev pub item_of : hb_glyph_info_t → Item
 item_of g = record {
   number = g.glyph_id;
@@ -42,7 +44,7 @@ item_of g = record {
   mask = without_flags g.mask;
 }
 
--- a list of glyphs without clusters
+-- the items of a list of glyphs
 abbrev pub strip : List hb_glyph_info_t → List Item
 strip gs = map item_of gs
 
@@ -54,10 +56,11 @@ clusters gs = map (λ (g : hb_glyph_info_t). g.cluster) gs
 abbrev pub glyph_flags : hb_glyph_info_t → ℕ
 glyph_flags g = bit_and g.mask 7
 
+-- the glyph flags of a list of glyphs
 abbrev pub flags_of : List hb_glyph_info_t → List ℕ
 flags_of gs = map glyph_flags gs
 
--- where a glyph stands: two advances and two offsets, and its link
+-- the position of a glyph: two advances and two offsets in font units, and its link to another glyph
 abbrev pub Position : Type 0
 Position = GlyphPosition
 

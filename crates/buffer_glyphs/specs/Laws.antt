@@ -1,4 +1,4 @@
--- What holds of all lists of events, of merges and of deletions.
+-- Laws of all lists of events, of merges and of deletions.
 use Rattle.std.specs.Prelude.{ℕ, ◌≡◌, ◌≢◌, Bool, false, List, [], ◌∷◌, ◌++◌, length}
 use Rattle.buffer_glyphs.specs.declared.level.BufferClusterLevel.{BufferClusterLevel}
 use Rattle.buffer_glyphs.specs.Parts.{PartEvent, DeletePart, joined, after_part_event, after_part_events}
@@ -11,31 +11,32 @@ use Rattle.buffer_glyphs.specs.Order.{IsOrdered}
 use Rattle.buffer_glyphs.specs.Merges.{merged, merged_numbers, IsLeastCoarsening}
 use Rattle.buffer_glyphs.specs.Order.{IsInOrder, IsLeast, BringsNone, IsGiving, falls_after}
 
--- parts in order stay in order, in the other direction after each reversal of the list
+-- parts in order stay in order, reversed whenever the list is
 abbrev pub KeepsOrder : Type 0
 KeepsOrder = (es : List PartEvent) (falls : Bool) (ns : List ℕ) → IsInOrder falls ns → IsInOrder (falls_after falls es) (after_part_events es ns)
 
--- the least number of parts in order stays while an item is left
+-- the least of parts in order stays while an item is left
 abbrev pub KeepsLeast : Type 0
 KeepsLeast = (es : List PartEvent) (falls : Bool) (ns : List ℕ) (m : ℕ) → IsGiving es ns → IsInOrder falls ns → IsLeast m ns → after_part_events es ns ≢ [] → IsLeast m (after_part_events es ns)
 
--- no number is new
+-- no event introduces a new part number
 abbrev pub KeepsNumbers : Type 0
 KeepsNumbers = (es : List PartEvent) (ns : List ℕ) → BringsNone ns (after_part_events es ns)
 
--- a merge unites the numbers of its range, and no more
+-- a merge unites the numbers of its range, and no others
 abbrev pub MergeUnites : Type 0
 MergeUnites = (range : List ℕ) → IsLeastCoarsening range (merged range)
 
--- in order, a merge of what occurs in a range is the join of its stretch
+-- on numbers in order, a merge of the numbers that occur in a range is the join of its parts
 abbrev pub MergeIsJoin : Type 0
 MergeIsJoin = (falls : Bool) (front range back : List ℕ) → IsInOrder falls (front ++ range ++ back) → merged_numbers range (front ++ range ++ back) ≡ joined range (front ++ range ++ back)
 
--- in order, at a monotone level, a deletion is the event: a part that loses its last item unites with a neighbour's
+-- on numbers in order, at a monotone level, a deletion is the event `Delete`: a part that loses its last item unites
+-- with a neighbour's
 abbrev pub DeletionIsEvent : Type 0
 DeletionIsEvent = (level : BufferClusterLevel) (falls : Bool) (front : List ℕ) (n : ℕ) (back : List ℕ) → IsMonotone level → IsInOrder falls (front ++ n ∷ back) → deleted level front n back ≡ after_part_event (front ++ n ∷ back) (DeletePart (length front))
 
--- no event brings a cluster number, at whatever level
+-- no event introduces a new cluster number, at any level
 abbrev pub OriginsKeepNumbers : Type 0
 OriginsKeepNumbers = (asks : Asks) (level : BufferClusterLevel) (es : List Event) (os : List Origin) → BringsNone (numbers os) (numbers (origins_after asks level es os))
 
@@ -43,20 +44,21 @@ OriginsKeepNumbers = (asks : Asks) (level : BufferClusterLevel) (es : List Event
 abbrev pub OriginsAreParts : Type 0
 OriginsAreParts = (asks : Asks) (level : BufferClusterLevel) (es : List Event) (os : List Origin) → IsMonotone level → IsPlain es → IsOrdered (numbers os) → numbers (origins_after asks level es os) ≡ after_part_events (parts_of level es) (numbers os)
 
--- clusters in order stay in order at a monotone level, in the other direction after each reversal
+-- clusters in order stay in order at a monotone level, reversed whenever the list is
 abbrev pub OriginsKeepOrder : Type 0
 OriginsKeepOrder = (asks : Asks) (level : BufferClusterLevel) (es : List Event) (falls : Bool) (os : List Origin) → IsMonotone level → IsPlain es → IsInOrder falls (numbers os)
     → IsInOrder (falls_after falls (parts_of level es)) (numbers (origins_after asks level es os))
 
--- their least stays while a glyph is left, where no replacement drops the last glyph of a part
+-- at a monotone level the least of clusters in order stays while a glyph is left, where no replacement drops the last
+-- glyph of a part
 abbrev pub OriginsKeepLeast : Type 0
 OriginsKeepLeast = (asks : Asks) (level : BufferClusterLevel) (es : List Event) (falls : Bool) (os : List Origin) (m : ℕ) → IsMonotone level → IsPlain es → IsGiving (parts_of level es) (numbers os)
     → IsInOrder falls (numbers os) → IsLeast m (numbers os) → origins_after asks level es os ≢ [] → IsLeast m (numbers (origins_after asks level es os))
 
--- once flags were spread, neighbours of one cluster have the same
+-- after a `Spread`, neighbours of one cluster have the same flags
 abbrev pub SpreadIsEven : Type 0
 SpreadIsEven = (asks : Asks) (os : List Origin) → AreEvenRuns (origins_spread asks os)
 
--- and no glyph tells where texts may not be put together but where that was asked for
+-- after a `Spread`, UNSAFE_TO_CONCAT is set only where it was requested
 abbrev pub SpreadHasNoConcat : Type 0
 SpreadHasNoConcat = (tatweel : Bool) (os : List Origin) → HaveNoConcat (origins_spread (record { concat = false; tatweel = tatweel }) os)

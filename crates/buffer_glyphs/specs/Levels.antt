@@ -1,22 +1,22 @@
--- What a cluster level makes of each kind of merge: the one table that tells levels apart.
+-- What a cluster level makes of each kind of merge: the one table that depends on levels.
 use Rattle.buffer_glyphs.specs.declared.level.BufferClusterLevel.{BufferClusterLevel}
 use Rattle.buffer_glyphs.specs.declared.level.BufferClusterLevel.TheVariants.{MonotoneGraphemes, MonotoneCharacters, Characters}
 
--- the calls that merge: in the list, or within the output
+-- the calls that merge: in the input list, or within the output
 pub data Merging : Type 0 where
   InList : Merging
   InOutput : Merging
 
--- what becomes of a range that is to merge
+-- what becomes of a range that a call merges
 pub data Manner : Type 0 where
   -- its clusters become the least of them
   Unites : Manner
-  -- it is marked as unsafe to break and to concat outside its least cluster
+  -- it is flagged as unsafe to break and to concat outside its least cluster
   Marks : Manner
-  -- nothing
+  -- it is left alone
   Keeps : Manner
 
--- what such a call does at a level
+-- the manner of such a call at a level
 abbrev pub manner : Merging → BufferClusterLevel → Manner
 manner InList MonotoneGraphemes = Unites
 manner InList MonotoneCharacters = Unites
@@ -25,6 +25,7 @@ manner InOutput MonotoneGraphemes = Unites
 manner InOutput MonotoneCharacters = Unites
 manner InOutput Characters = Keeps
 
+-- a manner that unites clusters
 abbrev pub IsUniting : Manner → Type 0
 IsUniting Unites = Unit {0}
 IsUniting Marks = ⊥

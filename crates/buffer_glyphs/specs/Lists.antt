@@ -22,7 +22,7 @@ take_next xs i = rw add-one (take_suc xs i)
 pub drop_next : {X : Type 0} (xs : List X) (i : ℕ) → drop 1 (drop i xs) ≡ drop (i + 1) xs
 drop_next xs i = drop-drop 1 i xs
 
--- a loop that puts f of each element in its place: one step
+-- a loop that replaces each element by f of it: one step
 pub map_step : {X : Type 0} (f : X → X) (xs ys : List X) (i : ℕ) (d z : X) → i < length xs → length ys ≡ length xs
     → ys ≡ map f (take i xs) ++ drop i xs → z ≡ f (get_or ys i d)
     → set ys i z ≡ map f (take (i + 1) xs) ++ drop (i + 1) xs

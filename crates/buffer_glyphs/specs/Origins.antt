@@ -1,4 +1,4 @@
--- Where a glyph comes from: its cluster and its three flags, and what merges, marks, copies and deletions make of them.
+-- Origins: the cluster and the three flags of a glyph, after merges, flags, copies and deletions.
 use Rattle.std.specs.Prelude.{ℕ, zero, suc, ◌+◌, ◌==◌, ◌||◌, max, Bool, true, false, nat_lt, if◌then◌else◌, List, [], ◌∷◌, ◌++◌, length, map, take, drop, Option, Some, None, slice_get, slice_range, unwrap_or}
 use Rattle.std.specs.List.{list_all}
 use Rattle.std.specs.Int.RustNames.{bit_and, bit_or}
@@ -9,51 +9,55 @@ pub use Rattle.buffer_glyphs.specs.Levels.{Merging, InList, InOutput, Manner, Un
 use Rattle.buffer_glyphs.specs.Parts.{first_of, last_of, is_number, stretch}
 use Rattle.buffer_glyphs.specs.Merges.{least_number, merged}
 
--- all of a glyph that no item has
+-- the fields of a glyph that no item has
 pub record Origin : Type 0 where
   pub cluster : ℕ
   -- the three flags
   pub flags : ℕ
 
+-- the origin of a glyph
 abbrev pub origin_of : hb_glyph_info_t → Origin
 origin_of g = record { cluster = g.cluster; flags = glyph_flags g }
 
+-- the origins of a list of glyphs
 abbrev pub origins : List hb_glyph_info_t → List Origin
 origins gs = map origin_of gs
 
+-- the cluster numbers of a list of origins
 abbrev pub numbers : List Origin → List ℕ
 numbers os = map (λ (o : Origin). o.cluster) os
 
 -- ---- merges
 
--- an origin in a cluster: where it was in another, other flags take the place of its own
+-- an origin in a cluster: where it was in another, other flags replace its own
 abbrev pub cast : ℕ → ℕ → Origin → Origin
 cast c flags o = if o.cluster == c then o else record { cluster = c; flags = flags }
 
--- the clusters that occur in a range become the least of them, everywhere
+-- the clusters that occur in a range renumbered to the least of them, everywhere
 abbrev pub origins_merged : List ℕ → List Origin → List Origin
 origins_merged range os = map (λ (o : Origin). cast (merged range o.cluster) 0 o) os
 
+-- flags set on an origin
 abbrev pub flags_added : ℕ → Origin → Origin
 flags_added bits o = record o { flags = bit_or o.flags bits }
 
--- flags set outside a cluster
+-- flags set on an origin outside a cluster
 abbrev pub added_outside : ℕ → ℕ → Origin → Origin
 added_outside bits low o = if o.cluster == low then o else record o { flags = bit_or o.flags bits }
 
--- the elements from `from` up to before `to` become others, one for each
+-- the elements from `from` up to before `to` changed, each by itself
 abbrev pub changed_within : {X : Type 0} → (X → X) → ℕ → ℕ → List X → List X
 changed_within f from to xs = take from xs ++ map f (slice_range xs from to) ++ drop (max from to) xs
 
--- the indices from `from` up to before `to` have flags set outside the least cluster among them
+-- flags set on the indices from `from` up to before `to` outside the least cluster among them
 abbrev pub origins_marked : ℕ → ℕ → ℕ → List Origin → List Origin
 origins_marked bits from to os = changed_within (added_outside bits (least_number (stretch from to (numbers os)))) from to os
 
--- such indices have flags set
+-- flags set on the indices from `from` up to before `to`
 abbrev pub origins_flagged : ℕ → ℕ → ℕ → List Origin → List Origin
 origins_flagged bits from to os = changed_within (flags_added bits) from to os
 
--- the indices from `from` up to before `to` merge
+-- the indices from `from` up to before `to` merged, flagged or left alone, by manner
 abbrev pub merged_as : Manner → ℕ → ℕ → List Origin → List Origin
 merged_as Unites from to os = origins_merged (stretch from to (numbers os)) os
 merged_as Marks from to os = origins_marked 3 from to os
@@ -61,42 +65,43 @@ merged_as Keeps from to os = os
 
 -- ---- deletion
 
--- those of cluster p at the end of a list go to the cluster of o, with its flags
+-- the origins of cluster p at the end of a list moved to the cluster of o, with its flags
 abbrev pub end_cast : ℕ → Origin → List Origin → List Origin
 end_cast p o [] = []
 end_cast p o (q ∷ qs) = if list_all (λ (k : Origin). k.cluster == p) (q ∷ qs) then map (cast o.cluster o.flags) (q ∷ qs) else q ∷ end_cast p o qs
 
--- one goes whose cluster neither neighbour has: the run before it takes its cluster and flags if that is less; where none stands before, it is merged with the next
+-- an origin deleted whose cluster neither neighbour has: the run before it takes its cluster and flags if that cluster
+-- is less; with none before it, it is merged with the next
 abbrev pub alone_deleted : BufferClusterLevel → Option ℕ → List Origin → Origin → List Origin → List Origin
 alone_deleted level (Some p) front o back = (if nat_lt o.cluster p then end_cast p o front else front) ++ back
 alone_deleted level None front o back = front ++ drop 1 (merged_as (manner InList level) 0 2 (o ∷ back))
 
--- one goes from between others: nothing else changes where a neighbour has its cluster
+-- an origin deleted from between others: nothing else changes where a neighbour has its cluster
 abbrev pub one_deleted : BufferClusterLevel → List Origin → Origin → List Origin → List Origin
 one_deleted level front o back = if is_number (last_of (numbers front)) o.cluster || is_number (first_of (numbers back)) o.cluster then front ++ back else alone_deleted level (last_of (numbers front)) front o back
 
--- the first of the second list goes, after the first list
+-- the first of the second list deleted, after the first list
 abbrev pub first_deleted : BufferClusterLevel → List Origin → List Origin → List Origin
 first_deleted level front [] = front
 first_deleted level front (o ∷ back) = one_deleted level front o back
 
--- the one at a place goes
+-- the origin at an index deleted
 abbrev pub origins_deleted : BufferClusterLevel → ℕ → List Origin → List Origin
 origins_deleted level at os = first_deleted level (take at os) (drop at os)
 
 -- ---- order
 
--- each element of a list becomes the one at the place that is told for it among `all`, where there is one
+-- each element of a list replaced by the one at the index that the order gives for it in `all`, where there is one
 abbrev pub picked : {X : Type 0} → List X → List ℕ → List X → List X
 picked all [] xs = xs
 picked all (i ∷ order) [] = []
 picked all (i ∷ order) (x ∷ xs) = unwrap_or (slice_get all i) x ∷ picked all order xs
 
--- from a place on as many elements as an order has stand in that order, whose places are counted from there
+-- the elements from an index on permuted to an order, whose indices count from there
 abbrev pub arranged : {X : Type 0} → ℕ → List ℕ → List X → List X
 arranged from order xs = take from xs ++ picked (take (length order) (drop from xs)) order (drop from xs)
 
--- an index of an order is a seam where all that come to stand before it stood before it
+-- an index of an order is a seam where the elements before it are those that were before it
 abbrev pub is_seam : List ℕ → ℕ → Bool
 is_seam order i = list_all (λ j. nat_lt j i) (take i order)
 
@@ -105,7 +110,7 @@ pub record Span : Type 0 where
   pub from : ℕ
   pub to : ℕ
 
--- of so many indices that are left from `index` on, each seam ends the span that began at `begin`
+-- the spans of so many indices from `index` on: each seam ends the span that began at `begin`
 abbrev pub spans_from : List ℕ → ℕ → ℕ → ℕ → List Span
 spans_from order begin index zero = []
 spans_from order begin index (suc left) =
@@ -117,65 +122,70 @@ spans_from order begin index (suc left) =
 abbrev pub spans : List ℕ → List Span
 spans order = spans_from order 0 0 (length order)
 
--- spans merge, one after another; they are counted from an index of the list
+-- spans merged, one after another; their indices count from an index of the list
 abbrev pub spans_merged : Manner → ℕ → List Span → List Origin → List Origin
 spans_merged m at [] os = os
 spans_merged m at (s ∷ ss) os = spans_merged m at ss (merged_as m (at + s.from) (at + s.to) os)
 
 -- ---- new glyphs
 
--- the flags at a place
+-- the flags at an index
 abbrev pub flags_at : ℕ → List Origin → ℕ
 flags_at at os = unwrap_or (slice_get (map (λ (o : Origin). o.flags) os) at) 0
 
--- one comes in before or after the first, in its cluster, with other flags
+-- an origin inserted before or after the first, in its cluster, with other flags
 abbrev pub first_circled : Bool → ℕ → List Origin → List Origin
 first_circled after flags [] = []
 first_circled true flags (o ∷ os) = o ∷ record { cluster = o.cluster; flags = flags } ∷ os
 first_circled false flags (o ∷ os) = record { cluster = o.cluster; flags = flags } ∷ o ∷ os
 
--- one comes in beside that at a place
+-- an origin inserted beside that at an index, in its cluster, with the flags of another
 abbrev pub origins_circled : Bool → ℕ → ℕ → List Origin → List Origin
 origins_circled after beside like os = take beside os ++ first_circled after (flags_at like os) (drop beside os)
 
 -- ---- flags at the end
 
--- what is asked of the flags
+-- the requests for glyph flags
 pub record Asks : Type 0 where
   pub concat : Bool
   pub tatweel : Bool
 
--- a tatweel may stand where no break is unsafe, and there a break is; what was not asked for goes
+-- where tatweels are requested, UNSAFE_TO_BREAK clears SAFE_TO_INSERT_TATWEEL, and where that stays the two other flags
+-- are added
 abbrev pub tatweel_settled : Bool → ℕ → ℕ
 tatweel_settled false m = m
 tatweel_settled true m = if bit_and m 1 == 1 then bit_and m 3 else if bit_and m 4 == 4 then bit_or m 3 else m
 
+-- UNSAFE_TO_CONCAT cleared, unless it is requested
 abbrev pub concat_settled : Bool → ℕ → ℕ
 concat_settled true m = m
 concat_settled false m = bit_and m 5
 
+-- the flags of a cluster as requests settle them
 abbrev pub settled : Asks → ℕ → ℕ
 settled asks m = concat_settled asks.concat (tatweel_settled asks.tatweel m)
 
--- all flags of the run of a cluster at the front of a list
+-- the flags of all origins of the run of a cluster at the front of a list
 abbrev pub run_flags : ℕ → List Origin → ℕ
 run_flags c [] = 0
 run_flags c (o ∷ os) = if o.cluster == c then bit_or o.flags (run_flags c os) else 0
 
--- the flags of the one before where that is of the cluster, else those of the run that begins
+-- the flags of the neighbour before where that is of the cluster, else those of the run that begins
 abbrev pub spread_flags : Option Origin → ℕ → ℕ → ℕ
 spread_flags None c flags = flags
 spread_flags (Some p) c flags = if p.cluster == c then p.flags else flags
 
--- each run of a cluster has one set of flags
+-- each run of a cluster with one set of flags, after a neighbour
 abbrev pub spread_after : Asks → Option Origin → List Origin → List Origin
 spread_after asks before [] = []
 spread_after asks before (o ∷ os) =
     let now : Origin = record { cluster = o.cluster; flags = spread_flags before o.cluster (settled asks (run_flags o.cluster (o ∷ os))) } in
     now ∷ spread_after asks (Some now) os
 
+-- each run of a cluster with one set of flags (`propagate_flags`)
 abbrev pub origins_spread : Asks → List Origin → List Origin
 origins_spread asks os = spread_after asks None os
 
+-- all glyph flags cleared
 abbrev pub without_marks : List Origin → List Origin
 without_marks os = map (λ (o : Origin). record { cluster = o.cluster; flags = 0 }) os

@@ -1,20 +1,20 @@
--- The parts of a text, and what shaping does to them. A list has for each item the number of its part.
+-- The parts of a text, and their events. A list has for each item the number of its part.
 use Rattle.std.specs.Prelude.{ℕ, ◌+◌, ◌-◌, ◌==◌, ◌&&◌, ◌||◌, Bool, false, nat_le, min, max, if◌then◌else◌, List, [], ◌∷◌, ◌++◌, Option, Some, None, map, take, drop, reverse, replicate, fold, length, slice_get}
 
--- one step of shaping, by indices of the list before it
+-- an event on parts, by indices of the list before it
 pub data PartEvent : Type 0 where
   -- the parts from the first to the last that occur at the indices from `from` up to before `to` become one
   JoinParts : (from to : ℕ) → PartEvent
-  -- so many items at a place become one part, and make room for new items of that part
+  -- so many items from an index on become one part, and are replaced by new items of that part
   ReplaceParts : (at taken given : ℕ) → PartEvent
-  -- the item at a place goes
+  -- the item at an index is deleted
   DeletePart : (at : ℕ) → PartEvent
-  -- a dotted circle comes in beside the item at a place, and belongs to its part
+  -- a dotted circle is inserted beside the item at an index, in its part
   CirclePart : (beside : ℕ) → PartEvent
   -- the list is reversed
   ReverseParts : PartEvent
 
--- the number among parts of which all from `low` to `high` become `low`
+-- the number of a part after all from `low` to `high` become `low`
 abbrev pub united : ℕ → ℕ → ℕ → ℕ
 united low high n = if nat_le low n && nat_le n high then low else n
 
@@ -22,68 +22,76 @@ united low high n = if nat_le low n && nat_le n high then low else n
 abbrev pub united_all : ℕ → ℕ → List ℕ → List ℕ
 united_all m n ns = map (united (min m n) (max m n)) ns
 
+-- the last of some numbers, and n where there is none
 abbrev pub last_from : ℕ → List ℕ → ℕ
 last_from n [] = n
 last_from n (m ∷ ms) = last_from m ms
 
--- a list after the parts of a stretch of it became one
+-- a list after the parts of a range of it became one
 abbrev pub joined : List ℕ → List ℕ → List ℕ
 joined [] ns = ns
 joined (n ∷ rest) ns = united_all n (last_from n rest) ns
 
--- the indices from `from` up to before `to`
+-- the numbers at the indices from `from` up to before `to`
 abbrev pub stretch : ℕ → ℕ → List ℕ → List ℕ
 stretch from to ns = take (to - from) (drop from ns)
 
+-- the first element, if there is one
 abbrev pub first_of : {X : Type 0} → List X → Option X
 first_of [] = None
 first_of (x ∷ xs) = Some x
 
+-- the last element, if there is one
 abbrev pub last_of : {X : Type 0} → List X → Option X
 last_of xs = slice_get xs (length xs - 1)
 
+-- the first of two options that has an element
 abbrev pub or : {X : Type 0} → Option X → Option X → Option X
 or None o = o
 or (Some x) o = Some x
 
--- so many copies of what there is
+-- so many copies of an element, none where there is none
 abbrev pub copies : {X : Type 0} → ℕ → Option X → List X
 copies n None = []
 copies n (Some x) = replicate n x
 
--- some elements from an index on make room for copies of the first, past the end of the one before
+-- some elements from an index on replaced by copies of the first, past the end of the one before
 abbrev pub replaced_among : {X : Type 0} → ℕ → ℕ → ℕ → List X → List X
 replaced_among at taken given xs = take at xs ++ copies given (or (first_of (drop at xs)) (last_of (take at xs))) ++ drop (at + taken) xs
 
--- some items at a place make room for others of the part of the first, past the end of the part before
+-- some items from an index on replaced by others of the part of the first, past the end of the part before
 abbrev pub replaced : ℕ → ℕ → ℕ → List ℕ → List ℕ
 replaced at taken given ns = replaced_among at taken given ns
 
+-- whether an option is a number
 abbrev pub is_number : Option ℕ → ℕ → Bool
 is_number None n = false
 is_number (Some m) n = m == n
 
--- a part unites with that of the neighbour before, else with that of the neighbour after
+-- a part united with that of the neighbour before, else with that of the neighbour after
 abbrev pub with_neighbour : Option ℕ → Option ℕ → ℕ → List ℕ → List ℕ
 with_neighbour (Some p) after n ns = united_all p n ns
 with_neighbour None (Some q) n ns = united_all n q ns
 with_neighbour None None n ns = ns
 
--- a part that loses its last item unites with a neighbour's
+-- a part that loses its last item, united with a neighbour's
 abbrev pub united_if_last : Option ℕ → Option ℕ → ℕ → List ℕ → List ℕ
 united_if_last before after n ns = if is_number before n || is_number after n then ns else with_neighbour before after n ns
 
+-- the parts as the given item between its neighbours is about to be deleted
 abbrev pub united_without : Option ℕ → Option ℕ → Option ℕ → List ℕ → List ℕ
 united_without before None after ns = ns
 united_without before (Some n) after ns = united_if_last before after n ns
 
--- the list as the item at a place is about to go
+-- the parts as the item at an index is about to be deleted
 abbrev pub before_deletion : ℕ → List ℕ → List ℕ
 before_deletion at ns = united_without (last_of (take at ns)) (first_of (drop at ns)) (first_of (drop (at + 1) ns)) ns
 
+-- a list without the element at an index
 abbrev pub without : ℕ → List ℕ → List ℕ
 without at ns = take at ns ++ drop (at + 1) ns
 
+-- the parts after one event
 abbrev pub after_part_event : List ℕ → PartEvent → List ℕ
 after_part_event ns (JoinParts from to) = joined (stretch from to ns) ns
 after_part_event ns (ReplaceParts at taken given) = replaced at taken given (joined (stretch at (at + taken) ns) ns)

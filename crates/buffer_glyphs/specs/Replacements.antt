@@ -1,15 +1,16 @@
--- Some elements of a list make room for others under new numbers.
+-- Elements of a list replaced by others under new numbers.
 use Rattle.std.specs.Prelude.{ℕ, ◌+◌, List, [], ◌++◌, Option, Some, None, map, take, drop}
 use Rattle.buffer_glyphs.specs.declared.info.hb_glyph_info_t.{hb_glyph_info_t}
 use Rattle.buffer_glyphs.specs.Items.{Item}
 use Rattle.buffer_glyphs.specs.Parts.{first_of, last_of, or}
 
--- copies of what there is, one for each number
+-- copies of an element, one for each number; none where there is none
 abbrev pub copied : {X : Type 0} → (X → ℕ → X) → Option X → List ℕ → List X
 copied under None numbers = []
 copied under (Some x) numbers = map (under x) numbers
 
--- some elements from a place on make room for copies of the first of them, past the end of the one before, one for each number
+-- some elements from an index on replaced by copies of the first of them, past the end of the one before, one for each
+-- number
 abbrev pub replaced_by : {X : Type 0} → (X → ℕ → X) → ℕ → ℕ → List ℕ → List X → List X
 replaced_by under at taken numbers xs = take at xs ++ copied under (or (first_of (drop at xs)) (last_of (take at xs))) numbers ++ drop (at + taken) xs
 
@@ -17,11 +18,14 @@ replaced_by under at taken numbers xs = take at xs ++ copied under (or (first_of
 abbrev pub glyph_numbered : hb_glyph_info_t → ℕ → hb_glyph_info_t
 glyph_numbered g n = record g { glyph_id = n }
 
+-- an item under another number
 abbrev pub item_numbered : Item → ℕ → Item
 item_numbered x n = record x { number = n }
 
+-- glyphs replaced by copies of the first under other numbers
 abbrev pub glyphs_replaced : ℕ → ℕ → List ℕ → List hb_glyph_info_t → List hb_glyph_info_t
 glyphs_replaced at taken numbers gs = replaced_by glyph_numbered at taken numbers gs
 
+-- items replaced by copies of the first under other numbers
 abbrev pub items_replaced : ℕ → ℕ → List ℕ → List Item → List Item
 items_replaced at taken numbers xs = replaced_by item_numbered at taken numbers xs

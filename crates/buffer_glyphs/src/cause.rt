@@ -1,3 +1,4 @@
+//! The causes for which a text cannot be shaped.
 use std::alloc::{AllocError, AllocFailed};
 use thiserror::Error;
 
@@ -9,10 +10,10 @@ pub enum ShapeCause {
     /// A list of glyphs would have more than `max_len`.
     #[error("S2 TooLong")]
     TooLong,
-    /// A width of a stretched word is outside 32 bits.
+    /// A width of a stretched Arabic word is outside 32 bits.
     #[error("S3 StretchRange")]
     StretchRange,
-    /// The syllable spans named a kind that the shaper does not have.
+    /// The syllable spans give a kind that the shaper does not have.
     #[error("S4 UnknownSyllableKind")]
     UnknownSyllableKind,
 }

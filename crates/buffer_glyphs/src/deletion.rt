@@ -1,3 +1,4 @@
+//! Deletes one glyph from a slice (rustybuzz: hb/buffer.rs, `delete_glyph`).
 ghost use Rattle.std.specs.Prelude.{◌≡◌, ◌+◌, ◌<◌, ◌≤◌, [], true, length, map, take, drop};
 ghost use Rattle.buffer_glyphs.specs.Items.{clusters};
 ghost use Rattle.buffer_glyphs.specs.Parts.{first_of, is_number};
@@ -9,7 +10,7 @@ use crate::level::BufferClusterLevel;
 use crate::ranges::merge_at;
 use crate::runs::last_cluster;
 
-/// Puts the glyph into the cluster; where it was in another, the three glyph flags of `mask` take the place of its own.
+/// Puts the glyph into the cluster; where it was in another, the three glyph flags of `mask` replace its own.
 pub fn set_cluster(info: &mut hb_glyph_info_t, cluster: u32, mask: hb_mask_t)
     ensures { info.new ≡ recast cluster mask info.old }
 {
@@ -19,7 +20,8 @@ pub fn set_cluster(info: &mut hb_glyph_info_t, cluster: u32, mask: hb_mask_t)
     }
 }
 
-/// The glyphs at the end of the slice that are of the last one's cluster go to the cluster of `glyph`, with its three flags.
+/// Moves the glyphs at the end of the slice that are of the last one's cluster to the cluster of `glyph`, with its
+/// three flags.
 #[tactic(auto, using(crate::proofs::EndRuns::end_of_none, crate::proofs::EndRuns::end_put))]
 pub fn recast_end(glyphs: &mut [hb_glyph_info_t], glyph: &hb_glyph_info_t)
     ensures { glyphs.new ≡ end_recast glyph.now glyphs.old }
@@ -43,7 +45,7 @@ pub fn next_has(glyphs: &[hb_glyph_info_t], at: usize, cluster: u32) -> bool
     glyphs[at].cluster == cluster
 }
 
-/// Where the glyphs of the cluster at the end begin.
+/// The index of the first glyph of the run of the cluster at the end.
 pub fn end_run(glyphs: &[hb_glyph_info_t], cluster: u32) -> usize
     ensures within { result ≤ length glyphs.now }
     ensures begins { IsEndRun cluster result glyphs.now }
@@ -72,8 +74,8 @@ fn recast(glyph: hb_glyph_info_t, cluster: u32, mask: hb_mask_t) -> hb_glyph_inf
     other
 }
 
-/// The glyph at `at` goes, with none before it that stays: where the next is not of its cluster the two are merged. What
-/// stands at `at` after it has no meaning. Answers whether another was marked.
+/// Deletes the glyph at `at`, where no glyph before it is left: a next glyph of another cluster is merged with it. The
+/// glyph at `at` has no meaning afterwards. Answers whether another glyph was flagged.
 pub fn delete_at_front(
     glyphs: &mut [hb_glyph_info_t],
     at: usize,
@@ -89,7 +91,7 @@ pub fn delete_at_front(
     delete_first(rest, level, in_order)
 }
 
-/// The first of some glyphs goes, with none before it.
+/// Deletes the first of some glyphs, where no glyph is before it.
 #[tactic(auto, using(crate::proofs::FirstDeleted::first_alone, crate::proofs::FirstDeleted::first_same, crate::proofs::FirstDeleted::first_other))]
 fn delete_first(rest: &mut [hb_glyph_info_t], level: BufferClusterLevel, in_order: bool) -> bool
     requires some { 0 < length rest.old }

@@ -1,8 +1,9 @@
+//! The bits of glyph records and of printing (rustybuzz: hb/buffer.rs, hb/ot_layout.rs).
 ghost use Rattle.std.specs.Prelude.{⊤, [], ◌∷◌, codes};
 
 use bitflags::{Flag, Flags, bitflag_items};
 
-/// What a glyph is by GDEF, and what became of it.
+/// The class of a glyph by GDEF, and the substitutions that made it.
 #[derive(Clone, Copy, PartialEq, Eq, Debug, Default)]
 pub struct GlyphPropsFlags(pub u16);
 
@@ -41,7 +42,8 @@ impl Flags for GlyphPropsFlags {
     }
 }
 
-/// What a character is: its general category's number in the low five bits, and marks of how it is treated.
+/// The property word of a character: the number of its general category in the low five bits, and bits of its
+/// treatment.
 #[derive(Clone, Copy, PartialEq, Eq, Debug, Default)]
 pub struct UnicodeProps(pub u16);
 
@@ -81,7 +83,7 @@ impl Flags for UnicodeProps {
     }
 }
 
-/// What is printed of a glyph.
+/// The fields that are printed of a glyph.
 #[derive(Clone, Copy, PartialEq, Eq, Debug, Default)]
 pub struct SerializeFlags(pub u8);
 

@@ -1,6 +1,7 @@
+//! Laws of events, merges and deletions.
 ghost use Rattle.buffer_glyphs.specs.Laws.{DeletionIsEvent, KeepsLeast, KeepsNumbers, KeepsOrder, MergeIsJoin, MergeUnites, OriginsAreParts, OriginsKeepLeast, OriginsKeepNumbers, OriginsKeepOrder, SpreadHasNoConcat, SpreadIsEven};
 
-/// Parts in order stay in order through all events, falls_after as often as the list is.
+/// Parts in order stay in order through all events, reversed whenever the list is.
 #[tactic(auto, using(crate::specs::Lemmas::Parts::keeps_order))]
 pub fn keeps_order()
     ensures { KeepsOrder }
@@ -11,7 +12,7 @@ pub fn keeps_least()
     ensures { KeepsLeast }
 {}
 
-/// No event brings a number that was not there.
+/// No event introduces a new part number.
 #[tactic(auto, using(crate::specs::Lemmas::Parts::keeps_numbers))]
 pub fn keeps_numbers()
     ensures { KeepsNumbers }
@@ -22,19 +23,19 @@ pub fn merge_unites()
     ensures { MergeUnites }
 {}
 
-/// In order, a merge of the numbers that occur in a range is the join of its stretch.
+/// On numbers in order, a merge of the numbers that occur in a range is the join of the range's parts.
 #[tactic(auto, using(crate::specs::Lemmas::Merges::merge_is_join))]
 pub fn merge_is_join()
     ensures { MergeIsJoin }
 {}
 
-/// In order, at a monotone level, the deletion of a glyph is the event of that name.
+/// On numbers in order, at a monotone level, the deletion of a glyph is the event `Delete`.
 #[tactic(auto, using(crate::specs::Lemmas::Deletions::deletion_is_event))]
 pub fn deletion_is_event()
     ensures { DeletionIsEvent }
 {}
 
-/// No event brings a cluster number, at whatever level.
+/// No event introduces a new cluster number, at any level.
 #[tactic(auto, using(crate::specs::Lemmas::EventParts::origins_keep_numbers))]
 pub fn origins_keep_numbers()
     ensures { OriginsKeepNumbers }
@@ -46,25 +47,25 @@ pub fn origins_are_parts()
     ensures { OriginsAreParts }
 {}
 
-/// At a monotone level clusters in order stay in order.
+/// At a monotone level clusters in order stay in order, reversed whenever the list is.
 #[tactic(auto, using(crate::proofs::Least::origins_keep_order))]
 pub fn origins_keep_order()
     ensures { OriginsKeepOrder }
 {}
 
-/// Their least stays while a glyph is left.
+/// At a monotone level the least of clusters in order stays while a glyph is left.
 #[tactic(auto, using(crate::proofs::Least::origins_keep_least))]
 pub fn origins_keep_least()
     ensures { OriginsKeepLeast }
 {}
 
-/// Once flags were spread, neighbours of one cluster have the same.
+/// After a `Spread`, neighbours of one cluster have the same glyph flags.
 #[tactic(auto, using(crate::specs::Lemmas::EventParts::spread_is_even))]
 pub fn spread_is_even()
     ensures { SpreadIsEven }
 {}
 
-/// Once flags were spread, none tells where texts may not be put together but where that was asked for.
+/// After a `Spread`, UNSAFE_TO_CONCAT is set only where it was requested.
 #[tactic(auto, using(crate::specs::Lemmas::EventParts::spread_has_no_concat))]
 pub fn spread_has_no_concat()
     ensures { SpreadHasNoConcat }

@@ -1,4 +1,5 @@
-/// How finely cluster numbers are kept apart, and whether their order is.
+//! The cluster levels of a buffer (HarfBuzz: `hb_buffer_cluster_level_t`).
+/// How finely cluster numbers are kept apart, and whether they stay in order.
 #[derive(Clone, Copy, PartialEq, Eq, Debug, Default)]
 pub enum BufferClusterLevel {
     /// The characters of a grapheme have one number, and numbers stay in order.
@@ -6,10 +7,11 @@ pub enum BufferClusterLevel {
     MonotoneGraphemes,
     /// Each character begins with its own number, and numbers stay in order.
     MonotoneCharacters,
-    /// Each character begins with its own number, and merges do nothing.
+    /// Each character begins with its own number, and merges flag the range instead of renumbering it.
     Characters,
 }
 
+/// HarfBuzz's name of a cluster level, as a number.
 pub type hb_buffer_cluster_level_t = u32;
 
 pub const HB_BUFFER_CLUSTER_LEVEL_MONOTONE_GRAPHEMES: hb_buffer_cluster_level_t = 0;

@@ -1,5 +1,6 @@
-// Lists of glyphs: plain types of characters and glyphs, the words of every contract (glyphs without their clusters, and what
-// happens to the parts of a text), merges of clusters, glyph flags and the deletion of one glyph.
+//! Lists of glyphs: the records of characters and glyphs, the items that every contract cites (glyphs without their
+//! clusters) and the events on the parts of a text, merges of clusters, glyph flags, and the deletion of one glyph
+//! (rustybuzz: hb/buffer.rs).
 #![tactic(auto)]
 
 pub mod cause;

@@ -1,4 +1,4 @@
-//! What became of a glyph, and the ligature that it is or belongs to.
+//! The class of a glyph, the substitutions that made it, and its ligature word (rustybuzz: hb/ot_layout.rs).
 ghost use Rattle.std.specs.Prelude.{◌≡◌, ◌<◌, ◌≤◌, ◌&&◌, not};
 ghost use Rattle.buffer_glyphs.specs.Items.{item_of};
 ghost use Rattle.buffer_glyphs.specs.LigatureWords.{component_bound, component_word, counted, is_base_glyph, is_lig_base, is_ligated, is_ligature, is_mark, is_multiplied, is_substituted, lig_comp, lig_id, lig_num_comps, ligature_word};
@@ -6,56 +6,56 @@ ghost use Rattle.buffer_glyphs.specs.LigatureWords.{component_bound, component_w
 use crate::flags::GlyphPropsFlags;
 use crate::info::hb_glyph_info_t;
 
-/// The greatest number of a component, and the most that are counted.
+/// The greatest component number, and the most components that are counted.
 pub const MAX_COMPONENTS: u32 = 0x0FFF_FFFF;
 
 const LIG_BASE: u32 = 0x1000_0000;
 
 const LIG_ID: u32 = 0x2000_0000;
 
-/// Whether the glyph has the class of a base.
+/// Whether the glyph has the GDEF class of a base.
 pub fn _hb_glyph_info_is_base_glyph(info: &hb_glyph_info_t) -> bool
     ensures { result ≡ is_base_glyph (item_of info.now) }
 {
     info.glyph_props.0 & GlyphPropsFlags::BASE_GLYPH.0 != 0
 }
 
-/// Whether the glyph has the class of a ligature.
+/// Whether the glyph has the GDEF class of a ligature.
 pub fn _hb_glyph_info_is_ligature(info: &hb_glyph_info_t) -> bool
     ensures { result ≡ is_ligature (item_of info.now) }
 {
     info.glyph_props.0 & GlyphPropsFlags::LIGATURE.0 != 0
 }
 
-/// Whether the glyph has the class of a mark.
+/// Whether the glyph has the GDEF class MARK.
 pub fn _hb_glyph_info_is_mark(info: &hb_glyph_info_t) -> bool
     ensures { result ≡ is_mark (item_of info.now) }
 {
     info.glyph_props.0 & GlyphPropsFlags::MARK.0 != 0
 }
 
-/// Whether a substitution put the glyph there.
+/// Whether a substitution made the glyph.
 pub fn _hb_glyph_info_substituted(info: &hb_glyph_info_t) -> bool
     ensures { result ≡ is_substituted (item_of info.now) }
 {
     info.glyph_props.0 & GlyphPropsFlags::SUBSTITUTED.0 != 0
 }
 
-/// Whether a ligature substitution did.
+/// Whether a ligature substitution made the glyph.
 pub fn _hb_glyph_info_ligated(info: &hb_glyph_info_t) -> bool
     ensures { result ≡ is_ligated (item_of info.now) }
 {
     info.glyph_props.0 & GlyphPropsFlags::LIGATED.0 != 0
 }
 
-/// Whether it is one of several that a multiple substitution made of a glyph.
+/// Whether the glyph is one of several that a multiple substitution made.
 pub fn _hb_glyph_info_multiplied(info: &hb_glyph_info_t) -> bool
     ensures { result ≡ is_multiplied (item_of info.now) }
 {
     info.glyph_props.0 & GlyphPropsFlags::MULTIPLIED.0 != 0
 }
 
-/// Whether a ligature substitution put it there, and no multiple substitution made several of it.
+/// Whether a ligature substitution made the glyph, and no multiple substitution made several of it.
 pub fn _hb_glyph_info_ligated_and_didnt_multiply(info: &hb_glyph_info_t) -> bool
     ensures { result ≡ (is_ligated (item_of info.now) && not (is_multiplied (item_of info.now))) }
 {
@@ -87,7 +87,7 @@ pub fn _hb_glyph_info_get_lig_comp(info: &hb_glyph_info_t) -> u32
     info.lig_props % LIG_BASE
 }
 
-/// How many components the glyph has: 1 but on a ligature.
+/// How many components the glyph has: 1, except for a ligature.
 pub fn _hb_glyph_info_get_lig_num_comps(info: &hb_glyph_info_t) -> u32
     ensures count { result ≡ lig_num_comps (item_of info.now) }
     ensures bound { result ≤ component_bound }
@@ -98,7 +98,7 @@ pub fn _hb_glyph_info_get_lig_num_comps(info: &hb_glyph_info_t) -> u32
     1
 }
 
-/// Makes the glyph a ligature of so many components; more than `MAX_COMPONENTS` are counted as these.
+/// Makes the glyph a ligature of so many components; at most `MAX_COMPONENTS` are counted.
 pub fn _hb_glyph_info_set_lig_props_for_ligature(
     info: &mut hb_glyph_info_t,
     lig_id: u8,
@@ -110,7 +110,7 @@ pub fn _hb_glyph_info_set_lig_props_for_ligature(
     info.lig_props = u32::from(lig_id) * LIG_ID + (LIG_BASE + counted(lig_num_comps));
 }
 
-/// Makes the glyph belong to a component of a ligature; those past `MAX_COMPONENTS` have this number.
+/// Makes the glyph belong to a component of a ligature; a component past `MAX_COMPONENTS` becomes that number.
 pub fn _hb_glyph_info_set_lig_props_for_mark(info: &mut hb_glyph_info_t, lig_id: u8, lig_comp: u64)
     requires { lig_id < 8 }
     ensures { info.new ≡ record info.old { lig_props = component_word lig_id lig_comp } }
@@ -118,7 +118,7 @@ pub fn _hb_glyph_info_set_lig_props_for_mark(info: &mut hb_glyph_info_t, lig_id:
     info.lig_props = u32::from(lig_id) * LIG_ID + counted(lig_comp);
 }
 
-/// Makes the glyph one of several that a multiple substitution makes, of no ligature.
+/// Makes the glyph one of several that a multiple substitution made, of no ligature.
 pub fn _hb_glyph_info_set_lig_props_for_component(info: &mut hb_glyph_info_t, lig_comp: u64)
     ensures { info.new ≡ record info.old { lig_props = component_word 0 lig_comp } }
 {

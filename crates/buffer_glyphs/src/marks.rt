@@ -1,3 +1,4 @@
+//! Glyph flags set on ranges of a slice (rustybuzz: hb/buffer.rs, `_set_glyph_flags`, `_infos_set_glyph_flags`).
 ghost use Rattle.std.specs.Prelude.{◌≡◌, ◌==◌, ◌≤◌, ◌++◌, true, false, not, length, map};
 ghost use Rattle.std.specs.List.{list_any};
 ghost use Rattle.buffer_glyphs.specs.Items.{clusters};
@@ -10,7 +11,7 @@ use crate::info::{hb_glyph_info_t, hb_mask_t};
 use crate::merges::least_cluster;
 
 /// Sets flags on the glyphs from `start` up to before `end` outside the least cluster among them; answers whether there
-/// are such. Where their clusters are known to stand in order, glyphs of one cluster are not walked.
+/// are such. Where their clusters are known to be in order, ranges of one cluster are not walked.
 #[tactic(auto, using(crate::proofs::Parts::marked_parts, crate::proofs::Parts::told_apart))]
 pub fn mark_within(
     glyphs: &mut [hb_glyph_info_t],
@@ -35,7 +36,8 @@ pub fn mark_within(
     any
 }
 
-/// Whether the first and the last glyph are of one cluster, or there are none; in order, so are all between.
+/// Whether the first and the last glyph are of one cluster, or there are none; on clusters in order, all glyphs between
+/// are too.
 fn are_ends_alike(glyphs: &[hb_glyph_info_t]) -> bool
     ensures { IsOrdered (clusters glyphs.now) → result ≡ true → tells_apart (clusters glyphs.now) ≡ false }
 {

@@ -1,3 +1,4 @@
+//! Merges of clusters in a slice (rustybuzz: hb/buffer.rs, `merge_clusters`).
 ghost use Rattle.std.specs.Prelude.{◌≡◌, ◌≤◌, length, slice_range, map};
 ghost use Rattle.buffer_glyphs.specs.Items.{clusters, without_flags};
 ghost use Rattle.buffer_glyphs.specs.Parts.{stretch};
@@ -30,7 +31,7 @@ pub fn has_cluster(glyphs: &[hb_glyph_info_t], cluster: u32) -> bool
         .any(|other| other == cluster)
 }
 
-/// The glyph in the cluster; where it was in another, its three flags go.
+/// The glyph in the cluster; where it was in another, its three glyph flags are cleared.
 pub fn glyph_in_cluster(glyph: hb_glyph_info_t, cluster: u32) -> hb_glyph_info_t
     ensures { result ≡ in_cluster cluster glyph }
 {
@@ -56,7 +57,7 @@ fn merged_glyph(glyph: hb_glyph_info_t, range: &[hb_glyph_info_t], low: u32) -> 
     }
 }
 
-/// The clusters that occur in `range` become the least of them, `low`, wherever they are among the glyphs.
+/// Renumbers the clusters that occur in `range` to the least of them, `low`, wherever they are among the glyphs.
 #[tactic(auto, using(crate::specs::Lists::map_step))]
 pub fn spread(glyphs: &mut [hb_glyph_info_t], range: &[hb_glyph_info_t], low: u32)
     requires { low ≡ least_number (clusters range.now) }
@@ -67,7 +68,7 @@ pub fn spread(glyphs: &mut [hb_glyph_info_t], range: &[hb_glyph_info_t], low: u3
     }
 }
 
-/// The clusters that occur from `start` up to before `end` become the least of them, wherever they are.
+/// Renumbers the clusters that occur from `start` up to before `end` to the least of them, wherever they are.
 #[tactic(auto, using(crate::proofs::Parts::merged_parts))]
 pub fn spread_within(glyphs: &mut [hb_glyph_info_t], start: usize, end: usize)
     requires ordered { start ≤ end }

@@ -1,3 +1,4 @@
+//! The names and extents of glyphs, for printing.
 ghost use Rattle.std.specs.Prelude.{◌≡◌, ℕ, List, Option};
 ghost use Rattle.std.specs.Option.{option_copied};
 ghost use Rattle.buffer_glyphs.specs.declared.names.hb_glyph_extents_t.{hb_glyph_extents_t};
@@ -15,7 +16,7 @@ pub struct hb_glyph_extents_t {
     pub height: i32,
 }
 
-/// What a font tells of its glyphs to one who prints them.
+/// The names and boxes of a font's glyphs, for a printer of glyphs.
 pub trait GlyphNames {
     ghost name_of: { Self → ℕ → Option (List ℕ) };
 

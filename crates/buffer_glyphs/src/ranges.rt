@@ -1,3 +1,4 @@
+//! Merges of a range at a cluster level (rustybuzz: hb/buffer.rs, `merge_clusters`).
 ghost use Rattle.std.specs.Prelude.{◌≡◌, ◌≤◌, true, Bool, length};
 ghost use Rattle.buffer_glyphs.specs.Items.{clusters};
 ghost use Rattle.buffer_glyphs.specs.Order.{IsInOrder, IsOrdered};
@@ -10,9 +11,10 @@ use crate::marks::mark_within;
 use crate::runs::merge_within;
 
 /// Merges the clusters of the glyphs from `start` up to before `end`. At the monotone levels each cluster that occurs
-/// among them becomes the least of them, wherever it is, and a glyph whose cluster changes loses its three flags. At the
-/// level that keeps characters apart those outside the least cluster are marked as unsafe to break and to concat. Answers
-/// whether a glyph was marked. Where all clusters are known to stand in order it costs the range and the runs at its ends.
+/// among them becomes the least of them, wherever it is, and a glyph whose cluster changes loses its three flags. At
+/// the level `Characters` those outside the least cluster are flagged as unsafe to break and to concat. Answers whether
+/// a glyph was flagged. Where all clusters are known to be in order it costs the range and the runs of glyphs at its
+/// ends.
 #[tactic(auto, using(crate::specs::Merging::order_merged, crate::specs::Merging::direction_merged))]
 pub fn merge_range(
     glyphs: &mut [hb_glyph_info_t],
@@ -32,7 +34,7 @@ pub fn merge_range(
     merge_at(glyphs, level, start, end, in_order)
 }
 
-/// Merges them, where clusters are known to stand in order only as far as a level merges.
+/// Merges such a range; the clusters are known to be in order only where the level merges.
 pub fn merge_at(
     glyphs: &mut [hb_glyph_info_t],
     level: BufferClusterLevel,

@@ -1,3 +1,4 @@
+//! Merges of clusters that are in order, at the cost of the range and its neighbouring runs.
 ghost use Rattle.std.specs.Prelude.{◌≡◌, ◌≤◌, ◌<◌, ◌++◌, ◌∷◌, [], Some, true, length};
 ghost use Rattle.buffer_glyphs.specs.Items.{clusters};
 ghost use Rattle.buffer_glyphs.specs.Parts.{first_of, last_of, stretch};
@@ -7,8 +8,8 @@ ghost use Rattle.buffer_glyphs.specs.Glyphs.{glyphs_merged, renamed};
 use crate::info::hb_glyph_info_t;
 use crate::merges::{least_cluster, set_clusters, spread, spread_within};
 
-/// The clusters that occur from `start` up to before `end` become the least of them, wherever they are. Where all clusters
-/// are known to stand in order it costs the range and the runs at its ends.
+/// Renumbers the clusters that occur from `start` up to before `end` to the least of them, wherever they are. Where all
+/// clusters are known to be in order it costs the range and the runs of glyphs at its ends.
 pub fn merge_within(glyphs: &mut [hb_glyph_info_t], start: usize, end: usize, in_order: bool)
     requires ordered { start ≤ end }
     requires within { end ≤ length glyphs.old }
@@ -25,8 +26,8 @@ pub fn merge_within(glyphs: &mut [hb_glyph_info_t], start: usize, end: usize, in
     }
 }
 
-/// The clusters that occur in `range` become the least of them, wherever they are among the glyphs. Where these and the
-/// range are known to stand in order it costs the range and the run at the end.
+/// Renumbers the clusters that occur in `range` to the least of them, wherever they are among the glyphs. Where the
+/// glyphs and the range after them are known to be in order it costs the range and the last run of the glyphs.
 #[tactic(auto, using(crate::proofs::Joined::order_beside))]
 pub fn merge_beside(glyphs: &mut [hb_glyph_info_t], range: &[hb_glyph_info_t], in_order: bool)
     requires { in_order ≡ true → IsOrdered (clusters glyphs.old ++ clusters range.now) }
@@ -43,8 +44,8 @@ pub fn merge_beside(glyphs: &mut [hb_glyph_info_t], range: &[hb_glyph_info_t], i
     }
 }
 
-/// The clusters that occur in `range` become the least of them, wherever they are among the glyphs. Where the range and
-/// these after it are known to stand in order it costs the range and the run at the front.
+/// Renumbers the clusters that occur in `range` to the least of them, wherever they are among the glyphs. Where the
+/// range and the glyphs after it are known to be in order it costs the range and the first run of the glyphs.
 #[tactic(auto, using(crate::proofs::Joined::order_after))]
 pub fn merge_after(glyphs: &mut [hb_glyph_info_t], range: &[hb_glyph_info_t], in_order: bool)
     requires { in_order ≡ true → IsOrdered (clusters range.now ++ clusters glyphs.old) }
@@ -94,7 +95,8 @@ pub fn last_cluster(glyphs: &[hb_glyph_info_t]) -> u32
     glyphs[glyphs.len() - 1].cluster
 }
 
-/// The glyphs of the cluster go to another. In order, with the cluster after all, they stand at the end.
+/// Renumbers the glyphs of the cluster. On clusters in order, with this cluster after all others, they are the last
+/// glyphs.
 #[tactic(auto, using(crate::proofs::Ends::passed_back))]
 fn rename_back(glyphs: &mut [hb_glyph_info_t], cluster: u32, low: u32)
     requires { IsOrdered (clusters glyphs.old ++ cluster ∷ []) }
@@ -110,7 +112,8 @@ fn rename_back(glyphs: &mut [hb_glyph_info_t], cluster: u32, low: u32)
     set_clusters(&mut glyphs[at..], low);
 }
 
-/// The glyphs of the cluster go to another. In order, with the cluster in front of all, they stand at the front.
+/// Renumbers the glyphs of the cluster. On clusters in order, with this cluster before all others, they are the first
+/// glyphs.
 #[tactic(auto, using(crate::proofs::Ends::passed_front))]
 fn rename_front(glyphs: &mut [hb_glyph_info_t], cluster: u32, low: u32)
     requires { IsOrdered (cluster ∷ clusters glyphs.old) }

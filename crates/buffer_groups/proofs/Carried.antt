@@ -217,7 +217,7 @@ all_twice c z (g ∷ gs) other off =
     ap (λ (h : Glyph). h ∷ map (in_cluster z) (map (in_cluster c) gs)) (in_twice c z g other (off g.cluster (has_here g.cluster (clusters gs))))
     ∙ ap (λ hs. in_cluster z g ∷ hs) (all_twice c z gs other (λ n h. off n (has_more g.cluster n (clusters gs) h)))
 
--- behind what is due nothing changes
+-- after what is due nothing changes
 pub same_range : (d : Stretch) (gs : List Glyph) (i j : ℕ) → d.from ≤ d.to → d.to ≤ length gs → d.to ≤ i → slice_range (carried d gs) i j ≡ slice_range gs i j
 same_range d gs i j le within behind = ap (take (j - i)) (drop_carried d gs i le within behind)
 
@@ -272,7 +272,7 @@ all_are p n (g ∷ gs) e h = elim (has_cases g.cluster n (clusters gs) h) [
     rest true f = f
     rest false f = cc
 
--- a range behind what is due in falling clusters
+-- a range after what is due in falling clusters
 pub record IsRange (start end a : ℕ) (xs : List ℕ) (d : Stretch) (gs : List Glyph) : Type 0 where
   pub lt : start < end
   pub within : end ≤ length gs
@@ -285,7 +285,7 @@ range_meant start end a xs d gs r = ap clusters (same_range d gs start end r.due
 falls_merged : (start end : ℕ) (gs new : List Glyph) → start < end → IsFalling (clusters gs) → new ≡ glyphs_merged (stretch start end (clusters gs)) gs → IsFalling (clusters new)
 falls_merged start end gs new lt falling e = direction_merged MonotoneGraphemes start end gs new (omega arith) e true falling
 
--- the due stretch joins
+-- the due range joins
 pub joined_merged : (start end a : ℕ) (xs : List ℕ) (d : Stretch) (gs : List Glyph) → IsRange start end a xs d gs → least_number (a ∷ xs) < a → d.cluster ≡ a → ((n : ℕ) → Has (clusters (slice_range gs d.to start)) n → n ≡ a)
     → carried (record { from = d.from; to = end; cluster = least_number (a ∷ xs) }) gs ≡ glyphs_merged (stretch start end (clusters (carried d gs))) (carried d gs)
 joined_merged start end a xs d gs r less joins all =
@@ -338,7 +338,7 @@ due_above start end a xs d gs r lt =
     before_range m start end a d.cluster xs (range_meant start end a xs d gs r) due.falls
     (has_before m d.to start d.cluster due.before (subst (λ ns. Has ns d.cluster) (sym there) (has_right d.cluster (clusters (take d.from gs)) (clusters go) (one_in d.cluster mid long))))
 
--- none of it is of the first cluster of the range, nor is what stands before it
+-- none of it is of the first cluster of the range, nor is what is before it
 none_due : (start end a n : ℕ) (xs : List ℕ) (d : Stretch) (gs : List Glyph) → IsRange start end a xs d gs → d.cluster ≢ a → Has (clusters (take d.to (carried d gs))) n → n ≢ a
 none_due start end a n xs d gs r other h e =
     let due = r.due in
@@ -352,7 +352,7 @@ none_due start end a n xs d gs r other h e =
       | inr among ↦ other (sym (in_one d.cluster n mid among) ∙ e)
     ]
 
--- the stretch between the due one and the range
+-- the range between the due one and the range
 ahead_is : {X : Type 0} (gs : List X) (to start ahead : ℕ) → to + ahead ≤ start → take ahead (slice_range gs to start) ≡ slice_range gs to (to + ahead)
 ahead_is gs to start ahead le =
     let wide : to + ahead - to ≡ ahead = omega arith in
@@ -401,7 +401,7 @@ none_before start end a n (suc i) xs d gs r le run other h e =
           | inr among ↦ elim (has_cases last.cluster n [] among) [ inl is ↦ off (is ∙ e) | inr none ↦ cc ]
         ]
 
--- the due stretch is carried out, and another begins
+-- the due range is carried out, and another begins
 pub begun_merged : (start end a ahead : ℕ) (xs : List ℕ) (d : Stretch) (gs : List Glyph) → IsRange start end a xs d gs → d.to + ahead ≤ start → IsEndRun a ahead (slice_range gs d.to start) → (ahead ≡ 0 → d.cluster ≢ a)
     → carried (record { from = d.to + ahead; to = end; cluster = least_number (a ∷ xs) }) (carried d gs) ≡ glyphs_merged (stretch start end (clusters (carried d gs))) (carried d gs)
 begun_merged start end a ahead xs d gs r le run other =

@@ -1,4 +1,4 @@
--- A part is turned round while something is due.
+-- A part is reversed while something is due.
 use Rattle.std.specs.Prelude.{slice_range}
 use Rattle.std.proofs.Common.{ℕ, ◌≡◌, ◌≤◌, ◌+◌, ◌-◌, inl, inr, List, ◌++◌, length, map, take, drop, reverse, arith, ap, sym, subst, ◌∙◌, append_assoc}
 use Rattle.std.proofs.lemmas.List.{map-append, length-append, length-map, length-take-le, length-drop, length-reverse, take-take, drop-take, take-append-drop}
@@ -21,7 +21,7 @@ use Rattle.buffer_glyphs.specs.Lemmas.EventParts.{map-reverse}
 pub carried_long : (d : Stretch) (gs : List Glyph) → d.from ≤ d.to → d.to ≤ length gs → length (carried d gs) ≡ length gs
 carried_long d gs le within = omega (arith, length-append (take d.from gs ++ map (in_cluster d.cluster) (slice_range gs d.from d.to)) (drop d.to gs), front_long d gs le within, length-drop d.to gs)
 
--- the parts of a list of which a part was turned round
+-- the parts of a list of which a part was reversed
 turned_front : {X : Type 0} (i start end : ℕ) (xs : List X) → i ≤ start → start ≤ length xs → take i (range_reversed start end xs) ≡ take i xs
 turned_front i start end xs le within =
     let r = reverse (slice_range xs start end) in
@@ -108,7 +108,7 @@ turned_has d start end n gs le within (inr round) h =
       | inr among ↦ has_right n (clusters (take start gs)) (clusters w) (sym (has_reverse n (clusters w)) ∙ among)
     ])
 
--- a stretch is due where its group was merged and is turned round in its place
+-- a range is due where its group was merged and is reversed in its place
 pub stretch_turned : (level : Level) (d : Stretch) (start end : ℕ) (old gs : List Glyph) → IsMonotone level → start ≤ end → end ≤ length gs → IsDueBefore end d gs → IsRound start end d → carried d gs ≡ glyphs_merged_at level start end old → IsDueBefore end d (range_reversed start end gs)
 stretch_turned level d start end old gs mono le within due round e =
     let new = range_reversed start end gs in

@@ -28,13 +28,13 @@ pub meant_turned : (level : Level) (start end : ℕ) (due : Due) (gs : List Glyp
 meant_turned level start end Nothing gs le within h round = refl
 meant_turned level start end (Falling d) gs le within h round = carried_turned d start end gs le within h.1.ordered round
 
--- a group that was merged is turned round in its place
+-- a group that was merged is reversed in its place
 pub due_turned : (merge : Bool) (level : Level) (start end : ℕ) (due : Due) (old gs : List Glyph) → start ≤ end → end ≤ length gs → MayBeDue level end due gs → MayBeRound start end due → (merge ≡ false → due ≡ Nothing) → with_due due gs ≡ merged_if merge level start end old → MayBeDue level end due (range_reversed start end gs)
 due_turned merge level start end Nothing old gs le within h round plain e = (tt, tt)
 due_turned false level start end (Falling d) old gs le within h round plain e = let no = plain refl in cc
 due_turned true level start end (Falling d) old gs le within h round plain e = (h.0, stretch_turned level d start end old gs h.0 le within h.1 round e)
 
--- what is ahead is as it is meant where a stretch is due
+-- what is ahead is as it is meant where a range is due
 pub meant_ahead : (at : ℕ) (d : Stretch) (gs : List Glyph) → at ≤ length gs → IsDueBefore at d gs → drop at (carried d gs) ≡ drop at gs
 meant_ahead at d gs le h = drop_carried d gs at h.ordered (omega (arith, h.before, le)) h.before
 

@@ -27,7 +27,7 @@ keyed_from_on : (k : Glyph → ℕ) (i j : ℕ) (gs : List Glyph) → i ≤ j �
 keyed_from_on k i j [] le = All-nil (λ (e : Keyed). i ≤ e.place)
 keyed_from_on k i j (g ∷ gs) le = All-cons (λ (e : Keyed). i ≤ e.place) (record { key = k g; place = j }) (keyed_from k (j + 1) gs) le (keyed_from_on k i (j + 1) gs (omega arith))
 
--- what holds of each key of glyphs holds of each that stands with a place
+-- what holds of each key of glyphs holds of each that stands with an index
 to_keyed : (P : ℕ → Type 0) (k : Glyph → ℕ) (j : ℕ) (gs : List Glyph) → All (λ g. P (k g)) gs → All (λ (e : Keyed). P e.key) (keyed_from k j gs)
 to_keyed P k j [] h = All-nil (λ (e : Keyed). P e.key)
 to_keyed P k j (g ∷ gs) h = All-cons (λ (e : Keyed). P e.key) (record { key = k g; place = j }) (keyed_from k (j + 1) gs) (All-head (λ x. P (k x)) g gs h) (to_keyed P k (j + 1) gs (All-tail (λ x. P (k x)) g gs h))

@@ -52,7 +52,7 @@ reach_more order place reach d lt before i some =
     ap (list_all (λ (e : Keyed). nat_lt e.place i)) (take_more order place d lt) ∙ all_more i (take place order) (get_or order place d ∷ [])
     ∙ ap (λ t. t && (nat_lt (get_or order place d).place i && true)) (before i some) ∙ ap (λ t. nat_lt reach i && t) (and_true (nat_lt (get_or order place d).place i)) ∙ max_less reach (get_or order place d).place i
 
--- no seam stands behind a place
+-- no seam is after an index
 pub spans_go_on : (level : Level) (start : ℕ) (order : List Keyed) (begin place reach : ℕ) (s whole : Spanned) → place < length order → place < reach
     → ((i : ℕ) → 0 < i → list_all (λ (e : Keyed). nat_lt e.place i) (take (place + 1) order) ≡ nat_lt reach i)
     → spans_merged level start order begin place (length order - place) s ≡ whole → spans_merged level start order begin (place + 1) (length order - (place + 1)) s ≡ whole
@@ -63,7 +63,7 @@ spans_go_on level start order begin place reach s whole lt far seen before =
     let opened = rw less at before in
     sym (ap (λ t. if t then spans_merged level start order (place + 1) (place + 1) (length order - (place + 1)) (span_merged level (start + begin) (start + (place + 1)) s) else spans_merged level start order begin (place + 1) (length order - (place + 1)) s) seam) ∙ opened
 
--- a seam stands behind it
+-- a seam is after it
 pub spans_end : (level : Level) (start : ℕ) (order : List Keyed) (begin place reach : ℕ) (s new whole : Spanned) → place < length order → reach ≤ place
     → ((i : ℕ) → 0 < i → list_all (λ (e : Keyed). nat_lt e.place i) (take (place + 1) order) ≡ nat_lt reach i)
     → new ≡ span_merged level (start + begin) (start + (place + 1)) s

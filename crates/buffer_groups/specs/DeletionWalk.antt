@@ -10,11 +10,11 @@ use Rattle.buffer_glyphs.specs.Lemmas.Numbers.{Has}
 use Rattle.buffer_groups.specs.declared.deletion.walk.Walk.{Walk}
 use Rattle.buffer_glyphs.specs.Deleting.{end_recast, glyphs_deleted, deletion_marks}
 
--- each answer that a test of a glyph may give is that of p
+-- each answer of a test of a glyph is that of p
 abbrev pub Tells : {F : Type 0} → Shared F (Bor hb_glyph_info_t × Unit {0}) Bool → F → (hb_glyph_info_t → Bool) → Type 0
 Tells calls f p = (g : hb_glyph_info_t) (b : Bool) → FnReturnsAt calls f g b → b ≡ p g
 
--- glyphs and positions that stay, those ahead, and whether a merge marked a glyph
+-- the glyphs and positions that are left so far, those ahead, and whether a merge flagged a glyph
 pub record Passed : Type 0 where
   pub kept : List hb_glyph_info_t
   pub kept_positions : List Position
@@ -22,7 +22,7 @@ pub record Passed : Type 0 where
   pub positions_ahead : List Position
   pub is_marked : Bool
 
--- a glyph goes
+-- the walk after it deleted a glyph
 abbrev pub without_glyph : BufferClusterLevel → Passed → hb_glyph_info_t → List hb_glyph_info_t → Passed
 without_glyph level w g back = record {
   kept = (glyphs_deleted level w.kept g back).front;
@@ -32,41 +32,43 @@ without_glyph level w g back = record {
   is_marked = w.is_marked || deletion_marks level (clusters w.kept) g.cluster (clusters back);
 }
 
--- a glyph stays
+-- the walk after it left a glyph
 abbrev pub with_glyph : Passed → hb_glyph_info_t → List hb_glyph_info_t → Passed
 with_glyph w g back = record w { kept = w.kept ++ g ∷ []; kept_positions = w.kept_positions ++ take 1 w.positions_ahead; ahead = back; positions_ahead = drop 1 w.positions_ahead }
 
+-- the walk over one glyph: deleted where the test picks it, else left
 abbrev pub passed_of : BufferClusterLevel → (hb_glyph_info_t → Bool) → Passed → List hb_glyph_info_t → Passed
 passed_of level p w [] = w
 passed_of level p w (g ∷ back) = if p g then without_glyph level w g back else with_glyph w g back
 
--- the first glyph ahead goes where the test picks it, else it stays
+-- the walk over the first glyph ahead: deleted where the test picks it, else left
 abbrev pub first_passed : BufferClusterLevel → (hb_glyph_info_t → Bool) → Passed → Passed
 first_passed level p w = passed_of level p w w.ahead
 
--- so many glyphs, one after another
+-- the walk over so many glyphs, one after another
 abbrev pub many_passed : BufferClusterLevel → (hb_glyph_info_t → Bool) → ℕ → Passed → Passed
 many_passed level p zero w = w
 many_passed level p (suc n) w = many_passed level p n (first_passed level p w)
 
--- all of them
+-- the walk over all glyphs
 abbrev pub all_passed : BufferClusterLevel → (hb_glyph_info_t → Bool) → List hb_glyph_info_t → List Position → Passed
 all_passed level p gs ps = many_passed level p (length gs) (record { kept = []; kept_positions = []; ahead = gs; positions_ahead = ps; is_marked = false })
 
--- glyphs whose last run is still to take what a glyph has
+-- glyphs whose last run takes the cluster and flags that it is still to take
 abbrev pub settled : Option hb_glyph_info_t → List hb_glyph_info_t → List hb_glyph_info_t
 settled None gs = gs
 settled (Some d) gs = end_recast d gs
 
--- what the walk has passed as it stands at a place
+-- the walk as it is at an index
 abbrev pub passed_at : ℕ → Walk → List hb_glyph_info_t → List Position → Passed
 passed_at at w gs ps = record { kept = settled w.due (take w.kept gs); kept_positions = take w.kept ps; ahead = drop at gs; positions_ahead = drop at ps; is_marked = w.marked }
 
--- what is still to be taken is of a cluster less than all that stand there, and only where these are in order
+-- the cluster still to be taken is less than all that are left, and there is one only where these are in order
 abbrev pub IsDue : Bool → Option hb_glyph_info_t → List hb_glyph_info_t → Type 0
 IsDue in_order None gs = Unit {0}
 IsDue in_order (Some d) gs = (in_order ≡ true) × (0 < length gs) × ((n : ℕ) → Has (clusters gs) n → d.cluster < n)
 
+-- the invariant of a walk's state
 pub record IsWalk (in_order : Bool) (at : ℕ) (w : Walk) (gs : List hb_glyph_info_t) : Type 0 where
   pub few : w.kept ≤ at
   pub due : IsDue in_order w.due (take w.kept gs)

@@ -1,4 +1,4 @@
--- What merges left to be carried out.
+-- The renumbering that merges postponed.
 use Rattle.std.specs.Prelude.{ℕ, ◌≤◌, List}
 use Rattle.buffer_glyphs.specs.declared.info.hb_glyph_info_t.{hb_glyph_info_t}
 use Rattle.buffer_glyphs.specs.declared.level.BufferClusterLevel.{BufferClusterLevel}
@@ -7,31 +7,31 @@ use Rattle.buffer_groups.specs.declared.due.Due.{Due}
 use Rattle.buffer_groups.specs.declared.due.Due.TheVariants.{Nothing, Falling}
 use Rattle.buffer_groups.specs.Falling.{carried, IsDueBefore, IsRound}
 
--- the glyphs that are meant where something may be due
+-- the glyphs once a postponed renumbering is carried out
 abbrev pub with_due : Due → List hb_glyph_info_t → List hb_glyph_info_t
 with_due Nothing gs = gs
 with_due (Falling d) gs = carried d gs
 
--- what is due before a place
+-- a postponed renumbering is before an index
 abbrev pub IsDue : ℕ → Due → List hb_glyph_info_t → Type 0
 IsDue at Nothing gs = Unit {0}
 IsDue at (Falling d) gs = IsDueBefore at d gs
 
--- the levels at which something may be due
+-- the levels at which renumbering may be postponed
 abbrev pub LetsWait : BufferClusterLevel → Due → Type 0
 LetsWait level Nothing = Unit {0}
 LetsWait level (Falling d) = IsMonotone level
 
--- something is due at a monotone level alone
+-- renumbering is postponed at a monotone level only
 abbrev pub MayBeDue : BufferClusterLevel → ℕ → Due → List hb_glyph_info_t → Type 0
 MayBeDue level at due gs = LetsWait level due × IsDue at due gs
 
--- what is due is within so many glyphs
+-- the postponed renumbering is within so many glyphs
 abbrev pub IsWithin : ℕ → Due → Type 0
 IsWithin n Nothing = Unit {0}
 IsWithin n (Falling d) = (d.from ≤ d.to) × (d.to ≤ n)
 
--- a stretch that is due ends before a range, or has all of it at its end
+-- a postponed range ends before a range, or has all of it at its end
 abbrev pub MayBeRound : ℕ → ℕ → Due → Type 0
 MayBeRound start end Nothing = Unit {0}
 MayBeRound start end (Falling d) = IsRound start end d

@@ -1,4 +1,4 @@
--- The events of calls that go over a list: a sort of a range, a reversal of groups, deletions in place.
+-- The events of walks over a list: a sort of a range, a reversal of groups, deletions in place.
 use Rattle.std.specs.Prelude.{ℕ, ◌+◌, Bool, true, false, if◌then◌else◌, List, [], ◌∷◌, ◌++◌, length, reverse, slice_index_or}
 use Rattle.std.specs.List.{range_with_len}
 use Rattle.buffer_stable_order.specs.Keys.{key_order}
@@ -6,7 +6,7 @@ use Rattle.buffer_glyphs.specs.Origins.{InList}
 use Rattle.buffer_glyphs.specs.Events.{Event, Delete, Move, Arrange, Reverse}
 use Rattle.buffer_groups.specs.Facts.{group_lengths}
 
--- the indices of keys, in stable order by the keys that stand there
+-- the indices of keys, in stable order by key
 abbrev pub order_of : List ℕ → List ℕ
 order_of keys = key_order (λ i. slice_index_or keys i 0) (range_with_len 0 (length keys))
 
@@ -14,7 +14,7 @@ order_of keys = key_order (λ i. slice_index_or keys i 0) (range_with_len 0 (len
 abbrev pub indices_reversed : ℕ → List ℕ
 indices_reversed n = reverse (range_with_len 0 n)
 
--- so many glyphs from an index on are reversed; where that is asked for they merge first
+-- the event that reverses so many glyphs from an index on; where that is requested they are merged first
 abbrev pub group_event : Bool → ℕ → ℕ → Event
 group_event true at n = Move InList at (indices_reversed n)
 group_event false at n = Arrange at (indices_reversed n)
@@ -24,15 +24,16 @@ abbrev pub group_events : Bool → ℕ → List ℕ → List Event
 group_events merge at [] = []
 group_events merge at (n ∷ lens) = group_event merge at n ∷ group_events merge (at + n) lens
 
--- each group is reversed where it stands, and then the whole list is: the groups stand in reversed order, each in its own
+-- the events of a reversal of groups: each group is reversed in place, and then the whole list, so that each group is
+-- in its own order
 abbrev pub groups_reversed : {X : Type 0} → Bool → (X → X → Bool) → List X → List Event
 groups_reversed merge joins xs = group_events merge 0 (group_lengths joins xs) ++ Reverse ∷ []
 
--- the elements that a test picks go one after another, of those that stand from an index on
+-- the events that delete the elements that a test picks, one after another, from an index on
 abbrev pub deletions_from : {X : Type 0} → (X → Bool) → ℕ → List X → List Event
 deletions_from goes at [] = []
 deletions_from goes at (x ∷ xs) = if goes x then Delete at ∷ deletions_from goes at xs else deletions_from goes (at + 1) xs
 
--- each element that a test picks goes, from the left; each index is that of the list as it then is
+-- the events that delete the elements that a test picks, from the left; each index is that of the list at that time
 abbrev pub deletions : {X : Type 0} → (X → Bool) → List X → List Event
 deletions goes xs = deletions_from goes 0 xs

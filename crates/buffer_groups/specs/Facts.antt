@@ -1,4 +1,4 @@
--- What walks over glyphs leave of items and of positions, each by items alone.
+-- What walks over glyphs leave of items and positions, as functions of items only.
 use Rattle.std.specs.Prelude.{ℕ, not, Bool, if◌then◌else◌, List, [], ◌∷◌, ◌++◌, length, map, take, drop, filter}
 use Rattle.buffer_glyphs.specs.Items.{Item, Position}
 use Rattle.buffer_groups.specs.Turning.{groups}
@@ -13,15 +13,15 @@ positions_kept q [] ps = []
 positions_kept q (x ∷ xs) [] = []
 positions_kept q (x ∷ xs) (p ∷ ps) = if q x then positions_kept q xs ps else p ∷ positions_kept q xs ps
 
--- how long each group of a list is
+-- the length of each group of a list
 abbrev pub group_lengths : {X : Type 0} → (X → X → Bool) → List X → List ℕ
 group_lengths p xs = map (λ ys. length ys) (groups p xs)
 
--- stretches of given lengths in turned order, each in its own order
+-- ranges of given lengths in reversed order, each in its own order
 abbrev pub stretches_turned : {X : Type 0} → List ℕ → List X → List X
 stretches_turned [] xs = []
 stretches_turned (n ∷ lens) xs = stretches_turned lens (drop n xs) ++ take n xs
 
--- the positions beside the items where their groups were put in turned order
+-- the positions of the items after a reversal of their groups
 abbrev pub positions_turned : (Item → Item → Bool) → List Item → List Position → List Position
 positions_turned q xs ps = stretches_turned (group_lengths q xs) ps

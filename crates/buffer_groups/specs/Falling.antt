@@ -1,4 +1,4 @@
--- Merges over falling clusters, of which the last is still to be carried out.
+-- Merges over clusters that decrease, of which the last waits.
 use Rattle.std.specs.Prelude.{ℕ, ◌≡◌, ◌⊎◌, ◌≤◌, ◌<◌, List, ◌++◌, map, take, drop, slice_range}
 use Rattle.buffer_glyphs.specs.declared.info.hb_glyph_info_t.{hb_glyph_info_t}
 use Rattle.buffer_glyphs.specs.Items.{clusters}
@@ -7,11 +7,11 @@ use Rattle.buffer_glyphs.specs.Glyphs.{in_cluster}
 use Rattle.buffer_glyphs.specs.Lemmas.Numbers.{Has}
 use Rattle.buffer_groups.specs.declared.due.falling.Stretch.{Stretch}
 
--- the glyphs once a stretch of them went to the cluster that it is to go to
+-- the glyphs once a range of them is renumbered to the cluster that is due
 abbrev pub carried : Stretch → List hb_glyph_info_t → List hb_glyph_info_t
 carried d gs = take d.from gs ++ map (in_cluster d.cluster) (slice_range gs d.from d.to) ++ drop d.to gs
 
--- what is due stands before a place; no glyph before its end is of a lesser cluster, and none before it of its own
+-- the postponed range is before an index; no glyph before its end is of a lesser cluster, and none before it of its own
 pub record IsDueBefore (at : ℕ) (d : Stretch) (gs : List hb_glyph_info_t) : Type 0 where
   pub ordered : d.from ≤ d.to
   pub before : d.to ≤ at
@@ -20,6 +20,6 @@ pub record IsDueBefore (at : ℕ) (d : Stretch) (gs : List hb_glyph_info_t) : Ty
   pub least : (n : ℕ) → Has (clusters (take d.to gs)) n → d.cluster ≤ n
   pub falls : IsFalling (clusters (carried d gs))
 
--- what is due ends before a range, or has all of it at its end
+-- the postponed range ends before a range, or has all of it at its end
 abbrev pub IsRound : ℕ → ℕ → Stretch → Type 0
 IsRound start end d = (d.to ≤ start) ⊎ ((d.from ≤ start) × (d.to ≡ end))

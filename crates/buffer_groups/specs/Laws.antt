@@ -1,4 +1,4 @@
--- What holds of each deletion, of groups and of walks.
+-- Laws of deletions, groups and walks.
 use Rattle.std.specs.Prelude.{ℕ, ◌≡◌, ◌≤◌, ◌↔◌, Bool, true, IsTrue, List, [], ◌∷◌, ◌++◌, length, map, take, drop, reverse, slice_range}
 use Rattle.std.specs.List.{All, flat_map}
 use Rattle.buffer_glyphs.specs.declared.info.hb_glyph_info_t.{hb_glyph_info_t}
@@ -12,12 +12,12 @@ use Rattle.buffer_groups.specs.DeletionWalk.{all_passed}
 use Rattle.buffer_groups.specs.Events.{deletions, groups_reversed, order_of}
 use Rattle.buffer_groups.specs.Sorting.{is_seam, places_by_key, range_sorted}
 
--- the first of the glyphs after others goes: where the others come from is what the event leaves
+-- the deletion of the first glyph after others leaves the origins that the event `Delete` leaves
 abbrev pub DeletionIsEvent : Type 0
 DeletionIsEvent = (level : BufferClusterLevel) (front : List hb_glyph_info_t) (g : hb_glyph_info_t) (back : List hb_glyph_info_t) → let left = glyphs_deleted level front g back in
     origins (left.front ++ left.back) ≡ origins_deleted level (length front) (origins (front ++ g ∷ back))
 
--- all other items stay
+-- a deletion changes no other item
 abbrev pub DeletesOneItem : Type 0
 DeletesOneItem = (level : BufferClusterLevel) (front : List hb_glyph_info_t) (g : hb_glyph_info_t) (back : List hb_glyph_info_t)
     → (strip (glyphs_deleted level front g back).front ≡ strip front) × (strip (glyphs_deleted level front g back).back ≡ strip back)
@@ -31,15 +31,15 @@ cut_into (n ∷ ns) xs = take n xs ∷ cut_into ns (drop n xs)
 abbrev pub GroupsAreAll : Type 0
 GroupsAreAll = (joins : hb_glyph_info_t → hb_glyph_info_t → Bool) (gs : List hb_glyph_info_t) → flat_map (λ hs. hs) (groups joins gs) ≡ gs
 
--- a list in which the order of groups was turned round has those groups, the last first, each in its own order
+-- a reversal of groups gives the groups, the last first, each in its own order
 abbrev pub TurnsGroups : Type 0
 TurnsGroups = (joins : hb_glyph_info_t → hb_glyph_info_t → Bool) (gs : List hb_glyph_info_t) → let turned = reverse (groups joins gs) in cut_into (map (λ hs. length hs) turned) (groups_turned joins gs) ≡ turned
 
--- a place is a seam of the order by a key exactly where no glyph before it has a greater key than one from it on
+-- an index is a seam of the order by a key exactly where no glyph before it has a greater key than one from it on
 abbrev pub SeamParts : Type 0
 SeamParts = (k : hb_glyph_info_t → ℕ) (gs : List hb_glyph_info_t) (i : ℕ) → i ≤ length gs → let order = places_by_key k gs in IsTrue (is_seam order i) ↔ All (λ g. All (λ h. k g ≤ k h) (drop i gs)) (take i gs)
 
--- deletions in place are events, one for each glyph that goes
+-- deletions in place are events, one for each deleted glyph
 abbrev pub DeletionsAreEvents : Type 0
 DeletionsAreEvents = (asks : Asks) (level : BufferClusterLevel) (q : Item → Bool) (gs : List hb_glyph_info_t) (ps : List Position) → origins (all_passed level (λ g. q (item_of g)) gs ps).kept ≡ origins_after asks level (deletions q (strip gs)) (origins gs)
 
@@ -53,6 +53,6 @@ abbrev pub SortIsEvent : Type 0
 SortIsEvent = (asks : Asks) (level : BufferClusterLevel) (start end : ℕ) (k : Item → ℕ) (gs : List hb_glyph_info_t) → start ≤ end → end ≤ length gs
     → origins (range_sorted level start end (λ g. k (item_of g)) gs).glyphs ≡ origins_after asks level (Sort start (order_of (map k (slice_range (strip gs) start end))) ∷ []) (origins gs)
 
--- none of these events puts glyphs in another order without a merge, but a reversal of groups that does not merge them
+-- none of these events permutes glyphs without a merge, except a reversal of groups that does not merge them
 abbrev pub EventsArePlain : Type 0
 EventsArePlain = (q : Item → Bool) (joins : Item → Item → Bool) (xs : List Item) (at : ℕ) (keys : List ℕ) → IsPlain (deletions q xs) × IsPlain (groups_reversed true joins xs) × IsPlain (Sort at (order_of keys) ∷ [])

@@ -1,4 +1,4 @@
--- Runs of glyphs that have something in common.
+-- Runs of glyphs with the same key.
 use Rattle.std.specs.Prelude.{ℕ, suc, ◌==◌, not, Bool, List, [], ◌∷◌}
 use Rattle.std.specs.List.{prefix_len}
 use Rattle.std.specs.Int.RustNames.{bit_and}

@@ -10,24 +10,24 @@ use Rattle.buffer_glyphs.specs.Glyphs.{glyphs_merged_at, is_marked_at}
 use Rattle.buffer_stable_order.specs.Keys.{key_order}
 use Rattle.buffer_groups.specs.declared.sorting.Keyed.{Keyed}
 
--- each key that a function may give a glyph is that of k
+-- each key of a glyph is that of k
 abbrev pub Gives : {F : Type 0} → Shared F (Bor hb_glyph_info_t × Unit {0}) ℕ → F → (hb_glyph_info_t → ℕ) → Type 0
 Gives calls f k = (g : hb_glyph_info_t) (n : ℕ) → FnReturnsAt calls f g n → n ≡ k g
 
--- the key and the place of each glyph; places are counted from i
+-- the key and the index of each glyph; indices count from i
 abbrev pub keyed_from : (hb_glyph_info_t → ℕ) → ℕ → List hb_glyph_info_t → List Keyed
 keyed_from k i [] = []
 keyed_from k i (g ∷ gs) = record { key = k g; place = i } ∷ keyed_from k (i + 1) gs
 
--- the places of glyphs in stable order by key
+-- the indices of glyphs in stable order by key
 abbrev pub places_by_key : (hb_glyph_info_t → ℕ) → List hb_glyph_info_t → List Keyed
 places_by_key k gs = key_order (λ (e : Keyed). e.key) (keyed_from k 0 gs)
 
--- a place is a seam where all that come to stand before it stood before it
+-- an index is a seam where the glyphs before it are those that were before it
 abbrev pub is_seam : List Keyed → ℕ → Bool
 is_seam order i = list_all (λ (e : Keyed). nat_lt e.place i) (take i order)
 
--- glyphs, and whether one was marked
+-- glyphs, and whether a merge flagged one
 pub record Spanned : Type 0 where
   pub glyphs : List hb_glyph_info_t
   pub is_marked : Bool
@@ -36,7 +36,7 @@ pub record Spanned : Type 0 where
 abbrev pub span_merged : BufferClusterLevel → ℕ → ℕ → Spanned → Spanned
 span_merged level from to s = if nat_lt (from + 1) to then record { glyphs = glyphs_merged_at level from to s.glyphs; is_marked = s.is_marked || is_marked_at level from to (clusters s.glyphs) } else s
 
--- of so many places that are left, each seam ends the span that was begun; places are counted from `start`
+-- of so many indices that are left, each seam ends the span that was begun; indices count from `start`
 abbrev pub spans_merged : BufferClusterLevel → ℕ → List Keyed → ℕ → ℕ → ℕ → Spanned → Spanned
 spans_merged level start order begin place zero s = s
 spans_merged level start order begin place (suc left) s =
@@ -48,19 +48,19 @@ spans_merged level start order begin place (suc left) s =
 abbrev pub range_spanned : BufferClusterLevel → ℕ → List Keyed → List hb_glyph_info_t → Spanned
 range_spanned level start order gs = spans_merged level start order 0 0 (length order) (record { glyphs = gs; is_marked = false })
 
--- a range once each span of its stable order by a key was merged, before it is put in that order
+-- a range with each span of its stable order by a key merged, before it is permuted
 abbrev pub range_merged : BufferClusterLevel → ℕ → ℕ → (hb_glyph_info_t → ℕ) → List hb_glyph_info_t → List hb_glyph_info_t
 range_merged level start end k gs = (range_spanned level start (places_by_key k (slice_range gs start end)) gs).glyphs
 
--- the glyph at a place, nothing past the end
+-- the glyph at an index, a zero glyph past the end
 abbrev pub glyph_at : List hb_glyph_info_t → ℕ → hb_glyph_info_t
 glyph_at gs i = slice_index_or gs i (record { glyph_id = 0; mask = 0; cluster = 0; glyph_index = 0; unicode_props = record { 0 = 0 }; modified_combining_class = 0; glyph_props = record { 0 = 0 }; lig_props = 0; syllable = 0; category = 0; auxiliary = 0 })
 
--- the glyphs of a range in an order of its places
+-- the glyphs of a range in an order of its indices
 abbrev pub put_in_order : ℕ → ℕ → List Keyed → List hb_glyph_info_t → List hb_glyph_info_t
 put_in_order start end order gs = take start gs ++ map (λ (e : Keyed). glyph_at (slice_range gs start end) e.place) order ++ drop end gs
 
--- a range in stable order by the keys that its glyphs came with, each span merged
+-- a range sorted stably by its keys, with each span merged
 abbrev pub range_sorted : BufferClusterLevel → ℕ → ℕ → (hb_glyph_info_t → ℕ) → List hb_glyph_info_t → Spanned
 range_sorted level start end k gs =
     let order = places_by_key k (slice_range gs start end) in

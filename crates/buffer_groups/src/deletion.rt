@@ -1,3 +1,4 @@
+//! Deletion in place (rustybuzz: hb/buffer.rs, `delete_glyphs_inplace`).
 ghost use Rattle.std.specs.Prelude.{◌≡◌, ◌≤◌, true, Bool, length, take};
 ghost use Rattle.buffer_glyphs.specs.declared.info.hb_glyph_info_t.{hb_glyph_info_t as Glyph};
 ghost use Rattle.buffer_glyphs.specs.Items.{clusters};
@@ -11,10 +12,10 @@ use buffer_glyphs::info::hb_glyph_info_t;
 use buffer_glyphs::level::BufferClusterLevel;
 use buffer_glyphs::position::GlyphPosition;
 
-/// Deletes the glyphs that `filter` picks, from the left, and answers how many stay and whether a merge marked one. Those
-/// that stay stand at the front of both slices, positions beside their glyphs; what is after them has no meaning. A glyph
-/// is tested as it stands when the walk reaches it. It takes no memory, and linear time where all clusters are known to
-/// stand in order.
+/// Deletes the glyphs where `filter` holds, from the left, and answers how many are left and whether a merge flagged
+/// one. The glyphs that are left are at the front of both slices, positions at the indices of their glyphs; what is
+/// after them has no meaning. A glyph is tested as it is when the walk reaches it. It takes no memory, and linear time
+/// where all clusters are known to be in order.
 pub fn delete_within<F: Fn(&hb_glyph_info_t) -> bool>(
     glyphs: &mut [hb_glyph_info_t],
     positions: &mut [GlyphPosition],

@@ -1,3 +1,4 @@
+//! Merges of ranges in a walk, of which the last may wait.
 ghost use Rattle.std.specs.Prelude.{◌≡◌, ◌≤◌, ◌<◌, ◌||◌, true, false, length};
 ghost use Rattle.buffer_glyphs.specs.declared.level.BufferClusterLevel.{BufferClusterLevel as Level};
 ghost use Rattle.buffer_glyphs.specs.Items.{clusters};
@@ -14,26 +15,26 @@ use buffer_glyphs::info::hb_glyph_info_t;
 use buffer_glyphs::level::BufferClusterLevel;
 use buffer_glyphs::ranges::merge_at;
 
-/// What merges left to be carried out. Where clusters fall, a merge at once may rename the same glyphs again and again; so
-/// they are renamed once it is known what they become.
+/// The renumbering that earlier merges postponed. Where clusters decrease, an immediate merge may renumber the same
+/// glyphs again and again; so they are renumbered once their last cluster is known.
 #[derive(Clone, Copy)]
 pub(crate) enum Due {
-    /// Nothing: each merge is carried out at once.
+    /// None: each merge is carried out at once.
     Nothing,
-    /// Where clusters fall, one stretch is still to be renamed.
+    /// Where clusters decrease, one range is still to be renumbered.
     Falling(Stretch),
 }
 
-/// How far the merges of a walk have come.
+/// The state of the merges of a walk.
 #[derive(Clone, Copy)]
 pub(crate) struct Merges {
-    /// Whether one marked a glyph.
+    /// Whether a merge flagged a glyph.
     pub(crate) marked: bool,
-    /// What they left to be carried out.
+    /// The renumbering that they postponed.
     pub(crate) due: Due,
 }
 
-/// No merge has been.
+/// The state before the first merge.
 pub(crate) fn no_merges(
     glyphs: &[hb_glyph_info_t],
     level: BufferClusterLevel,
@@ -85,7 +86,7 @@ fn no_stretch(glyphs: &[hb_glyph_info_t]) -> Due
     }
 }
 
-/// Merges the glyphs from `start` up to before `end`, after all that is due.
+/// Merges the glyphs from `start` up to before `end`, after the postponed renumbering.
 #[tactic(auto, using(crate::proofs::Carried::merged_falling, crate::proofs::Carried::none_marked))]
 pub(crate) fn merge_next(
     glyphs: &mut [hb_glyph_info_t],
@@ -122,7 +123,7 @@ pub(crate) fn merge_next(
     }
 }
 
-/// What is due is carried out.
+/// Carries out the postponed renumbering.
 pub(crate) fn settle(glyphs: &mut [hb_glyph_info_t], due: Due)
     requires { IsWithin (length glyphs.old) due }
     ensures { glyphs.new ≡ with_due due glyphs.old }

@@ -1,3 +1,4 @@
+//! Glyph flags by cluster (rustybuzz: hb/ot_shape.rs, `propagate_flags`).
 ghost use Rattle.std.specs.Prelude.{◌≡◌, ◌<◌, length, map};
 ghost use Rattle.std.specs.Int.RustNames.{bit_and};
 ghost use Rattle.buffer_glyphs.specs.declared.info.TheConstants.{DEFINED};
@@ -10,19 +11,19 @@ use buffer_glyphs::info::{
 };
 use buffer_glyphs::run_flags::flags_of_run;
 
-/// Which of the glyph flags are asked for.
+/// The requests for glyph flags (`hb_buffer_flags_t`).
 #[derive(Clone, Copy)]
 pub struct AskedFlags {
-    /// Where text may not be put together.
+    /// PRODUCE_UNSAFE_TO_CONCAT: where texts may not be concatenated.
     pub concat: bool,
-    /// Where a tatweel may stand.
+    /// PRODUCE_SAFE_TO_INSERT_TATWEEL: where a tatweel may be inserted.
     pub tatweel: bool,
 }
 
-/// Gives the glyphs of each run of one cluster the same glyph flags: those that one of them has. Where tatweels are asked
-/// for, none may stand where a break is unsafe, and where one may stand a break is. The flag of texts that may not be put
-/// together stays only where it is asked for. A mask has no other bit then: those of features go. All else of a glyph
-/// stays. It takes linear time.
+/// Gives all glyphs of a run of one cluster the same glyph flags: those that one of them has. Where tatweels are
+/// requested, UNSAFE_TO_BREAK clears SAFE_TO_INSERT_TATWEEL; where that stays, UNSAFE_TO_BREAK and UNSAFE_TO_CONCAT are
+/// added. UNSAFE_TO_CONCAT stays only where it is requested. All other bits of a mask, those of features, are cleared,
+/// and no other field changes. It takes linear time.
 pub fn propagate_flags(glyphs: &mut [hb_glyph_info_t], asked: AskedFlags)
     ensures items { strip glyphs.new ≡ map (item_masked 0) (strip glyphs.old) }
     ensures origins { origins glyphs.new ≡ origins_spread (asks_of asked) (origins glyphs.old) }
@@ -58,7 +59,7 @@ fn settled(flags: hb_mask_t, asked: AskedFlags) -> hb_mask_t
     concat_settled(tatweel_settled(flags, asked.tatweel), asked.concat)
 }
 
-/// Where a break is unsafe no tatweel may stand, and where one may stand a break is unsafe.
+/// UNSAFE_TO_BREAK clears SAFE_TO_INSERT_TATWEEL; where that stays, UNSAFE_TO_BREAK and UNSAFE_TO_CONCAT are added.
 fn tatweel_settled(flags: hb_mask_t, asked: bool) -> hb_mask_t
     ensures { result ≡ tatweel_settled asked flags }
 {
@@ -84,7 +85,7 @@ fn concat_settled(flags: hb_mask_t, asked: bool) -> hb_mask_t
     }
 }
 
-/// The glyph with a mask of glyph flags alone.
+/// The glyph with glyph flags as its whole mask.
 fn with_flags(glyph: hb_glyph_info_t, flags: hb_mask_t) -> hb_glyph_info_t
     ensures { result ≡ glyph_masked (bit_and flags DEFINED) glyph }
 {

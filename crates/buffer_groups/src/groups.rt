@@ -1,3 +1,4 @@
+//! Groups of neighbours (rustybuzz: hb/buffer.rs, `group_end`, `next_syllable`, `next_cluster`, `next_grapheme`).
 ghost use Rattle.std.specs.Prelude.{◌≡◌, ◌+◌, ◌<◌, ◌≤◌, ◌==◌, Bool, length, drop};
 ghost use Rattle.std.specs.List.{prefix_len};
 ghost use Rattle.buffer_glyphs.specs.declared.info.hb_glyph_info_t.{hb_glyph_info_t as Glyph};
@@ -7,7 +8,7 @@ ghost use Rattle.buffer_groups.specs.Runs.{run_length, continues, grapheme_lengt
 use buffer_glyphs::flags::UnicodeProps;
 use buffer_glyphs::info::hb_glyph_info_t;
 
-/// Where the group that begins at `start` ends: the first index after it at which the test of two neighbours fails, or
+/// The end of the group that begins at `start`: the first index after it at which the test of two neighbours fails, or
 /// the length.
 pub fn group_end<F: Fn(&hb_glyph_info_t, &hb_glyph_info_t) -> bool>(
     glyphs: &[hb_glyph_info_t],
@@ -41,7 +42,7 @@ pub(crate) fn end_of_group<F: Fn(&hb_glyph_info_t, &hb_glyph_info_t) -> bool>(
     end
 }
 
-/// Where the run of glyphs of one syllable that begins at `start` ends; at or past the end of the glyphs, `start`.
+/// The end of the run of glyphs of one syllable that begins at `start`; at or past the end of the glyphs, `start`.
 pub fn next_syllable(glyphs: &[hb_glyph_info_t], start: usize) -> usize
     ensures { result ≡ start + run_length (λ g. g.syllable) (drop start glyphs.now) }
 {
@@ -51,7 +52,7 @@ pub fn next_syllable(glyphs: &[hb_glyph_info_t], start: usize) -> usize
     start + 1 + front_of_syllable(&glyphs[start + 1..], glyphs[start].syllable)
 }
 
-/// Where the run of glyphs of one cluster that begins at `start` ends; at or past the end of the glyphs, `start`.
+/// The end of the run of glyphs of one cluster that begins at `start`; at or past the end of the glyphs, `start`.
 pub fn next_cluster(glyphs: &[hb_glyph_info_t], start: usize) -> usize
     ensures { result ≡ start + run_length (λ g. g.cluster) (drop start glyphs.now) }
 {
@@ -61,7 +62,7 @@ pub fn next_cluster(glyphs: &[hb_glyph_info_t], start: usize) -> usize
     start + 1 + front_of_cluster(&glyphs[start + 1..], glyphs[start].cluster)
 }
 
-/// Where the grapheme that begins at `start` ends: the glyphs after that one that continue it belong to it; at or past
+/// The end of the grapheme that begins at `start`: the glyphs after the first that continue it belong to it; at or past
 /// the end of the glyphs, `start`.
 pub fn next_grapheme(glyphs: &[hb_glyph_info_t], start: usize) -> usize
     ensures { result ≡ start + grapheme_length (drop start glyphs.now) }

@@ -1,6 +1,7 @@
+//! Laws of deletions, groups and sorts.
 ghost use Rattle.buffer_groups.specs.Laws.{DeletesOneItem, DeletionIsEvent, DeletionsAreEvents, EventsArePlain, GroupsAreAll, GroupsAreEvents, SeamParts, SortIsEvent, TurnsGroups};
 
-/// The deletion of a glyph is the event of that name.
+/// The deletion of a glyph is the event `Delete`.
 #[tactic(auto, using(buffer_glyphs::specs::DeletedOrigins::deleted_behind))]
 pub fn deletion_is_event()
     ensures { DeletionIsEvent }
@@ -16,17 +17,17 @@ pub fn groups_are_all()
     ensures { GroupsAreAll }
 {}
 
-/// Where the order of groups was turned round, the list has them the last first, each in its own order.
+/// A reversal of groups gives the groups, the last first, each in its own order.
 pub fn turns_groups()
     ensures { TurnsGroups }
 {}
 
-/// A place is a seam of the order by a key exactly where no key before it is greater than one from it on.
+/// An index is a seam of the order by a key exactly where no key before it is greater than one from it on.
 pub fn seam_parts()
     ensures { SeamParts }
 {}
 
-/// Deletions in place are events, one for each glyph that goes.
+/// Deletions in place are events, one for each deleted glyph.
 #[tactic(auto, using(crate::specs::Lemmas::DeletedEvents::deletions_are_events))]
 pub fn deletions_are_events()
     ensures { DeletionsAreEvents }
@@ -43,7 +44,7 @@ pub fn sort_is_event()
     ensures { SortIsEvent }
 {}
 
-/// None of these events puts glyphs in another order without a merge, but a reversal of groups that does not merge them.
+/// None of these events permutes glyphs without a merge, except a reversal of groups that does not merge them.
 pub fn events_are_plain()
     ensures { EventsArePlain }
 {}

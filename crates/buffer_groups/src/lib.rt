@@ -1,4 +1,5 @@
-// Walks over slices of glyphs: groups of neighbours, a stable sort, and deletion in place.
+//! Walks over slices of glyphs: groups of neighbours, a stable sort, deletion in place, and glyph flags by cluster
+//! (rustybuzz: hb/buffer.rs).
 #![tactic(auto)]
 
 pub mod deletion;

@@ -1,3 +1,4 @@
+//! Reversal of groups (rustybuzz: hb/buffer.rs, `reverse_groups`).
 ghost use Rattle.std.specs.Prelude.{◌≡◌, ◌<◌, ◌≤◌, ◌-◌, ◌||◌, true, false, Bool, length};
 ghost use Rattle.buffer_glyphs.specs.declared.info.hb_glyph_info_t.{hb_glyph_info_t as Glyph};
 ghost use Rattle.buffer_glyphs.specs.Items.{clusters};
@@ -14,10 +15,10 @@ use buffer_glyphs::info::hb_glyph_info_t;
 use buffer_glyphs::level::BufferClusterLevel;
 use buffer_glyphs::position::GlyphPosition;
 
-/// Turns round the order of the groups, and keeps the order within each; positions go with their glyphs. The groups are found
-/// from the left; where `merge` is told, each is merged before the next is looked for. Answers whether a merge marked a
-/// glyph. Where all clusters are known to stand in order the merges take linear time in all; else each compares all glyphs
-/// with its group.
+/// Reverses the order of the groups, and keeps the order within each; positions move with their glyphs. The groups are
+/// found from the left; where `merge` is set, each is merged before the next is looked for. Answers whether a merge
+/// flagged a glyph. Where all clusters are known to be in order the merges take linear time in all; else each compares
+/// all glyphs with its group.
 pub fn reverse_groups<F: Fn(&hb_glyph_info_t, &hb_glyph_info_t) -> bool>(
     glyphs: &mut [hb_glyph_info_t],
     positions: &mut [GlyphPosition],
@@ -51,7 +52,7 @@ pub fn reverse_groups<F: Fn(&hb_glyph_info_t, &hb_glyph_info_t) -> bool>(
     merges.marked
 }
 
-/// Merges a group where that is asked for, and turns round its glyphs and positions.
+/// Merges a group where that is requested, and reverses its glyphs and positions.
 fn turn_group(
     glyphs: &mut [hb_glyph_info_t],
     positions: &mut [GlyphPosition],
@@ -112,7 +113,7 @@ fn merge_group(
     }
 }
 
-/// Turns round the items from `start` up to before `end`.
+/// Reverses the items from `start` up to before `end`.
 #[tactic(auto, using(crate::specs::Lemmas::Turned::turned_put))]
 fn turn_part<T>(items: &mut [T], start: usize, end: usize)
     requires ordered { start ≤ end }

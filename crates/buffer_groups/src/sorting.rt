@@ -1,3 +1,4 @@
+//! Stable sort of a range, with merges (rustybuzz: hb/buffer.rs, `sort`).
 ghost use Rattle.std.specs.Prelude.{◌≡◌, ◌+◌, ◌-◌, ◌<◌, ◌≤◌, ◌↔◌, ◌++◌, ℕ, Bool, IsTrue, true, take, drop, length, map, vec_len, IfOk, OnOk, OnErr, slice_range};
 ghost use Rattle.std.specs.List.{All};
 ghost use Rattle.buffer_glyphs.specs.declared.info.hb_glyph_info_t.{hb_glyph_info_t as Glyph};
@@ -12,10 +13,11 @@ use buffer_glyphs::info::hb_glyph_info_t;
 use buffer_glyphs::level::BufferClusterLevel;
 use std::alloc::{AllocError, Global};
 
-/// Puts the glyphs from `start` up to before `end` in stable order by the keys that they have, and merges each smallest
-/// span that the order permutes: one of more than one glyph, between places before which all came from before them. The
-/// merges come first, on the glyphs as they stood, so that where all clusters are known to stand in order they take linear
-/// time in all; else each compares all glyphs with its span. Where memory is short for the sort the slice stays as it was.
+/// Sorts the glyphs from `start` up to before `end` stably by their keys, and merges each smallest span that the order
+/// permutes: one of more than one glyph, between seams, which are indices where the glyphs before are those that were
+/// before. The merges come first, on the glyphs in their old order, so that where all clusters are known to be in order
+/// they take linear time in all; else each compares all glyphs with its span. Where memory is short for the sort the
+/// slice stays as it was.
 pub fn sort<F: Fn(&hb_glyph_info_t) -> u32>(
     alloc: Global,
     glyphs: &mut [hb_glyph_info_t],
@@ -51,20 +53,20 @@ pub fn sort<F: Fn(&hb_glyph_info_t) -> u32>(
 /// What a sort did to clusters.
 #[derive(Clone, Copy)]
 pub struct Sorted {
-    /// Whether a merge marked a glyph.
+    /// Whether a merge flagged a glyph.
     pub marked: bool,
-    /// Whether each place has the cluster that the merges left there: then clusters that stood in order still do.
+    /// Whether each index has the cluster that the merges left there: then clusters that were in order still are.
     pub in_order: bool,
 }
 
-/// A glyph's key, and its place in a range.
+/// A glyph's key, and its index in a range.
 #[derive(Clone, Copy)]
 struct Keyed {
     key: u32,
     place: usize,
 }
 
-/// The key and the place of each glyph.
+/// The key and the index of each glyph.
 fn keyed_places<F: Fn(&hb_glyph_info_t) -> u32>(
     alloc: Global,
     glyphs: &[hb_glyph_info_t],
@@ -86,7 +88,7 @@ fn keyed_places<F: Fn(&hb_glyph_info_t) -> u32>(
     Ok(places)
 }
 
-/// Puts places in the order of their keys, those of one key in the order that they have.
+/// Sorts indices by their keys; those of one key keep their order.
 fn sort_places(places: &mut Vec<Keyed>) -> Result<(), AllocError>
     ensures sorted { OnOk result (places.new.items ≡ key_order (λ e. e.key) places.old.items) }
     ensures len { OnOk result (vec_len places.new ≡ vec_len places.old) }
@@ -119,7 +121,7 @@ fn merge_span(
     merge_next(glyphs, level, in_order, start, end, merges)
 }
 
-/// Merges the spans of a range that begins at `start`; answers whether a glyph was marked.
+/// Merges the spans of a range that begins at `start`; answers whether a glyph was flagged.
 fn merge_spans(
     glyphs: &mut [hb_glyph_info_t],
     level: BufferClusterLevel,
@@ -149,8 +151,8 @@ fn merge_spans(
     merges.marked
 }
 
-/// Each place of a range takes the glyph that stood at another place of it, as the order tells; answers whether each place
-/// has the cluster that it had.
+/// Permutes a range: each index takes the glyph from the index that the order gives; answers whether each index has the
+/// cluster that it had.
 fn put_in_order(range: &mut [hb_glyph_info_t], copy: &[hb_glyph_info_t], order: &[Keyed]) -> bool
     requires long { length order.now ≡ length range.old }
     requires within { All (λ e. e.place < length copy.now) order.now }

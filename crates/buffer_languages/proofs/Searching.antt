@@ -1,4 +1,4 @@
--- Rows that rise by their texts, for the search by halves.
+-- Rows that rise by their texts, for the binary search.
 use Rattle.std.proofs.Common.{◌≡◌, ℕ, suc, ◌+◌, true, List, [], ◌∷◌, Some, None, get_or, refl, sym, arith, add-one}
 use Rattle.std.proofs.lemmas.Bool.{and_from}
 use Rattle.std.specs.Ordering.{nat_cmp}

@@ -5,8 +5,10 @@ use Rattle.buffer_languages.specs.declared.language_table.LanguageRow.{LanguageR
 use Rattle.buffer_languages.specs.declared.language_table.LanguageTable.{LanguageTable}
 use Rattle.buffer_languages.specs.LanguageRows.{tags_of_language}
 
+-- the rows of a table
 abbrev pub rows_of : LanguageTable → List LanguageRow
 rows_of table = table.rows.items
 
+-- the OpenType tags of a language by a table
 abbrev pub tags_of_table : LanguageTable → List ℕ → List Tag
 tags_of_table table text = tags_of_language (rows_of table) text

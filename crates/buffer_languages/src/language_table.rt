@@ -1,3 +1,4 @@
+//! A table of languages, and the search in it.
 ghost use Rattle.std.specs.Prelude.{◌≡◌, ◌==◌, ◌≤◌, ◌↔◌, List, ℕ, IsTrue, length};
 ghost use Rattle.std.specs.List.{position_or_len};
 ghost use Rattle.std.specs.Ordering.{nat_cmp};
@@ -11,14 +12,14 @@ use buffer_common::language_tags::LanguageTags;
 use buffer_common::tag::Tag;
 use std::cmp::Ordering;
 
-/// A language's tag of BCP 47 with its tags of OpenType.
+/// A language's BCP 47 tag with its OpenType tags.
 #[derive(Drop)]
 pub struct LanguageRow {
     pub text: String,
     pub tags: ArrayVec<Tag, 3>,
 }
 
-/// Languages in the order of their texts' bytes.
+/// Languages in the byte order of their BCP 47 tags.
 #[derive(Drop)]
 pub struct LanguageTable {
     rows: Vec<LanguageRow>,
@@ -28,7 +29,7 @@ pub struct LanguageTable {
 impl LanguageTable {
     ghost use Rattle.buffer_languages.specs.LanguageTable.{rows_of};
 
-    /// Whether the texts rise strictly by their bytes.
+    /// Whether the BCP 47 tags rise strictly, by their bytes.
     pub fn are_rising(rows: &[LanguageRow]) -> bool
         ensures { IsTrue result ↔ TextsRise rows.now }
     {
@@ -40,6 +41,7 @@ impl LanguageTable {
         true
     }
 
+    /// A table of rows whose BCP 47 tags rise strictly.
     pub fn new(rows: Vec<LanguageRow>) -> LanguageTable
         requires { TextsRise rows.items }
         ensures { rows_of result ≡ rows.items }
@@ -53,7 +55,7 @@ impl LanguageTags for LanguageTable {
 
     ghost tags_of = { tags_of_table };
 
-    /// The tags of the row with the text, else of the row with its part before the first hyphen, else none.
+    /// The OpenType tags of the row of the text, else of the row of its subtag before the first hyphen, else none.
     fn tags(&self, text: &str) -> ArrayVec<Tag, 3> {
         let rows = self.rows.as_slice();
         let text = text.as_bytes();
@@ -76,7 +78,7 @@ fn order_of(row: &LanguageRow, text: &[u8]) -> Ordering
     Ord::cmp(&row.text.as_bytes(), &text)
 }
 
-/// The row with the text, by halves.
+/// The row of the text, by binary search.
 fn row_at<'a>(rows: &'a [LanguageRow], text: &[u8]) -> Option<&'a LanguageRow>
     requires { TextsRise rows.now }
     ensures { option_copied result ≡ row_of rows.now text.now }

@@ -16,7 +16,7 @@ all_between : (R : ℕ → ℕ → Type 0) (m n : ℕ) (xs ys : List ℕ) → Al
 all_between R m n [] ys h k = (h.0, k)
 all_between R m n (x ∷ xs) ys h k = (h.0, all_between R m n xs ys h.1 k.1)
 
--- a number between two lists that stands in order behind the one and in front of the other
+-- a number between two lists that is in order behind the one and before the other
 chain_between : (R : ℕ → ℕ → Type 0) (n : ℕ) (xs ys : List ℕ) → IsChain R (xs ++ ys) → IsChain R (xs ++ n ∷ []) → IsChain R (n ∷ ys) → IsChain R (xs ++ n ∷ ys)
 chain_between R n [] ys h before after = after
 chain_between R n (x ∷ xs) ys h before after = (all_between R x n xs ys before.0 h.0, chain_between R n xs ys h.1 before.1 after)

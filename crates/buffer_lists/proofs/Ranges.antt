@@ -14,7 +14,7 @@ use Rattle.buffer_glyphs.specs.Lemmas.Merges.{chain_left, chain_right}
 stays_so : {xs ys : List ℕ} → IsDrawn xs ys → IsOrdered xs → IsOrdered ys
 stays_so d o = elim o [ inl rises ↦ inl (order_drawn false d rises) | inr falls ↦ inr (order_drawn true d falls) ]
 
--- a range of the second of two lists stands in order after the first
+-- a range of the second of two lists is in order after the first
 pub range_known : (output input : List hb_glyph_info_t) (start end : ℕ) → IsOrdered (clusters output ++ clusters input) → IsOrdered (clusters output ++ clusters (slice_range input start end))
 range_known output input start end o =
     let past = stays_so (drawn_second (clusters output) (drawn_drop start (clusters input))) o in
@@ -24,7 +24,7 @@ range_known output input start end o =
 pub ahead_known : (xs ys : List ℕ) → IsOrdered (xs ++ ys) → IsOrdered ys
 ahead_known xs ys o = elim o [ inl rises ↦ inl (chain_right (λ m n. m ≤ n) xs ys rises) | inr falls ↦ inr (chain_right (λ m n. n ≤ m) xs ys falls) ]
 
--- a range of the first of two lists stands in order before the second
+-- a range of the first of two lists is in order before the second
 pub range_ordered : (out : List hb_glyph_info_t) (ns : List ℕ) (start end : ℕ) → start ≤ end → IsOrdered (clusters out ++ ns) → IsOrdered (clusters (slice_range out start end) ++ ns)
 range_ordered out ns start end le o =
     let cluster_of : hb_glyph_info_t → ℕ = λ g. g.cluster in

@@ -6,31 +6,34 @@ use Rattle.buffer_lists.specs.declared.order.KnownOrder.{KnownOrder}
 use Rattle.buffer_lists.specs.declared.order.KnownOrder.TheVariants.{Unknown, Rising, Falling}
 use Rattle.buffer_lists.specs.declared.order.Lent.{Lent}
 
+-- the clusters are in the order that is known of them
 abbrev pub HasOrder : KnownOrder → List ℕ → Type 0
 HasOrder Unknown ns = Unit {0}
 HasOrder Rising ns = IsInOrder false ns
 HasOrder Falling ns = IsInOrder true ns
 
+-- whether an order is known
 abbrev pub is_known : KnownOrder → Bool
 is_known Unknown = false
 is_known Rising = true
 is_known Falling = true
 
--- the clusters of the output, and those of the input, with that of a lent glyph as it was
+-- the clusters of the output, with that of a lent glyph as it was
 abbrev pub put_back_behind : Option Lent → List ℕ → List ℕ
 put_back_behind None ns = ns
 put_back_behind (Some l) ns = if l.in_output then slice_set ns l.at l.cluster else ns
 
+-- the clusters of the input, with that of a lent glyph as it was
 abbrev pub put_back_ahead : Option Lent → List ℕ → List ℕ
 put_back_ahead None ns = ns
 put_back_ahead (Some l) ns = if l.in_output then ns else slice_set ns l.at l.cluster
 
--- a number and those after it never fall, and n is the last of them
+-- a number and those after it never decrease, and n is the last of them
 pub record IsRisingTo (start : ℕ) (ns : List ℕ) (n : ℕ) : Type 0 where
   pub rises : IsRising (start ∷ ns)
   pub last : last_from start ns ≡ n
 
--- a number and those after it never rise, and n is the last of them
+-- a number and those after it never increase, and n is the last of them
 pub record IsFallingTo (start : ℕ) (ns : List ℕ) (n : ℕ) : Type 0 where
   pub falls : IsFalling (start ∷ ns)
   pub last : last_from start ns ≡ n

@@ -1,3 +1,4 @@
+//! Deletes the first input glyph (rustybuzz: hb/buffer.rs, `delete_glyph`).
 ghost use Rattle.std.specs.Prelude.{◌<◌, ◌++◌, false, length, drop};
 ghost use Rattle.buffer_glyphs.specs.declared.level.BufferClusterLevel.{BufferClusterLevel as Level};
 ghost use Rattle.buffer_glyphs.specs.Items.{clusters};
@@ -10,8 +11,8 @@ use buffer_glyphs::info::hb_glyph_info_t;
 use buffer_glyphs::level::BufferClusterLevel;
 use buffer_glyphs::runs::last_cluster;
 
-/// The first glyph of the input goes, from behind the output; answers whether another was marked. What stands in its place
-/// has no meaning. What is known of the order stays known.
+/// Deletes the first input glyph while an output is open; answers whether another was flagged. The glyph at its index
+/// has no meaning afterwards. What is known of the order stays known.
 #[tactic(auto, using(crate::proofs::Ordered::known_ordered))]
 pub fn delete_first(
     output: &mut [hb_glyph_info_t],
@@ -31,7 +32,7 @@ pub fn delete_first(
     false
 }
 
-/// The first glyph of the input goes, with others before it in the output.
+/// Deletes the first input glyph, with others before it in the output.
 fn delete_behind(output: &mut [hb_glyph_info_t], input: &[hb_glyph_info_t])
     requires some { 0 < length output.old }
     requires there { 0 < length input.now }

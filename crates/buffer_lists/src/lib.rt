@@ -1,4 +1,5 @@
-// The glyphs on both sides of a cursor: the output's list, and the input's from the cursor on.
+//! The glyphs on both sides of a cursor: the output's list, and the input's from the cursor on (rustybuzz:
+//! hb/buffer.rs).
 #![tactic(auto)]
 
 pub mod deletion;

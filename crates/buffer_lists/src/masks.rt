@@ -1,10 +1,11 @@
+//! Masks of glyphs on both lists (rustybuzz: hb/buffer.rs, `set_masks`, `reset_masks`).
 ghost use Rattle.std.specs.Prelude.{◌≡◌, map};
 ghost use Rattle.buffer_lists.specs.Masks.{glyph_masked, glyph_set, is_within};
 
 use buffer_glyphs::info::{hb_glyph_info_t, hb_mask_t};
 
-/// Of each glyph whose cluster is from `start` up to before `end`, or of each where these are 0 and `u32::MAX`, the bits under
-/// `mask` become those of the value.
+/// Sets the bits under `mask` to those of the value, on each glyph whose cluster is from `start` up to before `end`, or
+/// on every glyph where these are 0 and `u32::MAX`.
 #[tactic(auto, using(buffer_glyphs::specs::Lists::map_step))]
 pub fn set_masks(
     glyphs: &mut [hb_glyph_info_t],
@@ -46,7 +47,7 @@ fn is_within(cluster: u32, start: u32, end: u32) -> bool
     (start <= cluster && cluster < end) || (start == 0 && end == u32::MAX)
 }
 
-/// Gives each glyph the mask.
+/// Sets each glyph's mask.
 #[tactic(auto, using(buffer_glyphs::specs::Lists::map_step))]
 pub fn reset_masks(glyphs: &mut [hb_glyph_info_t], mask: hb_mask_t)
     ensures { glyphs.new ≡ map (glyph_masked mask) glyphs.old }

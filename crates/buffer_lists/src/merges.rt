@@ -1,3 +1,4 @@
+//! Merges over both lists (rustybuzz: hb/buffer.rs, `merge_clusters`, `merge_out_clusters`).
 ghost use Rattle.std.specs.Prelude.{◌≡◌, ◌≤◌, ◌++◌, true, length};
 ghost use Rattle.buffer_glyphs.specs.Items.{clusters};
 ghost use Rattle.buffer_glyphs.specs.Levels.{InOutput, manner};
@@ -12,8 +13,8 @@ use buffer_glyphs::level::BufferClusterLevel;
 use buffer_glyphs::ranges::merge_range;
 use buffer_glyphs::runs::{merge_after, merge_beside, merge_within};
 
-/// Merges a range of the input on both lists; answers whether a glyph was marked, and what is known of the order after it.
-/// Where clusters are in no order each glyph is compared with the range.
+/// Merges a range of the input on both lists; answers whether a glyph was flagged, and what is known of the order after
+/// it. Where clusters are in no order each glyph is compared with the range.
 #[tactic(auto, using(buffer_glyphs::specs::Lemmas::Glyphs::stretch_is, crate::proofs::Ranges::range_known, crate::proofs::Ranges::ahead_known, crate::proofs::Ordered::known_ordered, crate::proofs::Ordered::order_merged))]
 pub fn merge_input(
     output: &mut [hb_glyph_info_t],
@@ -37,7 +38,7 @@ pub fn merge_input(
     (marked, known.merged(level, output, input))
 }
 
-/// What a merge of a range leaves of the glyphs before it.
+/// Renumbers the glyphs before a merged range.
 fn merge_beside_range(
     glyphs: &mut [hb_glyph_info_t],
     range: &[hb_glyph_info_t],
@@ -55,8 +56,8 @@ fn merge_beside_range(
     }
 }
 
-/// Merges a range of the output on both lists, at the level that keeps characters apart nothing at all; answers what is known
-/// of the order after it. Where clusters are in no order each glyph is compared with the range.
+/// Merges a range of the output on both lists, at the level `Characters` nothing; answers what is known of the order
+/// after it. Where clusters are in no order each glyph is compared with the range.
 #[tactic(auto, using(crate::proofs::Ordered::known_ordered))]
 pub fn merge_output(
     output: &mut [hb_glyph_info_t],
@@ -83,7 +84,7 @@ pub fn merge_output(
     }
 }
 
-/// The clusters of a range of the output become the least of them on both lists.
+/// Renumbers the clusters of a range of the output to the least of them on both lists.
 #[tactic(auto, using(buffer_glyphs::specs::Lemmas::Glyphs::stretch_is, crate::proofs::Ranges::range_ordered, crate::proofs::Ranges::front_ordered))]
 fn unite_output(
     output: &mut [hb_glyph_info_t],

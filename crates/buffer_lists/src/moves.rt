@@ -1,10 +1,11 @@
+//! Moves glyphs from the output back to the input (rustybuzz: hb/buffer.rs, `move_to`, `shift_forward`).
 ghost use Rattle.std.specs.Prelude.{◌≡◌, ◌≤◌, ◌+◌, ◌-◌, ◌++◌, length, drop, OnErr, IfOk, vec_len, vec_capacity};
 
 use buffer_glyphs::info::hb_glyph_info_t;
 use std::alloc::AllocError;
 
-/// Puts glyphs in front of those from a place on, in the room of what stood before them, and more where that is too little;
-/// answers where they begin.
+/// Puts glyphs before those from an index on, in the room of the glyphs before these, and in more where that is too
+/// little; answers the index of the first.
 pub fn put_in_front(
     info: &mut Vec<hb_glyph_info_t>,
     at: usize,

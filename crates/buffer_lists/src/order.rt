@@ -1,3 +1,4 @@
+//! What is known of the order of clusters, so that merges need not walk the lists (of this project).
 ghost use Rattle.std.specs.Prelude.{◌≡◌, ◌++◌, ◌∷◌, [], ℕ, Bool, List, None, Some, true, slice_set, reverse, drop, IfSome};
 ghost use Rattle.buffer_glyphs.specs.Items.{clusters};
 ghost use Rattle.buffer_glyphs.specs.Order.{IsFalling, IsInOrder, IsRising};
@@ -10,16 +11,16 @@ use buffer_glyphs::level::BufferClusterLevel;
 #[derive(Clone, Copy)]
 pub enum KnownOrder {
     Unknown,
-    /// They never fall.
+    /// They never decrease.
     Rising,
-    /// They never rise.
+    /// They never increase.
     Falling,
 }
 
 /// A glyph that was lent to be written.
 #[derive(Clone, Copy)]
 pub struct Lent {
-    /// Whether it stands in the output; else it stands in the input.
+    /// Whether it is in the output; else it is in the input.
     pub in_output: bool,
     /// Its index there.
     pub at: usize,
@@ -43,7 +44,7 @@ impl ClusterOrder {
         ClusterOrder { known, lent: None }
     }
 
-    /// A glyph that was lent is back: where it is in another cluster, nothing is known.
+    /// Settles what is known once a lent glyph is back: where it is in another cluster, nothing is known.
     pub fn settle(&mut self, output: &[hb_glyph_info_t], input: &[hb_glyph_info_t])
         ensures order { (n : ℕ) →
             HasOrder self.old.known
@@ -80,6 +81,7 @@ fn has_cluster(glyphs: &[hb_glyph_info_t], at: usize, cluster: u32) -> bool
 }
 
 impl KnownOrder {
+    /// Whether an order is known.
     pub fn is_known(self) -> bool
         ensures { result ≡ is_known self }
     {
@@ -105,7 +107,7 @@ impl KnownOrder {
         }
     }
 
-    /// What is known with a glyph of the cluster after the others.
+    /// What is known with a glyph of the cluster appended.
     pub fn with_last(self, glyphs: &[hb_glyph_info_t], cluster: u32) -> KnownOrder
         ensures { HasOrder self (clusters glyphs.now) → HasOrder result (clusters glyphs.now ++ cluster ∷ []) }
     {
@@ -133,7 +135,7 @@ impl KnownOrder {
         }
     }
 
-    /// Whether a glyph of the cluster may stand after the others.
+    /// Whether a glyph of the cluster may be after the others.
     #[tactic(auto, using(crate::proofs::Known::known_last_alone))]
     fn holds_after(self, glyphs: &[hb_glyph_info_t], cluster: u32) -> bool
         ensures { result ≡ true → HasOrder self (clusters glyphs.now) →
@@ -146,7 +148,7 @@ impl KnownOrder {
         }
     }
 
-    /// Whether a glyph of the cluster may stand before the others.
+    /// Whether a glyph of the cluster may be before the others.
     #[tactic(auto, using(crate::proofs::Known::known_first_alone))]
     fn holds_before(self, cluster: u32, glyphs: &[hb_glyph_info_t]) -> bool
         ensures { result ≡ true → HasOrder self (clusters glyphs.now) → HasOrder self (cluster ∷ clusters glyphs.now) }
@@ -170,7 +172,7 @@ impl KnownOrder {
         }
     }
 
-    /// What is known of other clusters that stand in order where these do, if that is so.
+    /// What is known of other clusters that are in order where these are, if `kept` is set.
     pub fn if_kept(self, kept: bool) -> KnownOrder
         ensures { (old new : List ℕ) → ((falls : Bool) → kept ≡ true → IsInOrder falls old → IsInOrder falls new) →
             HasOrder self old → HasOrder result new }
@@ -189,7 +191,7 @@ impl KnownOrder {
         }
     }
 
-    /// What is known once a range of two lists has been merged. Where clusters are kept apart the lists are not walked.
+    /// What is known once a range of two lists has been merged. At the level `Characters` the lists are not walked.
     pub fn merged(
         self,
         level: BufferClusterLevel,
@@ -208,7 +210,7 @@ impl KnownOrder {
     }
 }
 
-/// Which way the clusters of two lists are seen to go.
+/// The order that a walk of the clusters of two lists finds.
 fn order_of(output: &[hb_glyph_info_t], input: &[hb_glyph_info_t]) -> KnownOrder
     ensures { HasOrder result (clusters output.now ++ clusters input.now) }
 {
@@ -221,7 +223,7 @@ fn order_of(output: &[hb_glyph_info_t], input: &[hb_glyph_info_t]) -> KnownOrder
     }
 }
 
-/// Whether the clusters of two lists, one after the other, never fall.
+/// Whether the clusters of two lists, one after the other, never decrease.
 #[tactic(auto, using(crate::proofs::Known::rises_on))]
 fn both_rise(output: &[hb_glyph_info_t], input: &[hb_glyph_info_t]) -> bool
     ensures { result ≡ true → IsRising (clusters output.now ++ clusters input.now) }
@@ -235,7 +237,7 @@ fn both_rise(output: &[hb_glyph_info_t], input: &[hb_glyph_info_t]) -> bool
     }
 }
 
-/// Whether the clusters of two lists, one after the other, never rise.
+/// Whether the clusters of two lists, one after the other, never increase.
 #[tactic(auto, using(crate::proofs::Falling::falls_on))]
 fn both_fall(output: &[hb_glyph_info_t], input: &[hb_glyph_info_t]) -> bool
     ensures { result ≡ true → IsFalling (clusters output.now ++ clusters input.now) }
@@ -249,7 +251,7 @@ fn both_fall(output: &[hb_glyph_info_t], input: &[hb_glyph_info_t]) -> bool
     }
 }
 
-/// The last cluster, or `start` where there is none, if `start` and the clusters never fall.
+/// The last cluster, or `start` where there is none, if `start` and the clusters never decrease.
 #[tactic(auto, using(crate::proofs::Known::rising_to_next))]
 fn rising_end(start: u32, glyphs: &[hb_glyph_info_t]) -> Option<u32>
     ensures { IfSome result (λ n. IsRisingTo start (clusters glyphs.now) n) }
@@ -264,7 +266,7 @@ fn rising_end(start: u32, glyphs: &[hb_glyph_info_t]) -> Option<u32>
     Some(last)
 }
 
-/// The last cluster, or `start` where there is none, if `start` and the clusters never rise.
+/// The last cluster, or `start` where there is none, if `start` and the clusters never increase.
 #[tactic(auto, using(crate::proofs::Falling::falling_to_next))]
 fn falling_end(start: u32, glyphs: &[hb_glyph_info_t]) -> Option<u32>
     ensures { IfSome result (λ n. IsFallingTo start (clusters glyphs.now) n) }

@@ -1,3 +1,4 @@
+//! Replaces input glyphs by copies in the output (rustybuzz: hb/buffer.rs, `replace_glyphs`).
 ghost use Rattle.std.specs.Prelude.{◌≡◌, ◌+◌, ◌≤◌, ◌++◌, ℕ, length, map, drop, vec_len, vec_capacity};
 ghost use Rattle.buffer_glyphs.specs.Items.{clusters};
 ghost use Rattle.buffer_glyphs.specs.Parts.{first_of, last_of, or, stretch};
@@ -12,8 +13,9 @@ use crate::order::KnownOrder;
 use buffer_glyphs::info::hb_glyph_info_t;
 use buffer_glyphs::level::BufferClusterLevel;
 
-/// Merges the first `count` glyphs of the input on both lists, and puts a copy of the input's first behind the output for each
-/// of the numbers; answers whether a glyph was marked, and what is known of the order once the `count` glyphs are gone.
+/// Merges the first `count` input glyphs on both lists, and appends a copy of the first input glyph to the output for
+/// each of the numbers; answers whether a glyph was flagged, and what is known of the order once the `count` glyphs are
+/// deleted.
 pub fn replace_first(
     output: &mut Vec<hb_glyph_info_t>,
     input: &mut [hb_glyph_info_t],
@@ -36,8 +38,8 @@ pub fn replace_first(
     (marked, known)
 }
 
-/// Puts copies of the first glyph of the input, past its end of the output's last, behind the output, one for each number. They
-/// stand in order, also where glyphs of the input go.
+/// Appends a copy of the first input glyph (of the last output glyph where the input is empty) for each number. The
+/// copies keep the order of clusters, also where input glyphs are deleted then.
 #[tactic(auto, using(crate::proofs::Ordered::order_copied))]
 pub fn push_copies(output: &mut Vec<hb_glyph_info_t>, input: &[hb_glyph_info_t], numbers: &[u32])
     requires { vec_len output.old + length numbers.now ≤ vec_capacity output.old }

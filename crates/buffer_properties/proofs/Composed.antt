@@ -69,7 +69,7 @@ apart_below t k j [] o h lt = tt
 apart_below t k j (y ∷ ys) o h lt =
     ((λ z. h.0 (o.0 ∙ z)), (λ e. let le = h.1 in let own = o.0 in omega (arith, le, own, e, lt)), apart_below t k j ys o.1 h.2 lt)
 
--- a mark behind marks of lesser classes reaches the starter
+-- a mark after marks of lesser classes reaches the starter
 reaches_over : (t : Tables) (a b u : ℕ) (ws xs : List ℕ) → IsLawful t → pair_of t a b ≡ Some u → class_of t b ≢ 0 → AreApart (class_of t) (class_of t b) ws
     → AreEquivalent t (a ∷ (ws ++ b ∷ xs)) (u ∷ (ws ++ xs))
 reaches_over t a b u ws xs lawful e n apart =
@@ -88,12 +88,12 @@ composition_equivalent c k starter (y ∷ ys) x composed xs lawful within own h 
     let lt : k < class_of c.tables x.number = omega (arith, less, ends, own) in
     reaches_over c.tables starter.number x.number composed.number (characters_of (y ∷ ys)) (characters_of xs) lawful (within _ _ _ e.pair) (omega (arith, lt)) (apart_below c.tables k (class_of c.tables x.number) (y ∷ ys) h.of_tables h.below lt)
 
--- behind a mark that was composed, the items still rise
+-- after a mark that was composed, the items still rise
 rises_without : (k : ℕ) (x : Item) (xs : List Item) → mark_class x ≢ 0 → IsRisingAfter k (x ∷ xs) → IsRisingAfter k xs
 rises_without k x [] n h = tt
 rises_without k x (y ∷ ys) n h = ((λ m. let first = h.0 n in let second = h.1.0 m in omega (arith, first, second)), h.1.1)
 
--- what stands between, once the mark behind it was composed
+-- what stands between, once the mark after it was composed
 record StillBetween (t : Tables) (between xs : List Item) : Type 0 where
   class : ℕ
   is_between : IsBetween t class between xs

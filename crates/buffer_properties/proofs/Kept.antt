@@ -87,7 +87,7 @@ pub of_tables_back : (t : Tables) (xs ys : List Item) → AreOfTables t (xs ++ y
 of_tables_back t [] ys h = h
 of_tables_back t (x ∷ xs) ys h = of_tables_back t xs ys h.1
 
--- a list in place of another: equivalent, and of the tables' classes where the other was
+-- a list instead of another: equivalent, and of the tables' classes where the other was
 pub record Keeps (t : Tables) (xs ys : List Item) : Type 0 where
   pub equivalent : AreEquivalent t (characters_of xs) (characters_of ys)
   pub of_tables : AreOfTables t xs → AreOfTables t ys

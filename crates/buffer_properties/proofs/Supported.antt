@@ -20,7 +20,7 @@ all_followed has b front h =
           (parts.0, or_right (b == 0) (has b) last.0)
     ]
 
--- a split is supported where the font has what its parts expand to
+-- a split is supported where the font has what its pieces expand to
 parts_supported : (has : ℕ → Bool) (expand : ℕ → Option (List ℕ)) (full : ℕ → List ℕ) (a b : ℕ) → list_all has (followed_by b (full a)) ≡ true
     → (list_all has (full a) ≡ true → expand a ≡ Some (full a)) → by_supported has expand (Some (a, b)) ≡ Some (followed_by b (full a))
 parts_supported has expand full a b h e =
@@ -48,12 +48,12 @@ greatest_parts has t u a b ends s h =
     ∙ (parts_supported has (supported Greatest has (split_of t) 8) (full_expansion t) a b (ap (list_all has) (sym whole) ∙ h) (λ k. supported_full has (split_of t) 8 a (ends a) k)
     ∙ ap Some (sym whole))
 
--- a character that doesn't split has no parts
+-- a character that doesn't split has no pieces
 pub no_parts : (reach : Reach) (has : ℕ → Bool) (splits : Splits) (u : ℕ) → splits u ≡ None → in_parts reach has splits u ≡ None
 unfolding in_parts
 no_parts reach has splits u s = ap (by_supported has (supported reach has splits 8)) s
 
--- parts by splits that agree
+-- pieces by splits that agree
 pub parts_agree : (reach : Reach) (has : ℕ → Bool) (f g : Splits) (u : ℕ) → ((v : ℕ) → f v ≡ g v) → in_parts reach has f u ≡ in_parts reach has g u
 parts_agree reach has f g u h =
     let e : f ≡ g = λ i. λ v. h v i in

@@ -1,5 +1,5 @@
--- The third round: marks are composed with their base (UAX 15, canonical composition), as far as the font has what they
--- compose to.
+-- The third round of normalisation: combining marks are composed with their base (UAX 15, canonical composition, D117),
+-- where the font has the composite.
 use Rattle.std.specs.Prelude.{ℕ, ◌+◌, ◌==◌, ◌&&◌, Bool, true, nat_lt, if◌then◌else◌, List, [], ◌∷◌, ◌++◌, length, Option, None, option_map}
 use Rattle.std.specs.Option.{option_and_then, option_map_or}
 use Rattle.buffer_glyphs.specs.Items.{Item}
@@ -14,25 +14,26 @@ abbrev pub last_class : ℕ → List Item → ℕ
 last_class k [] = k
 last_class k (x ∷ xs) = last_class (mark_class x) xs
 
--- a mark reaches the starter where it stands directly after it, or after an item of lesser class
+-- whether a combining mark is not blocked from its starter (UAX 15, D115): it is directly after it, or after an item of
+-- lesser class
 abbrev pub is_reaching : List Item → Item → Bool
 is_reaching [] x = true
 is_reaching (y ∷ ys) x = nat_lt (last_class (mark_class y) ys) (mark_class x)
 
--- a starter that becomes another character, where the font has that
+-- a starter as another character, where the font has that
 abbrev pub becoming : Normalizer → Item → ℕ → Option Item
 becoming c starter u = option_map (λ g. with_glyph g (standing_for c.tables u starter)) (c.glyph_of u)
 
--- what a mark and the last starter compose to; None where they don't
+-- the composite of a combining mark and the last starter; None where there is none
 unfoldable pub composite : Normalizer → Item → List Item → Item → Option Item
 composite c starter between x =
     if is_mark x && is_reaching between x then option_and_then (becoming c starter) (c.composes starter.number x.number) else None
 
--- the output merges from a starter to a mark, and the mark goes
+-- the output merged from a starter to a combining mark, and the mark deleted
 abbrev pub with_composition : ℕ → ℕ → Arranged → Arranged
 with_composition starter mark a = record a { events = Merge InOutput starter (mark + 1) ∷ Replace mark 1 0 ∷ a.events }
 
--- the items done, the last starter and what stands after it, and the items that are left
+-- the items done, the last starter and the items after it, and the items that are left
 abbrev pub composed_from : Normalizer → List Item → Item → List Item → List Item → Arranged
 composed_from c done starter between [] = kept (done ++ starter ∷ between)
 composed_from c done starter between (x ∷ xs) =
@@ -40,7 +41,7 @@ composed_from c done starter between (x ∷ xs) =
     (composite c starter between x)
     (if mark_class x == 0 then composed_from c (done ++ starter ∷ between) x [] xs else composed_from c done starter (between ++ x ∷ []) xs)
 
--- the first item is the starter until an item of class 0 follows
+-- a list composed: the first item is the starter until an item of class 0 follows
 abbrev pub composed_list : Normalizer → List Item → Arranged
 composed_list c [] = kept []
 composed_list c (x ∷ xs) = composed_from c [] x [] xs

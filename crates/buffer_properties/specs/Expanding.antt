@@ -1,4 +1,4 @@
--- The first round: characters are split, and selectors join what they select.
+-- The first round of normalisation: characters are split, and variation selectors join the characters before them.
 use Rattle.std.specs.Prelude.{ℕ, Bool, ◌==◌, ◌&&◌, nat_lt, if◌then◌else◌, List, [], ◌∷◌, ◌++◌, map, Option, Some, None, unwrap_or, is_some}
 use Rattle.std.specs.List.{list_any}
 use Rattle.std.specs.Option.{option_or}
@@ -18,39 +18,42 @@ with_own_glyph c x = with_glyph (unwrap_or (c.glyph_of x.number) 0) x
 abbrev pub is_typed_space : Item → Bool
 is_typed_space x = is_space x && nat_lt NOT_SPACE (space_fallback_of x.number)
 
--- what is shown for a space that the font lacks: the glyph of U+0020, else the invisible one
+-- the glyph for a space that the font lacks: that of U+0020, else the invisible one
 abbrev pub space_glyph : Normalizer → Item → Option ℕ
 space_glyph c x = if is_typed_space x then option_or (c.glyph_of 0x20) c.invisible else None
 
--- what is shown for the non-breaking hyphen U+2011: the hyphen's glyph
+-- the glyph for the non-breaking hyphen U+2011: the hyphen's
 abbrev pub hyphen_glyph : Normalizer → Item → Option ℕ
 hyphen_glyph c x = if x.number == 0x2011 then c.glyph_of 0x2010 else None
 
--- a character that the font lacks and that isn't split: a space keeps its type in place of a class
+-- a character that the font lacks and that isn't split: a space keeps its type instead of a class
 abbrev pub with_glyph_of_space : Normalizer → Item → Option ℕ → Item
 with_glyph_of_space c x None = with_glyph (unwrap_or (hyphen_glyph c x) 0) x
 with_glyph_of_space c x (Some g) = record x { glyph_index = g; class = space_fallback_of x.number }
 
--- a character that stays whole: its own glyph, else another's, else glyph 0
+-- a character that stays whole: with its own glyph, else another's, else glyph 0
 abbrev pub with_found_glyph : Normalizer → Item → Option ℕ → Item
 with_found_glyph c x None = with_glyph_of_space c x (space_glyph c x)
 with_found_glyph c x (Some g) = with_glyph g x
 
+-- a character that stays whole
 abbrev pub whole_item : Normalizer → Item → Item
 whole_item c x = with_found_glyph c x (c.glyph_of x.number)
 
--- the item of a character of the font, made from the one that it is a part of
+-- the item of a character of the font, made from the item of which it is a piece
 unfoldable pub part_of : Normalizer → Item → ℕ → Item
 part_of c x u = with_own_glyph c (standing_for c.tables u x)
 
+-- the items of a character's expansion, or the whole character
 abbrev pub items_for : Normalizer → Item → Option (List ℕ) → List Item
 items_for c x None = whole_item c x ∷ []
 items_for c x (Some us) = map (part_of c x) us
 
--- the items that take the place of an item
+-- the items that replace an item
 unfoldable pub expanded_item : Normalizer → Reach → Item → List Item
 expanded_item c reach x = items_for c x (expansion reach (has_character c) c.splits x.number)
 
+-- an item expanded, with its events
 abbrev pub expanded : Normalizer → Reach → Item → Arranged
 expanded c reach x = replaced_by 1 (expanded_item c reach x)
 
@@ -58,16 +61,17 @@ expanded c reach x = replaced_by 1 (expanded_item c reach x)
 abbrev pub unexpanded : Normalizer → Item → Arranged
 unexpanded c x = kept (with_own_glyph c x ∷ [])
 
--- an item and the selector after it: one item where the font has the pair
+-- an item and the variation selector after it: one item where the font has the pair
 abbrev pub selected : Normalizer → Item → Item → Option ℕ → List Arranged
 selected c x s None = unexpanded c x ∷ unexpanded c (unjoined_selector (is_some c.unjoined_glyph) s) ∷ []
 selected c x s (Some g) = replaced_by 2 (with_glyph g x ∷ []) ∷ []
 
--- the item that waits to see whether a selector follows
+-- the item that may still be followed by a variation selector, if there is one
 abbrev pub waiting : Normalizer → Option Item → List Arranged
 waiting c None = []
 waiting c (Some x) = unexpanded c x ∷ []
 
+-- an item before a variation selector, if there is one, and the selector
 abbrev pub meets_selector : Normalizer → Option Item → Item → List Arranged
 meets_selector c None s = unexpanded c s ∷ []
 meets_selector c (Some x) s = selected c x s (c.variant_of x.number s.number)
@@ -77,21 +81,22 @@ abbrev pub selected_after : Normalizer → Option Item → List Item → List Ar
 selected_after c before [] = waiting c before
 selected_after c before (x ∷ xs) = if is_selector x then meets_selector c before x ++ selected_after c None xs else waiting c before ++ selected_after c (Some x) xs
 
--- an item with its marks
+-- an item with its combining marks
 abbrev pub expanded_with_marks : Normalizer → Item → List Item → List Arranged
 expanded_with_marks c x marks =
     if list_any is_selector (x ∷ marks) then selected_after c (Some x) marks else map (expanded c (reach_with_marks c.mode)) (x ∷ marks)
 
--- an item alone, or with the marks after it
+-- an item alone, or with the combining marks after it
 abbrev pub expanded_group : Normalizer → Item → List Item → List Arranged
 expanded_group c x [] = expanded c (reach_alone c.mode) x ∷ []
 expanded_group c x (m ∷ marks) = expanded_with_marks c x (m ∷ marks)
 
--- each item with the marks after it; `x` and `marks` are those met last
+-- each item with the combining marks after it; `x` and `marks` are the last ones read
 abbrev pub expanded_groups : Normalizer → Item → List Item → List Item → List Arranged
 expanded_groups c x marks [] = expanded_group c x marks
 expanded_groups c x marks (y ∷ ys) = if is_mark y then expanded_groups c x (marks ++ y ∷ []) ys else expanded_group c x marks ++ expanded_groups c y [] ys
 
+-- a list expanded
 abbrev pub expanded_list : Normalizer → List Item → Arranged
 expanded_list c [] = kept []
 expanded_list c (x ∷ xs) = in_turn (expanded_groups c x [] xs)

@@ -11,7 +11,7 @@ use Rattle.buffer_properties.specs.NormalizedList.{normalized}
 use Rattle.buffer_properties.specs.Normalizer.{Normalizer}
 use Rattle.buffer_properties.specs.Premises.{SplitsAsUnicode, ComposesWithinUnicode, ReordersNothing, ExpandsGreatest, HasNoSelector, HasShortRuns, IsRegular}
 
--- under lawful tables, equivalent texts have one normalised list
+-- under lawful tables, equivalent texts have the same normalised list
 abbrev pub EquivalentsNormalizeAlike : Type 0
 EquivalentsNormalizeAlike = (c : Normalizer) (x : Item) (us vs : List ℕ) → EndWithin (split_of c.tables) 8 → IsLawful c.tables → SplitsAsUnicode c → ExpandsGreatest c
     → AreEquivalent c.tables us vs → IsRegular c us → IsRegular c vs

@@ -9,20 +9,23 @@ use Rattle.buffer_properties.specs.Expanding.{expanded_list}
 use Rattle.buffer_properties.specs.Ordering.{ordered_list, joiners_shown}
 use Rattle.buffer_properties.specs.Composing.{composed_list}
 
--- a mark stands past the first item
+-- whether an item after the first is a combining mark
 abbrev pub has_later_mark : List Item → Bool
 has_later_mark xs = list_any is_mark (drop 1 xs)
 
+-- a list with its combining marks in order, where that is requested
 abbrev pub ordered_if : Bool → Normalizer → List Item → Arranged
 ordered_if b c xs = if b then ordered_list c.reorders xs else kept xs
 
+-- a list composed, where that is requested
 abbrev pub composed_if : Bool → Normalizer → List Item → Arranged
 composed_if b c xs = if b then composed_list c xs else kept xs
 
--- an expanded list, put in order, its joiners shown, and composed
+-- an expanded list, its combining marks sorted, its joiners shown, and composed
 unfoldable pub arranged_marks : Bool → Normalizer → List Item → Arranged
 arranged_marks b c xs = and_arranged (ordered_if b c xs) (λ ys. composed_if (b && is_composing c.mode) c (joiners_shown ys))
 
--- marks are put in order and composed only where one stands past the first item of the text
+-- the normalised list of a text: combining marks are sorted and composed only where one is after the first item of the
+-- text
 unfoldable pub normalized : Normalizer → List Item → Arranged
 normalized c xs = and_arranged (expanded_list c xs) (arranged_marks (has_later_mark xs) c)

@@ -1,4 +1,4 @@
--- What normalising reads beside the text.
+-- The parameters of normalisation.
 use Rattle.std.specs.Prelude.{ℕ, Bool, true, false, List, Option, is_some}
 use Rattle.buffer_unicode_tables.specs.Expansion.{Splits}
 use Rattle.buffer_unicode_tables.specs.Tables.{Tables}
@@ -15,19 +15,19 @@ pub record Normalizer : Type 0 where
   -- the font's glyph for a character, and for a character with a variation selector
   pub glyph_of : ℕ → Option ℕ
   pub variant_of : ℕ → ℕ → Option ℕ
-  -- what is shown for a character that is to be invisible, and for a selector that the font doesn't join
+  -- the glyphs for invisible characters, and for variation selectors that the font doesn't join
   pub invisible : Option ℕ
   pub unjoined_glyph : Option ℕ
-  -- how characters split and compose, and what becomes of a sorted run of marks
+  -- how characters split and compose, and what the shaper makes of a sorted run of combining marks
   pub splits : Splits
   pub composes : ℕ → ℕ → Option ℕ
   pub reorders : List Item → Arranged
 
--- the font has a character
+-- whether the font has a character
 abbrev pub has_character : Normalizer → ℕ → Bool
 has_character c u = is_some (c.glyph_of u)
 
--- how far a character without marks is split
+-- how far a character without combining marks is split
 abbrev pub reach_alone : NormalizationMode → Reach
 reach_alone mode.None = Least
 reach_alone mode.Decomposed = Greatest
@@ -35,7 +35,7 @@ reach_alone mode.ComposedDiacritics = Least
 reach_alone mode.ComposedDiacriticsNoShortCircuit = Greatest
 reach_alone mode.Auto = Least
 
--- how far a character with marks, and each of its marks, is split
+-- how far a character with combining marks, and each of its marks, is split
 abbrev pub reach_with_marks : NormalizationMode → Reach
 reach_with_marks mode.None = Least
 reach_with_marks mode.Decomposed = Greatest
@@ -43,7 +43,7 @@ reach_with_marks mode.ComposedDiacritics = Greatest
 reach_with_marks mode.ComposedDiacriticsNoShortCircuit = Greatest
 reach_with_marks mode.Auto = Greatest
 
--- marks are composed with their base
+-- whether combining marks are composed with their base
 abbrev pub is_composing : NormalizationMode → Bool
 is_composing mode.None = false
 is_composing mode.Decomposed = false

@@ -1,4 +1,4 @@
-//! The general category that a glyph record keeps.
+//! The general category in a glyph record's property word (rustybuzz: hb/ot_layout.rs).
 ghost use Rattle.std.specs.Prelude.{◌≡◌, [], ◌∷◌};
 ghost use Rattle.ucd_category.specs.declared.GeneralCategory.{GeneralCategory};
 ghost use Rattle.buffer_glyphs.specs.Items.{item_of};
@@ -15,7 +15,7 @@ fn has_category(category: GeneralCategory, glyph: &hb_glyph_info_t) -> bool
     u32::from(glyph.unicode_props.0 & 0x1F) == category.to_rb()
 }
 
-/// Whether the character is a mark of any kind.
+/// Whether the character is a combining mark (general category Mc, Me or Mn).
 pub fn is_mark(glyph: &hb_glyph_info_t) -> bool
     ensures { result ≡ is_mark (item_of glyph.now) }
 {
@@ -24,7 +24,7 @@ pub fn is_mark(glyph: &hb_glyph_info_t) -> bool
         || has_category(GeneralCategory::NonspacingMark, glyph)
 }
 
-/// Whether the character is a letter of any kind.
+/// Whether the character is a letter (general category L*).
 pub fn is_letter(glyph: &hb_glyph_info_t) -> bool
     ensures { result ≡ is_letter (item_of glyph.now) }
 {
@@ -35,21 +35,21 @@ pub fn is_letter(glyph: &hb_glyph_info_t) -> bool
         || has_category(GeneralCategory::OtherLetter, glyph)
 }
 
-/// Whether the character is a decimal number.
+/// Whether the character is a decimal number (general category Nd).
 pub fn is_decimal_number(glyph: &hb_glyph_info_t) -> bool
     ensures { result ≡ is_decimal_number (item_of glyph.now) }
 {
     has_category(GeneralCategory::DecimalNumber, glyph)
 }
 
-/// Whether the character is a mark without a width of its own.
+/// Whether the character is a non-spacing mark (general category Mn).
 pub fn is_nonspacing_mark(glyph: &hb_glyph_info_t) -> bool
     ensures { result ≡ is_nonspacing_mark (item_of glyph.now) }
 {
     has_category(GeneralCategory::NonspacingMark, glyph)
 }
 
-/// Whether the character is a space.
+/// Whether the character is a space (general category Zs).
 pub fn is_space(glyph: &hb_glyph_info_t) -> bool
     ensures { result ≡ is_space (item_of glyph.now) }
 {

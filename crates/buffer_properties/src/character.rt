@@ -1,4 +1,4 @@
-//! The properties of a character as numbers.
+//! The properties of a character as numbers (rustybuzz: hb/unicode.rs, hb/buffer.rs, `init_unicode_props`).
 ghost use Rattle.std.specs.Prelude.{◌≡◌, ◌≤◌, ◌<◌};
 ghost use Rattle.unicode.specs.GeneralCategory.{general_category};
 ghost use Rattle.buffer_unicode.specs.Category.{category_number};
@@ -27,14 +27,15 @@ pub fn properties_of(u: char) -> u16
                     + bit_if(u == '\u{200C}', UnicodeProps::CF_ZWNJ))))
 }
 
-/// The property word that a character of a text has before its graphemes are known: a mark is marked as a continuation.
+/// The property word of a character of a text before its graphemes are known: a combining mark is flagged as a
+/// continuation.
 pub(crate) fn text_properties_of(u: char) -> u16
     ensures { result ≡ text_properties_of u }
 {
     properties_of(u) + bit_if(is_mark(u), UnicodeProps::CONTINUATION)
 }
 
-/// The modified combining class of a mark, 0 for all other characters.
+/// The modified combining class of a combining mark, 0 for all other characters.
 #[tactic(auto, unfolding(crate::specs::Properties::character_class))]
 pub fn character_class(tables: &UnicodeTables, u: char) -> u8
     ensures { result ≡ character_class tables.now u }
@@ -46,7 +47,7 @@ pub fn character_class(tables: &UnicodeTables, u: char) -> u8
     }
 }
 
-/// What a character tells of the text that it stands in.
+/// The scratch flags that a character sets.
 pub(crate) fn scratch_flags_of(u: char) -> hb_buffer_scratch_flags_t
     ensures { result ≡ scratch_flags_of u }
 {
@@ -63,7 +64,7 @@ fn is_mark(u: char) -> bool
     u.general_category().is_mark()
 }
 
-/// Whether a character is one of those that stay hidden where the font shows other ignorables.
+/// Whether a character is a default ignorable that stays hidden where the font shows other ignorables.
 fn is_hidden(u: char) -> bool
     ensures { result ≡ is_hidden_character u }
 {

@@ -1,4 +1,4 @@
-//! The properties of a glyph record that stands for a character.
+//! The properties of a glyph record that holds a character (rustybuzz: hb/buffer.rs, `init_unicode_props`).
 ghost use Rattle.std.specs.Prelude.{◌≡◌};
 ghost use Rattle.std.specs.Char.{IsScalar};
 ghost use Rattle.std.specs.Int.RustNames.{bit_or};
@@ -10,8 +10,8 @@ use buffer_glyphs::flags::UnicodeProps;
 use buffer_glyphs::info::hb_glyph_info_t;
 use buffer_unicode_tables::UnicodeTables;
 
-/// Gives a record the properties and the class of its character, and adds to the scratch flags what the character tells
-/// of the text. A mark is marked as a continuation; what else goes on a grapheme is found over the whole text.
+/// Gives a record the properties and the class of its character, and adds the character's scratch flags. A combining
+/// mark is flagged as a continuation; the other continuations of a grapheme are found over the whole text.
 pub fn init_unicode_props(
     info: &mut hb_glyph_info_t,
     tables: &UnicodeTables,
@@ -27,7 +27,7 @@ pub fn init_unicode_props(
     *scratch_flags |= scratch_flags_of(u);
 }
 
-/// Drops the mark of a continuation, which no stage reads once the text stands in its native order.
+/// Clears the continuation flag, which no stage reads once the text is in its native order.
 pub fn clear_continuation(info: &mut hb_glyph_info_t)
     ensures { info.new ≡ without_continuation info.old }
 {

@@ -1,4 +1,4 @@
-//! What holds of the properties of every character.
+//! Laws of the properties of every character.
 ghost use Rattle.std.specs.Prelude.{◌≡◌};
 ghost use Rattle.buffer_properties.specs.Laws.{ContinuationLeaves, LowBitsAreTheCategory};
 
@@ -10,13 +10,13 @@ pub fn low_bits_are_the_category()
     ensures { LowBitsAreTheCategory }
 {}
 
-/// A character of a text without its mark of a continuation has the property word of its item.
+/// The property word of a text's character without its continuation flag is that of its item.
 #[tactic(auto, using(crate::proofs::Words::continuation_leaves))]
 pub fn continuation_leaves()
     ensures { ContinuationLeaves }
 {}
 
-/// The most marks in a row that are put in the order of their classes.
+/// The most combining marks of a run that are sorted by their classes.
 pub fn most_marks_of_a_run() -> usize
     ensures { result ≡ 32 }
 {

@@ -1,5 +1,5 @@
-// What the shaper keeps of a character in its glyph record (property word, class, and what it tells of the text), and the
-// normal forms of a text for a font: definitions and their laws.
+//! The properties of a character in its glyph record (property word, class, scratch flags), and the normal forms of a
+//! text for a font: definitions and their laws (rustybuzz: hb/unicode.rs, hb/ot_layout.rs, hb/ot_shape_normalize.rs).
 #![tactic(auto)]
 
 pub mod categories;

@@ -1,4 +1,4 @@
--- What a search by halves finds in records whose keys rise.
+-- What a binary search finds in records whose keys rise.
 use Rattle.std.proofs.Common.{◌≡◌, ◌≢◌, ℕ, zero, suc, ◌<◌, Bool, true, false, ◌&&◌, ◌==◌, List, [], ◌∷◌, length, get_or, Option, Some, None, Result, Ok, Err, MatchResult, inl, inr, refl, sym, ◌∙◌, add-one, arith}
 use mathlib.Core.Bool.{false≢true}
 use Rattle.std.specs.declared.cmp.Ordering.{Ordering}

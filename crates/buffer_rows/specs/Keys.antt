@@ -3,12 +3,12 @@ use Rattle.std.specs.Prelude.{ℕ, ◌&&◌, ◌==◌, Bool, true, List, [], ◌
 use Rattle.std.specs.declared.cmp.Ordering.{Ordering}
 use Rattle.std.specs.Ordering.{is_lt, is_eq, nat_cmp}
 
--- a key is above the one before it, if there is one
+-- whether a key is greater than the one before it, if there is one
 abbrev pub is_above : {K : Type 0} → (K → K → Ordering) → Option K → K → Bool
 is_above order None k = true
 is_above order (Some b) k = is_lt (order b k)
 
--- each key is above the one before it
+-- whether each key is greater than the one before it
 abbrev pub is_rising : {R K : Type 0} → (K → K → Ordering) → (R → K) → Option K → List R → Bool
 is_rising order key before [] = true
 is_rising order key before (r ∷ rows) = is_above order before (key r) && is_rising order key (Some (key r)) rows
@@ -19,6 +19,7 @@ row_with order key k rows = find (λ r. is_eq (order (key r) k)) rows
 
 -- ---- keys that are numbers
 
+-- whether numbers rise strictly
 abbrev pub numbers_rise : {R : Type 0} → (R → ℕ) → List R → Bool
 numbers_rise key rows = is_rising nat_cmp key None rows
 

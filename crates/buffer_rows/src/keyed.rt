@@ -3,7 +3,7 @@ ghost use Rattle.std.specs.Prelude.{◌≡◌, None, true};
 ghost use Rattle.std.specs.Option.{option_copied};
 ghost use Rattle.buffer_rows.specs.Keys.{is_above, is_rising, row_with};
 
-/// A record of a list that is ordered by a key: a number, or a pair whose first part is the more significant.
+/// A record of a list that is ordered by a key: a number, or a pair whose first number is the more significant.
 pub trait Keyed {
     type Key: Ord + Copy + Drop;
 
@@ -14,7 +14,7 @@ pub trait Keyed {
         ensures { result ≡ key_of self.now };
 }
 
-/// Each key is above the one before it.
+/// Whether each key is greater than the one before it.
 pub fn is_rising<R: Keyed>(rows: &[R]) -> bool
     ensures { result ≡ is_rising R.Key.cmp R.key_of None rows.now }
 {
@@ -29,7 +29,7 @@ pub fn is_rising<R: Keyed>(rows: &[R]) -> bool
     true
 }
 
-/// A key is above the one before it, if there is one.
+/// Whether a key is greater than the one before it, if there is one.
 pub fn is_above<K: Ord + Copy + Drop>(before: Option<K>, key: K) -> bool
     ensures { result ≡ is_above K.cmp before key }
 {

@@ -1,4 +1,4 @@
-// Records whose keys rise strictly, and the search for the record of a key.
+//! Records whose keys rise strictly, and the search for the record of a key.
 #![tactic(auto)]
 
 mod keyed;

@@ -21,10 +21,10 @@ const PAGE: u32 = 128;
 /// How many pages the characters have.
 const PAGES: u32 = 0x110000 / PAGE;
 
-/// How many slots there may be, so that pages and slots take at most 64 KB.
+/// The greatest number of slots, so that pages and slots take at most 64 KB.
 const MAX_SLOTS: usize = 188 * 128;
 
-/// Where the records of numbers stand.
+/// An index of the records by their numbers, page by page.
 #[derive(Drop)]
 struct Index {
     /// For each page the count of its block of slots, from 1, or 0 where the page has no record.
@@ -53,8 +53,8 @@ impl<R: Numbered> Model for PagedRows<R> {
 }
 
 impl<R: Numbered> PagedRows<R> {
-    /// Of records whose numbers rise strictly. The index takes at most 64 KB; records whose pages have no room in it,
-    /// and numbers that are no characters, are searched by halves.
+    /// A table of records whose numbers rise strictly. Its index takes at most 64 KB; records whose pages have no room
+    /// in it, and numbers that are no characters, are found by binary search.
     pub fn new(alloc: Global, rows: Vec<R>) -> Result<PagedRows<R>, AllocError>
         requires { numbers_rise R.number_of rows.items ≡ true }
         ensures { IfOk result (λ p. p ≡ rows.items) }
@@ -104,7 +104,7 @@ fn record_in<R: Numbered>(rows: &[R], slot: u16) -> Option<R>
     rows.get(slot as usize - 1).copied()
 }
 
-/// How many slots are enough for so many records, a page for each, as far as there may be.
+/// How many slots are enough for so many records, a page for each, up to the greatest number.
 fn slots_of(count: usize) -> usize
     ensures { result ≤ 24064 }
 {
@@ -135,7 +135,7 @@ fn index_of<R: Numbered>(alloc: Global, rows: &[R]) -> Result<Index, AllocError>
     Ok(Index { pages, slots })
 }
 
-/// Adds the slots of a page that has records, and gives the count of its block.
+/// Appends the slots of a page that has records, and gives the count of its block.
 #[tactic(auto, using(crate::proofs::Paged::full_page, crate::proofs::Paged::itself))]
 fn push_page<R: Numbered>(rows: &[R], first: u32, slots: &mut Vec<u16>) -> Result<u16, AllocError>
     requires rising { numbers_rise R.number_of rows.now ≡ true }
@@ -155,7 +155,7 @@ fn push_page<R: Numbered>(rows: &[R], first: u32, slots: &mut Vec<u16>) -> Resul
     Ok(block as u16)
 }
 
-/// Adds the slots of a page.
+/// Appends the slots of a page.
 #[tactic(auto, using(crate::proofs::Paged::block_grows, crate::proofs::Paged::one_more, crate::proofs::Paged::extends_on, crate::proofs::Paged::itself))]
 fn push_block<R: Numbered>(rows: &[R], first: u32, slots: &mut Vec<u16>) -> Result<(), AllocError>
     requires rising { numbers_rise R.number_of rows.now ≡ true }
@@ -184,7 +184,7 @@ fn slot_of<R: Numbered>(rows: &[R], number: u32) -> u16
     }
 }
 
-/// The index of the first record whose number is not below one.
+/// The index of the first record whose number is at least `first`.
 pub fn first_from<R: Numbered>(rows: &[R], first: u32) -> usize
     requires { numbers_rise R.number_of rows.now ≡ true }
     ensures { IsStart R.number_of rows.now first result }

@@ -24,7 +24,7 @@ impl<R: Keyed> Model for SortedRows<R> {
 }
 
 impl<R: Keyed> SortedRows<R> {
-    /// Of records whose keys rise strictly.
+    /// A table of records whose keys rise strictly.
     pub fn new(rows: Vec<R>) -> SortedRows<R>
         requires { is_rising R.Key.cmp R.key_of None rows.items ≡ true }
         ensures { result ≡ rows.items }
@@ -46,7 +46,7 @@ impl<R: Keyed> SortedRows<R> {
         &self.rows
     }
 
-    /// The records, whose keys rise strictly, for a search by a part of their key.
+    /// The records, whose keys rise strictly, for a search by one number of their key.
     pub fn rising_rows(&self) -> &[R]
         ensures same { result.now ≡ self.now }
         ensures rising { is_rising R.Key.cmp R.key_of None result.now ≡ true }

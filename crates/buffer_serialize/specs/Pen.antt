@@ -1,4 +1,4 @@
--- Where the pen stands in a run of glyphs.
+-- The position of the pen in a run of glyphs.
 use Rattle.std.specs.Prelude.{ℕ, if◌then◌else◌, List, map, fold, ℤ, pos, ◌+ℤ◌, neg_ℤ, ◌≤ℤ◌, ◌==◌, Bool, bit_and}
 use Rattle.buffer_glyphs.specs.declared.flags.SerializeFlags.{SerializeFlags}
 use Rattle.buffer_glyphs.specs.declared.position.GlyphPosition.{GlyphPosition}

@@ -10,30 +10,35 @@ use Rattle.buffer_glyphs.specs.declared.position.GlyphPosition.{GlyphPosition}
 use Rattle.buffer_serialize.specs.declared.pen.Pen.{Pen}
 use Rattle.buffer_serialize.specs.Pen.{drops_advances, pen_after, shifted_pen}
 
--- what the flags drop from a glyph's text, and add to it, each by its bit
+-- whether NO_CLUSTERS is set
 abbrev pub drops_clusters : SerializeFlags → Bool
 drops_clusters flags = bit_and flags.0 1 == 1
 
+-- whether NO_POSITIONS is set
 abbrev pub drops_positions : SerializeFlags → Bool
 drops_positions flags = bit_and flags.0 2 == 2
 
+-- whether NO_GLYPH_NAMES is set
 abbrev pub drops_names : SerializeFlags → Bool
 drops_names flags = bit_and flags.0 4 == 4
 
+-- whether GLYPH_EXTENTS is set
 abbrev pub shows_extents : SerializeFlags → Bool
 shows_extents flags = bit_and flags.0 8 == 8
 
+-- whether GLYPH_FLAGS is set
 abbrev pub shows_glyph_flags : SerializeFlags → Bool
 shows_glyph_flags flags = bit_and flags.0 16 == 16
 
--- the names and the boxes of a font's glyphs, for those that have one
+-- the names of a font's glyphs, for those that have one
 abbrev pub Names : Type 0
 Names = ℕ → Option (List ℕ)
 
+-- the boxes of a font's glyphs, for those that have one
 abbrev pub Boxes : Type 0
 Boxes = ℕ → Option hb_glyph_extents_t
 
--- what a font says of a glyph; of a number that no glyph can have it says nothing
+-- the font's answer for a glyph; none for a number that no glyph can have
 abbrev pub of_glyph : {A : Type 0} → (ℕ → Option A) → ℕ → Option A
 of_glyph says number = if nat_le number 65535 then says number else None
 
@@ -42,11 +47,11 @@ abbrev pub name_or_number : Option (List ℕ) → ℕ → List ℕ
 name_or_number None number = codes "gid" ++ decimal number
 name_or_number (Some name) number = name
 
--- the same, or the bare number where names are dropped
+-- the glyph's name or `gid` and its number; the bare number where names are dropped
 unfoldable pub name_text : Names → SerializeFlags → ℕ → List ℕ
 name_text name_of flags number = if drops_names flags then decimal number else name_or_number (of_glyph name_of number) number
 
--- `=` and the cluster
+-- `=` and the cluster, unless clusters are dropped
 unfoldable pub cluster_text : SerializeFlags → ℕ → List ℕ
 cluster_text flags cluster = if drops_clusters flags then [] else codes "=" ++ decimal cluster
 
@@ -61,7 +66,7 @@ advance_text flags place = if drops_advances flags then []
     else codes "+" ++ (signed_decimal place.x_advance
     ++ (if int_eq place.y_advance (pos 0) then [] else codes "," ++ signed_decimal place.y_advance))
 
--- the pen moved by the glyph's offset, and the glyph's advances
+-- the text of a glyph's position: the pen moved by its offset, and its advances
 unfoldable pub position_text : SerializeFlags → Pen → GlyphPosition → List ℕ
 position_text flags pen place = if drops_positions flags then []
     else offset_text (shifted_pen pen place.x_offset place.y_offset) ++ advance_text flags place
@@ -99,7 +104,7 @@ glyph_texts name_of extents_of flags before (glyph ∷ glyphs) (place ∷ positi
     glyph_text name_of extents_of flags (pen_after flags before) glyph place
     ∷ glyph_texts name_of extents_of flags (before ++ place ∷ []) glyphs positions
 
--- what stands in front of the glyph with this index
+-- the separator before the glyph at an index
 abbrev pub separator : ℕ → List ℕ
 separator index = if index == 0 then [] else codes "|"
 

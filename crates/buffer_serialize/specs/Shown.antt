@@ -1,4 +1,4 @@
--- What the text of a run tells of its glyphs.
+-- The fields of glyphs that a printed text determines.
 use Rattle.std.specs.Prelude.{◌≡◌, ℕ, ◌^◌, ◌<◌, List, map, ℤ, FitsSigned, bit_and, All}
 use Rattle.std.specs.Int.{w32}
 use Rattle.std.specs.List.{zip}
@@ -7,11 +7,11 @@ use Rattle.buffer_glyphs.specs.declared.info.hb_glyph_info_t.{hb_glyph_info_t}
 use Rattle.buffer_glyphs.specs.declared.position.GlyphPosition.{GlyphPosition}
 use Rattle.buffer_serialize.specs.Printed.{Names, Boxes, printed_text}
 
--- NO_GLYPH_NAMES and GLYPH_FLAGS
+-- the flags NO_GLYPH_NAMES and GLYPH_FLAGS
 abbrev pub numbers_and_flags : SerializeFlags
 numbers_and_flags = record { 0 = 20 }
 
--- what such a text shows of a glyph
+-- the fields of a glyph in such a text
 pub record Shown : Type 0 where
   pub number : ℕ
   pub cluster : ℕ
@@ -21,6 +21,7 @@ pub record Shown : Type 0 where
   pub y_advance : ℤ
   pub glyph_flags : ℕ
 
+-- the fields of a glyph and its position
 abbrev pub shown_of : hb_glyph_info_t × GlyphPosition → Shown
 shown_of e = record {
   number = e.0.glyph_id;

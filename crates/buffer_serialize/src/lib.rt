@@ -1,4 +1,4 @@
-// Prints a run of glyphs as text.
+//! Prints a run of glyphs as text (rustybuzz: hb/buffer.rs, `serialize`).
 #![tactic(auto)]
 
 pub mod laws;

@@ -1,3 +1,4 @@
+//! The pen of a printed run.
 ghost use Rattle.std.specs.Prelude.{◌≡◌, ℕ, ◌+◌, ◌^◌, ◌+ℤ◌};
 ghost use Rattle.buffer_serialize.specs.Pen.{IsNear, IsWithin, moved_pen, shifted_pen};
 
@@ -5,7 +6,7 @@ use bitflags::Flags;
 use buffer_glyphs::flags::SerializeFlags;
 use buffer_glyphs::position::GlyphPosition;
 
-/// Where the pen stands, in font units.
+/// The position of the pen, in font units.
 #[derive(Clone, Copy, Default)]
 pub struct Pen {
     pub x: i128,
@@ -24,7 +25,7 @@ impl Pen {
         }
     }
 
-    /// The pen after a glyph at this place. It rests where the advances are printed.
+    /// The pen after a glyph at this position. It doesn't move where the advances are printed.
     pub fn moved(self, flags: SerializeFlags, place: &GlyphPosition) -> Pen
         requires { IsWithin (2 ^ 96) self }
         ensures value { result ≡ moved_pen flags self place.now }

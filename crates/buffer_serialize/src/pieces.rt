@@ -1,3 +1,4 @@
+//! The fields of a printed glyph.
 ghost use Rattle.std.specs.Prelude.{◌≡◌, ℕ, ◌≤◌, ◌++◌, ◌+ℤ◌, ◌^◌, false, true, OnOk, string_bytes};
 ghost use Rattle.std.specs.Option.{option_copied};
 ghost use Rattle.buffer_serialize.specs.Pen.{IsWithin};
@@ -67,7 +68,7 @@ pub fn push_cluster(
     write!(text, "={cluster}")
 }
 
-/// Appends where the glyph is drawn, unless that is at the pen's start.
+/// Appends the glyph's offset, the pen's included, unless it is zero.
 #[tactic(auto, unfolding(crate::specs::Printed::offset_text))]
 fn push_offset(text: &mut String, at: Pen) -> Result<(), AllocError>
     ensures { OnOk result (string_bytes text.new ≡ string_bytes text.old ++ offset_text at) }
@@ -78,7 +79,7 @@ fn push_offset(text: &mut String, at: Pen) -> Result<(), AllocError>
     write!(text, "@{},{}", at.x, at.y)
 }
 
-/// Appends how far the glyph moves the pen.
+/// Appends the glyph's advances.
 #[tactic(auto, unfolding(crate::specs::Printed::advance_text))]
 fn push_advance(
     text: &mut String,
@@ -97,7 +98,7 @@ fn push_advance(
     write!(text, "+{},{}", place.x_advance, place.y_advance)
 }
 
-/// Appends where the glyph is drawn and how far it moves the pen.
+/// Appends the glyph's offset and advances.
 #[tactic(auto, unfolding(crate::specs::Printed::position_text), using(crate::proofs::Appending::appended_two))]
 pub fn push_position(
     text: &mut String,

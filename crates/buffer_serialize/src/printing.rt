@@ -1,3 +1,4 @@
+//! Prints a run of glyphs (rustybuzz: hb/buffer.rs, `serialize`).
 ghost use Rattle.std.specs.Prelude.{◌≡◌, ◌^◌, ◌++◌, true, length, IfOk, OnOk, string_bytes};
 ghost use Rattle.buffer_serialize.specs.Pen.{IsWithin};
 ghost use Rattle.buffer_serialize.specs.Printed.{glyph_text, printed_text, separator};
@@ -42,13 +43,13 @@ fn push_glyph<N: GlyphNames>(
 }
 
 /// Prints a run of glyphs, as `name=cluster@x,y+x_advance,y_advance#flags<x_bearing,y_bearing,width,height>`, with `|`
-/// between two glyphs. Numbers are decimal, in font units, and the glyph flags are hexadecimal. Parts that are 0 are left
-/// out as follows: the offset where both sums are 0, the advance in y, and the glyph flags. A glyph without
-/// a name is `gid` and its number, and one without a box has a box of zeros; so is a number above 65535, which no glyph
+/// between two glyphs. Numbers are decimal, in font units, and the glyph flags are hexadecimal. These fields are left
+/// out where they are 0: the offset where both sums are 0, the advance in y, and the glyph flags. A glyph without a
+/// name is `gid` and its number, and one without a box has a box of zeros; so is a number above 65535, which no glyph
 /// of a font can have.
 ///
-/// Where the advances are dropped, the offset is counted from where the run begins. The only error is that there is no
-/// memory for the text.
+/// Where the advances are dropped, the offset counts from the beginning of the run. The only error is want of memory
+/// for the text.
 #[tactic(auto, unfolding(crate::specs::Printed::printed_text))]
 pub fn serialize<N: GlyphNames>(
     alloc: Global,

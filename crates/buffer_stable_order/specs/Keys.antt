@@ -15,6 +15,6 @@ abbrev pub key_bound : {X : Type 0} → (X → ℕ) → List X → ℕ
 key_bound key [] = 0
 key_bound key (x ∷ xs) = max (key x + 1) (key_bound key xs)
 
--- a list rearranged so that keys never fall and elements of one key keep their order
+-- a list permuted so that keys never decrease and elements of one key keep their order
 abbrev pub key_order : {X : Type 0} → (X → ℕ) → List X → List X
 key_order key xs = by_key key (key_bound key xs) xs

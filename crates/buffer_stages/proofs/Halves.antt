@@ -31,7 +31,7 @@ apart_in_range pair from middle to xs d lt last fits e =
     let cut = apart_at pair zs j d (omega (arith, lt, last, size)) (ap (λ x. pair x (get_or zs (suc j) d)) first ∙ ap (pair (get_or xs (middle - 1) d)) second ∙ e) in
     subst (λ ys. IsApart pair (slice_range xs from middle) ys) behind (subst (λ ys. IsApart pair ys (drop (suc j) zs)) front cut)
 
--- cut behind a pair
+-- cut after a pair
 pub apart_after : {X : Type 0} (pair : X → X → Bool) (from middle to : ℕ) (xs : List X) (d : X) → StandApart pair → from < middle → middle + 1 < to → to ≤ length xs
     → (t : Bool) → t ≡ pair (get_or xs (middle - 1) d) (get_or xs middle d) → t ≡ true → IsApart pair (slice_range xs from (middle + 1)) (slice_range xs (middle + 1) to)
 apart_after pair from middle to xs d apart lt last fits t is f =

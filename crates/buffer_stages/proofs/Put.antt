@@ -1,4 +1,4 @@
--- Glyphs put behind the output in the place of the one at the cursor.
+-- Glyphs output instead of the one at the cursor.
 use Rattle.std.proofs.Common.{ℕ, zero, suc, ◌≡◌, ◌<◌, ◌≤◌, ◌+◌, true, List, [], ◌∷◌, ◌++◌, Some, length, take, drop, refl, sym, ap, subst, ◌∙◌, append_assoc, arith}
 use Rattle.std.specs.Prelude.{slice_get, replicate}
 use Rattle.std.proofs.lemmas.List.{map-append, length-map, drop-map}
@@ -23,7 +23,7 @@ first_ahead : (g : hb_glyph_info_t) (gs : List hb_glyph_info_t) → slice_get gs
 first_ahead g [] at = cc
 first_ahead g (h ∷ gs) at = let e : h ≡ g = cc in rw e refl
 
--- glyphs of one origin in the place of the one at the cursor
+-- glyphs of one origin output instead of the one at the cursor
 pub put_walked : (gs : List hb_glyph_info_t) (g : hb_glyph_info_t) (s new : Sides) → s.is_open ≡ true → slice_get s.ahead 0 ≡ Some g → origins gs ≡ replicate (length gs) (origin_of g)
     → new ≡ with_skipped (record s { behind = s.behind ++ gs }) → Walked (strip s.behind ++ strip gs) (drop 1 (strip s.ahead)) (Replace (length s.behind) 1 (length gs) ∷ []) s new
 put_walked gs g s new opened there same is = subst (λ (t : Sides). Walked (strip s.behind ++ strip gs) (drop 1 (strip s.ahead)) (Replace (length s.behind) 1 (length gs) ∷ []) s t) (sym is) (record {
@@ -46,7 +46,7 @@ put_walked gs g s new opened there same is = subst (λ (t : Sides). Walked (stri
   unrefused = refl;
 })
 
--- one glyph of its origin in the place of the one at the cursor
+-- one glyph of its origin output instead of the one at the cursor
 pub passed_walked : (h g : hb_glyph_info_t) (s new : Sides) → s.is_open ≡ true → slice_get s.ahead 0 ≡ Some g → origin_of h ≡ origin_of g → new ≡ with_skipped (with_put h s)
     → Walked (strip s.behind ++ item_of h ∷ []) (drop 1 (strip s.ahead)) [] s new
 passed_walked h g s new opened there same is = subst (λ (t : Sides). Walked (strip s.behind ++ item_of h ∷ []) (drop 1 (strip s.ahead)) [] s t) (sym is) (record {
@@ -71,7 +71,7 @@ all_taken (suc i) [] le = refl
 all_taken zero (x ∷ xs) le = absurd (omega (arith, le))
 all_taken (suc i) (x ∷ xs) le = ap (λ ys. x ∷ ys) (all_taken i xs (omega (arith, le)))
 
--- glyphs put one by one in the place of the one at the cursor
+-- glyphs output one by one instead of the one at the cursor
 pub all_put : (gs : List hb_glyph_info_t) (i : ℕ) (s mid new : Sides) → s.is_open ≡ true → 0 < length s.ahead → ((g : hb_glyph_info_t) → slice_get s.ahead 0 ≡ Some g → origins gs ≡ replicate (length gs) (origin_of g))
     → mid ≡ record s { behind = s.behind ++ take i gs } → length gs ≤ i → new ≡ with_skipped mid → Walked (strip s.behind ++ strip gs) (drop 1 (strip s.ahead)) (Replace (length s.behind) 1 (length gs) ∷ []) s new
 all_put gs i s mid new opened there same is le went = by_ahead s.ahead refl

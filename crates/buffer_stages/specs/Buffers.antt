@@ -7,15 +7,16 @@ use Rattle.buffer_glyphs.specs.Events.{Event}
 use Rattle.buffer_core.specs.Sides.{Sides, Settings, settings_of, items_of, origins_of, origins_by, told_of}
 use Rattle.buffer_stages.specs.Actions.{Cut, Outcome, Passes, Acts, Refuses}
 
--- the buffer's list without clusters, cut at the cursor, with its positions, of which a buffer with an open output has none; each lookup draws alternates from 1
+-- the buffer's items cut at the cursor, with the positions where no output is open; each lookup draws random numbers
+-- from the state 1
 abbrev pub cut_of : Sides → Cut
 cut_of s = record { front = strip s.behind; rest = strip s.ahead; positions = s.positions; lig_id = s.lig_id; max_ops = s.max_ops; random = 1; max_len = s.max_len; told = told_of s.scratch_flags }
 
--- each item has a number that a glyph can have
+-- each item has a glyph number below 2^16
 abbrev pub are_glyphs : List Item → Bool
 are_glyphs xs = list_all (λ (x : Item). nat_le x.number 65535) xs
 
--- what no rule changes of a buffer
+-- the fields of a buffer that no rule changes
 pub record Frame : Type 0 where
   pub settings : Settings
   pub is_open : Bool
@@ -23,25 +24,26 @@ pub record Frame : Type 0 where
   pub max_len : ℕ
   pub direction : Direction
 
+-- the frame of a buffer
 abbrev pub frame_of : Sides → Frame
 frame_of s = record { settings = settings_of s; is_open = s.is_open; has_refused = s.has_refused; max_len = s.max_len; direction = s.direction }
 
--- a rule leaves all else
+-- the fields that no rule changes are as before
 abbrev pub IsStill : Sides → Sides → Type 0
 IsStill old new = frame_of new ≡ frame_of old
 
--- so much happened to where a buffer's glyphs come from
+-- the clusters and flags follow some events
 abbrev pub Happened : List Event → Sides → Sides → Type 0
 Happened events old new = origins_of new ≡ origins_by events old
 
--- glyphs were read, and no more than were read went behind the cursor
+-- glyphs were read, and no more than were read were output
 pub record IsRead (old new : Sides) : Type 0 where
   pub forth : old.read < new.read
   pub total : new.read + length new.ahead ≡ old.read + length old.ahead
   pub front : length new.behind + old.read ≤ length old.behind + new.read
   pub kept : length old.behind ≤ length new.behind
 
--- a rule made a cut of a buffer, and so much happened to where its glyphs come from
+-- a rule made a cut of a buffer, after events on clusters and flags
 pub record IsActed (cut : Cut) (events : List Event) (old new : Sides) : Type 0 where
   pub cut_is : cut_of new ≡ cut
   pub happened : Happened events old new
@@ -49,14 +51,14 @@ pub record IsActed (cut : Cut) (events : List Event) (old new : Sides) : Type 0 
   pub counts : IsRead old new
   pub numbers : are_glyphs (items_of old) ≡ true → are_glyphs (items_of new) ≡ true
 
--- a rule passed, and so much happened to where the glyphs come from
+-- a rule passed, after events on clusters and flags
 pub record IsPassed (events : List Event) (old new : Sides) : Type 0 where
   pub cut_is : cut_of new ≡ cut_of old
   pub happened : Happened events old new
   pub still : IsStill old new
   pub read : new.read ≡ old.read
 
--- a call does what a rule does, and tells whether it acted
+-- a call does what a rule does, and answers whether it acted
 abbrev pub Does : Outcome → Bool → Sides → Sides → Type 0
 Does (Passes events) acted old new = (acted ≡ false) × IsPassed events old new
 Does (Acts cut events) acted old new = (acted ≡ true) × IsActed cut events old new

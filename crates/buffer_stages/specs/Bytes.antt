@@ -1,8 +1,8 @@
--- The byte that tells a syllable from its neighbours: a serial number and the kind.
+-- Syllable bytes, which distinguish a syllable from its neighbours: a serial number and the kind.
 use Rattle.std.specs.Prelude.{ℕ, ◌+◌, ◌*◌, ◌-◌, ◌/◌, ◌%◌, ◌<◌, ◌≡◌, ◌≢◌, List, [], ◌∷◌, ◌++◌, length, replicate}
 use Rattle.buffer_stages.specs.Cuts.{EndsInside, Syllable, syllables}
 
--- the serial number of a syllable, from 1 to 15 and round again, times 16, and its kind
+-- the serial number of a syllable, from 1 to 15 and then again from 1, times 16, and its kind
 abbrev pub syllable_byte : ℕ → ℕ → ℕ
 syllable_byte index kind = (index % 15 + 1) * 16 + kind
 
@@ -15,7 +15,7 @@ bytes_from index (s ∷ ss) = replicate (s.end - s.start) (syllable_byte index s
 abbrev pub syllable_bytes : List Syllable → List ℕ
 syllable_bytes ss = bytes_from 0 ss
 
--- each element has one byte
+-- each element has one syllable byte
 abbrev pub BytesAreOne : Type 0
 BytesAreOne = (next : ℕ → ℕ × ℕ) (count : ℕ) → EndsInside next count → length (syllable_bytes (syllables next count)) ≡ count
 
@@ -25,9 +25,10 @@ pub record IsByteOf (byte index kind : ℕ) : Type 0 where
   pub serial : byte / 16 ≡ index % 15 + 1
   pub kind_below : byte % 16 ≡ kind
 
+-- a syllable byte determines the serial number and the kind
 abbrev pub BytesTell : Type 0
 BytesTell = (index kind : ℕ) → kind < 16 → IsByteOf (syllable_byte index kind) index kind
 
--- one syllable and the next have different bytes
+-- a syllable and the next have different bytes
 abbrev pub NeighboursDiffer : Type 0
 NeighboursDiffer = (index kind other : ℕ) → kind < 16 → other < 16 → syllable_byte index kind ≢ syllable_byte (index + 1) other

@@ -1,4 +1,4 @@
--- A list cut into syllables by what tells where each ends.
+-- Lists cut into syllables, by a function that says where each ends.
 use Rattle.std.specs.Prelude.{ℕ, zero, suc, ◌<◌, ◌≤◌, ◌≡◌, nat_lt, if◌then◌else◌, List, [], ◌∷◌, length, map, slice_range}
 use Rattle.std.specs.List.{flat_map}
 
@@ -13,16 +13,17 @@ pub record EndsInside (next : ℕ → ℕ × ℕ) (count : ℕ) : Type 0 where
   pub after : (start : ℕ) → start < count → start < (next start).0
   pub inside : (start : ℕ) → start < count → (next start).0 ≤ count
 
+-- the syllable at an index: the function gives its end and its kind
 abbrev pub syllable_from : (ℕ → ℕ × ℕ) → ℕ → Syllable
 syllable_from next start = record { start = start; end = (next start).0; kind = (next start).1 }
 
--- from an index on, at most so many syllables, each of which begins where the one before ends
+-- at most so many syllables from an index on, each of which begins where the one before ends
 abbrev pub syllables_from : (ℕ → ℕ × ℕ) → ℕ → ℕ → ℕ → List Syllable
 syllables_from next count zero start = []
 syllables_from next count (suc most) start =
     if nat_lt start count then syllable_from next start ∷ syllables_from next count most (next start).0 else []
 
--- the syllables of a list of so many elements: no more than there are elements
+-- the syllables of a list of so many elements: at most as many as there are elements
 abbrev pub syllables : (ℕ → ℕ × ℕ) → ℕ → List Syllable
 syllables next count = syllables_from next count count 0
 
@@ -34,6 +35,6 @@ elements_of xs s = slice_range xs s.start s.end
 abbrev pub cut : {X : Type 0} → List Syllable → List X → List (List X)
 cut ss xs = map (elements_of xs) ss
 
--- the syllables of a list, one after the other, are the list
+-- the syllables of a list, concatenated, are the list
 abbrev pub CutsJoin : Type 0
 CutsJoin = (next : ℕ → ℕ × ℕ) (xs : List ℕ) → EndsInside next (length xs) → flat_map (λ ys. ys) (cut (syllables next (length xs)) xs) ≡ xs

@@ -1,9 +1,9 @@
--- Some lists in syllables, with their bytes.
+-- Examples of lists in syllables, with their bytes.
 use Rattle.std.specs.Prelude.{ℕ, zero, suc, ◌+◌, ◌≡◌, [], ◌∷◌}
 use Rattle.buffer_stages.specs.Bytes.{syllable_bytes}
 use Rattle.buffer_stages.specs.Cuts.{cut, syllables}
 
--- one element of kind 2, then all to the fourth
+-- one element of kind 2, then all up to the fourth
 abbrev pub one_and_three : ℕ → ℕ × ℕ
 one_and_three zero = (1, 2)
 one_and_three (suc n) = (4, 2)
@@ -12,6 +12,7 @@ one_and_three (suc n) = (4, 2)
 abbrev pub single : ℕ → ℕ × ℕ
 single start = (start + 1, 2)
 
+-- the bytes of these lists
 pub record Examples : Type 0 where
   pub pieces : cut {X = ℕ} (syllables one_and_three 4) (7 ∷ 8 ∷ 9 ∷ 6 ∷ []) ≡ (7 ∷ []) ∷ (8 ∷ 9 ∷ 6 ∷ []) ∷ []
   pub two_bytes : syllable_bytes (syllables one_and_three 4) ≡ 18 ∷ 34 ∷ 34 ∷ 34 ∷ []

@@ -1,29 +1,30 @@
--- Elements that come to the front of a list one after another, each in front of those that came before.
+-- Elements moved to the front of a list, each before those moved earlier.
 use Rattle.std.specs.Prelude.{drop, take, ℕ, ◌≡◌, ◌+◌, ◌&&◌, Bool, nat_lt, if◌then◌else◌, true, false, List, [], ◌∷◌, ◌++◌}
 use Rattle.buffer_glyphs.specs.declared.info.hb_glyph_info_t.{hb_glyph_info_t}
 use Rattle.buffer_glyphs.specs.Items.{Item, item_of}
 use Rattle.buffer_stages.specs.Moves.{FrontMove}
 
--- those that come there, alone or with the next, as they stand at last
+-- the elements that are moved, alone or with the next, in their final order
 abbrev pub fronts : {X : Type 0} → (X → X → Bool) → (X → Bool) → List X → List X
 fronts pair one [] = []
 fronts pair one (x ∷ []) = if one x then x ∷ [] else []
 fronts pair one (x ∷ y ∷ zs) = if pair x y then fronts pair one zs ++ (x ∷ y ∷ []) else if one x then fronts pair one (y ∷ zs) ++ (x ∷ []) else fronts pair one (y ∷ zs)
 
--- the others, in their order
+-- the other elements, in their order
 abbrev pub stayed : {X : Type 0} → (X → X → Bool) → (X → Bool) → List X → List X
 stayed pair one [] = []
 stayed pair one (x ∷ []) = if one x then [] else x ∷ []
 stayed pair one (x ∷ y ∷ zs) = if pair x y then stayed pair one zs else if one x then stayed pair one (y ∷ zs) else x ∷ stayed pair one (y ∷ zs)
 
+-- the elements that are moved, and after them the others
 abbrev pub gathered : {X : Type 0} → (X → X → Bool) → (X → Bool) → List X → List X
 gathered pair one xs = fronts pair one xs ++ stayed pair one xs
 
--- some elements that stand in front already, and after them those of which others come to the front
+-- some elements of the front, and after them a list of which elements are moved before these
 abbrev pub gathered_after : {X : Type 0} → (X → X → Bool) → (X → Bool) → ℕ → List X → List X
 gathered_after pair one n xs = fronts pair one (drop n xs) ++ (take n xs ++ stayed pair one (drop n xs))
 
--- their moves, where so many elements stand before the list; the first of all need not move
+-- the moves of elements, with so many elements before the list; the first element of all need not move
 abbrev pub front_moves : {X : Type 0} → (X → X → Bool) → (X → Bool) → ℕ → List X → List FrontMove
 front_moves pair one i [] = []
 front_moves pair one i (x ∷ []) = if one x && nat_lt 0 i then record { passed = i; taken = 1 } ∷ [] else []
@@ -36,9 +37,10 @@ front_moves pair one i (x ∷ y ∷ zs) =
 abbrev pub StandApart : {X : Type 0} → (X → X → Bool) → Type 0
 StandApart {X = X} pair = (x y z : X) → pair x y ≡ true → pair y z ≡ false
 
--- what is told of items, of glyphs
+-- a test of pairs of items, on glyphs
 abbrev pub pair_seen : (Item → Item → Bool) → hb_glyph_info_t → hb_glyph_info_t → Bool
 pair_seen pair g h = pair (item_of g) (item_of h)
 
+-- a test of items, on glyphs
 abbrev pub one_seen : (Item → Bool) → hb_glyph_info_t → Bool
 one_seen one g = one (item_of g)

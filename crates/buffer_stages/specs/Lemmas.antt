@@ -1,4 +1,4 @@
--- Lemmas for what stands above: rules on buffers, stages that write glyphs one by one, moves, syllables that are rewritten.
+-- Lemmas for higher crates: rules on buffers, stages that write glyphs one by one, moves, syllables that are rewritten.
 pub mod Written
 pub mod Moved
 pub mod Alone

@@ -1,4 +1,4 @@
--- Glyphs that come to stand in front of others, and merge with them.
+-- Glyphs that are moved before others, and merged with them.
 use Rattle.std.specs.Prelude.{ℕ, ◌≡◌, ◌≤◌, ◌+◌, ◌==◌, Bool, true, List, [], ◌∷◌, ◌++◌, length, take, drop}
 use Rattle.std.specs.List.{list_all, range_with_len}
 use Rattle.buffer_glyphs.specs.declared.info.hb_glyph_info_t.{hb_glyph_info_t}
@@ -13,21 +13,21 @@ abbrev pub are_one_cluster : List hb_glyph_info_t → Bool
 are_one_cluster [] = true
 are_one_cluster (g ∷ gs) = list_all (λ h. h.cluster == g.cluster) gs
 
--- from an index on, n elements come to stand after the k that followed them
+-- the n elements from an index on moved after the k that followed them
 abbrev pub moved : {X : Type 0} → ℕ → ℕ → ℕ → List X → List X
 moved start n k xs = take start xs ++ (take k (drop (start + n) xs) ++ take n (drop start xs)) ++ drop (start + (n + k)) xs
 
--- the order in which they come to stand
+-- the order of the elements after such a move
 abbrev pub order_of_move : ℕ → ℕ → List ℕ
 order_of_move n k = range_with_len n k ++ range_with_len 0 n
 
--- so move items, and merge where they moved
+-- the reading of such a move of items, which merges what it permutes
 abbrev pub with_move : ℕ → ℕ → ℕ → View → Read
 with_move start n k v = with_events (Move InList start (order_of_move n k) ∷ []) (record v { items = moved start n k v.items })
 
--- ---- moves to the front of one stretch
+-- ---- moves to the front of one range
 
--- elements come to its front: how many they pass, and how many they are
+-- elements moved to the front: how many they pass, and how many they are
 pub record FrontMove : Type 0 where
   pub passed : ℕ
   pub taken : ℕ
@@ -37,22 +37,22 @@ abbrev pub all_moved : {X : Type 0} → ℕ → List FrontMove → List X → Li
 all_moved start [] xs = xs
 all_moved start (m ∷ ms) xs = all_moved start ms (moved start m.passed m.taken xs)
 
--- each of them merges what it moves
+-- the events of such moves: each merges what it permutes
 abbrev pub move_events : ℕ → List FrontMove → List Event
 move_events start [] = []
 move_events start (m ∷ ms) = Move InList start (order_of_move m.passed m.taken) ∷ move_events start ms
 
--- how many elements the last of them moves, or else so many
+-- how many elements the last of the moves permutes, or n where there is none
 abbrev pub reach : ℕ → List FrontMove → ℕ
 reach n [] = n
 reach n (m ∷ ms) = reach (m.passed + m.taken) ms
 
--- each moves no less than so many, and than those before it
+-- each move permutes at least so many elements, and at least as many as those before it
 abbrev pub IsGrowing : ℕ → List FrontMove → Type 0
 IsGrowing n [] = Unit {0}
 IsGrowing n (m ∷ ms) = (n ≤ m.passed + m.taken) × IsGrowing (m.passed + m.taken) ms
 
--- such moves leave, at every level, what one merge of the longest stretch leaves, in the order to which they move
+-- such moves leave, at every level, what one merge of the longest range leaves, in the order to which they move
 abbrev pub MovesMergeOnce : Type 0
 MovesMergeOnce = (asks : Asks) (level : BufferClusterLevel) (start : ℕ) (ms : List FrontMove) (os : List Origin) → IsGrowing 1 ms → start + reach 1 ms ≤ length os
     → origins_after asks level (move_events start ms) os ≡ all_moved start ms (merged_as (manner InList level) start (start + reach 1 ms) os)

@@ -1,4 +1,4 @@
--- What a call does that performs a rule on a buffer, and what it answers: one relation over both.
+-- Calls that perform a rule on a buffer: one relation over the buffer and the answer.
 use Rattle.std.specs.Prelude.{ℕ, ◌≡◌, ◌≢◌, ◌≤◌, ◌<◌, Bool, true, false, List, length, Result, Ok, Err}
 use Rattle.buffer_glyphs.specs.declared.cause.ShapeCause.{ShapeCause}
 use Rattle.buffer_glyphs.specs.declared.cause.ShapeCause.TheVariants.{OutOfMemory}
@@ -7,11 +7,12 @@ use Rattle.buffer_core.specs.Sides.{Sides, items_of}
 use Rattle.buffer_stages.specs.Actions.{Cut, Outcome, Passes, Acts, Refuses}
 use Rattle.buffer_stages.specs.Buffers.{cut_of, are_glyphs, IsStill, Happened, IsPassed}
 
--- the buffer's list cut at the cursor, with the state from which alternates are drawn, which stands beside the buffer
+-- the buffer's list cut at the cursor, with the state of the random numbers, which is outside the buffer
 abbrev pub cut_with : ℕ → Sides → Cut
 cut_with random s = record (cut_of s) { random = random }
 
--- a rule made a cut of a buffer and left a random state, and so much happened to where its glyphs come from; fewer glyphs are ahead, and what was done stays so
+-- a rule made a cut of a buffer and left a random state, after events on clusters and flags; fewer glyphs are ahead,
+-- and the items already done stay
 pub record IsMade (cut : Cut) (events : List Event) (random : ℕ) (old new : Sides) : Type 0 where
   pub cut_is : cut_with random new ≡ cut
   pub happened : Happened events old new

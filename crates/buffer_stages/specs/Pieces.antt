@@ -6,16 +6,16 @@ use Rattle.std.proofs.Common.{sym, ap, subst, ◌∙◌}
 use Rattle.std.proofs.Math.Seq.{take-append_seam, drop-append_seam}
 use Rattle.std.proofs.lemmas.List.Sorted.{length_permutation}
 
--- each piece rewritten by itself, one after the other
+-- each piece rewritten by itself, concatenated
 abbrev pub each_by_itself : {X : Type 0} → (List X → List X) → List (List X) → List X
 each_by_itself rule pieces = flat_map rule pieces
 
--- a list has the elements of each piece in the piece's place, in some order
+-- a list has the elements of each piece at the piece's indices, in some order
 abbrev pub ArePermuted : {X : Type 0} → List (List X) → List X → Type 0
 ArePermuted [] ys = ys ≡ []
 ArePermuted (xs ∷ xss) ys = IsPermutation xs (take (length xs) ys) × ArePermuted xss (drop (length xs) ys)
 
--- what a rule leaves of a list is a permutation of it
+-- a rule leaves a permutation of each list
 abbrev pub Permutes : (List ℕ → List ℕ) → Type 0
 Permutes rule = (xs : List ℕ) → IsPermutation xs (rule xs)
 
@@ -32,7 +32,7 @@ pub permutes_each : {X : Type 0} (rule : List X → List X) → ((xs : List X) �
 permutes_each rule p [] = refl
 permutes_each rule p (xs ∷ xss) = in_front xs (rule xs) (each_by_itself rule xss) xss (p xs) (permutes_each rule p xss)
 
--- the same of what numbers stand for
+-- where a rule permutes each list, a list in pieces is permuted piece by piece, in numbers
 abbrev pub PermutesEach : Type 0
 PermutesEach = (rule : List ℕ → List ℕ) → Permutes rule → (pieces : List (List ℕ)) → ArePermuted pieces (each_by_itself rule pieces)
 

@@ -13,9 +13,10 @@ placed_by k [] ps = []
 placed_by k (x ∷ xs) [] = []
 placed_by k (x ∷ xs) (p ∷ ps) = k x p ∷ placed_by k xs ps
 
+-- the reading of a stage that changes each position by its item
 abbrev pub placed : (Item → Position → Position) → View → Read
 placed k v = with_events [] (record v { positions = placed_by k v.items v.positions })
 
--- each position that a function may make of a glyph and its position is what a map makes of the glyph's item
+-- each position that a function makes of a glyph and its position is the one that a map makes of the glyph's item
 abbrev pub MakesPositions : {F : Type 0} → Shared F (Bor hb_glyph_info_t × (GlyphPosition × Unit {0})) GlyphPosition → F → (Item → Position → Position) → Type 0
 MakesPositions calls f k = (g : Bor hb_glyph_info_t) (p q : GlyphPosition) → FnReturns calls f (g, (p, tt)) q → q ≡ k (item_of g.now) p

@@ -1,10 +1,10 @@
--- What a stage of lookups leaves of a buffer.
+-- The state of a buffer before and after a stage of lookups.
 use Rattle.std.specs.Prelude.{ℕ, ◌≡◌, true, false, [], length}
 use Rattle.buffer_core.specs.Readings.{Run, Stage, Follows, read_of}
 use Rattle.buffer_core.specs.Sides.{Sides, settings_of, all_glyphs, items_of, view_of, run_of}
 use Rattle.buffer_stages.specs.Buffers.{are_glyphs}
 
--- a buffer without an output, with the cursor in front of all glyphs and a position for each
+-- a buffer without an output, with the cursor before all glyphs and a position for each
 pub record IsReady (s : Sides) : Type 0 where
   pub closed : s.is_open ≡ false
   pub front : s.behind ≡ []
@@ -12,18 +12,18 @@ pub record IsReady (s : Sides) : Type 0 where
   pub placed : length s.positions ≡ length (all_glyphs s)
   pub unrefused : s.has_refused ≡ false
 
--- a stage was done on a buffer: all that it sees and where its glyphs come from follow its reading, and the settings stay
+-- a stage was done on a buffer: view, clusters and flags follow its reading, and the settings stay
 pub record IsDone (stage : Stage) (old new : Sides) : Type 0 where
   pub follows : Follows (read_of stage (run_of old)) (run_of old) (run_of new)
   pub settings : settings_of new ≡ settings_of old
   pub ready : IsReady new
   pub numbers : are_glyphs (items_of old) ≡ true → are_glyphs (items_of new) ≡ true
 
--- a run of a buffer, with the state from which alternates are drawn, which stands beside the buffer
+-- the state of a buffer, with the state of the random numbers, which is outside the buffer
 abbrev pub run_with : ℕ → Sides → Run
 run_with random s = record (run_of s) { view = record (view_of s) { random = random } }
 
--- a stage was done that drew from one such state and left another
+-- a stage was done, from one state of the random numbers to another
 pub record IsDoneFrom (before after : ℕ) (stage : Stage) (old new : Sides) : Type 0 where
   pub follows : Follows (read_of stage (run_with before old)) (run_with before old) (run_with after new)
   pub settings : settings_of new ≡ settings_of old

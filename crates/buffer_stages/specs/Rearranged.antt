@@ -1,4 +1,4 @@
--- A stretch of a ready buffer that is arranged where it stands.
+-- A range of a ready buffer that is arranged in place.
 use Rattle.std.specs.Prelude.{ℕ, ◌≡◌, ◌+◌, ◌++◌, List, length, map}
 use Rattle.buffer_glyphs.specs.Items.{Item}
 use Rattle.buffer_core.specs.Sides.{Sides, items_of, origins_of, origins_by}
@@ -6,7 +6,7 @@ use Rattle.buffer_stages.specs.Ready.{IsReady}
 use Rattle.buffer_glyphs.specs.Arranged.{Arranged, shifted}
 use Rattle.buffer_stages.specs.Brought.{frame_of}
 
--- an arrangement stands between two stretches that stay, and all else stays
+-- an arrangement between two ranges that stay, and all else as before
 pub record IsRearranged (front : List Item) (a : Arranged) (rest : List Item) (old new : Sides) : Type 0 where
   pub items : items_of new ≡ front ++ (a.items ++ rest)
   pub happened : origins_of new ≡ origins_by (map (shifted (length front)) a.events) old

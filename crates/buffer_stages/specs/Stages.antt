@@ -1,4 +1,4 @@
--- What a stage before or after the lookups leaves of a buffer.
+-- What a pipeline stage before or after the lookups leaves of a buffer.
 use Rattle.std.specs.Prelude.{◌≡◌, List, [], map}
 use Rattle.std.specs.Fn.{Shared, FnReturnsAt}
 use denote.Ref.{Bor}
@@ -10,35 +10,35 @@ use Rattle.buffer_core.specs.Readings.{View, Read, Stage, with_events, Follows, 
 use Rattle.buffer_core.specs.Sides.{Sides, settings_of, view_of, run_of, origins_of, origins_by}
 use Rattle.buffer_stages.specs.Ready.{IsReady}
 
--- a stage was done: all that it sees and where its glyphs come from follow its reading, and the settings stay
+-- a stage was done: view, clusters and flags follow its reading, and the settings stay
 pub record IsFollowed (stage : Stage) (old new : Sides) : Type 0 where
   pub follows : Follows (read_of stage (run_of old)) (run_of old) (run_of new)
   pub settings : settings_of new ≡ settings_of old
   pub ready : IsReady new
 
--- so much happened to where the glyphs come from, and no more
+-- the clusters and flags follow some events, and all else stays
 pub record Happens (events : List Event) (old new : Sides) : Type 0 where
   pub view : view_of new ≡ view_of old
   pub origins : origins_of new ≡ origins_by events old
   pub settings : settings_of new ≡ settings_of old
   pub ready : IsReady new
 
--- other items and other positions, as many as before, and the rest as it was
+-- other items and other positions, as many as before, and all else as it was
 pub record Becomes (items : List Item) (positions : List Position) (old new : Sides) : Type 0 where
   pub view : view_of new ≡ record (view_of old) { items = items; positions = positions }
   pub origins : origins_of new ≡ origins_of old
   pub settings : settings_of new ≡ settings_of old
   pub ready : IsReady new
 
--- each item is changed by itself
+-- the reading of a stage that changes each item by itself
 abbrev pub mapped : (Item → Item) → View → Read
 mapped k v = with_events [] (record v { items = map k v.items })
 
--- glyphs that are items under a map, and come from where they came from
+-- the glyphs are the old items under a map, with the old origins
 pub record AreMapped (k : Item → Item) (old new : List hb_glyph_info_t) : Type 0 where
   pub items : strip new ≡ map k (strip old)
   pub origins : origins new ≡ origins old
 
--- each glyph that a function may make of another is its item under a map, and comes from where the other does
+-- each glyph that a function makes of another is its item under a map, with its origin
 abbrev pub Makes : {F : Type 0} → Shared F (Bor hb_glyph_info_t × Unit {0}) hb_glyph_info_t → F → (Item → Item) → Type 0
 Makes calls f k = (g h : hb_glyph_info_t) → FnReturnsAt calls f g h → (item_of h ≡ k (item_of g)) × (origin_of h ≡ origin_of g)

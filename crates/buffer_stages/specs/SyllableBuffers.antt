@@ -1,4 +1,4 @@
--- What a rule for a part of a text does to a buffer.
+-- What a rule for a range of a text does to a buffer.
 use Rattle.std.specs.Prelude.{ℕ, ◌≡◌, List, ◌++◌, map, take, drop}
 use Rattle.buffer_glyphs.specs.Items.{Item}
 use Rattle.buffer_core.specs.Readings.{View, Read, with_events}
@@ -13,6 +13,6 @@ pub record IsRewritten (r : Rewritten) (from to : ℕ) (old new : Sides) : Type 
   pub settings : settings_of new ≡ settings_of old
   pub ready : IsReady new
 
--- the items are rewritten by a rule
+-- the reading of a rule on all items
 abbrev pub with_rule : (List Item → Rewritten) → View → Read
 with_rule rule v = with_events (rule v.items).events (record v { items = (rule v.items).items })

@@ -5,10 +5,11 @@ use Rattle.buffer_glyphs.specs.Items.{Item}
 use Rattle.buffer_stages.specs.Pieces.{ArePermuted}
 use Rattle.buffer_stages.specs.Rewriting.{Rewritten, in_syllables, by_syllable}
 
--- a rule leaves of each list a permutation of what is seen of its items
+-- a rule leaves of each list a permutation of the numbers that are seen of its items
 abbrev pub PermutesSeen : (Item → ℕ) → (List Item → Rewritten) → Type 0
 PermutesSeen see rule = (xs : List Item) → IsPermutation (map see xs) (map see (rule xs).items)
 
+-- the glyph numbers of items
 abbrev pub numbers_of : List Item → List ℕ
 numbers_of xs = map (λ (x : Item). x.number) xs
 
@@ -16,7 +17,7 @@ numbers_of xs = map (λ (x : Item). x.number) xs
 abbrev pub IsPermuted : List Item → Rewritten → Type 0
 IsPermuted xs r = IsPermutation (numbers_of xs) (numbers_of r.items)
 
--- such a rule, used syllable by syllable, permutes each syllable by itself
+-- a rule that permutes numbers permutes each syllable by itself, where it is applied syllable by syllable
 abbrev pub PermutesEachSyllable : Type 0
 PermutesEachSyllable = (see : Item → ℕ) (rule : List Item → Rewritten) → PermutesSeen see rule → (xs : List Item)
     → ArePermuted (map (map see) (in_syllables xs)) (map see (by_syllable rule xs).items)

@@ -7,7 +7,7 @@ use Rattle.buffer_glyphs.specs.Replacements.{item_numbered}
 use Rattle.buffer_glyphs.specs.Events.{Event}
 use Rattle.buffer_core.specs.Sides.{Sides, items_of, view_of, settings_of, origins_of, origins_by}
 
--- such items stand behind the cursor now and such ahead of it, after such events; all else stays
+-- the items behind the cursor and ahead of it now, after some events; all else stays
 pub record Walked (out rest : List Item) (events : List Event) (old new : Sides) : Type 0 where
   pub behind : strip new.behind ≡ out
   pub ahead : strip new.ahead ≡ rest
@@ -17,7 +17,7 @@ pub record Walked (out rest : List Item) (events : List Event) (old new : Sides)
   pub opened : new.is_open ≡ true
   pub unrefused : new.has_refused ≡ old.has_refused
 
--- a call refuses for want of memory, or as so many items are too many behind the cursor
+-- a call refuses for want of memory, or since so many items do not fit behind the cursor
 abbrev pub Exceeds : ℕ → ShapeCause → Sides → Type 0
 Exceeds n e old = e ≢ OutOfMemory → (e ≡ TooLong) × (old.max_len < n)
 

@@ -4,7 +4,7 @@ ghost use Rattle.buffer_stages.specs.Cuts.{CutsJoin};
 ghost use Rattle.buffer_stages.specs.Examples.{Examples};
 ghost use Rattle.buffer_stages.specs.Pieces.{PermutesEach};
 
-/// The syllables of a list, one after the other, are the list.
+/// The syllables of a list, concatenated, are the list.
 #[tactic(auto, using(crate::proofs::Joined::cuts_join))]
 pub fn law_cuts_join()
     ensures { CutsJoin }
@@ -16,19 +16,19 @@ pub fn law_permutes_each()
     ensures { PermutesEach }
 {}
 
-/// Each element has one byte.
+/// Each element of a list has one syllable byte.
 #[tactic(auto, using(crate::proofs::Bytewise::bytes_are_one))]
 pub fn law_bytes_are_one()
     ensures { BytesAreOne }
 {}
 
-/// A byte tells the serial number and the kind.
+/// A syllable byte determines the serial number and the kind.
 #[tactic(auto, using(crate::proofs::Bytewise::bytes_tell))]
 pub fn law_bytes_tell()
     ensures { BytesTell }
 {}
 
-/// Syllables that stand one after the other have different bytes.
+/// Neighbouring syllables have different bytes.
 #[tactic(auto, using(crate::proofs::Bytewise::neighbours_differ))]
 pub fn law_neighbours_differ()
     ensures { NeighboursDiffer }

@@ -1,4 +1,4 @@
-//! Glyphs that come to the front of a stretch, each in front of those that came before.
+//! Glyphs that are moved to the front of a range, each before those moved earlier.
 ghost use Rattle.std.specs.Prelude.{◌≡◌, ◌≤◌, ◌<◌, ◌+◌, ◌-◌, ◌++◌, Bool, drop, length, slice_range, take};
 ghost use Rattle.buffer_glyphs.specs.Items.{Item, item_of};
 ghost use Rattle.buffer_stages.specs.Fronts.{StandApart, fronts, gathered, gathered_after, one_seen, pair_seen};
@@ -7,25 +7,26 @@ ghost use Rattle.buffer_stages.specs.Lemmas.Fronted.{IsApart};
 use crate::moves::rotate;
 use buffer_glyphs::info::hb_glyph_info_t;
 
-/// Which glyphs come to the front.
+/// The glyphs that a rule moves to the front.
 pub trait FrontRule {
     ghost pairs: { Self → Item → Item → Bool };
 
     ghost ones: { Self → Item → Bool };
 
-    /// Whether a glyph comes there together with the next.
+    /// Whether a glyph is moved there together with the next.
     fn comes_with(&self, glyph: &hb_glyph_info_t, next: &hb_glyph_info_t) -> bool
         ensures { result ≡ pairs self.now (item_of glyph.now) (item_of next.now) };
 
-    /// Whether a glyph comes there alone.
+    /// Whether a glyph is moved there alone.
     fn comes(&self, glyph: &hb_glyph_info_t) -> bool
         ensures { result ≡ ones self.now (item_of glyph.now) };
 
     ghost apart: { (rule : Self) → StandApart (pairs rule) };
 }
 
-/// Of the glyphs from `from` up to before `to` those that come to the front stand there, the last of them first, and after
-/// them the others as they stood; tells how many came. It takes no memory, and n glyphs take the time of n log n.
+/// Moves the glyphs from `from` up to before `to` that the rule picks to the front, the last of them first, and keeps
+/// the order of the others after them; answers how many were moved. It takes no memory, and n glyphs take the time of n
+/// log n.
 pub fn gather<R: FrontRule>(
     rule: &R,
     glyphs: &mut [hb_glyph_info_t],
@@ -53,8 +54,8 @@ pub fn gather<R: FrontRule>(
     left + right
 }
 
-/// The glyphs from `start` up to before `begin` stand in front already, and of those after them up to before `end` some come
-/// before them, the last first. It takes no memory.
+/// Moves those glyphs from `begin` up to before `end` that the rule picks before the glyphs from `start` up to before
+/// `begin`, the last of them first. It takes no memory.
 pub fn gather_after<R: FrontRule>(
     rule: &R,
     glyphs: &mut [hb_glyph_info_t],
@@ -74,7 +75,7 @@ pub fn gather_after<R: FrontRule>(
     rotate(glyphs, start, begin, begin + count);
 }
 
-/// How many of one glyph or none come to the front.
+/// How many of one glyph or none are moved to the front.
 fn count_short<R: FrontRule>(rule: &R, glyphs: &[hb_glyph_info_t], from: usize, to: usize) -> usize
     requires ordered { from ≤ to }
     requires within { to ≤ length glyphs.now }
@@ -88,7 +89,7 @@ fn count_short<R: FrontRule>(rule: &R, glyphs: &[hb_glyph_info_t], from: usize, 
     0
 }
 
-/// Where the first half of two or more glyphs ends: after a pair, where one stands on both sides.
+/// Where the first half of two or more glyphs ends: after a pair, where a pair spans the middle.
 fn end_of_half<R: FrontRule>(rule: &R, glyphs: &[hb_glyph_info_t], from: usize, to: usize) -> usize
     requires two { from + 2 ≤ to }
     requires within { to ≤ length glyphs.now }

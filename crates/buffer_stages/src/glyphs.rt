@@ -7,8 +7,8 @@ ghost use Rattle.buffer_stages.specs.Stages.{AreMapped, IsFollowed, Makes, mappe
 use buffer_core::buffer::hb_buffer_t;
 use buffer_glyphs::info::hb_glyph_info_t;
 
-/// Puts in the place of each glyph what `make` makes of it; the glyphs that it makes keep their clusters and glyph flags.
-/// It takes linear time and no memory.
+/// Replaces each glyph by what `make` makes of it; the new glyphs keep its cluster and glyph flags. It takes linear
+/// time and no memory.
 #[tactic(auto, using(crate::specs::Lemmas::Written::mapped_followed))]
 pub fn map_glyphs<F: Fn(&hb_glyph_info_t) -> hb_glyph_info_t>(buffer: &mut hb_buffer_t, make: F)
     requires callable { F.IsAlwaysCallable make }

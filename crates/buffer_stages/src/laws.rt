@@ -1,6 +1,7 @@
+//! Laws of rules.
 ghost use Rattle.buffer_stages.specs.Laws.{RulesGoInOrder};
 
-/// Of rules that follow others, none is tried where one of those acts; the events of those that passed stay.
+/// Of rules in order, none is tried after one that acts; the events of those that passed stay.
 #[tactic(auto, using(crate::proofs::Lemmas::Orders::rules_in_order))]
 pub fn rules_go_in_order()
     ensures { RulesGoInOrder }

@@ -1,6 +1,6 @@
-// The words of rules and stages on a buffer: what a rule of a layout table does at the cursor, what runs between the stages of
-// lookups, what a stage leaves; the loops that most stages are, over glyphs and by syllables; lists cut into syllables; and moves
-// of glyphs within a text, whose range merges and is then permuted.
+//! Rules and pipeline stages on a buffer: what a rule of a layout table does at the cursor, the pauses between the
+//! stages of lookups, what a stage leaves; the loops that most stages are, over glyphs and by syllables; lists cut into
+//! syllables; and moves of glyphs within a text: a range that is merged and then permuted.
 #![tactic(auto)]
 
 pub mod cut_laws;

@@ -14,7 +14,7 @@ use buffer_core::buffer::hb_buffer_t;
 use buffer_glyphs::info::hb_glyph_info_t;
 use buffer_lists::order::KnownOrder;
 
-/// The glyphs from `start` up to before `end` merge, and those before `middle` come to stand after the others. It takes no
+/// Merges the glyphs from `start` up to before `end`, and moves those before `middle` after the others. It takes no
 /// memory.
 pub fn move_back(buffer: &mut hb_buffer_t, start: usize, middle: usize, end: usize)
     requires ready { IsReady buffer.old }
@@ -29,8 +29,8 @@ pub fn move_back(buffer: &mut hb_buffer_t, start: usize, middle: usize, end: usi
     buffer.keep_order(known);
 }
 
-/// What is known of the order of the clusters, to be kept once the glyphs of a range have changed places: where these are of
-/// one cluster, what is known of it as they stand.
+/// What is known of the order of the clusters, to be kept once the glyphs of a range are permuted: where these are of
+/// one cluster, what is known before.
 pub fn order_kept(buffer: &mut hb_buffer_t, start: usize, end: usize) -> KnownOrder
     requires closed { buffer.old.is_open ≡ false }
     requires ordered { start ≤ end }
@@ -62,7 +62,7 @@ fn are_of(cluster: u32, glyphs: &[hb_glyph_info_t]) -> bool
     glyphs.iter().all(|glyph| glyph.cluster == cluster)
 }
 
-/// The glyphs from `start` up to before `middle` come to stand after those up to before `end`.
+/// Moves the glyphs from `start` up to before `middle` after those up to before `end`.
 pub(crate) fn rotate(glyphs: &mut [hb_glyph_info_t], start: usize, middle: usize, end: usize)
     requires begins { start ≤ middle }
     requires ordered { middle ≤ end }

@@ -1,4 +1,4 @@
-//! What the rules of syllables do to parts of a buffer.
+//! What the rules of syllables do to ranges of a buffer.
 ghost use Rattle.std.specs.Prelude.{◌≡◌, ◌≤◌, ◌-◌, ◌++◌, length, map, take, drop, slice_range};
 ghost use Rattle.buffer_core.specs.Sides.{all_glyphs, items_of};
 ghost use Rattle.buffer_stages.specs.Ready.{IsReady};
@@ -9,8 +9,8 @@ use crate::moves::move_back;
 use buffer_core::buffer::hb_buffer_t;
 use buffer_glyphs::info::{DEFINED, hb_glyph_info_t, hb_mask_t};
 
-/// The first `count` glyphs from `start` up to before `end` come to stand after the others, and all of them merge. It
-/// takes no memory.
+/// Moves the first `count` glyphs from `start` up to before `end` after the others, and merges all of them. It takes no
+/// memory.
 pub fn first_to_back(buffer: &mut hb_buffer_t, start: usize, end: usize, count: usize)
     requires ready { IsReady buffer.old }
     requires ordered { start ≤ end }
@@ -22,7 +22,7 @@ pub fn first_to_back(buffer: &mut hb_buffer_t, start: usize, end: usize, count: 
     move_back(buffer, start, start + count, end);
 }
 
-/// The glyphs from `start` up to before `end` get the features of a mask; its glyph flags are left out.
+/// Sets the feature bits of a mask on the glyphs from `start` up to before `end`; its glyph flags are left out.
 pub fn add_mask(buffer: &mut hb_buffer_t, start: usize, end: usize, mask: hb_mask_t)
     requires ready { IsReady buffer.old }
     requires ordered { start ≤ end }
@@ -35,7 +35,8 @@ pub fn add_mask(buffer: &mut hb_buffer_t, start: usize, end: usize, mask: hb_mas
     buffer.keep_order(known);
 }
 
-/// The glyphs from `start` up to before `end` of a slice get the features of a mask; its glyph flags are left out.
+/// Sets the feature bits of a mask on the glyphs from `start` up to before `end` of a slice; its glyph flags are left
+/// out.
 pub fn mask_within(glyphs: &mut [hb_glyph_info_t], start: usize, end: usize, mask: hb_mask_t)
     requires ordered { start ≤ end }
     requires within { end ≤ length glyphs.old }

@@ -1,4 +1,4 @@
-//! What runs between the stages of a table.
+//! The pauses between the GSUB stages of a map (rustybuzz: hb/ot_map.rs, `pause_func_t`).
 ghost use Rattle.std.specs.Prelude.{ℕ, ◌≡◌, ◌≢◌, true, false, Ok, Err, IfErr, OnOk};
 ghost use Rattle.buffer_core.specs.Readings.{Stage, read_of};
 ghost use Rattle.buffer_core.specs.Sides.{items_of, run_of};
@@ -10,12 +10,13 @@ ghost use Rattle.buffer_stages.specs.Settings.{TextSettings, text_settings};
 use buffer_core::buffer::hb_buffer_t;
 use buffer_glyphs::cause::ShapeCause;
 
-/// What a script's shaper does between the stages of lookups, by what is set for the text and the numbers of its pauses.
+/// What a script's shaper does between the stages of lookups, by the settings of the text and the numbers of its
+/// pauses.
 pub trait Pause {
     ghost stage: { Self → TextSettings → ℕ → Stage };
 
-    /// Does what the pause of a number does, and answers true whenever a glyph number came in. It refuses by its own cause,
-    /// or for want of memory.
+    /// Runs the pause of a number, and answers true whenever it introduced a new glyph number. It refuses with its own
+    /// cause, or for want of memory.
     fn run(&self, pause: u8, buffer: &mut hb_buffer_t) -> Result<bool, ShapeCause>
         requires ready { IsReady buffer.old }
         requires numbers { are_glyphs (items_of buffer.old) ≡ true }
@@ -25,8 +26,8 @@ pub trait Pause {
             → read_of (stage self.now (text_settings buffer.old) pause) (run_of buffer.old) ≡ Err e) };
 }
 
-/// Runs the pause of a stage, if it has one: a stage of its own, which leaves the random state as it was. It refuses by the
-/// pause's cause, or for want of memory.
+/// Runs the pause of a GSUB stage, if it has one: a pipeline stage of its own, which leaves the random state as it was.
+/// It refuses with the pause's cause, or for want of memory.
 #[tactic(auto, using(crate::proofs::Lemmas::Ways::paused, crate::proofs::Lemmas::Ways::pause_refused, crate::proofs::Lemmas::Ways::nothing_done))]
 pub fn run_pause<P: Pause>(
     pause: &P,

@@ -8,7 +8,7 @@ use buffer_core::buffer::hb_buffer_t;
 use buffer_glyphs::info::hb_glyph_info_t;
 use buffer_glyphs::position::GlyphPosition;
 
-/// Puts in the place of each position what `make` makes of it and of its glyph. It takes linear time and no memory.
+/// Replaces each position by what `make` makes of it and of its glyph. It takes linear time and no memory.
 pub fn map_positions<F: Fn(&hb_glyph_info_t, GlyphPosition) -> GlyphPosition>(
     buffer: &mut hb_buffer_t,
     make: F,

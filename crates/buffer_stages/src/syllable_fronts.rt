@@ -1,4 +1,4 @@
-//! Glyphs that come to the front of a part of a buffer.
+//! Glyphs that are moved to the front of a range of a buffer.
 ghost use Rattle.std.specs.Prelude.{◌≡◌, ◌≤◌, ◌+◌, drop, length, slice_range};
 ghost use Rattle.buffer_core.specs.Sides.{all_glyphs, items_of};
 ghost use Rattle.buffer_stages.specs.Ready.{IsReady};
@@ -11,9 +11,9 @@ use crate::fronts::{FrontRule, gather_after};
 use crate::moves::order_kept;
 use buffer_core::buffer::hb_buffer_t;
 
-/// The first `walked` glyphs from `start` up to before `end` stand in front. Of those after them some come before them one
-/// after another, and merge with what they pass; `merged` glyphs are those up to the last of these, and at least one. It takes
-/// no memory, and n glyphs take the time of n log n.
+/// Moves the glyphs that the rule picks among those after the first `walked`, from `start` up to before `end`, before
+/// these, one after another, each merged with the glyphs that it passes; `merged` glyphs are those up to the last of
+/// these, and at least one. It takes no memory, and n glyphs take the time of n log n.
 pub fn move_fronts<R: FrontRule>(
     rule: &R,
     buffer: &mut hb_buffer_t,

@@ -26,7 +26,7 @@ pub trait SyllableRule {
     ghost keeps_length: { (rule : Self) (xs : List Item) → length (rewritten rule xs).items ≡ length xs };
 }
 
-/// Rewrites each syllable by itself, from the first on: neighbours with one syllable byte are one syllable.
+/// Rewrites each syllable by itself, from the first on: neighbours with the same syllable byte are one syllable.
 #[tactic(auto, using(crate::proofs::SyllableWalks::begun, crate::proofs::Lemmas::Syllables::syllable_end))]
 pub fn each_syllable<R: SyllableRule>(rule: &R, buffer: &mut hb_buffer_t) -> Result<(), AllocError>
     requires ready { IsReady buffer.old }

@@ -16,7 +16,7 @@ use buffer_glyphs::cause::ShapeCause;
 use buffer_glyphs::info::hb_glyph_info_t;
 use buffer_lists::order::KnownOrder;
 
-/// The glyph at the cursor goes behind it.
+/// Outputs the glyph at the cursor.
 ///
 /// # Errors
 ///
@@ -34,7 +34,7 @@ pub fn advance(buffer: &mut hb_buffer_t) -> Result<(), ShapeCause>
     Ok(())
 }
 
-/// A glyph of the cluster and with the flags of that at the cursor goes behind it in its place.
+/// Replaces the glyph at the cursor by another of its cluster and with its flags, and outputs that.
 ///
 /// # Errors
 ///
@@ -54,7 +54,7 @@ pub fn advance_as(glyph: hb_glyph_info_t, buffer: &mut hb_buffer_t) -> Result<()
     Ok(())
 }
 
-/// Glyphs of the cluster of that at the cursor, with its flags, take its place behind the cursor.
+/// Replaces the glyph at the cursor by glyphs of its cluster and with its flags, and outputs these.
 ///
 /// # Errors
 ///
@@ -80,7 +80,7 @@ pub fn replace_current(
     Ok(())
 }
 
-/// The glyphs of the output from `start` up to before `end` merge. It takes no memory.
+/// Merges the glyphs of the output from `start` up to before `end`. It takes no memory.
 pub fn merge_behind(start: usize, end: usize, buffer: &mut hb_buffer_t)
     requires open { buffer.old.is_open ≡ true }
     requires ordered { start ≤ end }
@@ -91,8 +91,8 @@ pub fn merge_behind(start: usize, end: usize, buffer: &mut hb_buffer_t)
     buffer.merge_out_clusters(start, end);
 }
 
-/// The glyphs of the output from `start` up to before `end` merge, and those before `middle` come to stand after the
-/// others. It takes no memory.
+/// Merges the glyphs of the output from `start` up to before `end`, and moves those before `middle` after the others.
+/// It takes no memory.
 pub fn move_behind(start: usize, middle: usize, end: usize, buffer: &mut hb_buffer_t)
     requires open { buffer.old.is_open ≡ true }
     requires begins { start ≤ middle }
@@ -107,7 +107,7 @@ pub fn move_behind(start: usize, middle: usize, end: usize, buffer: &mut hb_buff
     buffer.keep_order(known);
 }
 
-/// What is known of the order of the clusters however the glyphs of a range of the output stand.
+/// What is known of the order of the clusters, however the glyphs of a range of the output are permuted.
 fn order_kept_behind(buffer: &mut hb_buffer_t, start: usize, end: usize) -> KnownOrder
     requires ordered { start ≤ end }
     requires within { end ≤ length buffer.old.behind }
@@ -120,7 +120,7 @@ fn order_kept_behind(buffer: &mut hb_buffer_t, start: usize, end: usize) -> Know
     known.if_kept(is_one)
 }
 
-/// What went through the output becomes the list.
+/// Appends the rest of the input to the output, which becomes the list.
 ///
 /// # Errors
 ///
@@ -137,7 +137,7 @@ pub fn finish(buffer: &mut hb_buffer_t) -> Result<(), ShapeCause>
     Ok(())
 }
 
-/// So many glyphs at the cursor merge, and one glyph takes their place behind it: the first of them under another number.
+/// Merges so many glyphs at the cursor, and replaces them by the first of them under another number, which is output.
 ///
 /// # Errors
 ///

@@ -56,6 +56,6 @@ is_letter_category ModifierLetter = true
 is_letter_category OtherLetter = true
 is_letter_category _ = false
 
--- the number of each category leads back to it
+-- the number of each category gives back the category
 abbrev pub NumberLeadsBack : Type 0
 NumberLeadsBack = (c : GeneralCategory) → category_of_number (category_number c) ≡ c

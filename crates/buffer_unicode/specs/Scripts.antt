@@ -1,4 +1,4 @@
--- The shaper's scripts of Unicode's.
+-- Unicode's scripts (UAX 24) as the shaper's.
 use Rattle.std.specs.Prelude.{ℕ}
 use Rattle.ucd_script.specs.declared.Script.{Script as UnicodeScript}
 use Rattle.ucd_script.specs.declared.Script.TheVariants.{Adlam, CaucasianAlbanian, Ahom, Arabic, ImperialAramaic, Armenian, Avestan, Balinese, Bamum, BassaVah, Batak, Bengali, Bhaiksuki, Bopomofo, Brahmi, Braille, Buginese, Buhid, Chakma, CanadianAboriginal, Carian, Cham, Cherokee, Chorasmian, Coptic, CyproMinoan, Cypriot, Cyrillic, Devanagari, DivesAkuru, Dogra, Deseret, Duployan, EgyptianHieroglyphs, Elbasan, Elymaic, Ethiopic, Garay, Georgian, Glagolitic, GunjalaGondi, MasaramGondi, Gothic, Grantha, Greek, Gujarati, GurungKhema, Gurmukhi, Hangul, Han, Hanunoo, Hatran, Hebrew, Hiragana, AnatolianHieroglyphs, PahawhHmong, NyiakengPuachueHmong, OldHungarian, OldItalic, Javanese, KayahLi, Katakana, Kawi, Kharoshthi, Khmer, Khojki, KhitanSmallScript, Kannada, KiratRai, Kaithi, TaiTham, Lao, Latin, Lepcha, Limbu, LinearA, LinearB, Lisu, Lycian, Lydian, Mahajani, Makasar, Mandaic, Manichaean, Marchen, Medefaidrin, MendeKikakui, MeroiticCursive, MeroiticHieroglyphs, Malayalam, Modi, Mongolian, Mro, MeeteiMayek, Multani, Myanmar, NagMundari, Nandinagari, OldNorthArabian, Nabataean, Newa, Nko, Nushu, Ogham, OlChiki, OlOnal, OldTurkic, Oriya, Osage, Osmanya, OldUyghur, Palmyrene, PauCinHau, OldPermic, PhagsPa, InscriptionalPahlavi, PsalterPahlavi, Phoenician, Miao, InscriptionalParthian, Rejang, HanifiRohingya, Runic, Samaritan, OldSouthArabian, Saurashtra, SignWriting, Shavian, Sharada, Siddham, Khudawadi, Sinhala, Sogdian, OldSogdian, SoraSompeng, Soyombo, Sundanese, Sunuwar, SylotiNagri, Syriac, Tagbanwa, Takri, TaiLe, NewTaiLue, Tamil, Tangut, TaiViet, Telugu, Tifinagh, Tagalog, Thaana, Thai, Tibetan, Tirhuta, Tangsa, Todhri, Toto, TuluTigalari, Ugaritic, Vai, Vithkuqi, WarangCiti, Wancho, OldPersian, Cuneiform, Yezidi, Yi, ZanabazarSquare, Inherited, Common}
@@ -6,7 +6,7 @@ use Rattle.unicode.specs.Script.{script}
 use Rattle.buffer_common.specs.declared.script.Script.{Script}
 use Rattle.buffer_common.specs.declared.script.TheConstants.{ADLAM, CAUCASIAN_ALBANIAN, AHOM, ARABIC, IMPERIAL_ARAMAIC, ARMENIAN, AVESTAN, BALINESE, BAMUM, BASSA_VAH, BATAK, BENGALI, BHAIKSUKI, BOPOMOFO, BRAHMI, BRAILLE, BUGINESE, BUHID, CHAKMA, CANADIAN_SYLLABICS, CARIAN, CHAM, CHEROKEE, CHORASMIAN, COPTIC, CYPRO_MINOAN, CYPRIOT, CYRILLIC, DEVANAGARI, DIVES_AKURU, DOGRA, DESERET, DUPLOYAN, EGYPTIAN_HIEROGLYPHS, ELBASAN, ELYMAIC, ETHIOPIC, GARAY, GEORGIAN, GLAGOLITIC, GUNJALA_GONDI, MASARAM_GONDI, GOTHIC, GRANTHA, GREEK, GUJARATI, GURUNG_KHEMA, GURMUKHI, HANGUL, HAN, HANUNOO, HATRAN, HEBREW, HIRAGANA, ANATOLIAN_HIEROGLYPHS, PAHAWH_HMONG, NYIAKENG_PUACHUE_HMONG, OLD_HUNGARIAN, OLD_ITALIC, JAVANESE, KAYAH_LI, KATAKANA, KAWI, KHAROSHTHI, KHMER, KHOJKI, KHITAN_SMALL_SCRIPT, KANNADA, KIRAT_RAI, KAITHI, TAI_THAM, LAO, LATIN, LEPCHA, LIMBU, LINEAR_A, LINEAR_B, LISU, LYCIAN, LYDIAN, MAHAJANI, MAKASAR, MANDAIC, MANICHAEAN, MARCHEN, MEDEFAIDRIN, MENDE_KIKAKUI, MEROITIC_CURSIVE, MEROITIC_HIEROGLYPHS, MALAYALAM, MODI, MONGOLIAN, MRO, MEETEI_MAYEK, MULTANI, MYANMAR, NAG_MUNDARI, NANDINAGARI, OLD_NORTH_ARABIAN, NABATAEAN, NEWA, NKO, NUSHU, OGHAM, OL_CHIKI, OL_ONAL, OLD_TURKIC, ORIYA, OSAGE, OSMANYA, OLD_UYGHUR, PALMYRENE, PAU_CIN_HAU, OLD_PERMIC, PHAGS_PA, INSCRIPTIONAL_PAHLAVI, PSALTER_PAHLAVI, PHOENICIAN, MIAO, INSCRIPTIONAL_PARTHIAN, REJANG, HANIFI_ROHINGYA, RUNIC, SAMARITAN, OLD_SOUTH_ARABIAN, SAURASHTRA, SIGNWRITING, SHAVIAN, SHARADA, SIDDHAM, KHUDAWADI, SINHALA, SOGDIAN, OLD_SOGDIAN, SORA_SOMPENG, SOYOMBO, SUNDANESE, SUNUWAR, SYLOTI_NAGRI, SYRIAC, TAGBANWA, TAKRI, TAI_LE, NEW_TAI_LUE, TAMIL, TANGUT, TAI_VIET, TELUGU, TIFINAGH, TAGALOG, THAANA, THAI, TIBETAN, TIRHUTA, TANGSA, TODHRI, TOTO, TULU_TIGALARI, UGARITIC, VAI, VITHKUQI, WARANG_CITI, WANCHO, OLD_PERSIAN, CUNEIFORM, YEZIDI, YI, ZANABAZAR_SQUARE, INHERITED, COMMON, UNKNOWN}
 
--- the script with the long name of Unicode's (`Canadian_Aboriginal` is Canadian Syllabics), or the unknown one
+-- the script of Unicode's long name (`Canadian_Aboriginal` is Canadian Syllabics), or the unknown one
 abbrev pub script_named : UnicodeScript → Script
 script_named Adlam = ADLAM
 script_named CaucasianAlbanian = CAUCASIAN_ALBANIAN

@@ -2,7 +2,7 @@
 use Rattle.std.specs.Prelude.{◌≡◌, ℕ, List, [], ◌∷◌, map}
 use Rattle.buffer_unicode.specs.declared.space.TheConstants as space
 
--- for a part of an em its number
+-- the types of spaces with their numbers: for a fraction of an em its denominator
 abbrev pub space_numbers : List (ℕ × ℕ)
 space_numbers =
     (space.NOT_SPACE, 0) ∷
@@ -20,6 +20,6 @@ space_numbers =
     (space.SPACE_NARROW, 21) ∷
     []
 
--- each type is the number beside it
+-- each type has its number
 abbrev pub SpaceTypesAreListed : Type 0
 SpaceTypesAreListed = map (λ (row : ℕ × ℕ). row.0) space_numbers ≡ map (λ (row : ℕ × ℕ). row.1) space_numbers

@@ -1,4 +1,5 @@
-//! General categories, as Unicode's `UnicodeData.txt` gives them, and their numbers.
+//! General categories, as Unicode's `UnicodeData.txt` gives them (UAX 44), and their numbers (rustybuzz:
+//! hb/unicode.rs).
 ghost use Rattle.std.specs.Prelude.{◌≡◌, ◌<◌, ℕ, Bool};
 ghost use Rattle.buffer_unicode.specs.Category.{category_number, category_of_number, is_mark_category, is_letter_category, NumberLeadsBack};
 
@@ -67,7 +68,7 @@ pub const RB_UNICODE_GENERAL_CATEGORY_PARAGRAPH_SEPARATOR: u32 = 28;
 
 pub const RB_UNICODE_GENERAL_CATEGORY_SPACE_SEPARATOR: u32 = 29;
 
-/// A general category as a number, and its two groups that shaping asks for.
+/// A general category as a number, and its two groups that shaping tests.
 pub trait GeneralCategoryExt {
     ghost number: { Self → ℕ };
 

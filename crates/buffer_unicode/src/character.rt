@@ -1,4 +1,4 @@
-//! Properties of a character that need no tables.
+//! Properties of a character that need no tables (rustybuzz: hb/unicode.rs, `CharExt`).
 ghost use Rattle.std.specs.Prelude.{◌≡◌, ℕ, Bool};
 ghost use Rattle.unicode.specs.GeneralCategory.{general_category};
 ghost use Rattle.ucd_category.specs.declared.GeneralCategory.{GeneralCategory};
@@ -13,7 +13,7 @@ use crate::space::space_t;
 use buffer_common::script::Script;
 use unicode::properties::{GeneralCategory, Script as UnicodeScript};
 
-/// What is known of a character without tables.
+/// The properties of a character that need no tables.
 pub trait CharExt: Sized {
     ghost script_gives: { Self → Script };
 
@@ -25,11 +25,11 @@ pub trait CharExt: Sized {
 
     ghost selector: { Self → Bool };
 
-    /// Its script by Unicode's long name, `UNKNOWN` where the shaper has no constant of that name.
+    /// Its script by Unicode's long name (UAX 24), `UNKNOWN` where the shaper has no constant of that name.
     fn script(self) -> Script
         ensures { result ≡ script_gives self };
 
-    /// Its general category.
+    /// Its general category (UAX 44).
     fn general_category(self) -> hb_unicode_general_category_t
         ensures { result ≡ category_gives self };
 
@@ -37,11 +37,11 @@ pub trait CharExt: Sized {
     fn space_fallback(self) -> space_t
         ensures { result ≡ space_gives self };
 
-    /// Whether it is shown as nothing where the font has no rule for it.
+    /// Whether it is hidden where the font has no rule for it (HarfBuzz: `is_default_ignorable`).
     fn is_default_ignorable(self) -> bool
         ensures { result ≡ ignorable self };
 
-    /// Whether it chooses a variant of the character before it.
+    /// Whether it is a variation selector, which chooses a variant of the character before it.
     fn is_variation_selector(self) -> bool
         ensures { result ≡ selector self };
 }

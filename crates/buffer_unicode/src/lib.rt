@@ -1,4 +1,4 @@
-// What the shaper knows of characters without tables.
+//! Properties of characters that need no tables (rustybuzz: hb/unicode.rs).
 #![tactic(auto)]
 
 pub mod category;

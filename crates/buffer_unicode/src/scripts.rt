@@ -1,4 +1,4 @@
-//! The shaper's scripts of Unicode's.
+//! Unicode's scripts (UAX 24) as the shaper's.
 ghost use Rattle.std.specs.Prelude.{◌≡◌};
 ghost use Rattle.buffer_unicode.specs.Scripts.{script_named};
 

@@ -1,7 +1,8 @@
-//! The types of spaces, by which a space that the font lacks gets its width.
+//! The types of spaces, by which a space that the font lacks gets its width (rustybuzz: hb/unicode.rs,
+//! `hb_unicode_funcs_t::space_t`).
 ghost use Rattle.buffer_unicode.specs.Spaces.{SpaceTypesAreListed};
 
-/// The type of a space: for the types named `EM`, the part of an em.
+/// The type of a space: for the types named `EM`, the fraction of an em.
 pub type space_t = u8;
 
 /// No space.
@@ -31,7 +32,7 @@ pub const SPACE_PUNCTUATION: space_t = 20;
 
 pub const SPACE_NARROW: space_t = 21;
 
-/// The types of spaces have their numbers: those of the parts of an em are the parts.
+/// The types of spaces have their numbers: those of the fractions of an em are the denominators.
 pub fn space_types_are_listed()
     ensures { SpaceTypesAreListed }
 {}

@@ -19,7 +19,7 @@ rises_weaker high low before x (y ∷ ys) p r =
     let parts = and_parts (precedes high low x y) (rises_after high low (Some y) ys) r in
     and_from _ _ (below_trans (high before) (low before) (high x) (low x) (high y) (low y) p parts.0) parts.1
 
--- what stands after a row is above it
+-- what is after a row is above it
 rise_after : {R : Type 0} (high low : R → ℕ) (before : R) (front : List R) (row : R) (after : List R)
     → rises_after high low (Some before) (front ++ row ∷ after) ≡ true → precedes high low before row ≡ true
 rise_after high low before [] row after r = (and_parts _ _ r).0

@@ -10,7 +10,7 @@ was_read true x r e = (refl, cc)
 was_read false x r e = let no : ⊥ = cc in absurd no
 
 module _ {N R : Type 0} (of_numbers : N → R) (in_range : R → Bool) (high low : R → ℕ) (rows : List N) (i : ℕ) (n : N) (r : R) (inside : i < length rows) (at : n ≡ get_or rows i n) (read : Some r ≡ (if in_range (of_numbers n) then Some (of_numbers n) else None)) where
-  -- the record of a row that is left stands in front of those after it
+  -- the record of a row that is left is before those after it
   record_left : map of_numbers (drop i rows) ≡ r ∷ map of_numbers (drop (i + 1) rows)
   record_left =
       at_drop_more (map of_numbers) rows i n inside

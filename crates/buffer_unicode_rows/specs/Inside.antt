@@ -1,4 +1,4 @@
--- What ranges of characters keep.
+-- The invariant of ranges of characters.
 use Rattle.std.specs.Prelude.{◌≡◌, true}
 use Rattle.buffer_unicode_rows.specs.Keys.{is_rising}
 use Rattle.buffer_unicode_rows.specs.Ranges.{widened}

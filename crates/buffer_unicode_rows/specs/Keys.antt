@@ -3,32 +3,34 @@ use Rattle.std.specs.Prelude.{ℕ, Bool, true, ◌==◌, ◌&&◌, ◌||◌, nat
 use Rattle.buffer_unicode_rows.specs.declared.fault.TablesFault.{TablesFault}
 use Rattle.buffer_unicode_rows.specs.declared.fault.TablesFault.TheVariants.{OutOfOrder, OutOfRange}
 
--- one key is below another, the more significant numbers first
+-- whether one key is less than another, the more significant numbers first
 abbrev pub is_below : ℕ → ℕ → ℕ → ℕ → Bool
 is_below h l h' l' = nat_lt h h' || (h == h' && nat_lt l l')
 
--- the key of one row is below that of the other
+-- whether the key of one row is less than that of the other
 abbrev pub precedes : {R : Type 0} → (R → ℕ) → (R → ℕ) → R → R → Bool
 precedes high low a b = is_below (high a) (low a) (high b) (low b)
 
--- a row is the first, or its key is above that of the row before
+-- whether a row is the first, or its key is greater than that of the row before
 abbrev pub follows : {R : Type 0} → (R → ℕ) → (R → ℕ) → Option R → R → Bool
 follows high low None r = true
 follows high low (Some before) r = precedes high low before r
 
--- each key is above the one before
+-- whether each key is greater than the one before
 abbrev pub rises_after : {R : Type 0} → (R → ℕ) → (R → ℕ) → Option R → List R → Bool
 rises_after high low before [] = true
 rises_after high low before (r ∷ rs) = follows high low before r && rises_after high low (Some r) rs
 
+-- whether the keys of rows rise strictly
 abbrev pub is_rising : {R : Type 0} → (R → ℕ) → (R → ℕ) → List R → Bool
 is_rising high low rs = rises_after high low None rs
 
--- the key of a row is this one
+-- whether the key of a row is this one
 abbrev pub is_at : {R : Type 0} → (R → ℕ) → (R → ℕ) → ℕ → ℕ → R → Bool
 is_at high low h l r = high r == h && low r == l
 
--- the fault of the first row that has one: a number outside its range, else a key that is not above the one before
+-- the fault of the first row that has one: a number outside its range, else a key that is not greater than the one
+-- before
 abbrev pub row_fault : {R : Type 0} → (R → Bool) → (R → ℕ) → (R → ℕ) → Option R → List R → Option TablesFault
 row_fault in_range high low before [] = None
 row_fault in_range high low before (r ∷ rs) =

@@ -11,7 +11,7 @@ pub enum TablesFault {
     /// A number is no character, or outside its field's type or list.
     #[error("U2 OutOfRange")]
     OutOfRange,
-    /// A chain of first parts of splits is too long.
+    /// A chain of first halves of decompositions is too long.
     #[error("U3 SplitDepth")]
     SplitDepth,
     #[error("OutOfMemory")]

@@ -1,4 +1,4 @@
-//! What a row is: a record that is read from numbers and found by its key.
+//! The traits of a row: a record that is made of numbers and found by its key.
 ghost use Rattle.std.specs.Prelude.{◌≡◌, ℕ, Bool, List, Some, None, if◌then◌else◌};
 
 /// A record with a key of one or two numbers, the second being the more significant.

@@ -1,4 +1,5 @@
-// Rows of Unicode data as they are handed in, checked, and searched.
+//! Rows of Unicode data: parsed from numbers, checked, and searched (of this project; rustybuzz has tables in code,
+//! hb/unicode.rs and hb/ot_shaper_*_table.rs).
 #![tactic(auto)]
 
 pub mod fault;

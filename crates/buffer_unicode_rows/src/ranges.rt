@@ -9,7 +9,7 @@ use buffer_rows::first_from;
 use std::alloc::{AllocError, Global};
 use std::marker::Model;
 
-/// Ranges of characters in the order of their first ones.
+/// Ranges of characters in the order of their first characters.
 #[derive(Drop)]
 pub struct CharacterRanges {
     rows: Vec<CharacterRange>,
@@ -29,7 +29,7 @@ impl Model for CharacterRanges {
 }
 
 impl CharacterRanges {
-    /// Ranges that are searched by halves, though they may overlap.
+    /// Ranges that are found by binary search, though they may overlap.
     pub fn new(alloc: Global, rows: Vec<CharacterRange>) -> Result<CharacterRanges, AllocError>
         requires { is_rising (λ _. 0) (λ (r : CharacterRange). r.first) rows.items ≡ true }
         ensures { IfOk result (λ r. r ≡ rows.items) }
@@ -69,7 +69,7 @@ fn greater(a: char, b: char) -> char
     if a < b { b } else { a }
 }
 
-/// Whether one of the ranges has a character, where their ends never fall: of those that begin at the character or
+/// Whether one of the ranges has a character, where their ends never decrease: of those that begin at the character or
 /// before it the last one reaches as far as any.
 #[tactic(auto, using(crate::proofs::Searches::numbers_from))]
 fn is_in_widened(rows: &[CharacterRange], c: char) -> bool

@@ -1,4 +1,4 @@
-//! Reading rows, with the first fault of a row that has one.
+//! Parsing rows, with the first fault of a row that has one.
 ghost use Rattle.std.specs.Prelude.{◌≡◌, ◌≢◌, true, IfOk, IfErr, OnOk, None, Some, map};
 ghost use Rattle.buffer_unicode_rows.specs.Keys.{follows, is_rising, precedes, row_fault};
 
@@ -7,7 +7,7 @@ use crate::keyed::{Keyed, Row};
 use crate::search::is_below;
 use std::alloc::Global;
 
-/// The records of rows of numbers, whose keys have to rise strictly.
+/// The records of rows of numbers, whose keys must rise strictly.
 #[tactic(auto, using(crate::proofs::Faults::rises_without_fault))]
 pub fn read_rows<const N: usize, R: Row<N>>(
     alloc: Global,
@@ -36,7 +36,7 @@ pub fn read_rows<const N: usize, R: Row<N>>(
     Ok(records)
 }
 
-/// Whether a row is the first, or its key is above that of the row before.
+/// Whether a row is the first, or its key is greater than that of the row before.
 pub fn follows<R: Keyed>(before: Option<R>, row: R) -> bool
     ensures { result ≡ follows R.high R.low before row }
 {

@@ -19,12 +19,12 @@ const THAI_ACTIONS: u32 = 4;
 /// How many combining classes there are.
 const CLASSES: u32 = 256;
 
-/// A character and the two parts into which it splits.
+/// A character and the two halves of its canonical decomposition (UAX 15, D68).
 #[derive(Clone, Copy)]
 pub struct Split {
     pub whole: char,
     pub first: char,
-    /// U+0000 where there is no second part.
+    /// U+0000 where there is no second half.
     pub second: char,
 }
 
@@ -67,7 +67,7 @@ impl Row<3> for Split {
     }
 }
 
-/// Two characters and the character that they compose to.
+/// Two characters and their primary composite (UAX 15, D114).
 #[derive(Clone, Copy)]
 pub struct Pair {
     pub first: char,
@@ -106,7 +106,7 @@ impl Row<3> for Pair {
     }
 }
 
-/// A character and its combining class, as shaping has modified it.
+/// A character and its modified combining class.
 #[derive(Clone, Copy)]
 pub struct CharacterClass {
     pub character: char,
@@ -151,7 +151,7 @@ impl Row<2> for CharacterClass {
     }
 }
 
-/// A character and the one that takes its place in another direction.
+/// A character and its counterpart in another direction.
 #[derive(Clone, Copy)]
 pub struct Counterpart {
     pub character: char,
@@ -379,7 +379,7 @@ impl Row<2> for UniversalRow {
     }
 }
 
-/// The private characters that stand for a character after an action.
+/// The private-use characters that replace a character by an action (Thai PUA shaping).
 #[derive(Clone, Copy)]
 pub struct ThaiRow {
     pub character: char,
@@ -421,12 +421,12 @@ impl Row<4> for ThaiRow {
     }
 }
 
-/// The rows of all tables as they are handed in.
+/// The rows of all tables, as a caller gives them.
 #[derive(Drop)]
 pub struct UnicodeRows {
-    /// A character, its first part, its second part or 0.
+    /// A character, its first half, its second half or 0.
     pub splits: Vec<[u32; 3]>,
-    /// A first character, a second one, and what they compose to.
+    /// A first character, a second one, and their composite.
     pub pairs: Vec<[u32; 3]>,
     /// A character and its modified combining class.
     pub classes: Vec<[u32; 2]>,
@@ -434,7 +434,7 @@ pub struct UnicodeRows {
     pub mirrored: Vec<[u32; 2]>,
     /// A character and its form in vertical text.
     pub vertical: Vec<[u32; 2]>,
-    /// The first and the last character of a stretch of pictographic ones.
+    /// The first and the last character of a range of pictographic characters.
     pub pictographic: Vec<[u32; 2]>,
     /// A character and its joining type.
     pub joining: Vec<[u32; 2]>,
@@ -442,12 +442,12 @@ pub struct UnicodeRows {
     pub indic: Vec<[u32; 3]>,
     /// A character and its category for the universal shaper.
     pub universal: Vec<[u32; 2]>,
-    /// A character, an action, and the two characters that stand for it after the action.
+    /// A character, an action, and the two characters that replace it by the action.
     pub thai: Vec<[u32; 4]>,
 }
 
 impl UnicodeRows {
-    /// No rows.
+    /// A set of tables without rows.
     pub fn new(alloc: Global) -> UnicodeRows
         ensures splits { result.splits.items ≡ [] }
         ensures pairs { result.pairs.items ≡ [] }

@@ -1,4 +1,4 @@
-//! Finding a row by its key.
+//! The search for a row by its key.
 ghost use Rattle.std.specs.Prelude.{◌≡◌, true, find};
 ghost use Rattle.buffer_unicode_rows.specs.Keys.{is_below, is_rising, is_at};
 

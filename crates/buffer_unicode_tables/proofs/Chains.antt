@@ -1,4 +1,4 @@
--- Chains of first parts.
+-- Chains of first halves.
 use Rattle.std.proofs.Common.{ℕ, zero, suc, ◌≡◌, ◌≢◌, ◌+◌, ◌-◌, ◌*◌, ◌/◌, ◌%◌, ◌<◌, ◌≤◌, ◌==◌, Bool, true, false, MatchBool, List, [], ◌∷◌, ◌++◌, append_assoc, ne_eqb, eq-eqb, Option, Some, None, is_none, option_map, refl, sym, ◌∙◌, arith, inl, inr, eqb-true}
 use Rattle.std.proofs.lemmas.Bool.{and_parts, and_cases, cond_both, cases_eq, cases_Bool}
 use Rattle.std.specs.List.{list_all, find}

@@ -169,7 +169,7 @@ pair_row : (t : Tables) (a b u : ℕ) (o : Option Pair) → o ≡ find (λ (p : 
 pair_row t a b u None e h = cc
 pair_row t a b u (Some p) e h = (p, sym e)
 
--- a syllable has the expansions of its two parts
+-- a syllable has the expansions of its two halves
 syllable_order : (t : Tables) (a b u : ℕ) → EndWithin (split_of t) 8 → SecondPartsStay t → hangul_pair a b ≡ Some u → text_order t (full_expansion t u) ≡ text_order t (full_expansion t a ++ full_expansion t b)
 syllable_order t a b u ends stay h =
     let parts = (hangul_pairs_are_splits a b u).0 h in

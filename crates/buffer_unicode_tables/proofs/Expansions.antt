@@ -1,4 +1,4 @@
--- Full expansions of a character and of its parts.
+-- Full expansions of a character and of its halves.
 use Rattle.std.proofs.Common.{ℕ, zero, suc, ◌≡◌, ◌≢◌, ◌+◌, ◌-◌, ◌/◌, ◌%◌, ◌<◌, ◌≤◌, ◌==◌, ◌⊎◌, Bool, true, false, List, [], ◌∷◌, ◌++◌, ne_eqb, Option, Some, None, is_none, refl, sym, ap, ◌∙◌, arith, inl, inr}
 use Rattle.std.proofs.lemmas.Bool.{cases_eq, cases_Bool}
 use Rattle.buffer_unicode_tables.specs.Expansion.{Splits, followed_by, by_parts, expanded, ends_by, ends_within, EndWithin}
@@ -17,14 +17,14 @@ none_alone : (f : ℕ → List ℕ) (u : ℕ) (s : Option (ℕ × ℕ)) → is_n
 none_alone f u None h = refl
 none_alone f u (Some (a, b)) h = cc
 
--- where the chain of first parts ends, more depth changes nothing
+-- where the chain of first halves ends, more depth changes nothing
 pub depth_is_enough : (splits : Splits) (depth u : ℕ) → ends_within splits depth u ≡ true → expanded splits (suc depth) u ≡ expanded splits depth u
 unfolding expanded ends_within
 depth_is_enough splits zero u h = none_alone (expanded splits zero) u (splits u) h
 depth_is_enough splits (suc depth) u h =
     same_parts (expanded splits (suc depth)) (expanded splits depth) (ends_within splits depth) (λ a k. depth_is_enough splits depth a k) u (splits u) h
 
--- the full expansion of the first part, then the second part
+-- the full expansion of the first half, then the second half
 pub expansion_of_parts : (t : Tables) (u a b : ℕ) → EndWithin (split_of t) 8 → split_of t u ≡ Some (a, b) → full_expansion t u ≡ followed_by b (full_expansion t a)
 expansion_of_parts t u a b ends s =
     let first = sym (ends_with_first (split_of t) 8 u a b s (omega arith)) ∙ ends u in
@@ -34,7 +34,7 @@ expansion_of_parts t u a b ends s =
 pub expansion_alone : (t : Tables) (u : ℕ) → split_of t u ≡ None → full_expansion t u ≡ u ∷ []
 expansion_alone t u h = expanded_alone (split_of t) 8 u h
 
--- a split has the expansions of its parts
+-- a split has the expansions of its halves
 pub expansion_of_split : (t : Tables) (u a b : ℕ) → EndWithin (split_of t) 8 → SecondPartsStay t → split_of t u ≡ Some (a, b) → b ≢ 0 → full_expansion t u ≡ full_expansion t a ++ full_expansion t b
 expansion_of_split t u a b ends stay s n =
     let off : (b == 0) ≡ false = ne_eqb b 0 n in
@@ -42,7 +42,7 @@ expansion_of_split t u a b ends stay s n =
     let alone = expansion_alone t b (stay u a b s n) in
     rw alone (whole ∙ rw off refl)
 
--- the second part of a syllable is a vowel or a trailing consonant
+-- the second half of a syllable is a vowel or a trailing consonant
 pub second_is_jamo : (u a b : ℕ) → hangul_split u ≡ Some (a, b) → ((0x1161 ≤ b) × (b < 0x1161 + 21)) ⊎ ((0x11A8 ≤ b) × (b < 0x11A8 + 27))
 second_is_jamo u a b h =
     elim (cases_Bool (is_syllable u)) [

@@ -15,7 +15,7 @@ use Rattle.buffer_unicode_tables.proofs.Expansions.{expansion_of_parts, expansio
 full_append : (t : Tables) (xs ys : List ℕ) → full_text t (xs ++ ys) ≡ full_text t xs ++ full_text t ys
 full_append t xs ys = flat_map-append (full_expansion t) xs ys
 
--- the parts of a split have the expansion of the whole
+-- the halves of a decomposition have the expansion of the whole
 whole_as_parts : (t : Tables) (u a b : ℕ) → EndWithin (split_of t) 8 → IsLawful t → split_of t u ≡ Some (a, b) → full_expansion t u ≡ full_text t (followed_by b (a ∷ []))
 whole_as_parts t u a b ends lawful s =
     elim (cases_eq b 0) [
@@ -80,7 +80,7 @@ beside_three class c front xs ys back =
     beside_starters-append class c front (xs ++ (ys ++ back))
     ∙ ap (λ zs. beside_starters class c front ++ zs) (beside_starters-append class c xs (ys ++ back) ∙ ap (λ zs. beside_starters class c xs ++ zs) (beside_starters-append class c ys back))
 
--- blocks of two nonzero classes may change places
+-- blocks of two nonzero classes may be exchanged
 blocks_swap : (class : ℕ → ℕ) (j k : ℕ) (front xs ys back : List ℕ) → j ≢ 0 → k ≢ 0 → j ≢ k → AllOfClass class j xs → AllOfClass class k ys
     → (c : ℕ) → beside_starters class c (front ++ (xs ++ (ys ++ back))) ≡ beside_starters class c (front ++ (ys ++ (xs ++ back)))
 blocks_swap class j k front xs ys back nj nk apart hx hy c =

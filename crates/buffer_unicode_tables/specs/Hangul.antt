@@ -2,18 +2,20 @@
 use Rattle.std.specs.Prelude.{ℕ, ◌+◌, ◌-◌, ◌*◌, ◌/◌, ◌%◌, Bool, ◌&&◌, ◌==◌, nat_le, nat_lt, ◌≡◌, ◌↔◌, Option, Some, None, if◌then◌else◌}
 use Rattle.buffer_unicode_tables.specs.declared.hangul.TheConstants.{S_BASE, L_BASE, V_BASE, T_BASE, L_COUNT, V_COUNT, T_COUNT, N_COUNT, S_COUNT}
 
--- one of the `count` code points from `base` on
+-- whether a code point is one of the `count` from `base` on
 abbrev pub is_among : ℕ → ℕ → ℕ → Bool
 is_among base count c = nat_le base c && nat_lt c (base + count)
 
+-- whether a code point is a Hangul syllable
 abbrev pub is_syllable : ℕ → Bool
 is_syllable = is_among S_BASE S_COUNT
 
--- T_BASE itself stands for no trailing consonant
+-- whether a code point is a trailing consonant; T_BASE itself means that there is none
 abbrev pub is_trailing_consonant : ℕ → Bool
 is_trailing_consonant = is_among (T_BASE + 1) (T_COUNT - 1)
 
--- the two parts of a syllable: what stands before its trailing consonant and that consonant, or a leading consonant and a vowel
+-- the two halves of a syllable: the syllable without its trailing consonant and that consonant, or a leading consonant
+-- and a vowel
 unfoldable pub hangul_split : ℕ → Option (ℕ × ℕ)
 hangul_split s =
     let index = s - S_BASE in
@@ -28,6 +30,6 @@ hangul_pair a b =
     else if (is_syllable a && (a - S_BASE) % T_COUNT == 0) && is_trailing_consonant b then Some (a + (b - T_BASE))
     else None
 
--- a syllable is composed of exactly the two parts into which it splits
+-- a syllable is the composite of exactly the two halves of its decomposition
 abbrev pub HangulPairsAreSplits : Type 0
 HangulPairsAreSplits = (a b s : ℕ) → (hangul_pair a b ≡ Some s) ↔ (hangul_split s ≡ Some (a, b))

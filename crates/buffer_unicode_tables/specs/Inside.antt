@@ -1,10 +1,11 @@
--- How the fields give the tables, and what they keep.
+-- The tables of a value's fields, and their invariant.
 use Rattle.std.specs.Prelude.{◌≡◌, true}
 use Rattle.buffer_unicode_rows.specs.Keys.{is_rising}
 use Rattle.buffer_unicode_tables.specs.declared.tables.UnicodeTables.TheInside.{Inside}
 use Rattle.buffer_unicode_tables.specs.Tables.{Tables, splits_of}
 use Rattle.buffer_unicode_tables.specs.Expansion.{EndWithin}
 
+-- the tables of a value's fields
 abbrev pub tables_in : Inside → Tables
 tables_in t = record {
   splits = t.splits;
@@ -19,7 +20,7 @@ tables_in t = record {
   thai = t.thai.items;
 }
 
--- the keys of each table rise, and each chain of first parts ends within eight splits
+-- the keys of each table rise, and each chain of first halves ends within eight decompositions
 pub record IsSound (t : Inside) : Type 0 where
   pub pairs_rise : is_rising (λ r. r.first) (λ r. r.second) t.pairs.items ≡ true
   pub classes_rise : is_rising (λ _. 0) (λ r. r.character) t.classes ≡ true

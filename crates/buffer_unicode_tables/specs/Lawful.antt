@@ -1,4 +1,4 @@
--- Tables under which equivalent texts have one order.
+-- Tables under which equivalent texts have the same class order.
 use Rattle.std.specs.Prelude.{ℕ, ◌≡◌, ◌≢◌, ◌<◌, ◌++◌, true, false, Some, None}
 use Rattle.unicode.specs.GeneralCategory.{general_category}
 use Rattle.buffer_unicode.specs.Category.{is_mark_category}
@@ -7,26 +7,27 @@ use Rattle.buffer_unicode_tables.specs.Texts.{full_expansion, text_order}
 use Rattle.buffer_unicode_tables.specs.declared.law_fault.LawFault.{LawFault}
 use Rattle.buffer_unicode_tables.specs.declared.law_fault.LawFault.TheVariants.{SecondPartSplits, PairNotEquivalent, ClassOnNonMark, SplitLosesClass, AsciiMark}
 
--- the second part of a split doesn't split
+-- the second half of a decomposition doesn't decompose
 abbrev pub SecondPartsStay : Tables → Type 0
 SecondPartsStay t = (u a b : ℕ) → split_of t u ≡ Some (a, b) → b ≢ 0 → split_of t b ≡ None
 
--- what a pair composes to has the order of the pair, fully expanded
+-- the full expansion of a composite has the class order of that of its pair
 abbrev pub PairsAreEquivalent : Tables → Type 0
 PairsAreEquivalent t = (a b u : ℕ) → pair_of t a b ≡ Some u → text_order t (full_expansion t u) ≡ text_order t (full_expansion t a ++ full_expansion t b)
 
--- a nonzero class belongs to a mark
+-- each character of nonzero class is a combining mark
 abbrev pub ClassesAreOfMarks : Tables → Type 0
 ClassesAreOfMarks t = (u : ℕ) → class_of t u ≢ 0 → is_mark_category (general_category u) ≡ true
 
--- the parts of a character of nonzero class have its class
+-- the halves of a character of nonzero class have its class
 abbrev pub SplitsKeepClass : Tables → Type 0
 SplitsKeepClass t = (u a b : ℕ) → split_of t u ≡ Some (a, b) → class_of t u ≢ 0 → (class_of t a ≡ class_of t u) × (b ≢ 0 → class_of t b ≡ class_of t u)
 
--- no character below U+0080 is a mark
+-- no character below U+0080 is a combining mark
 abbrev pub AsciiHasNoMarks : Type 0
 AsciiHasNoMarks = (u : ℕ) → u < 0x80 → is_mark_category (general_category u) ≡ false
 
+-- tables are lawful
 pub record IsLawful (t : Tables) : Type 0 where
   pub second_parts_stay : SecondPartsStay t
   pub pairs_are_equivalent : PairsAreEquivalent t
@@ -34,7 +35,7 @@ pub record IsLawful (t : Tables) : Type 0 where
   pub splits_keep_class : SplitsKeepClass t
   pub ascii_has_no_marks : AsciiHasNoMarks
 
--- a fault stands, and none before it
+-- the tables have this fault, and none before it
 abbrev pub IsFirstFault : Tables → LawFault → Type 0
 IsFirstFault t SecondPartSplits = ¬ SecondPartsStay t
 IsFirstFault t PairNotEquivalent = SecondPartsStay t × (¬ PairsAreEquivalent t)

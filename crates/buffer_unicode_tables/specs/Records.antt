@@ -1,9 +1,10 @@
--- The records of all tables, as they are handed in.
+-- The records of all tables, as a caller gives them.
 use Rattle.std.specs.Prelude.{◌≡◌, true}
 use Rattle.buffer_unicode_rows.specs.Keys.{is_rising}
 use Rattle.buffer_unicode_tables.specs.declared.records.UnicodeRecords.{UnicodeRecords}
 use Rattle.buffer_unicode_tables.specs.Tables.{Tables}
 
+-- the tables of records
 abbrev pub tables_of_records : UnicodeRecords → Tables
 tables_of_records r = record {
   splits = r.splits.items;

@@ -1,4 +1,4 @@
--- The tables, as the rows that were handed in, and what they say of a character.
+-- The tables, as a caller gives their rows, and the properties of a character by them.
 use Rattle.std.specs.Prelude.{ℕ, Bool, ◌==◌, ◌&&◌, List, find, map, Option, None, option_map}
 use Rattle.std.specs.Option.{option_or, option_map_or}
 use Rattle.buffer_unicode_rows.specs.Keys.{row_fault}
@@ -17,6 +17,7 @@ use Rattle.buffer_unicode_rows.specs.declared.rows.ThaiRow.{ThaiRow}
 use Rattle.buffer_unicode_rows.specs.declared.rows.UnicodeRows.{UnicodeRows}
 use Rattle.buffer_unicode_tables.specs.Hangul.{hangul_split, hangul_pair}
 
+-- all tables
 pub record Tables : Type 0 where
   pub splits : List Split
   pub pairs : List Pair
@@ -29,7 +30,7 @@ pub record Tables : Type 0 where
   pub universal : List UniversalRow
   pub thai : List ThaiRow
 
--- the rows, read as records
+-- the tables of rows, parsed to records
 abbrev pub tables_of : UnicodeRows → Tables
 tables_of rows = record {
   splits = map split_of_numbers rows.splits.items;
@@ -62,18 +63,19 @@ first_row_fault t =
     (option_or (fault_in is_universal_row_in_range (λ r. r.character) t.universal)
     (row_fault is_thai_row_in_range (λ r. r.character) (λ r. r.action) None t.thai)))))))))
 
--- the parts of a character by the table of splits
+-- the two halves of a character by the table of decompositions
 abbrev pub split_in : List Split → ℕ → Option (ℕ × ℕ)
 split_in splits u = option_map (λ (s : Split). (s.first, s.second)) (find (λ (s : Split). s.whole == u) splits)
 
--- how a character splits: by the rule for Hangul, else by the table
+-- the canonical decomposition of a character: by the rule for Hangul, else by the table
 abbrev pub splits_of : List Split → ℕ → Option (ℕ × ℕ)
 splits_of splits u = option_or (hangul_split u) (split_in splits u)
 
+-- the canonical decomposition of a character by the tables
 abbrev pub split_of : Tables → ℕ → Option (ℕ × ℕ)
 split_of t = splits_of t.splits
 
--- what two characters compose to: by the rule for Hangul, else by the table
+-- the composite of two characters: by the rule for Hangul, else by the table
 abbrev pub pair_of : Tables → ℕ → ℕ → Option ℕ
 pair_of t a b = option_or (hangul_pair a b) (option_map (λ (p : Pair). p.whole) (find (λ (p : Pair). p.first == a && p.second == b) t.pairs))
 
@@ -81,7 +83,7 @@ pair_of t a b = option_or (hangul_pair a b) (option_map (λ (p : Pair). p.whole)
 abbrev pub class_of : Tables → ℕ → ℕ
 class_of t c = option_map_or (λ (r : CharacterClass). r.class) (find (λ (r : CharacterClass). r.character == c) t.classes) 0
 
--- the character that takes the place of another
+-- the counterpart of a character in another direction
 abbrev pub counterpart_in : List Counterpart → ℕ → Option ℕ
 counterpart_in rows c = option_map (λ (r : Counterpart). r.counterpart) (find (λ (r : Counterpart). r.character == c) rows)
 
@@ -101,6 +103,6 @@ indic_of t c = option_map (λ (r : IndicRow). (r.category, r.position)) (find (�
 abbrev pub universal_of : Tables → ℕ → Option ℕ
 universal_of t c = option_map (λ (r : UniversalRow). r.category) (find (λ (r : UniversalRow). r.character == c) t.universal)
 
--- the two characters that stand for one after an action
+-- the two characters that replace one by an action
 abbrev pub thai_of : Tables → ℕ → ℕ → Option (ℕ × ℕ)
 thai_of t c action = option_map (λ (r : ThaiRow). (r.first, r.second)) (find (λ (r : ThaiRow). r.character == c && r.action == action) t.thai)

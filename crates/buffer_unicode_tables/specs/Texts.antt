@@ -5,18 +5,19 @@ use Rattle.buffer_unicode_tables.specs.ClassOrder.{class_order}
 use Rattle.buffer_unicode_tables.specs.Expansion.{followed_by, expanded}
 use Rattle.buffer_unicode_tables.specs.Tables.{Tables, split_of, class_of}
 
--- the full expansion of the first part, then the second part as it stands; the character itself where it has no split
+-- the full expansion of the first half, then the second half as it is; the character itself where it doesn't decompose
 abbrev pub full_expansion : Tables → ℕ → List ℕ
 full_expansion t u = expanded (split_of t) 8 u
 
+-- the full expansion of a text
 abbrev pub full_text : Tables → List ℕ → List ℕ
 full_text t xs = flat_map (full_expansion t) xs
 
--- the order of a text by the classes of the tables
+-- the class order of a text by the tables
 abbrev pub text_order : Tables → List ℕ → List ℕ
 text_order t xs = class_order (class_of t) xs
 
--- a character is replaced by its split
+-- a character is replaced by its decomposition
 pub record IsSplit (t : Tables) (xs ys : List ℕ) : Type 0 where
   pub front : List ℕ
   pub whole : ℕ
@@ -27,7 +28,7 @@ pub record IsSplit (t : Tables) (xs ys : List ℕ) : Type 0 where
   pub is_before : xs ≡ front ++ whole ∷ back
   pub is_after : ys ≡ front ++ (followed_by second (first ∷ []) ++ back)
 
--- neighbours of distinct nonzero class change places
+-- neighbours of distinct nonzero class are exchanged (UAX 15, D108, reorderable pair)
 pub record IsSwap (t : Tables) (xs ys : List ℕ) : Type 0 where
   pub front : List ℕ
   pub first : ℕ

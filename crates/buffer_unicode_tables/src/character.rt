@@ -1,10 +1,10 @@
-//! Properties of a character by tables.
+//! Properties of a character by tables (rustybuzz: hb/unicode.rs, `CharExt`).
 ghost use Rattle.std.specs.Prelude.{◌≡◌, ℕ, Bool, Option};
 ghost use Rattle.buffer_unicode_tables.specs.Tables.{Tables, class_of, counterpart_in, is_pictographic};
 
 use crate::tables::UnicodeTables;
 
-/// What tables say of a character.
+/// The properties of a character by tables.
 pub trait CharTablesExt: Sized {
     ghost class_gives: { Tables → Self → ℕ };
 
@@ -18,7 +18,7 @@ pub trait CharTablesExt: Sized {
     fn modified_combining_class(self, tables: &UnicodeTables) -> u8
         ensures { result ≡ class_gives tables.now self };
 
-    /// Its mirror image.
+    /// Its mirror image (UAX 9, `Bidi_Mirroring_Glyph`).
     fn mirrored(self, tables: &UnicodeTables) -> Option<Self>
         ensures { result ≡ mirror_gives tables.now self };
 
@@ -26,7 +26,7 @@ pub trait CharTablesExt: Sized {
     fn vertical(self, tables: &UnicodeTables) -> Option<Self>
         ensures { result ≡ vertical_gives tables.now self };
 
-    /// Whether it is extended pictographic.
+    /// Whether it is extended pictographic (UTS 51).
     fn is_emoji_extended_pictographic(self, tables: &UnicodeTables) -> bool
         ensures { result ≡ pictographic tables.now self };
 }

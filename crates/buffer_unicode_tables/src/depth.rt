@@ -1,4 +1,4 @@
-//! That each chain of first parts ends.
+//! The check that each chain of first halves of decompositions ends.
 ghost use Rattle.std.specs.Prelude.{◌≡◌, ◌+◌, ◌<◌, true, false, MatchBool};
 ghost use Rattle.std.specs.List.{list_all};
 ghost use Rattle.buffer_unicode_tables.specs.Expansion.{EndWithin, HasDeepChain, ends_within};
@@ -9,13 +9,13 @@ use crate::hangul::{L_BASE, L_COUNT, below_surrogates, decompose_hangul};
 use buffer_rows::PagedRows;
 use buffer_unicode_rows::Split;
 
-/// How many splits a chain of first parts may have.
+/// How many decompositions a chain of first halves may have.
 pub const MAX_SPLITS: u32 = 8;
 
-/// A syllable with a trailing consonant splits twice before its leading consonant stands alone.
+/// A syllable with a trailing consonant decomposes twice, down to its leading consonant.
 const SYLLABLE_SPLITS: u32 = 2;
 
-/// Whether each chain of first parts ends within eight splits.
+/// Whether each chain of first halves ends within eight decompositions.
 pub(crate) fn all_chains_end(splits: &PagedRows<Split>) -> bool
     ensures { MatchBool result (EndWithin (splits_of splits.now) MAX_SPLITS)
         (HasDeepChain (splits_of splits.now) MAX_SPLITS) }
@@ -61,7 +61,7 @@ fn chain_ends(splits: &PagedRows<Split>, depth: u32, u: char) -> bool
     chain_ends(splits, depth - 1, first)
 }
 
-/// How a character splits: the rule for Hangul, else the table.
+/// The canonical decomposition of a character (UAX 15, D68): by the rule for Hangul, else by the table.
 pub(crate) fn split(splits: &PagedRows<Split>, u: char) -> Option<(char, char)>
     ensures { result ≡ splits_of splits.now u }
 {

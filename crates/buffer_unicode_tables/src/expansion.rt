@@ -1,4 +1,4 @@
-//! Full expansions, without memory.
+//! Full canonical decompositions (UAX 15, D68), without memory.
 ghost use Rattle.std.specs.Prelude.{◌≡◌, ◌+◌, ◌<◌, ◌≤◌, ◌++◌, true, [], length};
 ghost use Rattle.arrayvec.specs.ArrayVec.{array_vec_len};
 ghost use Rattle.buffer_unicode_tables.specs.Expansion.{expanded};
@@ -9,11 +9,11 @@ use arrayvec::ArrayVec;
 use buffer_rows::PagedRows;
 use buffer_unicode_rows::Split;
 
-/// How many characters two full expansions may have: each has one first part and as many second
-/// parts as a chain may have splits.
+/// How many characters two full expansions may have: each has one first half and as many second halves as a chain may
+/// have decompositions.
 pub(crate) const EXPANSIONS: usize = 18;
 
-/// Adds the full expansion of a character.
+/// Appends the full expansion of a character.
 pub(crate) fn expand(splits: &PagedRows<Split>, u: char, out: &mut ArrayVec<char, EXPANSIONS>)
     requires { array_vec_len out.old ≤ 9 }
     ensures expanded { out.new.items ≡ out.old.items ++ expanded (splits_of splits.now) MAX_SPLITS u }

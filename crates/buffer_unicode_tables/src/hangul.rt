@@ -1,26 +1,35 @@
-//! Hangul syllables, which compose and decompose by arithmetic (The Unicode Standard, section 3.12).
+//! Hangul syllables, which compose and decompose by arithmetic (The Unicode Standard, section 3.12; rustybuzz:
+//! hb/unicode.rs, `compose_hangul`, `decompose_hangul`).
 ghost use Rattle.std.specs.Prelude.{◌≡◌, ◌<◌, ◌+◌, ◌^◌};
 ghost use Rattle.buffer_unicode_tables.specs.Hangul.{is_among, hangul_split, hangul_pair, HangulPairsAreSplits};
 
+/// The first Hangul syllable.
 pub const S_BASE: u32 = 0xAC00;
 
+/// The first leading consonant.
 pub const L_BASE: u32 = 0x1100;
 
+/// The first vowel.
 pub const V_BASE: u32 = 0x1161;
-/// One before the first trailing consonant: it stands for none.
+/// One before the first trailing consonant: it means no trailing consonant.
 pub const T_BASE: u32 = 0x11A7;
 
+/// How many leading consonants there are.
 pub const L_COUNT: u32 = 19;
 
+/// How many vowels there are.
 pub const V_COUNT: u32 = 21;
 
+/// How many trailing consonants there are, none included.
 pub const T_COUNT: u32 = 28;
 
+/// How many syllables a leading consonant has.
 pub const N_COUNT: u32 = V_COUNT * T_COUNT;
 
+/// How many Hangul syllables there are.
 pub const S_COUNT: u32 = L_COUNT * N_COUNT;
 
-/// A syllable of a leading consonant and a vowel, or of such a syllable and a trailing consonant.
+/// Composes a syllable of a leading consonant and a vowel, or of such a syllable and a trailing consonant.
 #[tactic(auto, unfolding(crate::specs::Hangul::hangul_pair))]
 pub fn compose_hangul(a: char, b: char) -> Option<char>
     ensures { result ≡ hangul_pair a b }
@@ -39,8 +48,8 @@ pub fn compose_hangul(a: char, b: char) -> Option<char>
     None
 }
 
-/// The two parts of a syllable: a syllable without a trailing consonant and that consonant, or a
-/// leading consonant and a vowel.
+/// Decomposes a syllable into two halves: a syllable without a trailing consonant and that consonant, or a leading
+/// consonant and a vowel.
 #[tactic(auto, unfolding(crate::specs::Hangul::hangul_split))]
 pub fn decompose_hangul(ab: char) -> Option<(char, char)>
     ensures { result ≡ hangul_split ab }
@@ -76,7 +85,7 @@ pub(crate) fn below_surrogates(code: u32) -> char
     char::from_u32(code).unwrap()
 }
 
-/// A syllable is composed of exactly the two parts into which it splits.
+/// A syllable is the composite of exactly the two halves of its decomposition.
 
 #[tactic(auto, using(crate::proofs::Syllables::hangul_pairs_are_splits))]
 pub fn hangul_pairs_are_splits()

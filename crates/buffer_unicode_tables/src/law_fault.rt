@@ -1,4 +1,4 @@
-//! Whether tables are lawful.
+//! The check that tables are lawful.
 ghost use Rattle.std.specs.Prelude.{ℕ, ◌≡◌, ◌+◌, ◌<◌, ◌≤◌, ◌↔◌, true, false, length, is_none, IsTrue, IsNone, IfSome, MatchBool};
 ghost use Rattle.std.specs.List.{list_all};
 ghost use Rattle.buffer_unicode_rows.specs.declared.rows.CharacterClass.{CharacterClass};
@@ -20,22 +20,22 @@ use buffer_unicode::{CharExt, GeneralCategoryExt};
 use buffer_unicode_rows::{CharacterClass, Split};
 use thiserror::Error;
 
-/// Why tables are not lawful, in the order in which the faults are found.
+/// The faults of unlawful tables, in the order in which they are found.
 #[derive(Clone, Copy, PartialEq, Eq, Debug, Error)]
 pub enum LawFault {
-    /// The second part of a split splits itself.
+    /// The second half of a decomposition decomposes itself.
     #[error("SecondPartSplits")]
     SecondPartSplits,
-    /// A pair composes to a character whose full expansion has another class order.
+    /// The full expansion of a composite has another class order than that of its pair.
     #[error("PairNotEquivalent")]
     PairNotEquivalent,
-    /// A character that is no mark has a nonzero class.
+    /// A character that is no combining mark has a nonzero class.
     #[error("ClassOnNonMark")]
     ClassOnNonMark,
-    /// A part of a character of nonzero class has another class.
+    /// A half of a character of nonzero class has another class.
     #[error("SplitLosesClass")]
     SplitLosesClass,
-    /// A character below U+0080 is a mark.
+    /// A character below U+0080 is a combining mark.
     #[error("AsciiMark")]
     AsciiMark,
 }
@@ -84,7 +84,7 @@ impl UnicodeTables {
     fn pairs_are_equivalent(&self) -> bool
         ensures { SecondPartsStay self.now → (IsTrue result ↔ PairsAreEquivalent self.now) }
     {
-        // The tables keep that chains of first parts end.
+        // The tables' invariant says that chains of first halves end.
         let _splits = self.splits();
         self.all_pairs_pass()
     }
@@ -197,14 +197,14 @@ impl UnicodeTables {
     }
 }
 
-/// Whether each character of nonzero class is a mark.
+/// Whether each character of nonzero class is a combining mark.
 fn marks_pass(classes: &[CharacterClass]) -> bool
     ensures { result ≡ list_all class_is_of_mark classes.now }
 {
     classes.iter().all(|row| row.class == 0 || row.character.general_category().is_mark())
 }
 
-/// Whether the second part of each row, as its character splits, doesn't split.
+/// Whether no second half of a row's decomposition decomposes itself.
 fn rows_stay(splits: &PagedRows<Split>) -> bool
     ensures { result ≡ list_all
         (λ (r : Split). second_stays (splits_of splits.now) (splits_of splits.now r.whole)) splits.now }
@@ -215,7 +215,7 @@ fn rows_stay(splits: &PagedRows<Split>) -> bool
         .all(|row| second_stays(splits, row.whole))
 }
 
-/// Whether the second part of a character's split, if it has one, doesn't split.
+/// Whether the second half of a character's decomposition, if it has one, doesn't decompose.
 fn second_stays(splits: &PagedRows<Split>, u: char) -> bool
     ensures { result ≡ second_stays (splits_of splits.now) (splits_of splits.now u) }
 {
@@ -225,7 +225,7 @@ fn second_stays(splits: &PagedRows<Split>, u: char) -> bool
     }
 }
 
-/// Whether none of the code points of a range splits.
+/// Whether none of the code points of a range decomposes.
 fn stay_whole(splits: &PagedRows<Split>, base: u32, count: u32) -> bool
     requires { base + count ≤ 0xD800 }
     ensures { MatchBool result (AllAmong base count (λ c. is_none (splits_of splits.now c)))

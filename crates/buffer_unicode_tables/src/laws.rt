@@ -5,14 +5,14 @@ ghost use Rattle.buffer_unicode_tables.specs.Laws.{SplitsKeepExpansion, StepsKee
 
 use crate::depth::MAX_SPLITS;
 
-/// Two lists have one class order exactly where, for each class, their starters and their
-/// elements of that class are the same.
+/// Two lists have the same class order exactly where, for each class, their starters and their elements of that class
+/// are the same.
 #[tactic(auto, using(crate::proofs::Orders::order_is_by_classes))]
 pub fn order_is_by_classes()
     ensures { OrderIsByClasses }
 {}
 
-/// Under lawful tables a split changes no full expansion.
+/// Under lawful tables a decomposition changes no full expansion.
 #[tactic(auto, using(crate::proofs::Steps::splits_keep_expansion))]
 pub fn splits_keep_expansion()
     ensures { SplitsKeepExpansion }
@@ -24,7 +24,7 @@ pub fn steps_keep_order()
     ensures { StepsKeepOrder }
 {}
 
-/// Under lawful tables equivalent texts have one class order when they are fully expanded.
+/// Under lawful tables equivalent texts have the same class order when they are fully expanded.
 #[tactic(auto, using(crate::proofs::Steps::equivalents_have_one_order))]
 pub fn equivalents_have_one_order()
     ensures { EquivalentsHaveOneOrder }
@@ -36,7 +36,7 @@ pub fn pairs_keep_order()
     ensures { PairsKeepOrder }
 {}
 
-/// The most splits of a chain of first parts.
+/// The most decompositions of a chain of first halves.
 pub fn most_splits_of_a_chain() -> u32
     ensures { result ≡ 8 }
 {

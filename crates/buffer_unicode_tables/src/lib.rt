@@ -1,4 +1,4 @@
-// What the shaper knows of characters by tables that are handed in.
+//! Properties of characters by tables that a caller gives (rustybuzz: hb/unicode.rs, with tables in code).
 #![tactic(auto)]
 
 pub mod character;

@@ -17,8 +17,8 @@ use buffer_unicode_rows::{
 use std::alloc::{AllocError, Global};
 use std::marker::Model;
 
-/// What is known of characters by tables that were handed in: Unicode data files, modified combining classes,
-/// and the numbers of the shapers' categories.
+/// The properties of characters by tables that a caller gave: Unicode data files, modified combining classes, and the
+/// numbers of the shapers' categories.
 #[derive(Drop)]
 pub struct UnicodeTables {
     splits: PagedRows<Split>,
@@ -46,10 +46,10 @@ impl Model for UnicodeTables {
 }
 
 impl UnicodeTables {
-    /// Reads rows, and refuses the first that has a fault, table after table in the order of the fields of
-    /// `UnicodeRows`: a number outside its range (`OutOfRange`), else a key that is not above the one before
-    /// (`OutOfOrder`). Rows without a fault are refused where a chain of first parts, by the rule for Hangul and
-    /// the table of splits, has more than eight splits (`SplitDepth`).
+    /// Parses rows, and refuses the first that has a fault, table after table in the order of the fields of
+    /// `UnicodeRows`: a number outside its range (`OutOfRange`), else a key that is not greater than the one before
+    /// (`OutOfOrder`). Rows without a fault are refused where a chain of first halves, by the rule for Hangul and the
+    /// table of decompositions, has more than eight decompositions (`SplitDepth`).
     pub fn new(alloc: Global, rows: &UnicodeRows) -> Result<UnicodeTables, TablesFault>
         ensures read { IfOk result (λ t. t ≡ tables_of rows.now) }
         ensures sound { OnOk result (first_row_fault (tables_of rows.now) ≡ None) }
@@ -77,8 +77,8 @@ impl UnicodeTables {
         UnicodeTables::of_records(alloc, records)
     }
 
-    /// The tables of records whose keys rise, or `SplitDepth` where a chain of first parts, by the rule for Hangul and
-    /// the table of splits, has more than eight splits.
+    /// The tables of records whose keys rise, or `SplitDepth` where a chain of first halves, by the rule for Hangul and
+    /// the table of decompositions, has more than eight decompositions.
     pub fn of_records(alloc: Global, records: UnicodeRecords) -> Result<UnicodeTables, TablesFault>
         requires { AreRising records }
         ensures tables { IfOk result (λ t. t ≡ tables_of_records records) }
@@ -123,7 +123,7 @@ impl UnicodeTables {
         Some(self.universal.get(c as u32)?.category)
     }
 
-    /// The two private characters that stand for a character after an action, of SD SDL SL RD from 0.
+    /// The two private-use characters that replace a character by an action, of SD SDL SL RD from 0.
     pub fn thai(&self, c: char, action: u8) -> Option<(char, char)>
         ensures { result ≡ thai_of self.now c action }
     {
@@ -179,7 +179,7 @@ impl UnicodeTables {
     }
 }
 
-/// Splits, or `SplitDepth` where a chain of first parts has more than eight of them.
+/// The table of decompositions, or `SplitDepth` where a chain of first halves has more than eight of them.
 fn shallow_splits(alloc: Global, rows: Vec<Split>) -> Result<PagedRows<Split>, TablesFault>
     requires { is_rising (λ _. 0) (λ (r : Split). r.whole) rows.items ≡ true }
     ensures rows { IfOk result (λ s. s ≡ rows.items) }
@@ -205,8 +205,8 @@ fn paged<R: Numbered>(alloc: Global, rows: Vec<R>) -> Result<PagedRows<R>, Alloc
     PagedRows::new(alloc, rows)
 }
 
-/// What a character splits into, as far as one split goes: the rule for Hangul, else the table.
-/// The second part is U+0000 where it is absent. Splitting first parts on and on ends within eight splits.
+/// The two halves of a character's canonical decomposition, one step: by the rule for Hangul, else by the table. The
+/// second half is U+0000 where it is absent. Repeated decomposition of first halves ends within eight steps.
 pub fn decompose(tables: &UnicodeTables, ab: char) -> Option<(char, char)>
     ensures parts { result ≡ split_of tables.now ab }
     ensures shallow { EndWithin (split_of tables.now) MAX_SPLITS }
@@ -214,7 +214,7 @@ pub fn decompose(tables: &UnicodeTables, ab: char) -> Option<(char, char)>
     split(&tables.splits, ab)
 }
 
-/// What two characters compose to: the rule for Hangul, else the table.
+/// The composite of two characters: by the rule for Hangul, else by the table.
 pub fn compose(tables: &UnicodeTables, a: char, b: char) -> Option<char>
     ensures { result ≡ pair_of tables.now a b }
 {

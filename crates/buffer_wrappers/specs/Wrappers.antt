@@ -1,4 +1,4 @@
--- What holds of a buffer that is wrapped as a text or as a result.
+-- Invariants of a buffer that is wrapped as a text or as a result.
 use Rattle.std.specs.Prelude.{◌≡◌, false, IsTrue}
 use Rattle.std.specs.List.{All}
 use lib.Utf8.{scalar}
@@ -10,12 +10,12 @@ use Rattle.buffer_core.specs.Text.{added_glyph}
 pub record IsClosed (s : Sides) : Type 0 where
   pub closed : s.is_open ≡ false
 
--- a character as it is when it was just added, in some cluster
+-- a glyph is an appended character, in some cluster
 pub record IsCharacter (g : hb_glyph_info_t) : Type 0 where
   pub plain : g ≡ added_glyph g.glyph_id g.cluster
   pub scalar_value : IsTrue (scalar g.glyph_id)
 
--- no output is open, no call was refused for length, and there are characters alone
+-- no output is open, no call was refused for length, and there are only characters
 pub record IsText (s : Sides) : Type 0 where
   pub closed : s.is_open ≡ false
   pub unrefused : s.has_refused ≡ false

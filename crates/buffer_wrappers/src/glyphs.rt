@@ -1,3 +1,4 @@
+//! The glyphs of a shaped text (rustybuzz: hb/buffer.rs, `GlyphBuffer`).
 ghost use Rattle.std.specs.Prelude.{◌≡◌, ◌==◌, length, false, true, IfOk, string_bytes};
 ghost use Rattle.buffer_serialize.specs.Printed.{printed_text};
 ghost use Rattle.buffer_core.specs.Sides.{empty_buffer, all_glyphs};
@@ -12,7 +13,7 @@ use buffer_serialize::serialize;
 use std::alloc::{AllocError, Global};
 use std::marker::Model;
 
-/// What came of shaping a text: glyphs with their positions, in the order in which they are drawn.
+/// The result of shaping a text: glyphs with their positions, in the order in which they are drawn.
 #[derive(Drop)]
 pub struct GlyphBuffer {
     buffer: hb_buffer_t,
@@ -37,18 +38,21 @@ impl GlyphBuffer {
         self.buffer.len()
     }
 
+    /// Whether there is no glyph.
     pub fn is_empty(&self) -> bool
         ensures { result ≡ (length (all_glyphs self.now) == 0) }
     {
         self.buffer.is_empty()
     }
 
+    /// The glyphs, with their clusters and masks.
     pub fn glyph_infos(&self) -> &[hb_glyph_info_t]
         ensures { result.now ≡ all_glyphs self.now }
     {
         self.buffer.info_slice()
     }
 
+    /// The positions of the glyphs, in font units.
     pub fn glyph_positions(&self) -> &[GlyphPosition]
         ensures same { result.now ≡ self.now.positions }
         ensures len { length result.now ≡ length (all_glyphs self.now) }
@@ -56,7 +60,7 @@ impl GlyphBuffer {
         self.buffer.pos_slice()
     }
 
-    /// The storage for another text, as `new` makes it.
+    /// An empty text in the same storage, as `new` makes it.
     pub fn clear(self) -> UnicodeBuffer
         ensures { result ≡ empty_buffer }
     {
@@ -84,7 +88,7 @@ impl GlyphBuffer {
 }
 
 impl GlyphBuffer {
-    /// Prints the glyphs; `names` is asked for their names and boxes.
+    /// Prints the glyphs; `names` gives their names and boxes.
     pub fn serialize<N: GlyphNames>(
         &self,
         alloc: Global,

@@ -1,4 +1,5 @@
-// A text that is to be shaped, and the glyphs that came of one: the buffer as its users hold it.
+//! The buffer as its users hold it: a text to shape, and the glyphs of a shaped text (rustybuzz: hb/buffer.rs,
+//! `UnicodeBuffer`, `GlyphBuffer`).
 #![tactic(auto)]
 
 pub mod glyphs;

@@ -1,3 +1,4 @@
+//! A text to be shaped (rustybuzz: hb/buffer.rs, `UnicodeBuffer`).
 ghost use Rattle.std.specs.Prelude.{◌≡◌, ◌==◌, length, true, false, Ok, Some, OnErr, IfOk, ◌∷◌, [], unwrap_or, take, reverse};
 ghost use Rattle.std.specs.Option.{option_copied};
 ghost use Rattle.std.specs.Str.{chars};
@@ -19,7 +20,7 @@ use buffer_glyphs::level::BufferClusterLevel;
 use std::alloc::{AllocError, Global};
 use std::marker::Model;
 
-/// A text to be shaped: characters, each with the number of its cluster, and how they are to be shaped.
+/// A text to be shaped: characters, each with the number of its cluster, and the settings of its shaping.
 #[derive(Drop)]
 pub struct UnicodeBuffer {
     buffer: hb_buffer_t,
@@ -53,6 +54,7 @@ impl UnicodeBuffer {
         self.buffer.len()
     }
 
+    /// Whether there is no character.
     pub fn is_empty(&self) -> bool
         ensures { result ≡ (length (all_glyphs self.now) == 0) }
     {
@@ -70,8 +72,8 @@ impl UnicodeBuffer {
         self.buffer.add(codepoint, cluster)
     }
 
-    /// Adds the characters of a text, each with the byte where it begins as its cluster; answers false, and adds
-    /// nothing, where there would be more than there may be or a character begins past byte `u32::MAX`.
+    /// Appends the characters of a text, each with the index of its first byte as its cluster; answers false, and
+    /// appends nothing, where there would be more than there may be or a character begins past byte `u32::MAX`.
     #[tactic(auto, using(crate::proofs::Characters::text_characters, crate::proofs::Characters::text_grown))]
     pub fn push_str(&mut self, text: &str) -> Result<bool, AllocError>
         ensures held { IfOk result (λ b. b ≡ fits_text text.now self.old) }
@@ -82,45 +84,49 @@ impl UnicodeBuffer {
         self.buffer.push_str(text)
     }
 
+    /// The direction, `Invalid` where none was set.
     pub fn direction(&self) -> Direction
         ensures { result ≡ self.now.direction }
     {
         self.buffer.direction()
     }
 
+    /// Sets the direction of the text.
     pub fn set_direction(&mut self, direction: Direction)
         ensures { self.new ≡ with_segment direction self.old.script self.old }
     {
         self.buffer.set_direction(direction);
     }
 
-    /// The script, `UNKNOWN` where none was told.
+    /// The script, `UNKNOWN` where none was set.
     pub fn script(&self) -> Script
         ensures { result ≡ unwrap_or self.now.script UNKNOWN }
     {
         self.buffer.script().unwrap_or(UNKNOWN)
     }
 
+    /// Sets the script of the text.
     pub fn set_script(&mut self, script: Script)
         ensures { self.new ≡ with_segment self.old.direction (Some script) self.old }
     {
         self.buffer.set_script(Some(script));
     }
 
-    /// The language, if it was told.
+    /// The language, if it was set.
     pub fn language(&self) -> Option<&Language>
         ensures { option_copied result ≡ self.now.language }
     {
         self.buffer.language()
     }
 
+    /// Sets the language of the text.
     pub fn set_language(&mut self, language: Language)
         ensures { self.new ≡ with_language (Some language) self.old }
     {
         self.buffer.set_language(Some(language));
     }
 
-    /// Keeps the last five characters of the text in front of this one, which shape its first letters.
+    /// Keeps the last five characters of the text before this one, which shape its first letters.
     pub fn set_pre_context(&mut self, text: &str)
         ensures { self.new ≡ with_pre_context (take 5 (reverse (chars text.now))) self.old }
     {
@@ -134,13 +140,14 @@ impl UnicodeBuffer {
         self.buffer.set_post_context(text);
     }
 
-    /// What is asked of the shaping.
+    /// The requests for the shaping (`hb_buffer_flags_t`).
     pub fn flags(&self) -> BufferFlags
         ensures { result ≡ self.now.flags }
     {
         self.buffer.flags()
     }
 
+    /// Sets the requests for the shaping.
     pub fn set_flags(&mut self, flags: BufferFlags)
         ensures { self.new ≡ with_flags flags self.old }
     {
@@ -154,42 +161,44 @@ impl UnicodeBuffer {
         self.buffer.cluster_level()
     }
 
+    /// Sets the cluster level.
     pub fn set_cluster_level(&mut self, level: BufferClusterLevel)
         ensures { self.new ≡ with_level level self.old }
     {
         self.buffer.set_cluster_level(level);
     }
 
-    /// Sets the glyph that stands for a character that is not to be seen.
+    /// Sets the glyph that replaces invisible characters.
     pub fn set_invisible_glyph(&mut self, glyph: u32)
         ensures { self.new ≡ with_invisible (Some glyph) self.old }
     {
         self.buffer.set_invisible(Some(glyph));
     }
 
-    /// Sets the glyph that stands for a variation selector that the font does not know.
+    /// Sets the glyph that replaces a variation selector that the font does not support.
     pub fn set_not_found_variation_selector_glyph(&mut self, glyph: u32)
         ensures { self.new ≡ with_not_found_variation_selector (Some glyph) self.old }
     {
         self.buffer.set_not_found_variation_selector(Some(glyph));
     }
 
-    /// Gives the characters the clusters 0, 1, 2 and so on; those past the greatest number have that one.
+    /// Sets the clusters of the characters to 0, 1, 2 and so on; those past `u32::MAX` get that number.
     pub fn reset_clusters(&mut self)
         ensures { self.new ≡ with_counted self.old }
     {
         self.buffer.reset_clusters();
     }
 
-    /// Sets the script that was not told to that of the first character that tells it, and the direction that was not
-    /// told to that of the script, else to left to right.
+    /// Sets a script that was not set to that of the first character with a script of its own, and a direction that was
+    /// not set to that of the script, else to left to right.
     pub fn guess_segment_properties(&mut self)
         ensures { self.new ≡ guessed self.old }
     {
         self.buffer.guess_segment_properties();
     }
 
-    /// The script that guessing would leave: the one that was told, else that of the first character that tells it.
+    /// The script that guessing would set: the one that was set, else that of the first character with a script of its
+    /// own.
     pub fn guessed_script(&self) -> Option<Script>
         ensures { result ≡ guessed_script self.now }
     {
@@ -199,14 +208,14 @@ impl UnicodeBuffer {
         }
     }
 
-    /// The direction that guessing would leave: the one that was told, else that of the script, else left to right.
+    /// The direction that guessing would set: the one that was set, else that of the script, else left to right.
     pub fn guessed_direction(&self) -> Direction
         ensures { result ≡ guessed_direction self.now.direction (guessed_script self.now) }
     {
         guessed_direction(self.buffer.direction(), self.guessed_script())
     }
 
-    /// Leaves what `new` makes.
+    /// Resets the text to what `new` makes.
     pub fn clear(&mut self)
         ensures { self.new ≡ empty_buffer }
     {

@@ -1,4 +1,4 @@
-// hb_shape [options] TABLES FONT TEXT: shapes a text in a font, and prints its glyphs with their positions.
+//! hb_shape [options] TABLES FONT TEXT: shapes a text in a font and prints its glyphs with their positions.
 #![tactic(auto)]
 
 use shell_run::files::SystemFiles;

@@ -1,4 +1,4 @@
--- A search by halves in the glyphs of a set, which stand in rising order.
+-- A binary search in the glyphs of a set, which are in rising order.
 use Rattle.std.proofs.Common.{◌≡◌, ℕ, zero, suc, Bool, true, false, ◌||◌, ◌==◌, List, [], ◌∷◌, length, Result, Ok, Err, inl, inr, refl, sym, arith, is_ok}
 use Rattle.std.specs.declared.cmp.Ordering.TheVariants.{Less, Equal, Greater}
 use Rattle.std.specs.Ordering.{nat_cmp}

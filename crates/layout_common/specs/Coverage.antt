@@ -2,7 +2,7 @@
 use Rattle.std.specs.Prelude.{ℕ, ◌==◌, ◌||◌, Bool, false, List, [], ◌∷◌}
 use Rattle.buffer_stable_order.specs.Keys.{key_order}
 
--- a glyph is among the listed ones
+-- whether a glyph is among the listed ones
 abbrev pub is_covered : ℕ → List ℕ → Bool
 is_covered glyph [] = false
 is_covered glyph (g ∷ glyphs) = g == glyph || is_covered glyph glyphs

@@ -1,8 +1,8 @@
--- Rows of a glyph and what a table says of it.
+-- Rows of a glyph with a table's value for it.
 use Rattle.std.specs.Prelude.{ℕ, List, Option, option_map}
 use Rattle.buffer_rows.specs.Keys.{row_of}
 use Rattle.layout_common.specs.declared.glyph_row.GlyphRow.{GlyphRow}
 
--- what the row of a glyph says
+-- the value of a glyph's row
 abbrev pub value_of : {V : Type 0} → ℕ → List (GlyphRow V) → Option V
 value_of glyph rows = option_map (λ r. r.value) (row_of (λ r. r.glyph) glyph rows)

@@ -4,7 +4,7 @@ ghost use Rattle.std.specs.Option.{option_copied};
 
 use std::marker::Model;
 
-/// The items of an array of a table, in the order of their indices. They don't change any more.
+/// The items of an array of a table, in the order of their indices. They never change.
 #[derive(Debug, Drop)]
 pub struct Array<T> {
     items: Vec<T>,
@@ -40,7 +40,7 @@ impl<T> Array<T> {
         self.items.len()
     }
 
-    /// The item of an index, none past the last one.
+    /// The item at an index, none past the last one.
     pub fn get(&self, index: usize) -> Option<&T>
         ensures { option_copied result ≡ slice_get self.now index }
     {

@@ -1,4 +1,4 @@
-//! Classes of glyphs.
+//! Classes of glyphs (OpenType, chapter 2, class definition table).
 ghost use Rattle.std.specs.Prelude.{◌≡◌};
 ghost use Rattle.layout_common.specs.Classes.{class_of};
 

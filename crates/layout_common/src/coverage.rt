@@ -1,4 +1,4 @@
-//! Sets of glyphs.
+//! Sets of glyphs (OpenType, chapter 2, coverage table).
 ghost use Rattle.std.specs.Prelude.{◌≡◌, ℕ};
 ghost use Rattle.layout_common.specs.Coverage.{is_covered, in_order};
 
@@ -23,7 +23,7 @@ impl Model for Coverage {
 }
 
 impl Coverage {
-    /// The set of the listed glyphs, which may stand in any order and more than once.
+    /// The set of the listed glyphs, which may be in any order and with repetitions.
     pub fn new(glyphs: Vec<u16>) -> Coverage
         ensures order { result ≡ in_order glyphs.items }
         ensures members { (g : ℕ) → is_covered g result ≡ is_covered g glyphs.items }

@@ -1,10 +1,10 @@
-//! Rows of a glyph and what a table says of it.
+//! Rows of a glyph with a table's value for it.
 ghost use Rattle.std.specs.Prelude.{◌≡◌};
 ghost use Rattle.layout_common.specs.Rows.{value_of};
 
 use buffer_rows::{Keyed, SortedRows};
 
-/// A glyph, and what a table says of it.
+/// A glyph, and a table's value for it.
 #[derive(Clone, Copy, Debug, Drop)]
 pub struct GlyphRow<V> {
     pub glyph: u16,
@@ -21,7 +21,7 @@ impl<V> Keyed for GlyphRow<V> {
     }
 }
 
-/// What a table says of a glyph, none where it has no row of the glyph, in logarithmic time.
+/// A table's value for a glyph, none where it has no row of the glyph, in logarithmic time.
 #[tactic(auto, using(buffer_rows::proofs::Searched::row_of_number))]
 pub fn find_value<V: Copy>(rows: &SortedRows<GlyphRow<V>>, glyph: u16) -> Option<V>
     ensures { result ≡ value_of glyph rows.now }

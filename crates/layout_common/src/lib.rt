@@ -1,4 +1,4 @@
-// What the subtables of substitution and positioning share: coverage, classes of glyphs, lookup flags.
+//! The common tables of GSUB and GPOS subtables: coverage, class definitions, lookup flags (OpenType, chapter 2).
 #![tactic(auto)]
 
 pub mod array;

@@ -74,7 +74,7 @@ begun r ps p s t u e lt on spends room moves =
           ∙ ap (λ d. nested_there r.sequence_index p d ps end (act r.lookup_index d)) (sym (left random).cut_is);
     }
 
--- ---- behind the match
+-- ---- after the match
 
 pub went_behind : (end p n : ℕ) (s t : Sides) → n ≡ length (whole (cut_of s)) → p ≡ min end n → holds p (cut_of s) ≡ true → IsMoved p s t → (random : ℕ) → Nests (cut_behind (Walks (cut_with random s) [] end [])) (Ok true) random random s t
 went_behind end p n s t en ep on moves random =

@@ -10,7 +10,7 @@ full n qs rs e = ap (λ k. take k (qs ++ rs)) (sym e) ∙ take-append_seam qs rs
 short : (n : ℕ) (qs : List ℕ) → length qs ≤ n → take n qs ≡ qs
 short n qs le = take_all n qs le
 
--- one more is added in front of what is left
+-- one more is added before what is left
 one_added : (n p : ℕ) (qs rs left more all : List ℕ) → left ≡ p ∷ more → take n (qs ++ left) ≡ all → rs ≡ qs ++ p ∷ [] → take n (rs ++ more) ≡ all
 one_added n p qs rs left more all first is add = ap (take n) (ap (λ ns. ns ++ more) add ∙ append_assoc qs (p ∷ []) more ∙ ap (λ ns. qs ++ ns) (sym first)) ∙ is
 

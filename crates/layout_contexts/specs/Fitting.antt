@@ -1,4 +1,4 @@
--- How a rule matches where it is tried, and what is left to do then.
+-- How a rule matches where it is tried, and the records that are then to be applied.
 use Rattle.std.specs.Prelude.{ℕ, ◌≡◌, ◌≤◌, ◌<◌, ◌+◌, ◌-◌, Bool, false, List, [], ◌∷◌, length, map, Option, Some, None, Result, Ok}
 use Rattle.buffer_glyphs.specs.declared.cause.ShapeCause.{ShapeCause}
 use Rattle.buffer_glyphs.specs.Events.{Break}
@@ -16,11 +16,11 @@ use Rattle.layout_contexts.specs.Nested.{each_nested, cut_behind}
 use Rattle.layout_contexts.specs.Chains.{Chain, chain_rule}
 use Rattle.layout_contexts.specs.Nesting.{Nests}
 
--- what a rule asks for, told by sequences
+-- the tests of a rule that is given by sequences
 abbrev pub chain_of : ChainRule → Chain
 chain_of r = record { backtrack = tests_of r.backtrack; input = tests_of r.input; lookahead = tests_of r.lookahead; records = r.records.now }
 
--- a rule does this at a cut, whatever its nested lookups do; places count from the cut
+-- the outcome of a rule at a cut by how it matches, whatever its nested lookups do; indices count from the cut
 abbrev pub Says : ChainFit → Applied → Chain → List ℕ → Cut → Type 0
 Says NoAttempt a r ps c = (nest : Option (ℕ → Action)) → chain_rule nest a r c ≡ Passes []
 Says (Fails back ahead) a r ps c = (nest : Option (ℕ → Action)) → chain_rule nest a r c ≡ attempt_around back ahead c
@@ -28,13 +28,14 @@ Says (Fits back end ahead) a r ps c =
     (nest : Option (ℕ → Action)) → chain_rule nest a r c
     ≡ later (Break (length c.front - back) (length c.front + ahead) ∷ []) (cut_behind (each_nested nest r.records c (map (λ k. k + length c.front) ps) (length c.front + end)))
 
--- so many items before the cut and from there on are there
+-- there are so many items before the cut and from there on
 abbrev pub IsInside : ChainFit → List ℕ → ℕ → ℕ → Type 0
 IsInside NoAttempt ps front rest = Unit
 IsInside (Fails back ahead) ps front rest = (back ≤ front) × (ahead ≤ rest)
 IsInside (Fits back end ahead) ps front rest = (back ≤ front) × (ahead ≤ rest) × (end ≤ rest) × (1 ≤ end) × AreRising 0 rest ps
 
--- a rule matched, and what it matched is marked: what its records and the way behind its match do from here, the rule does
+-- a rule matched, and the glyphs that it matched are flagged: what its records and the move to the end of its match do
+-- from here, the rule does
 pub record IsMatched (a : Applied) (r : Chain) (random end : ℕ) (places : List ℕ) (old new : Sides) : Type 0 where
   pub cut_is : cut_of new ≡ cut_of old
   pub still : IsStill old new
@@ -44,7 +45,7 @@ pub record IsMatched (a : Applied) (r : Chain) (random end : ℕ) (places : List
   pub nests : (nest : Option (ℕ → Action)) (result : Result Bool ShapeCause) (after : ℕ) (final : Sides)
       → Nests (cut_behind (each_nested nest r.records (cut_with random new) places end)) result random after new final → Nests (chain_rule nest a r (cut_with random old)) result random after old final
 
--- a rule is tried: where it matched, the end of its match is told; else it passes
+-- a rule was tried: where it matched, the answer is the end of its match; else it passes
 abbrev pub Matched : Option ℕ → Applied → Chain → ℕ → List ℕ → Sides → Sides → Type 0
 Matched None a r random places old new = (nest : Option (ℕ → Action)) → Nests (chain_rule nest a r (cut_with random old)) (Ok false) random random old new
 Matched (Some end) a r random places old new = IsMatched a r random end places old new

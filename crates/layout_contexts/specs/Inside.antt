@@ -1,8 +1,9 @@
--- What a rule's places and its end are once some records were done.
+-- The indices and the end of a match once some records were applied.
 use Rattle.std.specs.Prelude.{ℕ, ◌≤◌, ◌+◌, ◌-◌, List}
 use Rattle.layout_contexts.specs.Places.{AreRising}
 
--- a list of so many items became one of so many others: the places still rise inside it, the end of the match is no further from the end of the list, and neither comes before where they began
+-- a list of so many items became one of so many others: the indices still rise inside it, the end of the match is no
+-- further from the end of the list, and neither is before where they began
 pub record StaysInside (before after : ℕ) (places settled : List ℕ) (end at : ℕ) : Type 0 where
   pub within : end ≤ before → at ≤ after
   pub fewer : after - at ≤ before - end

@@ -9,7 +9,8 @@ use Rattle.buffer_stages.specs.Buffers.{are_glyphs, IsStill, Happened, IsPassed}
 use Rattle.buffer_stages.specs.Performing.{cut_with}
 use Rattle.layout_contexts.specs.Nested.{Walked, Walks, Stops}
 
--- a buffer became another cut, with a random state beside it, and so much happened to where its glyphs come from; the cursor may be anywhere
+-- a buffer became another cut, with a random state outside it, after events on clusters and flags; the cursor may be
+-- anywhere
 pub record IsLeft (cut : Cut) (events : List Event) (random : ℕ) (old new : Sides) : Type 0 where
   pub cut_is : cut_with random new ≡ cut
   pub happened : Happened events old new
@@ -23,7 +24,7 @@ Nests (Acts cut events) (Ok acted) before after old new = (acted ≡ true) × Is
 Nests (Refuses cause) (Ok acted) before after old new = ⊥
 Nests o (Err cause) before after old new = cause ≢ OutOfMemory → o ≡ Refuses cause
 
--- a call goes over records, and answers where the match ends then
+-- a call applied records, and answers where the match then ends
 abbrev pub Walking : Walked → Result ℕ ShapeCause → List ℕ → ℕ → Sides → Sides → Type 0
 Walking (Walks cut places end events) (Ok at) now after old new = (at ≡ end) × (now ≡ places) × IsLeft cut events after old new
 Walking (Stops cause) (Ok at) now after old new = ⊥

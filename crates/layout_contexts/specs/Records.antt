@@ -1,4 +1,4 @@
--- What is done for one record of a rule before its lookup is applied.
+-- One record of a rule, before its lookup is applied.
 use Rattle.std.specs.Prelude.{ℕ, ◌≡◌, ◌≢◌, ◌<◌, ◌⊎◌, false, List, [], length, Option, Some, None, Result, Ok, Err, slice_get}
 use Rattle.buffer_glyphs.specs.declared.cause.ShapeCause.{ShapeCause}
 use Rattle.buffer_glyphs.specs.declared.cause.ShapeCause.TheVariants.{OutOfMemory, TooLong}
@@ -10,19 +10,19 @@ use Rattle.buffer_stages.specs.Performing.{cut_with}
 use Rattle.layout_contexts.specs.Nested.{Walks, Stops, cut_at, holds, nested_there, one_record, spent}
 use Rattle.layout_contexts.specs.Nesting.{IsLeft}
 
--- the cursor went to a place, and nothing else changed
+-- the cursor was moved to an index, and nothing else changed
 abbrev pub IsMoved : ℕ → Sides → Sides → Type 0
 IsMoved p old new = (random : ℕ) → IsLeft (cut_at p (cut_with random old)) [] random old new
 
--- memory is short, or the side that grows would be too long
+-- a refusal for want of memory, or since the side that grows would be too long
 abbrev pub IsMoveRefusal : ℕ → Cut → ShapeCause → Type 0
 IsMoveRefusal p c cause = (cause ≡ OutOfMemory) ⊎ ((cause ≡ TooLong) × (holds p c ≡ false))
 
--- a unit of the budget is taken, and nothing else changed
+-- a step was taken, and nothing else changed
 abbrev pub IsSpent : Sides → Sides → Type 0
 IsSpent old new = (random : ℕ) → IsLeft (spent (cut_with random old)) [] random old new
 
--- a record's place is there, a unit is taken, and the cursor stands at the place: what the record's lookup does there is left to do
+-- a record's index exists, a step was taken, and the cursor is at the index: the record's lookup is then to be applied
 pub record IsBegun (r : SequenceLookupRecord) (places : List ℕ) (p : ℕ) (old new : Sides) : Type 0 where
   pub place : slice_get places r.sequence_index ≡ Some p
   pub behind : length new.behind ≡ p
@@ -31,7 +31,7 @@ pub record IsBegun (r : SequenceLookupRecord) (places : List ℕ) (p : ℕ) (old
   pub left : (random : ℕ) → IsLeft (cut_at p (spent (cut_with random old))) [] random old new
   pub does : (random : ℕ) (act : ℕ → Action) (end : ℕ) → one_record act r (cut_with random old) places end ≡ nested_there r.sequence_index p (cut_with random new) places end (act r.lookup_index (cut_with random new))
 
--- a record is begun; or it does nothing, whatever the lookups do; or there is no way to its place
+-- a record is begun; or it does nothing, whatever the lookups do; or the cursor cannot be moved to its index
 abbrev pub Begins : SequenceLookupRecord → List ℕ → Result (Option ℕ) ShapeCause → Sides → Sides → Type 0
 Begins r places (Ok None) old new = (new ≡ old) × ((random : ℕ) (act : ℕ → Action) (end : ℕ) → one_record act r (cut_with random old) places end ≡ Walks (cut_with random old) places end [])
 Begins r places (Ok (Some p)) old new = IsBegun r places p old new

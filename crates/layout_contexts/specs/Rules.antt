@@ -12,7 +12,7 @@ chains_of (Glyphs rules) = map glyph_chain rules
 chains_of (Classes s) = map (class_chain s) s.rules
 chains_of (Coverage rules) = map coverage_chain rules
 
--- whether they are tried at an item: rules by classes only where it is covered
+-- whether the rules are tried at an item: rules by classes only where the subtable covers it
 abbrev pub is_tried_at : ContextSubtable → Item → Bool
 is_tried_at (Glyphs rules) x = true
 is_tried_at (Classes s) x = is_covered_by s.first x

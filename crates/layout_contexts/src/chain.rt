@@ -1,3 +1,5 @@
+//! Tries a rule of a context or chained context (rustybuzz: hb/ot_layout_gsubgpos.rs, `apply_context`,
+//! `apply_chain_context`).
 ghost use Rattle.std.specs.Prelude.{◌≡◌, ◌<◌, drop, length};
 ghost use Rattle.layout_match.specs.Applied.{applied_of};
 ghost use Rattle.layout_match.specs.Sequences.{tests_of};
@@ -17,26 +19,26 @@ use layout_subtables::context::SequenceLookupRecord;
 /// A rule of a context or a chained context, in any of the formats.
 #[derive(Clone, Copy)]
 pub struct ChainRule<'a> {
-    /// What stands before the input, the nearest first.
+    /// The backtrack sequence, before the input, the nearest first.
     pub backtrack: MatchSequence<'a>,
     /// The input, with its first glyph.
     pub input: MatchSequence<'a>,
-    /// What stands after the input.
+    /// The lookahead sequence, after the input.
     pub lookahead: MatchSequence<'a>,
-    /// The lookups to apply then, in their order.
+    /// The lookups to apply at indices of the match, in their order.
     pub records: &'a [SequenceLookupRecord],
 }
 
-/// How a rule fits at the cursor.
+/// The result of matching a rule at the cursor.
 enum ChainFit {
-    /// Its first glyph isn't there, or it has too many.
+    /// Its first glyph doesn't match, or it has too many.
     NoAttempt,
-    /// So many glyphs before the cursor and from it on tell that it doesn't fit.
+    /// It doesn't match; so many glyphs before the cursor and from it on were read.
     Fails {
         back: usize,
         ahead: usize,
     },
-    /// So many before the cursor and from it on were matched; the input ends so far from it.
+    /// So many glyphs before the cursor and from it on were matched; the input ends so far from it.
     Fits {
         back: usize,
         end: usize,
@@ -53,7 +55,7 @@ fn behind_first_of<T>(items: &[T]) -> &[T]
     &items[1..]
 }
 
-/// A sequence without its first glyph.
+/// The sequence after its first glyph.
 #[tactic(auto, using(crate::proofs::Fitted::map_behind_first))]
 fn behind_first<'a>(sequence: &MatchSequence<'a>) -> MatchSequence<'a>
     ensures { tests_of result ≡ drop 1 (tests_of sequence.now) }
@@ -67,7 +69,7 @@ fn behind_first<'a>(sequence: &MatchSequence<'a>) -> MatchSequence<'a>
     }
 }
 
-/// Looks whether a rule fits at the cursor, and notes how far from it each glyph of its input stands.
+/// Matches a rule at the cursor, and records the distance from it of each glyph of its input.
 fn find_chain(
     ctx: &hb_ot_apply_context_t,
     rule: &ChainRule,
@@ -100,9 +102,9 @@ fn find_chain(
     }
 }
 
-/// Tries a rule at the cursor, and marks what tells whether it fits: where it does, what it matched as unsafe to break, else
-/// what was looked at as unsafe to concat, where that is asked for. Where it fits, it notes the indices of its input among
-/// all glyphs, and answers the index at which the input ends.
+/// Tries a rule at the cursor, and flags what it depends on: where it matches, the matched glyphs as unsafe to break,
+/// else the glyphs that were read as unsafe to concat, where that is requested. Where it matches, it records the
+/// indices of its input among all glyphs, and answers the index at which the input ends.
 pub fn match_chain(
     ctx: &hb_ot_apply_context_t,
     rule: &ChainRule,

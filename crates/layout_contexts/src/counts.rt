@@ -1,10 +1,11 @@
+//! How many glyphs are before and after the cursor.
 ghost use Rattle.std.specs.Prelude.{◌≡◌, ◌<◌, ◌^◌, length};
 ghost use Rattle.buffer_stages.specs.Actions.{whole};
 ghost use Rattle.buffer_stages.specs.Buffers.{cut_of};
 
 use buffer_core::buffer::hb_buffer_t;
 
-/// How many glyphs stand before the cursor. What a list takes of memory bounds it.
+/// How many glyphs are before the cursor; the memory that a list takes bounds it.
 pub(crate) fn backtrack_len(buffer: &hb_buffer_t) -> usize
     ensures count { result ≡ length buffer.now.behind }
     ensures small { result < 2 ^ 59 }

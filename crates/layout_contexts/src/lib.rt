@@ -1,4 +1,5 @@
-//! Contexts and chained contexts: a rule that matches applies other lookups at the places of its match.
+//! Contexts and chained contexts: a rule that matches applies other lookups at indices of its match (rustybuzz:
+//! hb/ot_layout_gsubgpos.rs, `apply_lookup`).
 #![tactic(auto)]
 
 pub mod chain;

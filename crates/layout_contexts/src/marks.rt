@@ -1,10 +1,11 @@
+//! Glyph flags on ranges around the cursor.
 ghost use Rattle.std.specs.Prelude.{◌≡◌, ◌≤◌, ◌+◌, ◌-◌, ◌∷◌, [], length, Some};
 ghost use Rattle.buffer_glyphs.specs.Events.{Break, Concat};
 ghost use Rattle.buffer_stages.specs.Buffers.{IsPassed};
 
 use buffer_core::buffer::hb_buffer_t;
 
-/// Marks so many glyphs before the cursor, and so many from there on, as unsafe to concat, where that is asked for.
+/// Flags so many glyphs before the cursor, and so many from there on, as unsafe to concat, where that is requested.
 pub(crate) fn mark_attempt(back: usize, ahead: usize, buffer: &mut hb_buffer_t)
     requires before { back ≤ length buffer.old.behind }
     requires after { ahead ≤ length buffer.old.ahead }
@@ -17,7 +18,7 @@ pub(crate) fn mark_attempt(back: usize, ahead: usize, buffer: &mut hb_buffer_t)
     buffer.unsafe_to_concat_from_outbuffer(Some(start), Some(end));
 }
 
-/// Marks such glyphs outside the least cluster among them as unsafe to break.
+/// Flags such glyphs outside the least cluster among them as unsafe to break.
 pub(crate) fn mark_match(back: usize, ahead: usize, buffer: &mut hb_buffer_t)
     requires before { back ≤ length buffer.old.behind }
     requires after { ahead ≤ length buffer.old.ahead }

@@ -1,3 +1,5 @@
+//! The indices of a match, once a nested lookup changed the list's length (rustybuzz: hb/ot_layout_gsubgpos.rs,
+//! `apply_lookup`).
 ghost use Rattle.std.specs.Prelude.{◌≡◌, ◌<◌, ◌+◌, ◌-◌, ◌++◌, ◌^◌, drop, length, map, take};
 ghost use Rattle.std.specs.List.{All};
 ghost use Rattle.layout_contexts.specs.Shifts.{following, resized};
@@ -5,7 +7,7 @@ ghost use Rattle.layout_contexts.specs.Shifts.{following, resized};
 use layout_match::MatchPositions;
 
 #[tactic(auto, using(crate::proofs::Shifted::following_on, crate::proofs::Shifted::following_full, crate::proofs::Shifted::following_all))]
-/// Adds so many places behind one, as far as there is room.
+/// Appends so many indices that follow one, as far as there is room.
 fn push_following(places: &mut MatchPositions, place: usize, count: usize)
     requires { place + count + 1 < 2 ^ 64 }
     ensures { places.new.items ≡ take 64 (places.old.items ++ following place count) }
@@ -20,7 +22,7 @@ fn push_following(places: &mut MatchPositions, place: usize, count: usize)
 }
 
 #[tactic(auto, using(crate::proofs::Shifted::moved_on, crate::proofs::Shifted::following_full, crate::proofs::Shifted::moved_all))]
-/// Adds places moved by a change of length, as far as there is room.
+/// Appends indices moved by a change of length, as far as there is room.
 fn push_moved(places: &mut MatchPositions, later: &[usize], before: usize, after: usize)
     requires { All (λ q. q + after < 2 ^ 64) later.now }
     ensures { places.new.items ≡ take 64 (places.old.items ++ map (λ q. q + after - before) later.now) }
@@ -34,7 +36,7 @@ fn push_moved(places: &mut MatchPositions, later: &[usize], before: usize, after
     }
 }
 
-/// Those from an index on.
+/// The indices of the match from the one at `from` on.
 fn from_index(places: &[usize], from: usize) -> &[usize]
     ensures { result.now ≡ drop from places.now }
 {
@@ -44,7 +46,7 @@ fn from_index(places: &[usize], from: usize) -> &[usize]
     &[]
 }
 
-/// Moves all places by so many.
+/// Moves all indices by so many.
 #[tactic(auto, using(crate::proofs::Shifted::all_moved))]
 pub(crate) fn move_places(places: &mut MatchPositions, by: usize)
     requires { All (λ q. q + by < 2 ^ 64) places.old.items }
@@ -55,9 +57,9 @@ pub(crate) fn move_places(places: &mut MatchPositions, by: usize)
     *places = moved;
 }
 
-/// Settles the places of a match, once a lookup at the i-th of them made the list, of `before` glyphs, one of `after`: as many
-/// places come in behind that one as glyphs came, as many are lost there as glyphs went, and later ones move. Those past
-/// `MAX_CONTEXT_LENGTH` are left out.
+/// Updates the indices of a match, once a lookup at the i-th of them changed the list's length from `before` to `after`
+/// glyphs: as many indices are inserted after that one as glyphs were, or as many deleted there as glyphs were, and
+/// later ones move. Those past `MAX_CONTEXT_LENGTH` are left out.
 #[tactic(auto, using(crate::proofs::Shifted::all_settled))]
 pub fn settle_places(places: &mut MatchPositions, i: usize, before: usize, after: usize)
     requires there { i < length places.old.items }

@@ -1,3 +1,4 @@
+//! The lookup records of a rule that matched (rustybuzz: hb/ot_layout_gsubgpos.rs, `apply_lookup`).
 ghost use Rattle.std.specs.Prelude.{◌≡◌, ◌≤◌, ◌<◌, ◌+◌, ◌^◌, [], ℕ, true, false, length, slice_get, Some, OnOk, IfErr};
 ghost use Rattle.buffer_stages.specs.Actions.{whole};
 ghost use Rattle.buffer_stages.specs.Buffers.{cut_of};
@@ -15,10 +16,10 @@ use buffer_glyphs::cause::ShapeCause;
 use layout_match::MatchPositions;
 use layout_subtables::context::SequenceLookupRecord;
 
-/// How deep lookups may be nested in others.
+/// How deep lookups may be nested in others (HarfBuzz: `HB_MAX_NESTING_LEVEL`).
 pub const MAX_NESTING_LEVEL: u32 = 64;
 
-/// Puts the cursor at a place.
+/// Moves the cursor to an index.
 #[tactic(auto, using(crate::proofs::Cuts::went_there, crate::proofs::Cuts::held_is, crate::proofs::Cuts::not_held, crate::proofs::Cuts::short_memory))]
 fn go_to(place: usize, buffer: &mut hb_buffer_t) -> Result<(), ShapeCause>
     requires kept { buffer.old.has_refused ≡ false }
@@ -34,7 +35,7 @@ fn go_to(place: usize, buffer: &mut hb_buffer_t) -> Result<(), ShapeCause>
     Ok(())
 }
 
-/// Takes a unit of the budget, or tells that none is left.
+/// Takes one of the steps that are left (`max_ops`); answers whether one was left.
 #[tactic(auto, using(crate::proofs::Cuts::spent_left))]
 fn spend(buffer: &mut hb_buffer_t) -> bool
     ensures left { result ≡ has_budget (cut_of buffer.old) }
@@ -55,10 +56,10 @@ fn place_at(places: &MatchPositions, i: usize) -> Option<usize>
     places.as_slice().get(i).copied()
 }
 
-/// Begins a record of a rule that matched at these places: where its place is among them and in the list, and a unit of the
-/// budget is left, takes the unit, puts the cursor at the place and answers it. The record's lookup is then to be applied
-/// there. Else it does nothing. It refuses for want of memory, or where a side of the buffer would have more glyphs than it
-/// may.
+/// Begins a record of a rule that matched at these indices: where its index is among them and in the list, and a step
+/// is left, it takes the step, moves the cursor to that index and answers it. The record's lookup is then to be applied
+/// there. Else it does nothing. It refuses for want of memory, or where a side of the buffer would have more glyphs
+/// than it may.
 pub fn begin_record(
     lookup_record: &SequenceLookupRecord,
     places: &MatchPositions,
@@ -82,8 +83,8 @@ pub fn begin_record(
     Ok(Some(place))
 }
 
-/// Settles the places of a match, and answers where it ends, once a record's lookup acted at its place on a list of
-/// `before` glyphs, which may have become longer or shorter.
+/// Updates the indices of a match, and answers its end, once a record's lookup acted at its index on a list of `before`
+/// glyphs, which may have become longer or shorter.
 #[tactic(auto, using(crate::proofs::Settled::in_places, crate::proofs::Settled::room_to_settle))]
 pub fn settle_match(
     lookup_record: &SequenceLookupRecord,
@@ -111,7 +112,7 @@ pub fn settle_match(
     place.max((end + after).saturating_sub(before))
 }
 
-/// Puts the cursor behind the match, which ends at an index, or at the end of the list where that lies past it.
+/// Moves the cursor to the end of the match, or to the end of the list where that is before it.
 pub fn go_behind(end: usize, buffer: &mut hb_buffer_t) -> Result<bool, ShapeCause>
     requires kept { buffer.old.has_refused ≡ false }
     ensures { (random : ℕ) → Nests (cut_behind (Walks (cut_with random buffer.old) [] end

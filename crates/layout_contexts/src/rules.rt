@@ -1,3 +1,4 @@
+//! The rules of a context subtable, in any of its formats (OpenType, chapter 2, sequence context formats 1 to 3).
 ghost use Rattle.std.specs.Prelude.{◌≡◌, ◌<◌, length, slice_get, Some};
 ghost use Rattle.buffer_glyphs.specs.Items.{item_of};
 ghost use Rattle.layout_contexts.specs.Chains.{class_chain, coverage_chain, glyph_chain};

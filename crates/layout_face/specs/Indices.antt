@@ -4,11 +4,13 @@ use Rattle.std.specs.Option.{option_map_or}
 use Rattle.layout_face.specs.LookupIndices.{substitution_fits, positioning_fits}
 use Rattle.layout_face.specs.declared.parts.FaceParts.{FaceParts}
 
--- the number of sets of marks is one of 16 bits (OpenType, GDEF, `markGlyphSetCount`), so that the index 65535 names none
+-- the limit of the number of mark glyph sets, which has 16 bits (OpenType, GDEF, `markGlyphSetCount`), so that the
+-- index 65535 names none
 abbrev pub set_limit : ℕ
 set_limit = 65535
 
--- features, lookups, sets of marks, records of pairs and anchors are there, in both layout tables
+-- whether all features, lookups, mark glyph sets, records of pairs and anchors that are named in both layout tables
+-- exist
 abbrev pub indices_fit : FaceParts → Bool
 indices_fit font =
     nat_le (length font.gdef.sets) set_limit

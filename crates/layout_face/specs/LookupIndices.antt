@@ -12,15 +12,16 @@ use Rattle.layout_face.specs.declared.positioning.PositioningTable.{PositioningT
 use Rattle.layout_face.specs.declared.positioning.PositioningSubtables.{PositioningSubtables}
 use Rattle.layout_face.specs.declared.positioning.PositioningSubtables.TheVariants.{Single, Pair, Cursive, MarkToBase, MarkToLigature, MarkToMark, Context, ChainContext}
 
--- the set that a lookup names is there
+-- whether the mark glyph set that a lookup names exists
 abbrev pub set_fits : ℕ → Option ℕ → Bool
 set_fits count set = option_map_or (λ i. nat_lt i count) set true
 
+-- whether each class of a pair subtable has its record
 abbrev pub pair_classes_fit : PairPos → Bool
 pair_classes_fit (Pairs.Glyphs pairs) = true
 pair_classes_fit (Pairs.Classes pairs) = pairs_fit pairs
 
--- each class of a subtable has its record, or its anchor
+-- whether each class of a subtable has its record, or its anchor
 abbrev pub positioning_classes_fit : PositioningSubtables → Bool
 positioning_classes_fit (Single subtables) = true
 positioning_classes_fit (Pair subtables) = list_all (λ s. pair_classes_fit s) subtables
@@ -31,15 +32,16 @@ positioning_classes_fit (MarkToMark subtables) = list_all (λ s. marks_fit_bases
 positioning_classes_fit (Context subtables) = true
 positioning_classes_fit (ChainContext subtables) = true
 
--- features, lookups and sets of marks are there
+-- whether all features, lookups and mark glyph sets that the GSUB table names exist
 abbrev pub substitution_fits : ℕ → SubstitutionTable → Bool
 substitution_fits sets table =
     indices_fit (length table.lookups) table.inner && list_all (λ l. set_fits sets l.mark_filtering_set) table.lookups
 
+-- whether a GPOS lookup's mark glyph set, records and anchors exist
 abbrev pub positioning_lookup_fits : ℕ → PositioningLookup → Bool
 positioning_lookup_fits sets lookup = set_fits sets lookup.mark_filtering_set && positioning_classes_fit lookup.subtables
 
--- features, lookups, sets of marks, records and anchors are there
+-- whether all features, lookups, mark glyph sets, records and anchors that the GPOS table names exist
 abbrev pub positioning_fits : ℕ → PositioningTable → Bool
 positioning_fits sets table =
     indices_fit (length table.lookups) table.inner

@@ -1,4 +1,4 @@
-//! What shaping asks a font.
+//! The font's data that shaping reads (rustybuzz: hb/face.rs).
 ghost use Rattle.std.specs.Prelude.{◌≡◌, true, is_some, neg_ℤ, pos, ◌/◌};
 ghost use Rattle.std.specs.Option.{option_copied};
 ghost use Rattle.layout_common.specs.Classes.{class_of};
@@ -32,8 +32,8 @@ impl Model for Face {
 }
 
 impl Face {
-    /// A font whose indices and classes stay within their lists, as `FaceParts::indices_fit` tells. That keys rise is
-    /// kept by the tables of rows themselves.
+    /// A font whose indices and classes stay within their lists (`FaceParts::indices_fit`). The tables of rows
+    /// themselves ensure that keys rise.
     pub fn new(parts: FaceParts) -> Face
         requires { indices_fit parts ≡ true }
         ensures { result ≡ parts }
@@ -84,7 +84,7 @@ impl Face {
         }
     }
 
-    /// How far a horizontal line moves on at a glyph: its width, 0 where the font gives none.
+    /// The advance of a glyph in a horizontal line, in font units: its width, 0 where the font gives none.
     pub fn glyph_h_advance(&self, glyph: u16) -> i32
         ensures { result ≡ pos (width_of glyph self.now) }
     {
@@ -97,8 +97,8 @@ impl Face {
         find_value(&self.parts.h, glyph).unwrap_or(0)
     }
 
-    /// How far a vertical line moves on at a glyph, downward: minus its height, minus the units of an em where the font
-    /// gives none.
+    /// The advance of a glyph in a vertical line, in font units: minus its height, minus the units of an em where the
+    /// font gives none.
     pub fn glyph_v_advance(&self, glyph: u16) -> i32
         ensures { result ≡ neg_ℤ (pos (height_of glyph self.now)) }
     {
@@ -111,14 +111,14 @@ impl Face {
         find_value(&self.parts.v, glyph).unwrap_or(self.parts.upem)
     }
 
-    /// The x coordinate of the point at which a vertical line puts a glyph: half its width.
+    /// The x coordinate of a glyph's vertical origin: half its width.
     pub fn glyph_h_origin(&self, glyph: u16) -> i32
         ensures { result ≡ pos (width_of glyph self.now / 2) }
     {
         i32::from(self.width_of(glyph) / 2)
     }
 
-    /// The y coordinate of that point, the ascender where the font gives none.
+    /// The y coordinate of a glyph's vertical origin, the ascender where the font gives none.
     pub fn glyph_v_origin(&self, glyph: u16) -> i32
         ensures { result ≡ origin_of glyph self.now }
     {
@@ -143,14 +143,14 @@ impl Face {
         }
     }
 
-    /// Whether the font gives glyph classes, be they of no glyph.
+    /// Whether the font has glyph classes, even if they name no glyph.
     pub fn has_glyph_classes(&self) -> bool
         ensures { result ≡ is_some self.now.gdef.classes }
     {
         self.parts.gdef.classes.is_some()
     }
 
-    /// The class of a glyph: 1 a base, 2 a ligature, 3 a mark, another number none of these.
+    /// The GDEF class of a glyph: 1 a base, 2 a ligature, 3 a mark, another number none of these.
     pub fn glyph_class(&self, glyph: u16) -> u16
         ensures { result ≡ glyph_class glyph self.now.gdef.classes }
     {
@@ -160,14 +160,14 @@ impl Face {
         }
     }
 
-    /// The attachment class of a mark, 0 where the font gives none.
+    /// The GDEF mark attachment class of a glyph, 0 where the font gives none.
     pub fn mark_attachment_class(&self, glyph: u16) -> u16
         ensures { result ≡ class_of glyph self.now.gdef.attach }
     {
         self.parts.gdef.attach.class_of(glyph)
     }
 
-    /// Whether the set of marks of an index has a glyph; a set that isn't there has none.
+    /// Whether the mark glyph set at an index has a glyph; a missing set has none.
     pub fn is_in_mark_set(&self, set: u16, glyph: u16) -> bool
         ensures { result ≡ has_mark set glyph self.now.gdef.sets }
     {
@@ -177,7 +177,7 @@ impl Face {
         }
     }
 
-    /// The glyph definition table: classes of glyphs, and sets of marks.
+    /// The glyph definition table (GDEF): classes of glyphs, and mark glyph sets.
     pub fn gdef(&self) -> &GlyphDefinition
         ensures { result.now ≡ self.now.gdef }
     {

@@ -1,4 +1,5 @@
-// A font as a parsed value: its lookups and their tables (OpenType, GSUB and GPOS), and what shaping asks it of its glyphs.
+//! A font as a parsed value: its lookups and their tables (OpenType, GSUB and GPOS), and the metrics and names of its
+//! glyphs (rustybuzz: hb/face.rs).
 #![tactic(auto)]
 
 pub mod face;

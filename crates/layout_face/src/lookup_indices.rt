@@ -10,7 +10,7 @@ use layout_subtables::mark::{MarkBasePos, MarkLigPos};
 use layout_subtables::pair::PairPos;
 
 impl SubstitutionTable {
-    /// Whether each index of the table is below its list's length; the font has so many sets of marks.
+    /// Whether each index of the table is below its list's length; the font has so many mark glyph sets.
     pub fn indices_fit(&self, set_count: usize) -> bool
         ensures { result ≡ substitution_fits set_count self.now }
     {
@@ -20,7 +20,7 @@ impl SubstitutionTable {
 }
 
 impl PositioningTable {
-    /// Whether each index and each class of the table is below its list's length; the font has so many sets of marks.
+    /// Whether each index and each class of the table is below its list's length; the font has so many mark glyph sets.
     pub fn indices_fit(&self, set_count: usize) -> bool
         ensures { result ≡ positioning_fits set_count self.now }
     {

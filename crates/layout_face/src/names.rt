@@ -1,4 +1,4 @@
-//! What a font tells of its glyphs to one who prints them.
+//! The names and boxes of a font's glyphs, for printing.
 
 use crate::face::Face;
 use buffer_glyphs::names::{GlyphId, GlyphNames, hb_glyph_extents_t};

@@ -1,4 +1,4 @@
-//! A font as its keys give it. Lengths are in font units.
+//! The data of a font, a field for each key of its JSON format. Lengths are in font units.
 ghost use Rattle.std.specs.Prelude.{◌≡◌, true, string_bytes};
 ghost use Rattle.std.specs.Option.{option_map_or, option_copied};
 ghost use Rattle.layout_face.specs.LookupIndices.{substitution_fits, positioning_fits};
@@ -94,11 +94,11 @@ impl Keyed for NameRow {
 /// The glyph definition table (OpenType, GDEF).
 #[derive(Debug, Drop)]
 pub struct GlyphDefinition {
-    /// The glyph classes: 1 a base, 2 a ligature, 3 a mark; none where the font gives no classes.
+    /// The GDEF glyph classes: 1 a base, 2 a ligature, 3 a mark; none where the font gives no classes.
     pub classes: Option<ClassDefinition>,
     /// The mark attachment classes.
     pub attach: ClassDefinition,
-    /// The sets of marks, in the order of their indices.
+    /// The mark glyph sets, in the order of their indices.
     pub sets: Array<Coverage>,
 }
 
@@ -112,11 +112,11 @@ pub struct FaceParts {
     pub cmap: SortedRows<CharacterRow>,
     /// The glyph of a character with a variation selector.
     pub variants: SortedRows<VariationRow>,
-    /// Widths: how far a horizontal line moves on, to the right.
+    /// Widths: the advances of a horizontal line, to the right.
     pub h: SortedRows<GlyphRow<u16>>,
-    /// Heights: how far a vertical line moves on, downward.
+    /// Heights: the advances of a vertical line, downward.
     pub v: SortedRows<GlyphRow<u16>>,
-    /// The y coordinate of the point at which a vertical line puts a glyph.
+    /// The y coordinates of vertical origins.
     pub origins: SortedRows<GlyphRow<i16>>,
     pub extents: SortedRows<GlyphRow<hb_glyph_extents_t>>,
     pub names: SortedRows<NameRow>,
@@ -126,8 +126,8 @@ pub struct FaceParts {
 }
 
 impl FaceParts {
-    /// Whether each index and each class is below the length of the list that it points into: features, lookups and sets of
-    /// marks, records of pairs and anchors; and whether there are at most 65,535 sets, since 65535 names none.
+    /// Whether each index and each class is below the length of its list: features, lookups and mark glyph sets,
+    /// records of pairs and anchors; and whether there are at most 65,535 sets, since 65535 names none.
     pub fn indices_fit(&self) -> bool
         ensures { result ≡ indices_fit self.now }
     {

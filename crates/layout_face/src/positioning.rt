@@ -1,4 +1,4 @@
-//! The table of glyph positioning.
+//! The GPOS table.
 ghost use Rattle.std.specs.Prelude.{◌≡◌, false, slice_get};
 ghost use Rattle.std.specs.Option.{option_copied};
 ghost use Rattle.layout_face.specs.Lookups.{props_of};
@@ -25,12 +25,12 @@ pub enum PositioningSubtables {
     ChainContext(Array<ContextSubtable>),
 }
 
-/// A lookup of glyph positioning: the first of its subtables that acts at a glyph is the one that acts there.
+/// A GPOS lookup: its first matching subtable is applied at a glyph.
 #[derive(Debug, Drop)]
 pub struct PositioningLookup {
     /// The lookup flag: which glyphs are skipped.
     pub flags: u16,
-    /// The index of a set of marks; it counts only with `USE_MARK_FILTERING_SET`.
+    /// The index of a mark glyph set, used only with `USE_MARK_FILTERING_SET`.
     pub mark_filtering_set: Option<u16>,
     pub subtables: PositioningSubtables,
 }
@@ -44,7 +44,7 @@ impl PositioningLookup {
         lookup_props(self.flags, self.mark_filtering_set)
     }
 
-    /// Whether the lookup is applied from the end of the text: no positioning is.
+    /// Whether the lookup is applied from the end of the text: no GPOS lookup is.
     pub fn is_reverse(&self) -> bool
         ensures { result ≡ false }
     {
@@ -52,7 +52,7 @@ impl PositioningLookup {
     }
 }
 
-/// The table GPOS.
+/// The GPOS table.
 #[derive(Debug, Drop)]
 pub struct PositioningTable {
     /// Scripts, language systems and features.
@@ -62,7 +62,7 @@ pub struct PositioningTable {
 }
 
 impl PositioningTable {
-    /// The lookup of an index.
+    /// The lookup at an index.
     pub fn get_lookup(&self, index: u16) -> Option<&PositioningLookup>
         ensures { option_copied result ≡ slice_get self.now.lookups index }
     {

@@ -1,4 +1,4 @@
-//! The table of glyph substitution.
+//! The GSUB table.
 ghost use Rattle.std.specs.Prelude.{◌≡◌};
 ghost use Rattle.std.specs.Option.{option_copied};
 ghost use Rattle.std.specs.Prelude.{slice_get};
@@ -25,12 +25,12 @@ pub enum SubstitutionSubtables {
     ReverseChainSingle(Array<ReverseChainSubst>),
 }
 
-/// A lookup of glyph substitution: the first of its subtables that acts at a glyph is the one that acts there.
+/// A GSUB lookup: its first matching subtable is applied at a glyph.
 #[derive(Debug, Drop)]
 pub struct SubstLookup {
     /// The lookup flag: which glyphs are skipped.
     pub flags: u16,
-    /// The index of a set of marks; it counts only with `USE_MARK_FILTERING_SET`.
+    /// The index of a mark glyph set, used only with `USE_MARK_FILTERING_SET`.
     pub mark_filtering_set: Option<u16>,
     pub subtables: SubstitutionSubtables,
 }
@@ -61,7 +61,7 @@ pub(crate) fn lookup_props(flags: u16, set: Option<u16>) -> u32
     u32::from(flags) + u32::from(set.unwrap_or(u16::MAX)) * 0x1_0000
 }
 
-/// The table GSUB.
+/// The GSUB table.
 #[derive(Debug, Drop)]
 pub struct SubstitutionTable {
     /// Scripts, language systems and features.
@@ -71,7 +71,7 @@ pub struct SubstitutionTable {
 }
 
 impl SubstitutionTable {
-    /// The lookup of an index.
+    /// The lookup at an index.
     pub fn get_lookup(&self, index: u16) -> Option<&SubstLookup>
         ensures { option_copied result ≡ slice_get self.now.lookups index }
     {

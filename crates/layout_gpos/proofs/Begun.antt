@@ -83,6 +83,6 @@ found_at first (suc i) (r ∷ rows) d up point lt =
 pub found : (first i : ℕ) (rows : List PairRow) (d : PairRow) → rise None rows ≡ true → IsFirstIndex first rows i → i < length rows → nat_eq (get_or rows i d).first first ≡ list_any (λ (r : PairRow). r.first == first) rows
 found first i rows d e point lt = found_at first i rows d (firsts_rise None rows e) point lt
 
--- where that index is behind the last row there is none
+-- where that index is after the last row there is none
 pub missing : (first i : ℕ) (rows : List PairRow) → IsFirstIndex first rows i → length rows ≤ i → list_any (λ (r : PairRow). r.first == first) rows ≡ false
 missing first i rows point le = list_any_none (λ (r : PairRow). r.first == first) rows (λ k d lt. below (get_or rows k d).first first (point.0 k d (omega arith) (omega (arith, le, lt))))

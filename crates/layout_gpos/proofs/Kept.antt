@@ -54,7 +54,7 @@ before_is b s le =
     let long : length (strip s.behind) ≡ length s.behind = length-map s.behind item_of in
     ap (take b) (map-append item_of s.behind s.ahead) ∙ take-append-le b (strip s.behind) (strip s.ahead) (omega (arith, long, le))
 
--- the glyphs behind the last search were passed over
+-- the glyphs after the last search were skipped
 pub went_on : (k : Sought) (a : Applied) (search : Search) (l : LastSearch) (more at : ℕ) (found : Result ℕ ℕ) (s : Sides) → l.before ≤ length s.behind → IsKept (asked k (own_search (without_marks a) (strip s.ahead))) (items_of s) l → more ≡ length s.behind - l.before → more ≤ at → at ≤ more
     → search ≡ own_search (without_marks a) (strip s.ahead) → nearest_from (asked k search) at (reverse (strip s.behind)) ≡ nearest_from (asked k search) 0 (reverse (strip s.behind)) → found ≡ farther more l.found → found ≡ nearest_before (asked k) (without_marks a) (cut_of s)
 went_on k a search l more at found s since kept e from to is passed f =

@@ -1,18 +1,18 @@
--- Glyphs that hang on others by anchors, on a list of positions.
+-- Glyphs attached to others by anchors, on a list of positions.
 use Rattle.std.specs.Prelude.{ℕ, ℤ, ◌-ℤ◌, if◌then◌else◌, List, Bool, set}
 use Rattle.std.specs.Int.RustNames.{bit_or}
 use Rattle.buffer_glyphs.specs.Items.{Position}
 use Rattle.layout_subtables.specs.declared.value.Anchor.{Anchor}
 use Rattle.layout_offsets.specs.Links.{position_at, is_near, link_to}
 
--- a mark whose anchor lies on that of its base, both seen from where their glyphs are drawn
+-- a mark whose anchor is on that of its base, both seen from where their glyphs are drawn
 abbrev pub anchored : Anchor → Anchor → ℤ → Position → Position
 anchored base mark link p = record p { x_offset = base.x -ℤ mark.x; y_offset = base.y -ℤ mark.y; attach_chain = link; attach_type = 1 }
 
--- a mark hangs on its base where that is near
+-- a mark attached to its base where that is near enough
 abbrev pub mark_hung : ℕ → ℕ → Anchor → Anchor → List Position → List Position
 mark_hung at base base_anchor mark_anchor ps = if is_near at base then set ps at (anchored base_anchor mark_anchor (link_to at base) (position_at at ps)) else ps
 
--- where a link is made, it is told that glyphs hang on others
+-- scratch flags, with HAS_GPOS_ATTACHMENT set where a glyph was attached
 abbrev pub told_if : Bool → ℕ → ℕ
 told_if near told = if near then bit_or told 8 else told

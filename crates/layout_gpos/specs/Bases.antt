@@ -1,4 +1,4 @@
--- What is kept of a search for a base or a ligature, for the next one of the same lookup.
+-- The kept result of a search for a base or a ligature, for the next one of the same lookup.
 use Rattle.std.specs.Prelude.{ℕ, ◌≡◌, ◌≤◌, ◌<◌, ◌+◌, List, [], length, reverse, take, Result, Ok, Err, IfOk, IfErr}
 use Rattle.buffer_glyphs.specs.Items.{Item}
 use Rattle.layout_match.specs.declared.search.match_t.{match_t}
@@ -11,28 +11,28 @@ use Rattle.layout_gpos.specs.declared.bases.LastSearches.{LastSearches}
 use Rattle.layout_gpos.specs.declared.bases.Sought.{Sought}
 use Rattle.layout_gpos.specs.declared.bases.Sought.TheVariants.{Base, Ligature}
 
--- what a search asks of an item that seeks a base, or a ligature
+-- the answer of a search for a base, or a ligature, for an item
 abbrev pub asked : Sought → Search → Item → match_t
 asked Base s x = base_item s x
 asked Ligature s x = any_item s x
 
--- what a lookup that isn't kept to syllables asks of the items before one where it seeks such
+-- the answer for the items before one, of a lookup that isn't applied per syllable
 abbrev pub any_sought : Sought → Applied → Item → match_t
 any_sought k a = asked k (own_search (without_marks a) [])
 
--- what was found so much farther back
+-- a result counted from an item so much farther on
 abbrev pub farther : ℕ → Result ℕ ℕ → Result ℕ ℕ
 farther k (Ok at) = Ok (at + k)
 farther k (Err end) = Err (end + k)
 
--- what is kept is what such a search finds before so many of a list's items
+-- the kept result is what such a search finds before so many of a list's items
 pub record IsKept (ask : Item → match_t) (xs : List Item) (l : LastSearch) : Type 0 where
   pub within : l.before ≤ length xs
   pub inside : IfOk l.found (λ at. at < l.before)
   pub read : IfErr l.found (λ end. end ≤ l.before)
   pub is : l.found ≡ nearest_from ask 0 (reverse (take l.before xs))
 
--- so it is of both searches of a lookup
+-- both kept results of a lookup are so
 pub record AreKept (a : Applied) (xs : List Item) (l : LastSearches) : Type 0 where
   pub base : IsKept (any_sought Base a) xs l.base
   pub ligature : IsKept (any_sought Ligature a) xs l.ligature

@@ -22,128 +22,143 @@ use Rattle.layout_gpos.specs.Anchors.{mark_hung, told_if}
 use Rattle.layout_offsets.specs.Links.{is_near}
 use Rattle.layout_gpos.specs.Moving.{break_around, placed_past}
 
--- ---- the item that a mark hangs on; the first before the cut has the index 0
+-- ---- the item that a mark is attached to; the first before the cut has the index 0
 
--- a search takes each item that it can't pass over
+-- a search matches each item that it can't skip
 abbrev pub any_item : Search → Item → match_t
 any_item s = answer s (λ x. not (is_skippable s x))
 
--- the nearest item before the cut that a search takes, by what it asks of an item
+-- the nearest item before the cut that a search matches, by its answers
 abbrev pub nearest_before : (Search → Item → match_t) → Applied → Cut → Result ℕ ℕ
 nearest_before ask a c = nearest_from (ask (own_search a c.rest)) 0 (reverse c.front)
 
+-- the nearest item before the cut that the lookup doesn't skip
 abbrev pub item_before : Applied → Cut → Result ℕ ℕ
 item_before a c = nearest_before any_item a c
 
--- a lookup with marks passed over in place of its flag
+-- a lookup with items of class MARK skipped instead of its flag
 abbrev pub without_marks : Applied → Applied
 without_marks a = record a { props = 8 }
 
--- a lookup that passes over no class; marks outside its set, or of another attachment class, it still does
+-- a lookup that skips no class, but still marks outside its set or of another attachment class
 abbrev pub among_marks : Applied → Applied
 among_marks a = record a { props = a.props - bit_and a.props 14 }
 
--- an item of a multiple substitution behind its first
+-- an item of a multiple substitution after its first
 abbrev pub is_later_component : Item → Bool
 is_later_component x = is_multiplied x && lig_id x == 0 && nat_lt 0 (lig_comp x)
 
--- which is passed over where it would be taken
+-- such an item is skipped where it would match
 abbrev pub base_answer : Bool → match_t → match_t
 base_answer true MATCH = SKIP
 base_answer true SKIP = SKIP
 base_answer true NOT_MATCH = NOT_MATCH
 base_answer false m = m
 
+-- the answer of a search for a base
 abbrev pub base_item : Search → Item → match_t
 base_item s x = base_answer (is_later_component x) (any_item s x)
 
+-- the nearest base before the cut
 abbrev pub base_before : Applied → Cut → Result ℕ ℕ
 base_before a c = nearest_before base_item (without_marks a) c
 
--- ---- attached
+-- ---- attachment
 
--- the item at the cut hangs on the one with an index before it, where that is near; a break between them is unsafe
+-- the item at the cut attached to the one at an index before it, where that is near enough; a break between them is
+-- unsafe
 abbrev pub attached : Anchor → Anchor → ℕ → Cut → Cut
 attached base mark back c = record (placed_past 1 (mark_hung (length c.front) (length c.front - (back + 1)) base mark c.positions) c) {
   told = told_if (is_near (length c.front) (length c.front - (back + 1))) c.told;
 }
 
+-- the rule that attaches the item at the cut
 abbrev pub attach : Anchor → Anchor → ℕ → Action
 attach base mark back c = Acts (attached base mark back c) (break_around (back + 1) 1 c)
 
--- a mark without an anchor, or an item that has none for its class, is left to later subtables
+-- the rule that attaches where both have anchors; a mark without an anchor, or an item that has none for its class, is
+-- left to later subtables
 abbrev pub attach_if : Option Anchor → Option Anchor → ℕ → Action
 attach_if None mark back c = Passes []
 attach_if (Some base) None back c = Passes []
 attach_if (Some base) (Some mark) back c = attach base mark back c
 
+-- whether an option has a value
 abbrev pub is_there : {X : Type 0} → Option X → Bool
 is_there None = false
 is_there (Some x) = true
 
--- the item before the cut with an index, where one was found; else all that was read is unsafe to concat
+-- a rule for the item before the cut at an index, where one was found; else all that was read is unsafe to concat
 abbrev pub with_found : (ℕ → Option Item → Action) → Result ℕ ℕ → Action
 with_found act (Err end) c = attempt_around end 1 c
 with_found act (Ok back) c = act back (slice_get (reverse c.front) back) c
 
 -- ---- mark to base
 
--- an item that is no base tells that the rule failed
+-- mark to base attachment to an item; it fails on an item that the subtable does not cover as a base
 abbrev pub on_base : List BaseRow → MarkRecord → ℕ → Option Item → Action
 on_base bases m back None c = Passes []
 on_base bases m back (Some b) c = if is_there (row_of (λ r. r.glyph) b.number bases) then attach_if (base_anchor b.number m.class bases) m.anchor back c else attempt_around (back + 1) 1 c
 
+-- mark to base attachment of a mark's record, if there is one
 abbrev pub mark_on_base : Applied → List BaseRow → Option MarkRecord → Action
 mark_on_base a bases None c = Passes []
 mark_on_base a bases (Some m) c = with_found (on_base bases m) (base_before a c) c
 
+-- mark to base attachment (OpenType, GPOS lookup type 4)
 abbrev pub mark_to_base : Applied → MarkBasePos → Action
 mark_to_base a s c = at_first (λ x. mark_on_base a s.bases (value_of x.number s.marks)) (first_of c.rest) c
 
 -- ---- mark to ligature
 
--- of so many components the mark's own, where it belongs to the ligature; else the last
+-- the mark's own component of so many, where it belongs to the ligature; else the last
 abbrev pub component_of : ℕ → Item → Item → ℕ
 component_of count ligature mark = if lig_id ligature == lig_id mark && not (lig_id ligature == 0) && nat_lt 0 (lig_comp mark) then min (lig_comp mark) count - 1 else count - 1
 
--- none of an item that is no ligature, or of one without components
+-- that component, and none for an item that is no ligature, or a ligature without components
 abbrev pub component_in : Option ℕ → Item → Item → Option ℕ
 component_in None ligature mark = None
 component_in (Some count) ligature mark = if count == 0 then None else Some (component_of count ligature mark)
 
--- an item without such a component tells that the rule failed
+-- mark to ligature attachment to a component; it fails where there is none
 abbrev pub on_component : List LigatureRow → MarkRecord → ℕ → ℕ → Option ℕ → Action
 on_component ligatures m back glyph None c = attempt_around (back + 1) 1 c
 on_component ligatures m back glyph (Some k) c = attach_if (component_anchor glyph k m.class ligatures) m.anchor back c
 
+-- mark to ligature attachment to an item
 abbrev pub on_ligature : List LigatureRow → MarkRecord → Item → ℕ → Option Item → Action
 on_ligature ligatures m mark back None c = Passes []
 on_ligature ligatures m mark back (Some l) c = on_component ligatures m back l.number (component_in (component_count l.number ligatures) l mark) c
 
+-- mark to ligature attachment of a mark's record, if there is one
 abbrev pub mark_on_ligature : Applied → List LigatureRow → Item → Option MarkRecord → Action
 mark_on_ligature a ligatures x None c = Passes []
 mark_on_ligature a ligatures x (Some m) c = with_found (on_ligature ligatures m x) (item_before (without_marks a) c) c
 
+-- mark to ligature attachment (OpenType, GPOS lookup type 5)
 abbrev pub mark_to_ligature : Applied → MarkLigPos → Action
 mark_to_ligature a s c = at_first (λ x. mark_on_ligature a s.ligatures x (value_of x.number s.marks)) (first_of c.rest) c
 
 -- ---- mark to mark
 
--- a mark is itself a ligature
+-- whether a mark is itself a ligature
 abbrev pub is_own_ligature : Item → Bool
 is_own_ligature x = not (lig_id x == 0) && lig_comp x == 0
 
--- both belong to one base, or to one component of one ligature, or one is itself a ligature
+-- whether both marks belong to one base, or to one component of one ligature, or one is itself a ligature
 abbrev pub belong_together : Item → Item → Bool
 belong_together x y = if lig_id x == lig_id y then lig_id x == 0 || lig_comp x == lig_comp y else is_own_ligature x || is_own_ligature y
 
+-- mark to mark attachment to an item
 abbrev pub on_mark : List BaseRow → MarkRecord → Item → ℕ → Option Item → Action
 on_mark bases m mark back None c = Passes []
 on_mark bases m mark back (Some b) c = if is_mark b && belong_together mark b then on_base bases m back (Some b) c else attempt_around (back + 1) 1 c
 
+-- mark to mark attachment of a mark's record, if there is one
 abbrev pub mark_on_mark : Applied → List BaseRow → Item → Option MarkRecord → Action
 mark_on_mark a bases x None c = Passes []
 mark_on_mark a bases x (Some m) c = with_found (on_mark bases m x) (item_before (among_marks a) c) c
 
+-- mark to mark attachment (OpenType, GPOS lookup type 6)
 abbrev pub mark_to_mark : Applied → MarkBasePos → Action
 mark_to_mark a s c = at_first (λ x. mark_on_mark a s.bases x (value_of x.number s.marks)) (first_of c.rest) c

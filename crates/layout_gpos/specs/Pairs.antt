@@ -23,34 +23,37 @@ abbrev pub second_adjusted : Direction → ℕ → Option ValueRecord → List P
 second_adjusted d i None ps = ps
 second_adjusted d i (Some v) ps = adjusted_at d i v ps
 
--- two glyphs adjusted
+-- two glyphs adjusted by the values of a pair
 abbrev pub pair_adjusted : Direction → ℕ → ℕ → PairValues → List Position → List Position
 pair_adjusted d first second v ps = second_adjusted d second v.second (adjusted_at d first v.first ps)
 
--- behind a second glyph with a record the text goes on; without one that glyph may begin the next pair
+-- the length of a pair: after a second glyph with a record the cursor is after it; without one that glyph may begin the
+-- next pair
 abbrev pub pair_length : ℕ → Option ValueRecord → ℕ
 pair_length apart None = apart
 pair_length apart (Some v) = apart + 1
 
+-- whether a record is missing or zero
 abbrev pub has_no_effect : Option ValueRecord → Bool
 has_no_effect None = true
 has_no_effect (Some v) = is_zero v
 
--- a pair with a record that isn't zero is unsafe to break
+-- the events of a pair: with a record that isn't zero it is unsafe to break
 abbrev pub pair_events : PairValues → ℕ → Cut → List Event
 pair_events v apart c = if is_zero v.first && has_no_effect v.second then [] else break_around 0 (apart + 1) c
 
--- the item so many behind the cut is the second: where the two are no pair, all from the first to it is unsafe to concat
+-- the item so many after the cut is the second: where the two are no pair, all items from the first to it are unsafe to
+-- concat
 abbrev pub pair_of : Direction → ℕ → Option PairValues → Action
 pair_of d apart None c = attempt_around 0 (apart + 1) c
 pair_of d apart (Some v) c = Acts (placed_past (pair_length apart v.second) (pair_adjusted d (length c.front) (length c.front + apart) v c.positions) c) (pair_events v apart c)
 
--- the second is the nearest behind the first that the lookup does not pass over
+-- the second item is the nearest after the first that the lookup does not skip
 abbrev pub pair_second : Direction → (Item → Option PairValues) → Result ℕ ℕ → Action
 pair_second d values (Err end) c = attempt_around 0 end c
 pair_second d values (Ok apart) c = pair_of d apart (option_and_then values (slice_get c.rest apart)) c
 
--- the nearest item behind the first
+-- the nearest item after the first
 abbrev pub next_item : Applied → List Item → Result ℕ ℕ
 next_item a rest = nearest_from (answer (own_search a rest) (λ x. not (is_skippable (own_search a rest) x))) 1 rest
 
@@ -64,8 +67,10 @@ abbrev pub begins_pair : PairPos → ℕ → Bool
 begins_pair (Glyphs p) first = list_any (λ r. r.first == first) p.rows
 begins_pair (Classes p) first = is_covered first p.coverage
 
+-- pair adjustment of an item that begins pairs
 abbrev pub pair_from : Direction → Applied → PairPos → Item → Action
 pair_from d a s x c = if begins_pair s x.number then pair_second d (λ y. pair_values s x.number y.number) (next_item a c.rest) c else Passes []
 
+-- pair adjustment (OpenType, GPOS lookup type 2)
 abbrev pub pair_subtable : Direction → Applied → PairPos → Action
 pair_subtable d a s c = at_first (pair_from d a s) (first_of c.rest) c

@@ -9,10 +9,11 @@ use Rattle.buffer_stages.specs.Actions.{Action, Passes, Acts, at_first}
 use Rattle.layout_gpos.specs.Values.{adjusted_at}
 use Rattle.layout_gpos.specs.Moving.{placed_past}
 
--- a covered item is adjusted
+-- the item at the cut adjusted, where the subtable covers it
 abbrev pub single_adjusted : Direction → Option ValueRecord → Action
 single_adjusted d None c = Passes []
 single_adjusted d (Some v) c = Acts (placed_past 1 (adjusted_at d (length c.front) v c.positions) c) []
 
+-- single adjustment (OpenType, GPOS lookup type 1)
 abbrev pub single_subtable : Direction → List (GlyphRow ValueRecord) → Action
 single_subtable d rows c = at_first (λ x. single_adjusted d (value_of x.number rows)) (first_of c.rest) c

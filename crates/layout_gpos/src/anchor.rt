@@ -1,4 +1,4 @@
-//! Marks that hang on other glyphs, on a list of positions.
+//! Attachment of marks to other glyphs by anchors, on a list of positions.
 ghost use Rattle.std.specs.Prelude.{◌≡◌, ◌<◌, ◌-ℤ◌, length};
 ghost use Rattle.layout_gpos.specs.Anchors.{anchored, mark_hung};
 ghost use Rattle.layout_offsets.specs.Links.{is_near, link_to};
@@ -25,7 +25,7 @@ fn anchored(base: Anchor, mark: Anchor, link: i16, position: GlyphPosition) -> G
     }
 }
 
-/// Hangs a mark on its base, anchor on anchor. Where the base is too far it is left as it is.
+/// Attaches a mark to its base, anchor on anchor. Where the base is more than 32767 glyphs away, nothing changes.
 pub fn hang_mark(
     positions: &mut [GlyphPosition],
     at: usize,

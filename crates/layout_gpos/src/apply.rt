@@ -1,4 +1,4 @@
-//! What all subtables of positioning do.
+//! The trait of positioning subtables.
 ghost use Rattle.std.specs.Prelude.{ℕ, ◌≡◌, ◌<◌, Ok, true, false, [], length};
 ghost use Rattle.buffer_core.specs.Sides.{all_glyphs, items_of};
 ghost use Rattle.layout_match.specs.Applied.{Applied, applied_of};
@@ -14,8 +14,8 @@ use layout_match::hb_ot_apply_context_t;
 pub trait Apply {
     ghost action: { Self → Direction → Applied → Action };
 
-    /// Does what the subtable does at the glyph at the cursor, and tells whether it acted. It changes positions and glyph
-    /// flags alone, and where it acted the cursor goes on; where it didn't, it changed glyph flags alone. It takes no memory.
+    /// Applies the subtable at the cursor, and answers whether it acted. It changes positions and glyph flags only, and
+    /// where it acted the cursor moves on; where it didn't, it changed glyph flags only. It takes no memory.
     fn apply(&self, ctx: &hb_ot_apply_context_t, buffer: &mut hb_buffer_t) -> bool
         requires closed { buffer.old.is_open ≡ false }
         requires there { 0 < length buffer.old.ahead }

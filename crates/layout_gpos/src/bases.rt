@@ -1,4 +1,4 @@
-//! The search for a base or a ligature, which remembers the last one.
+//! The search for a base or a ligature, which remembers the last one (HarfBuzz: `last_base`).
 ghost use Rattle.std.specs.Prelude.{ℕ, ◌≡◌, ◌<◌, ◌≤◌, ◌+◌, ◌^◌, IfErr, IfOk, length, List};
 ghost use Rattle.buffer_core.specs.Sides.{items_of};
 ghost use Rattle.buffer_glyphs.specs.Items.{Item, item_of, strip};
@@ -15,17 +15,17 @@ use buffer_glyphs::info::hb_glyph_info_t;
 use layout_match::search::GlyphSearch;
 use layout_match::{hb_ot_apply_context_t, match_t};
 
-/// What a mark is to hang on.
+/// The glyph that a mark is to be attached to.
 #[derive(Clone, Copy)]
 pub enum Sought {
-    /// A glyph that is neither a mark nor a later component of a multiple substitution.
+    /// A glyph that is neither of GDEF class MARK nor a later component of a multiple substitution.
     Base,
-    /// A glyph that is no mark.
+    /// A glyph that is not of GDEF class MARK.
     Ligature,
 }
 
 impl Sought {
-    /// What the search says of a glyph.
+    /// The search's answer for a glyph.
     fn answer(self, search: &GlyphSearch, info: &hb_glyph_info_t) -> match_t
         ensures { result ≡ asked self (search_of search.now) (item_of info.now) }
     {
@@ -37,17 +37,17 @@ impl Sought {
     }
 }
 
-/// What a search found, kept for the next one of the same lookup on the same glyphs.
+/// The result of a search, kept for the next one of the same lookup on the same glyphs.
 #[derive(Clone, Copy)]
 pub struct LastSearch {
-    /// Before how many glyphs it searched.
+    /// How many glyphs were before the glyph that searched.
     before: usize,
-    /// How far back it found what it sought, the nearest glyph being 0; else how far it read.
+    /// How far back the search found a glyph, the nearest being 0; else how far it read.
     found: Result<usize, usize>,
 }
 
 impl LastSearch {
-    /// What is found before the first glyph.
+    /// The search before the first glyph, which found none.
     #[tactic(auto, using(crate::proofs::Kept::kept_first))]
     pub fn new() -> LastSearch
         ensures { (ask : Item → match_t) (xs : List Item) → IsKept ask xs result }
@@ -69,7 +69,7 @@ pub struct LastSearches {
 }
 
 impl LastSearches {
-    /// What is found before the first glyph.
+    /// The searches before the first glyph, which found none.
     pub fn new() -> LastSearches
         ensures { (a : Applied) (xs : List Item) → AreKept a xs result }
     {
@@ -80,7 +80,7 @@ impl LastSearches {
     }
 }
 
-/// What was found so much farther back.
+/// A result counted from a glyph so much farther on.
 fn farther(found: Result<usize, usize>, by: usize) -> Result<usize, usize>
     requires inside { IfOk found (λ at. at + by < 2 ^ 64) }
     requires read { IfErr found (λ end. end + by < 2 ^ 64) }
@@ -92,8 +92,7 @@ fn farther(found: Result<usize, usize>, by: usize) -> Result<usize, usize>
     }
 }
 
-/// What is sought before the cursor: the glyphs behind the last search are looked at, and what that one found is not sought
-/// again.
+/// Searches before the cursor: only the glyphs after those of the last search are tested, and else its result holds.
 #[tactic(auto, using(layout_match::proofs::Lemmas::Nearest::taken_before, layout_match::proofs::Lemmas::Nearest::refused_before, layout_match::proofs::Lemmas::Nearest::passed_before, crate::proofs::Kept::went_on))]
 fn found_since(
     sought: Sought,
@@ -121,8 +120,8 @@ fn found_since(
     farther(last.found, more)
 }
 
-/// The nearest glyph before the cursor that a mark may hang on; else how far the search read. It goes on from the last
-/// search, but where the lookup is kept to syllables.
+/// The nearest glyph before the cursor that a mark may be attached to; else how far the search read. It continues the
+/// last search, unless the lookup is applied per syllable.
 #[tactic(auto, using(crate::proofs::Kept::kept_there, crate::proofs::Kept::kept_now))]
 pub fn found_before(
     sought: Sought,

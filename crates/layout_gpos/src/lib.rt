@@ -1,4 +1,4 @@
-// Subtables of positioning that call no other lookup, applied at the cursor of a buffer without an output.
+//! GPOS subtables that call no other lookup, applied at the cursor of a buffer without an output.
 #![tactic(auto)]
 
 pub mod anchor;

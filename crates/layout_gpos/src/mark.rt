@@ -1,4 +1,4 @@
-//! Attachment of marks.
+//! Mark to base attachment (OpenType, GPOS lookup type 4).
 ghost use Rattle.std.specs.Prelude.{ℕ, ◌≡◌, ◌<◌, ◌≤◌, IfErr, IfOk, false, true, Ok, length};
 ghost use Rattle.buffer_core.specs.Sides.{all_glyphs, items_of};
 ghost use Rattle.buffer_rows.specs.Keys.{row_of};
@@ -41,7 +41,7 @@ fn hang_at(
     hang_mark(buffer.pos_slice_mut(), at, base, base_anchor, mark_anchor);
 }
 
-/// Tells that glyphs hang on others, where a link was made.
+/// Sets the scratch flag HAS_GPOS_ATTACHMENT, where a mark was attached.
 pub fn tell_attached(buffer: &mut hb_buffer_t, near: bool)
     ensures { buffer.new ≡ record buffer.old { scratch_flags = told_if near buffer.old.scratch_flags } }
 {
@@ -51,7 +51,7 @@ pub fn tell_attached(buffer: &mut hb_buffer_t, near: bool)
     }
 }
 
-/// Hangs the mark at the cursor on a glyph before it, and goes on.
+/// Attaches the mark at the cursor to a glyph before it, and moves the cursor on.
 fn attach(base: Anchor, mark: Anchor, back: usize, buffer: &mut hb_buffer_t)
     requires closed { buffer.old.is_open ≡ false }
     requires there { 0 < length buffer.old.ahead }
@@ -70,7 +70,7 @@ fn attach(base: Anchor, mark: Anchor, back: usize, buffer: &mut hb_buffer_t)
     pass(buffer, 1);
 }
 
-/// The same, where both have anchors.
+/// Attaches the mark at the cursor to a glyph before it, where both have anchors.
 #[tactic(auto, using(crate::proofs::Attached::not_attached, crate::proofs::Attached::both_attached))]
 pub fn attach_if(
     base: Option<Anchor>,
@@ -105,7 +105,7 @@ fn is_base(subtable: &MarkBasePos, glyph: u16) -> bool
     }
 }
 
-/// Hangs the mark at the cursor on a base before it.
+/// Attaches the mark at the cursor to a base before it.
 #[tactic(auto, using(crate::proofs::Lemmas::Nearest::number_back, crate::proofs::Attached::on_a_base, crate::proofs::Attached::on_no_base, crate::proofs::Lemmas::Performed::attempt_performed))]
 pub fn attach_to_base(
     subtable: &MarkBasePos,
@@ -135,10 +135,10 @@ pub fn attach_to_base(
     )
 }
 
-/// Mark to base attachment (OpenType, GPOS lookup type 4): where the subtable covers the mark at the cursor, it hangs on the
-/// nearest glyph before it that is neither a mark nor a later component of a multiple substitution, anchor on anchor. It
-/// tells whether it acted; where it didn't, it changed glyph flags alone. The search for the base goes on from the last one
-/// of the same lookup on these glyphs.
+/// Mark to base attachment (OpenType, GPOS lookup type 4): where the subtable covers the mark at the cursor, it is
+/// attached to the nearest glyph before it that is neither of GDEF class MARK nor a later component of a multiple
+/// substitution, anchor on anchor. It answers whether it acted; where it didn't, it changed glyph flags only. The
+/// search for the base continues the last one of the same lookup on these glyphs.
 #[tactic(auto, using(buffer_stages::proofs::Lemmas::Glyphs::number_ahead, crate::proofs::Attached::no_base_mark, crate::proofs::Attached::base_mark))]
 pub fn apply_mark_base_pos(
     subtable: &MarkBasePos,
@@ -162,7 +162,7 @@ pub fn apply_mark_base_pos(
     attach_found(subtable, mark, found, buffer)
 }
 
-/// The same with what was found before the cursor.
+/// Mark to base attachment, given the result of the search for the base.
 #[tactic(auto, using(crate::proofs::Lemmas::Performed::attempt_performed))]
 fn attach_found(
     subtable: &MarkBasePos,
@@ -188,7 +188,7 @@ fn attach_found(
     }
 }
 
-/// As a subtable of a lookup it is of mark to base attachment.
+/// The subtable in a lookup of mark to base attachment.
 impl Apply for MarkBasePos {
     ghost action = { λ s d a. mark_to_base a s };
 

@@ -1,4 +1,4 @@
-//! Attachment of marks to ligatures.
+//! Mark to ligature attachment (OpenType, GPOS lookup type 5).
 ghost use Rattle.std.specs.Prelude.{ℕ, ◌≡◌, ◌<◌, ◌≤◌, IfErr, IfOk, Ok, false, true, length};
 ghost use Rattle.buffer_core.specs.Sides.{all_glyphs, items_of};
 ghost use Rattle.buffer_glyphs.specs.Items.{item_of};
@@ -21,7 +21,8 @@ use buffer_glyphs::ligature_words::{_hb_glyph_info_get_lig_comp, _hb_glyph_info_
 use layout_match::hb_ot_apply_context_t;
 use layout_subtables::mark::{MarkLigPos, MarkRecord};
 
-/// Of so many components of a ligature, the first being 0, the mark's own where it belongs to the ligature; else the last.
+/// The index of the mark's component among so many of the ligature, where it belongs to that ligature; else of the last
+/// one.
 fn component_of(count: usize, ligature: &hb_glyph_info_t, mark: &hb_glyph_info_t) -> usize
     requires { 0 < count }
     ensures { result ≡ component_of count (item_of ligature.now) (item_of mark.now) }
@@ -34,7 +35,8 @@ fn component_of(count: usize, ligature: &hb_glyph_info_t, mark: &hb_glyph_info_t
     count - 1
 }
 
-/// The component of a ligature that a mark hangs on, none where the subtable has no such ligature or no component of it.
+/// The component of a ligature that a mark is attached to; none where the subtable has no such ligature or no component
+/// of it.
 fn component_in(
     subtable: &MarkLigPos,
     glyph: u16,
@@ -50,7 +52,7 @@ fn component_in(
     }
 }
 
-/// Hangs the mark at the cursor on a ligature before it.
+/// Attaches the mark at the cursor to a ligature before it.
 #[tactic(auto, using(crate::proofs::Lemmas::Nearest::number_back, crate::proofs::MarkLig::on_its_component, crate::proofs::MarkLig::on_no_component, crate::proofs::Lemmas::Performed::attempt_performed))]
 fn attach_to_ligature(
     subtable: &MarkLigPos,
@@ -78,7 +80,7 @@ fn attach_to_ligature(
     attach_if(anchor, mark.anchor, back, buffer)
 }
 
-/// The same with what was found before the cursor.
+/// Mark to ligature attachment, given the result of the search for the ligature.
 #[tactic(auto, using(crate::proofs::Lemmas::Performed::attempt_performed))]
 fn attach_ligature_found(
     subtable: &MarkLigPos,
@@ -105,10 +107,10 @@ fn attach_ligature_found(
     }
 }
 
-/// Mark to ligature attachment (OpenType, GPOS lookup type 5): where the subtable covers the mark at the cursor, it hangs on
-/// the nearest glyph before it that is no mark: on the component of that ligature that it belongs to, or on the last, anchor
-/// on anchor. It tells whether it acted; where it didn't, it changed glyph flags alone. The search for the ligature goes on
-/// from the last one of the same lookup on these glyphs.
+/// Mark to ligature attachment (OpenType, GPOS lookup type 5): where the subtable covers the mark at the cursor, it is
+/// attached to the nearest glyph before it that is not of GDEF class MARK: to the component of that ligature that it
+/// belongs to, or to the last, anchor on anchor. It answers whether it acted; where it didn't, it changed glyph flags
+/// only. The search for the ligature continues the last one of the same lookup on these glyphs.
 #[tactic(auto, using(buffer_stages::proofs::Lemmas::Glyphs::number_ahead, crate::proofs::MarkLig::no_ligature_mark))]
 pub fn apply_mark_lig_pos(
     subtable: &MarkLigPos,

@@ -1,4 +1,4 @@
-//! Attachment of marks to marks.
+//! Mark to mark attachment (OpenType, GPOS lookup type 6).
 ghost use Rattle.std.specs.Prelude.{ℕ, ◌≡◌, ◌<◌, ◌≤◌, ◌&&◌, IfErr, IfOk, false, true, length};
 ghost use Rattle.buffer_core.specs.Sides.{all_glyphs, items_of};
 ghost use Rattle.buffer_glyphs.specs.Items.{item_of};
@@ -19,9 +19,9 @@ use buffer_glyphs::ligature_words::{
 use layout_match::hb_ot_apply_context_t;
 use layout_subtables::mark::{MarkBasePos, MarkRecord};
 
-/// Mark to mark attachment (OpenType, GPOS lookup type 6): where the subtable covers the mark at the cursor, it hangs on the
-/// mark before it, no class being passed over, where both belong to one base or to one component of a ligature, or one is
-/// itself a ligature. It tells whether it acted; where it didn't, it changed glyph flags alone.
+/// Mark to mark attachment (OpenType, GPOS lookup type 6): where the subtable covers the mark at the cursor, it is
+/// attached to the mark before it, with no class skipped, where both belong to one base or to one component of a
+/// ligature, or one is itself a ligature. It answers whether it acted; where it didn't, it changed glyph flags only.
 #[tactic(auto, using(buffer_stages::proofs::Lemmas::Glyphs::number_ahead, crate::proofs::MarkMark::no_mark_mark, crate::proofs::MarkMark::mark_mark))]
 pub fn apply_mark_mark_pos(
     subtable: &MarkBasePos,
@@ -43,7 +43,7 @@ pub fn apply_mark_mark_pos(
     attach_mark_found(subtable, mark, &info, found, buffer)
 }
 
-/// The same with what was found before the cursor.
+/// Mark to mark attachment, given the result of the search for the other mark.
 #[tactic(auto, using(crate::proofs::Lemmas::Performed::attempt_performed, crate::proofs::MarkMark::on_a_mark, crate::proofs::MarkMark::on_no_mark))]
 fn attach_mark_found(
     subtable: &MarkBasePos,
@@ -93,7 +93,7 @@ fn belong_together(mark: &hb_glyph_info_t, other: &hb_glyph_info_t) -> bool
     is_own_ligature(mark) || is_own_ligature(other)
 }
 
-/// Whether a glyph is a mark that may bear another.
+/// Whether the other glyph is of GDEF class MARK, and the mark may be attached to it.
 fn may_bear(mark: &hb_glyph_info_t, other: &hb_glyph_info_t) -> bool
     ensures { result ≡ (is_mark (item_of other.now) && belong_together (item_of mark.now) (item_of other.now)) }
 {

@@ -1,4 +1,4 @@
-//! Pair adjustment.
+//! Pair adjustment (OpenType, GPOS lookup type 2).
 ghost use Rattle.std.specs.Prelude.{ℕ, ◌≡◌, ◌<◌, ◌≤◌, ◌+◌, ◌==◌, ◌&&◌, IfErr, IfOk, false, true, length, option_and_then, slice_get};
 ghost use Rattle.std.specs.List.{list_any};
 ghost use Rattle.buffer_core.specs.Sides.{all_glyphs, items_of};
@@ -19,7 +19,7 @@ use layout_match::{hb_ot_apply_context_t, skipping_iterator_t};
 use layout_subtables::pair::{PairPos, PairRow, PairValues};
 use layout_subtables::value::ValueRecord;
 
-/// Whether there are pairs with a first glyph, in logarithmic time: the first row from which on no first glyph is below it.
+/// Whether there are pairs of a first glyph, in logarithmic time: the first row whose first glyph is not below it.
 fn has_first(pairs: &SortedRows<PairRow>, first: u16) -> bool
     ensures { result ≡ list_any (λ r. r.first == first) pairs.now }
 {
@@ -46,8 +46,8 @@ fn pair_values(subtable: &PairPos, first: u16, second: u16) -> Option<PairValues
     }
 }
 
-/// The nearest glyph behind the one at the cursor that the lookup doesn't pass over, from the cursor on; else how far the
-/// search read.
+/// The nearest glyph after the one at the cursor that the lookup doesn't skip, counted from the cursor; else how far
+/// the search read.
 #[tactic(auto, using(crate::proofs::Lemmas::Read::read_inside, crate::proofs::Lemmas::Read::found_ahead))]
 pub fn next_glyph(ctx: &hb_ot_apply_context_t, buffer: &hb_buffer_t) -> Result<usize, usize>
     requires { 0 < length buffer.now.ahead }
@@ -74,7 +74,8 @@ fn pair_has_no_effect(values: PairValues) -> bool
     is_zero(values.first) && has_no_effect(values.second)
 }
 
-/// The length of a pair whose second glyph is so far behind the first: with its second glyph where that has a record.
+/// The length of a pair whose second glyph is so far after the first: it includes the second glyph where that has a
+/// record.
 fn pair_length(apart: usize, value: Option<ValueRecord>) -> usize
     requires { apart < 0xFFFF_FFFF_FFFF_FFFF }
     ensures { result ≡ pair_length apart value }
@@ -85,7 +86,7 @@ fn pair_length(apart: usize, value: Option<ValueRecord>) -> usize
     }
 }
 
-/// Marks a pair as unsafe to break where it has a record that isn't zero.
+/// Flags a pair as unsafe to break where it has a value record that isn't zero.
 #[tactic(auto, using(crate::proofs::Paired::pair_marked, crate::proofs::Paired::pair_unmarked))]
 fn mark_pair(values: PairValues, apart: usize, buffer: &mut hb_buffer_t)
     requires { apart < length buffer.old.ahead }
@@ -97,7 +98,7 @@ fn mark_pair(values: PairValues, apart: usize, buffer: &mut hb_buffer_t)
     }
 }
 
-/// Adjusts the glyph with an index, and one so far behind it where that has a record.
+/// Applies the first value record, and the second one to the second glyph of the pair where there is one.
 fn adjust_pair(buffer: &mut hb_buffer_t, first: usize, apart: usize, values: PairValues)
     requires closed { buffer.old.is_open ≡ false }
     requires second { first + apart < length buffer.old.positions }
@@ -113,7 +114,7 @@ fn adjust_pair(buffer: &mut hb_buffer_t, first: usize, apart: usize, values: Pai
     }
 }
 
-/// Does to two glyphs what a pair's values say, where they are a pair.
+/// Applies the values of a pair to two glyphs, where they are a pair.
 #[tactic(auto, using(crate::proofs::Lemmas::Performed::attempt_performed, crate::proofs::Paired::pair_acted))]
 fn apply_values(values: Option<PairValues>, apart: usize, buffer: &mut hb_buffer_t) -> bool
     requires closed { buffer.old.is_open ≡ false }
@@ -145,7 +146,8 @@ impl Apply for PairPos {
     }
 }
 
-/// Pair adjustment (OpenType, GPOS lookup type 2) of the glyph at the cursor, which begins pairs, and the nearest behind it.
+/// Pair adjustment (OpenType, GPOS lookup type 2) of the glyph at the cursor, which begins pairs, and the nearest one
+/// after it.
 #[tactic(auto, using(crate::proofs::Lemmas::Read::number_beyond, crate::proofs::Lemmas::Read::found_ahead, crate::proofs::Lemmas::Performed::attempt_performed, crate::proofs::Paired::second_found, crate::proofs::Paired::second_failed))]
 fn apply_from(
     subtable: &PairPos,

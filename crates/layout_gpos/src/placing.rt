@@ -1,4 +1,4 @@
-//! Positions written at the cursor, and the cursor moved on.
+//! Positions changed at the cursor, and the cursor moved on.
 ghost use Rattle.std.specs.Prelude.{ℕ, ◌≡◌, ◌<◌, ◌≤◌, false, true, [], length};
 ghost use Rattle.buffer_core.specs.Sides.{moved_on};
 ghost use Rattle.layout_gpos.specs.Values.{adjusted_at};
@@ -21,7 +21,7 @@ pub fn adjust_glyph(buffer: &mut hb_buffer_t, at: usize, value: ValueRecord)
     adjust(buffer.pos_slice_mut(), at, value, direction);
 }
 
-/// The cursor goes on over glyphs; without an output that takes no memory and is never refused.
+/// Moves the cursor over glyphs; without an output that takes no memory and is never refused.
 pub fn pass(buffer: &mut hb_buffer_t, count: usize)
     requires closed { buffer.old.is_open ≡ false }
     requires there { count ≤ length buffer.old.ahead }

@@ -1,4 +1,4 @@
-//! The glyphs before the cursor that marks may hang on.
+//! The glyphs before the cursor that marks may be attached to.
 ghost use Rattle.std.specs.Prelude.{◌≡◌, ◌<◌, ◌≤◌, ◌+◌, IfErr, IfOk, Some, length, reverse, slice_get};
 ghost use Rattle.buffer_glyphs.specs.Items.{item_of};
 ghost use Rattle.layout_match.specs.Applied.{applied_of};
@@ -13,7 +13,7 @@ use buffer_glyphs::ligature_words::{
 use layout_common::flags::{IGNORE_FLAGS, IGNORE_MARKS};
 use layout_match::{hb_ot_apply_context_t, match_t, skipping_iterator_t};
 
-/// With what a lookup is applied, marks being passed over in place of its flag.
+/// The parameters of applying one lookup, with glyphs of class MARK skipped instead of its flag.
 pub fn without_marks<'a>(ctx: &hb_ot_apply_context_t<'a>) -> hb_ot_apply_context_t<'a>
     ensures { applied_of result ≡ without_marks (applied_of ctx.now) }
 {
@@ -22,7 +22,7 @@ pub fn without_marks<'a>(ctx: &hb_ot_apply_context_t<'a>) -> hb_ot_apply_context
     other
 }
 
-/// With what a lookup is applied, no class being passed over.
+/// The parameters of applying one lookup, with no class skipped.
 pub fn among_marks<'a>(ctx: &hb_ot_apply_context_t<'a>) -> hb_ot_apply_context_t<'a>
     ensures { applied_of result ≡ among_marks (applied_of ctx.now) }
 {
@@ -31,7 +31,7 @@ pub fn among_marks<'a>(ctx: &hb_ot_apply_context_t<'a>) -> hb_ot_apply_context_t
     other
 }
 
-/// The glyph before the cursor with an index, the nearest being 0.
+/// The glyph before the cursor at an index, the nearest being 0.
 pub fn glyph_before(buffer: &hb_buffer_t, back: usize) -> &hb_glyph_info_t
     requires { back < length buffer.now.behind }
     ensures { slice_get (reverse buffer.now.behind) back ≡ Some result.now }
@@ -40,7 +40,7 @@ pub fn glyph_before(buffer: &hb_buffer_t, back: usize) -> &hb_glyph_info_t
     &buffer.out_info()[index]
 }
 
-/// The nearest glyph before the cursor that the lookup doesn't pass over; else how far the search read.
+/// The nearest glyph before the cursor that the lookup doesn't skip; else how far the search read.
 #[tactic(auto, using(crate::proofs::Lemmas::Read::read_back))]
 pub fn item_before(ctx: &hb_ot_apply_context_t, buffer: &hb_buffer_t) -> Result<usize, usize>
     requires { 0 < length buffer.now.ahead }

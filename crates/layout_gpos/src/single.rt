@@ -1,4 +1,4 @@
-//! Single adjustment.
+//! Single adjustment (OpenType, GPOS lookup type 1).
 ghost use Rattle.std.specs.Prelude.{ℕ, ◌≡◌, ◌<◌, false, length};
 ghost use Rattle.buffer_core.specs.Sides.{all_glyphs};
 ghost use Rattle.layout_gpos.specs.Singles.{single_subtable};

@@ -1,4 +1,4 @@
-//! Value records on a list of positions.
+//! Value records (OpenType, GPOS) applied to a list of positions.
 ghost use Rattle.std.specs.Prelude.{◌≡◌, ◌<◌, length};
 ghost use Rattle.layout_gpos.specs.Values.{adjusted, adjusted_at, advanced, is_zero, moved};
 
@@ -35,14 +35,14 @@ fn advanced(is_horizontal: bool, value: ValueRecord, position: GlyphPosition) ->
     }
 }
 
-/// A position adjusted: placements always act, an advance along the line alone.
+/// A position adjusted: placements always apply, an advance only along the line.
 pub fn adjusted(direction: Direction, value: ValueRecord, position: GlyphPosition) -> GlyphPosition
     ensures { result ≡ adjusted direction value position }
 {
     advanced(direction.is_horizontal(), value, moved(value, position))
 }
 
-/// Adjusts the position with an index.
+/// Adjusts the position at an index.
 pub fn adjust(positions: &mut [GlyphPosition], at: usize, value: ValueRecord, direction: Direction)
     requires here { at < length positions.old }
     ensures { positions.new ≡ adjusted_at direction at value positions.old }
@@ -50,7 +50,7 @@ pub fn adjust(positions: &mut [GlyphPosition], at: usize, value: ValueRecord, di
     positions[at] = adjusted(direction, value, positions[at]);
 }
 
-/// Whether a record has nothing but zeros.
+/// Whether all values of a record are zero.
 pub fn is_zero(value: ValueRecord) -> bool
     ensures { result ≡ is_zero value }
 {

@@ -23,7 +23,7 @@ by_found MATCH at i r h e = let same : at ≡ i = cc in omega (arith, same)
 by_found NOT_MATCH at i r h e = cc
 by_found SKIP at i r h e = let le = h e in omega (arith, le)
 
--- the nearest stands at the first or behind it
+-- the nearest stands at the first or after it
 nearest_after : (ask : Item → match_t) (at i : ℕ) (xs : List Item) → nearest ask at xs ≡ Ok i → at ≤ i
 nearest_after ask at i [] e = cc
 nearest_after ask at i (x ∷ xs) e = by_found (ask x) at i (nearest ask (at + 1) xs) (λ h. nearest_after ask (at + 1) i xs h) e
@@ -32,7 +32,7 @@ pub record AreFound (at end : ℕ) (places : List ℕ) : Type 0 where
   pub rising : AreRising at places
   pub end_is : end ≡ end_of at places
 
--- the indices rise, and the match ends behind the last
+-- the indices rise, and the match ends after the last
 found_one : (r : Result ℕ ℕ) (asks : List (Item → match_t)) (at end : ℕ) (xs : List Item) → ((i : ℕ) → r ≡ Ok i → at ≤ i) → ((next : ℕ) → reached asks next xs ≡ Ok end → AreFound next end (indices asks next xs))
     → then_reached r (λ next. reached asks next xs) ≡ Ok end → AreFound at end (with_index r (λ next. indices asks next xs))
 found_one (Ok i) asks at end xs le rest e = let f = rest (i + 1) e in record { rising = (le i refl, f.rising); end_is = f.end_is }

@@ -113,7 +113,7 @@ output_refused gdef glyphs i g s now lt a full r =
     let none : nat_le (length s.behind + length glyphs) s.max_len ≡ false = grind (arith, nat_tests, past, limit, count, lt) in
     refuses_past (length glyphs) r (Acts (multiplied_cut gdef glyphs (cut_with r s)) (Replace (length (cut_with r s).front) 1 (length glyphs) ∷ [])) s none
 
--- where the glyphs come from
+-- the origins of the glyphs
 from_one : (n : ℕ) (o : Origin) (front rest : List Origin) → first_of rest ≡ Some o → replaced_among (length front) 1 n (front ++ rest) ≡ front ++ replicate n o ++ drop 1 rest
 from_one n o front rest at = rw (take-append_seam front rest, drop-append_seam front rest, drop-append-add front rest 1, at) refl
 

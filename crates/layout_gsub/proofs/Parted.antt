@@ -1,4 +1,4 @@
--- The parts of a ligature, one after another.
+-- The components of a ligature, one after another.
 use Rattle.std.proofs.Common.{ℕ, ◌≡◌, ◌≤◌, ◌<◌, ◌+◌, true, false, List, [], ◌∷◌, length, drop, refl, ap, sym, ◌∙◌, arith, Some, get_or, slice_get}
 use Rattle.std.proofs.lemmas.List.{drop_more, drop_all}
 use Rattle.std.proofs.lemmas.List.Sums.{sum-map, sum_by-cons}

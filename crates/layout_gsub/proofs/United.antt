@@ -240,7 +240,7 @@ all_united x renumbers id ended own places s k from e o now le u =
       within = u.within;
     }
 
--- where what stands before a part finds no room, there is none for all
+-- where what is before a part finds no room, there is none for all
 pub unite_refused : (x : Item) (renumbers : Bool) (id ended own : ℕ) (places : List ℕ) (s : Sides) (k from e o i : ℕ) (now : Sides) → k < length places → i ≡ get_or places k 0 → i < length s.ahead → IsUniting x renumbers id ended own places s k from e o now → has_output_room (i - from) now ≡ false
     → nat_le (length s.behind + (1 + length (passed_items renumbers id ended own 1 places (strip s.ahead)))) s.max_len ≡ false
 unite_refused x renumbers id ended own places s k from e o i now lt is there u full =

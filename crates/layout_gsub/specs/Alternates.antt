@@ -1,4 +1,4 @@
--- Alternate substitution (OpenType, GSUB lookup type 3): one of several glyphs takes the place of another.
+-- Alternate substitution (OpenType, GSUB lookup type 3): one of several glyphs replaces another.
 use Rattle.std.specs.Prelude.{ℕ, ◌-◌, ◌/◌, ◌%◌, ◌^◌, ◌==◌, ◌&&◌, Bool, not, if◌then◌else◌, List, [], ◌∷◌, length, Option, Some, None, slice_get}
 use Rattle.std.specs.Int.{trailing_zeros, w32}
 use Rattle.std.specs.Int.RustNames.{bit_and}
@@ -15,21 +15,25 @@ use Rattle.layout_gsub.specs.Replacements.{substituted}
 abbrev pub feature_value : ℕ → ℕ → ℕ
 feature_value bits mask = bit_and mask bits / 2 ^ trailing_zeros w32 bits
 
--- the alternate of a value, the first of them 1
+-- the alternate of a value: value 1 is the first
 abbrev pub alternate_of_value : ℕ → List ℕ → Option ℕ
 alternate_of_value value glyphs = if value == 0 then None else slice_get glyphs (value - 1)
 
--- an alternate is drawn at the greatest value that a feature can have, by a lookup that may draw, where there is one
+-- whether an alternate is drawn at random: at the greatest value that a feature can have, by a lookup of the feature
+-- `rand`, where there is an alternate
 abbrev pub is_drawn : Bool → ℕ → List ℕ → Bool
 is_drawn random value glyphs = random && value == 255 && not (length glyphs == 0)
 
--- the state goes on, and since it hangs on the whole text no part of it may be shaped by itself
+-- the drawn alternate replaces the item; the random state advances, and since it depends on the whole text all of it is
+-- unsafe to break
 abbrev pub drawn_alternate : GlyphDefinition → List ℕ → Action
 drawn_alternate gdef glyphs c = later (Break 0 (length (whole c)) ∷ []) (substituted gdef (slice_get glyphs (next_random c.random % length glyphs)) (record c { random = next_random c.random }))
 
+-- the alternate of the feature's value replaces the item, or a drawn one
 abbrev pub alternate_of : GlyphDefinition → Bool → ℕ → List ℕ → Action
 alternate_of gdef random value glyphs c = if is_drawn random value glyphs then drawn_alternate gdef glyphs c else substituted gdef (alternate_of_value value glyphs) c
 
+-- a set of alternates at the item, if there is one
 abbrev pub alternate_set : GlyphDefinition → Bool → ℕ → Option (List ℕ) → Action
 alternate_set gdef random value None c = Passes []
 alternate_set gdef random value (Some glyphs) c = alternate_of gdef random value glyphs c

@@ -1,4 +1,5 @@
--- Ligature substitution (OpenType, GSUB lookup type 4) over glyphs that its lookup passes over: numbers of ligatures, and the components that marks belong to.
+-- Ligature substitution (OpenType, GSUB lookup type 4) over glyphs that its lookup skips: ligature numbers, and the
+-- components that marks belong to.
 use Rattle.std.specs.Prelude.{ℕ, ◌+◌, ◌-◌, ◌%◌, ◌==◌, ◌&&◌, ◌||◌, Bool, false, not, min, nat_lt, is_some, if◌then◌else◌, List, [], ◌∷◌, ◌++◌, length, map, take, drop, Option, Some, None, Result, Ok, Err, slice_get, slice_range}
 use Rattle.std.specs.Int.RustNames.{bit_and, bit_or}
 use Rattle.std.specs.List.{list_all, sum}
@@ -16,50 +17,55 @@ use Rattle.layout_match.specs.Sequences.{is_glyph}
 use Rattle.buffer_stages.specs.Actions.{Passes, Acts, Action, at_first, first_rule, within_limit, attempt_around}
 use Rattle.layout_gsub.specs.Replacements.{glyph_props_of, substituted}
 
--- ---- parts
+-- ---- components
 
 -- the items at some indices
 abbrev pub items_at : List ℕ → List Item → List Item
 items_at [] xs = []
 items_at (i ∷ places) xs = copies 1 (slice_get xs i) ++ items_at places xs
 
+-- whether all items are of GDEF class MARK
 abbrev pub are_marks : List Item → Bool
 are_marks parts = list_all is_mark parts
 
--- a base, and marks behind it
+-- whether the first item is a base, and the others are of GDEF class MARK
 abbrev pub is_base_with_marks : List Item → Bool
 is_base_with_marks [] = false
 is_base_with_marks (x ∷ marks) = is_base_glyph x && are_marks marks
 
--- marks alone stay a mark, and a base with marks stays a base; all else is a ligature of its own number
+-- whether components become a ligature with a number of its own: not where all are marks, which stay a mark, or a base
+-- with marks, which stays a base
 abbrev pub has_own_number : List Item → Bool
 has_own_number parts = not (are_marks parts || is_base_with_marks parts)
 
--- the number that was given last, once parts became one, and the number that they got
+-- the last ligature number given out, once components became a ligature
 abbrev pub last_given : List Item → ℕ → ℕ
 last_given parts last = if has_own_number parts then next_lig_id last else last
 
+-- the ligature number that such components get, 0 where they get none
 abbrev pub own_number : List Item → ℕ → ℕ
 own_number parts last = if has_own_number parts then next_lig_id last else 0
 
--- how many components parts have
+-- how many components the items of a ligature have
 abbrev pub component_count : List Item → ℕ
 component_count parts = sum (map lig_num_comps parts)
 
 -- ---- the ligature
 
--- the properties of what comes in for several: it is marked as substituted and as a ligature, and no more as one of several; its class is GDEF's where GDEF
--- has classes, else that of a ligature where it has a number of its own
+-- the properties of a ligature: substituted and ligated, and not multiplied; its class is GDEF's where GDEF has
+-- classes, else that of a ligature where it has a number of its own
 abbrev pub ligature_props : GlyphDefinition → ℕ → Bool → ℕ → ℕ
 ligature_props gdef glyph own old =
     if is_some gdef.classes then bit_or (bit_and (bit_or old 48) 48) (glyph_props_of gdef glyph)
     else if own then bit_or (bit_and (bit_or old 48) 48) 4
     else bit_and (bit_or old 48) 0xFFBF
 
--- what begins with a mark without width is a letter then (general categories 12, Mn, and 7, Lo)
+-- the property word of a ligature: where its first component is a non-spacing mark (general category 12, Mn), its
+-- category is Letter (7, Lo)
 abbrev pub ligature_category : Bool → ℕ → ℕ
 ligature_category own props = if own && (props % 32 == 12) then props - props % 32 + 7 else props
 
+-- the item that replaces components
 abbrev pub ligature_item : GlyphDefinition → ℕ → List Item → ℕ → Item → Item
 ligature_item gdef glyph parts id x = record x {
   number = glyph;
@@ -70,40 +76,42 @@ ligature_item gdef glyph parts id x = record x {
 
 -- ---- marks
 
--- the component that a mark behind a part now belongs to, where so many components end with the part, and so many of them are the part's own;
--- a mark of no component of it belongs to its last
+-- the component of the new ligature that a mark after a component belongs to, where so many components end with that
+-- one, and so many of them are its own; a mark of no component belongs to the last of these
 abbrev pub component_now : ℕ → ℕ → Item → ℕ
 component_now ended own y = ended - own + min (if lig_comp y == 0 then own else lig_comp y) own
 
+-- a mark with such a component
 abbrev pub with_component : ℕ → ℕ → ℕ → Item → Item
 with_component id ended own y = record y { lig_props = component_word id (component_now ended own y) }
 
--- what was passed over belongs to the part before it, where there is a new number
+-- an item between components, which belongs to the component before it where there is a new number
 abbrev pub passed_item : Bool → ℕ → ℕ → ℕ → Item → Item
 passed_item renumbers id ended own y = if renumbers then with_component id ended own y else y
 
--- the components of the item at an index
+-- how many components the item at an index has
 abbrev pub components_at : ℕ → List Item → ℕ
 components_at i xs = component_count (copies 1 (slice_get xs i))
 
--- what stands between parts, from an index on
+-- the items between components, from an index on
 abbrev pub passed_items : Bool → ℕ → ℕ → ℕ → ℕ → List ℕ → List Item → List Item
 passed_items renumbers id ended own from [] xs = []
 passed_items renumbers id ended own from (i ∷ places) xs = map (passed_item renumbers id ended own) (slice_range xs from i) ++ passed_items renumbers id (ended + components_at i xs) (components_at i xs) (i + 1) places xs
 
--- marks of the last part that follow, up to the first item that is none
+-- the marks after the last component that belong to it, renumbered up to the first item that doesn't
 abbrev pub following_items : ℕ → ℕ → ℕ → ℕ → List Item → List Item
 following_items id last ended own [] = []
 following_items id last ended own (y ∷ ys) = if (lig_id y == last) && not (lig_comp y == 0) then with_component id ended own y ∷ following_items id last ended own ys else y ∷ ys
 
--- marks alone renumber none, and a last part of no ligature has none that follow
+-- the items after the components: marks that become a mark renumber none, nor does a last component that is of no
+-- ligature
 abbrev pub after_parts : List Item → ℕ → Option Item → List Item → List Item
 after_parts parts id None rest = rest
 after_parts parts id (Some last) rest = if are_marks parts || (lig_id last == 0) then rest else following_items id (lig_id last) (component_count parts) (lig_num_comps last) rest
 
 -- ---- the rule
 
--- parts behind the first go, one after another; so many went before
+-- the events of deletion of the components after the first, one after another, with so many deleted before
 abbrev pub parts_gone : ℕ → ℕ → List ℕ → List Event
 parts_gone at gone [] = []
 parts_gone at gone (i ∷ places) = Replace (at + i - gone) 1 0 ∷ parts_gone at (gone + 1) places
@@ -128,22 +136,25 @@ ligated_over gdef glyph places end c =
       lig_id = last_given parts c.lig_id;
     }) (Merge InList (length c.front) (length c.front + end) ∷ parts_gone (length c.front) 0 (drop 1 places)))
 
--- where the search for the components fails, all from the cut to the item that tells it is unsafe to concat
+-- the ligature where the search finds its components; else all items from the cut to the one that ends the search are
+-- unsafe to concat
 abbrev pub ligature_found : Applied → LigatureTable → Result ℕ ℕ → Action
 ligature_found a l (Err end) c = attempt_around 0 end c
 ligature_found a l (Ok end) c = ligated_over a.font.gdef l.glyph (input_indices (own_search a c.rest) (map is_glyph l.components) c.rest) end c
 
--- a ligature of one part replaces it as a single substitution does; one of more parts than a rule may ask for never matches, and is no attempt
+-- a ligature of one component replaces it as a single substitution does; one of more components than
+-- `MAX_CONTEXT_LENGTH` never matches, and is no attempt
 abbrev pub ligature_over : Applied → LigatureTable → Action
 ligature_over a l c =
     if length l.components == 0 then substituted a.font.gdef (Some l.glyph) c
     else if nat_lt (length l.components) 64 then ligature_found a l (input_end (own_search a c.rest) (map is_glyph l.components) c.rest) c
     else Passes []
 
+-- the first of a set's ligatures that matches
 abbrev pub ligatures_over : Applied → Option LigatureSetTable → Action
 ligatures_over a None c = Passes []
 ligatures_over a (Some set) c = first_rule (ligature_over a) set.ligatures c
 
--- a subtable's ligatures are tried at a glyph that it covers
+-- ligature substitution: the ligatures of the set of the item's glyph are tried in order
 abbrev pub ligature_subst : Applied → List LigatureSetTable → Action
 ligature_subst a sets c = at_first (λ x. ligatures_over a (ligature_set_of x.number sets)) (first_of c.rest) c

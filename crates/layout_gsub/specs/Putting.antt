@@ -1,10 +1,10 @@
--- A glyph that goes behind the output of a buffer, by its item and its origin.
+-- A glyph that is output, by its item and its origin.
 use Rattle.std.specs.Prelude.{◌≡◌, [], ◌∷◌, ◌++◌}
 use Rattle.buffer_glyphs.specs.Items.{Item, strip}
 use Rattle.buffer_glyphs.specs.Origins.{Origin, origins}
 use Rattle.buffer_core.specs.Sides.{Sides}
 
--- nothing else changes
+-- a glyph of such an item and origin was output, and nothing else changes
 pub record IsPut (x : Item) (o : Origin) (old new : Sides) : Type 0 where
   pub items : strip new.behind ≡ strip old.behind ++ x ∷ []
   pub origin : origins new.behind ≡ origins old.behind ++ o ∷ []

@@ -1,4 +1,4 @@
--- A glyph in the place of another (OpenType, GSUB lookup types 1 and 3; GDEF, glyph class definition).
+-- One glyph replaced by another (OpenType, GSUB lookup types 1 and 3; GDEF, glyph class definition).
 use Rattle.std.specs.Prelude.{ℕ, ◌+◌, ◌*◌, ◌%◌, ◌==◌, if◌then◌else◌, List, [], ◌++◌, map, take, drop, Option, Some, None, is_some}
 use Rattle.std.specs.Int.RustNames.{bit_and, bit_or}
 use Rattle.buffer_glyphs.specs.Items.{Item}
@@ -10,15 +10,16 @@ use Rattle.layout_face.specs.Glyphs.{glyph_class}
 use Rattle.layout_face.specs.declared.parts.GlyphDefinition.{GlyphDefinition}
 use Rattle.buffer_stages.specs.Actions.{Cut, Passes, Acts, Action, at_first, within_limit}
 
--- the properties that GDEF gives a glyph: the bit of its class, of a mark its attachment class in the second byte too
+-- the properties of a GDEF class: its bit, and for class MARK the attachment class in the second byte
 abbrev pub props_of_class : ℕ → ℕ → ℕ
 props_of_class class attachment = if class == 1 then 2 else if class == 2 then 4 else if class == 3 then 8 + attachment % 256 * 256 else 0
 
+-- the properties that GDEF gives a glyph
 abbrev pub glyph_props_of : GlyphDefinition → ℕ → ℕ
 glyph_props_of gdef glyph = props_of_class (glyph_class glyph gdef.classes) (class_of glyph gdef.attach)
 
--- a glyph that comes in is marked as substituted, and keeps the marks of what became of the one before it; its class is GDEF's
--- where GDEF has classes, else it stays
+-- the properties of a glyph that replaces another: substituted, with the other's flags; its class is GDEF's where GDEF
+-- has classes, else it stays
 abbrev pub substituted_props : GlyphDefinition → ℕ → ℕ → ℕ
 substituted_props gdef glyph old = if is_some gdef.classes then bit_or (bit_and (bit_or old 16) 112) (glyph_props_of gdef glyph) else bit_or old 16
 
@@ -26,11 +27,11 @@ substituted_props gdef glyph old = if is_some gdef.classes then bit_or (bit_and 
 abbrev pub substituted_item : GlyphDefinition → ℕ → Item → Item
 substituted_item gdef glyph x = record x { number = glyph; glyph_props = substituted_props gdef glyph x.glyph_props }
 
--- the item at the cut has another glyph, and is done
+-- the cut where another glyph replaced the item, and is done
 abbrev pub substituted_cut : GlyphDefinition → ℕ → Cut → Cut
 substituted_cut gdef glyph c = record c { front = c.front ++ map (substituted_item gdef glyph) (take 1 c.rest); rest = drop 1 c.rest }
 
--- where there is a glyph for the item at the cut, it takes its place
+-- a glyph replaces the item at the cut, where there is one
 abbrev pub substituted : GlyphDefinition → Option ℕ → Action
 substituted gdef None c = Passes []
 substituted gdef (Some glyph) c = within_limit 1 c (Acts (substituted_cut gdef glyph c) [])

@@ -1,4 +1,4 @@
--- Reverse chaining single substitution (OpenType, GSUB lookup type 8): a glyph takes the place of another, in a context.
+-- Reverse chaining single substitution (OpenType, GSUB lookup type 8): a glyph replaces another, in a context.
 use Rattle.std.specs.Prelude.{ℕ, ◌+◌, ◌-◌, Bool, List, [], ◌∷◌, ◌++◌, length, map, take, drop, Option, Some, None, Result, Ok, Err}
 use Rattle.buffer_glyphs.specs.Items.{Item}
 use Rattle.buffer_glyphs.specs.Parts.{first_of}
@@ -12,20 +12,23 @@ use Rattle.layout_match.specs.Sequences.{is_covered_by}
 use Rattle.buffer_stages.specs.Actions.{Cut, Outcome, Passes, Acts, Action, at_first, attempt_around}
 use Rattle.layout_gsub.specs.Replacements.{substituted_item}
 
--- the item at the cut has another glyph, and is not passed
+-- the cut where another glyph replaced the item, which is not passed
 abbrev pub put_in_place : GlyphDefinition → ℕ → Cut → Cut
 put_in_place gdef glyph c = record c { rest = map (substituted_item gdef glyph) (take 1 c.rest) ++ drop 1 c.rest }
 
--- what stands before the item is matched last: where it fails, all from the item that tells it to the one at the cut is unsafe to concat; else all that was matched is unsafe to break
+-- the backtrack sequence is matched last: where it fails, all items from the one that ends the search to the one at the
+-- cut are unsafe to concat; else all that was matched is unsafe to break
 abbrev pub put_before : GlyphDefinition → ℕ → ℕ → Result ℕ ℕ → Cut → Outcome
 put_before gdef glyph ahead (Err back) c = attempt_around back 1 c
 put_before gdef glyph ahead (Ok back) c = Acts (put_in_place gdef glyph c) (Break (length c.front - back) (length c.front + ahead) ∷ [])
 
--- what stands after the item is matched first: where it fails, all from the cut to the item that tells it is unsafe to concat
+-- the lookahead sequence is matched first: where it fails, all items from the cut to the one that ends the search are
+-- unsafe to concat
 abbrev pub put_after : Applied → ℕ → List (Item → Bool) → Result ℕ ℕ → Cut → Outcome
 put_after a glyph backtrack (Err ahead) c = attempt_around 0 ahead c
 put_after a glyph backtrack (Ok ahead) c = put_before a.font.gdef glyph ahead (backtrack_end (context_search a c.rest) backtrack c.front) c
 
+-- a glyph replaces the item between the sequences that match around it
 abbrev pub put_around : Applied → List (Item → Bool) → List (Item → Bool) → Option ℕ → Action
 put_around a backtrack lookahead None c = Passes []
 put_around a backtrack lookahead (Some glyph) c = put_after a glyph backtrack (lookahead_end (context_search a c.rest) lookahead 1 c.rest) c

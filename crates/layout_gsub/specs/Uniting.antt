@@ -8,45 +8,46 @@ use Rattle.buffer_core.specs.Sides.{Sides, origins_of, origins_by}
 use Rattle.buffer_stages.specs.Buffers.{cut_of, Happened, IsStill}
 use Rattle.layout_gsub.specs.Ligating.{parts_gone}
 
--- indices that rise from one on, each behind the one before it
+-- indices that rise from one on
 abbrev pub AreRising : ℕ → List ℕ → Type 0
 AreRising from [] = Unit {0}
 AreRising from (i ∷ places) = (from ≤ i) × AreRising (i + 1) places
 
--- where the last of them ends
+-- the end of rising indices: the index after the last
 abbrev pub end_of : ℕ → List ℕ → ℕ
 end_of from [] = from
 end_of from (i ∷ places) = end_of (i + 1) places
 
--- the glyph at the cursor went behind the output as an item, from where it came
+-- the glyph at the cursor was output as an item, from its origin
 pub record IsPassedAs (x : Item) (old new : Sides) : Type 0 where
   pub items : strip new.behind ≡ strip old.behind ++ x ∷ []
   pub origin : origins new.behind ≡ origins old.behind ++ take 1 (origins old.ahead)
   pub others : new ≡ record old { behind = new.behind; ahead = drop 1 old.ahead; read = old.read + 1 }
   pub within : length new.behind ≤ new.max_len
 
--- so many glyphs did, each as an item that is made of its own
+-- so many glyphs were output, each as an item that is made of its own
 pub record ArePassedAs (f : Item → Item) (n : ℕ) (old new : Sides) : Type 0 where
   pub items : strip new.behind ≡ strip old.behind ++ map f (take n (strip old.ahead))
   pub origin : origins new.behind ≡ origins old.behind ++ take n (origins old.ahead)
   pub others : new ≡ record old { behind = new.behind; ahead = drop n old.ahead; read = old.read + n }
   pub within : length old.behind ≤ old.max_len → length new.behind ≤ new.max_len
 
--- the glyph at the cursor went behind the output as an item, then what stands between it and parts at some places, which went
+-- the glyph at the cursor was output as an item, then the glyphs between it and the other components, which were
+-- deleted
 pub record AreUnited (first : Item) (passed : List Item) (places : List ℕ) (old new : Sides) : Type 0 where
   pub items : strip new.behind ≡ strip old.behind ++ first ∷ passed
   pub origin : origins_of new ≡ origins_by (parts_gone (length old.behind) 0 places) old
   pub others : new ≡ record old { behind = new.behind; ahead = drop (end_of 1 places) old.ahead; read = old.read + end_of 1 places }
   pub within : length new.behind ≤ new.max_len
 
--- so many glyphs from the cursor on merged, and a ligature's number was given
+-- so many glyphs from the cursor on were merged, and a ligature number was given out
 pub record IsMerged (end lig_id : ℕ) (old new : Sides) : Type 0 where
   pub cut_is : cut_of new ≡ record (cut_of old) { lig_id = lig_id }
   pub happened : Happened (Merge InList (length old.behind) (length old.behind + end) ∷ []) old new
   pub still : IsStill old new
   pub read : new.read ≡ old.read
 
--- other items ahead of the cursor, from where those there came
+-- other items ahead of the cursor, with the origins of those there
 pub record IsRenumbered (ahead : List Item) (old new : Sides) : Type 0 where
   pub items : strip new.ahead ≡ ahead
   pub origin : origins new.ahead ≡ origins old.ahead

@@ -1,3 +1,4 @@
+//! Alternate substitution (OpenType, GSUB lookup type 3).
 ghost use Rattle.std.specs.Prelude.{◌≡◌, ◌<◌, ◌∷◌, true, [], length};
 ghost use Rattle.buffer_glyphs.specs.Events.{Break};
 ghost use Rattle.buffer_glyphs.specs.Items.{item_of};
@@ -18,7 +19,7 @@ use layout_subtables::sequence::AlternateSubst;
 /// The greatest value that a feature can have.
 const MAX_VALUE: u64 = 255;
 
-/// The value that a glyph's mask gives the feature on whose bits a lookup acts.
+/// The value that a glyph's mask gives the feature of a lookup's mask.
 fn feature_value(lookup_mask: u32, info: &hb_glyph_info_t) -> u64
     ensures { result ≡ feature_value lookup_mask (item_of info.now).mask }
 {
@@ -27,7 +28,7 @@ fn feature_value(lookup_mask: u32, info: &hb_glyph_info_t) -> u64
     u64::from(features & lookup_mask) >> lookup_mask.trailing_zeros()
 }
 
-/// The alternate of a value, the first of them 1.
+/// The alternate of a value: value 1 is the first.
 fn alternate_of_value(glyphs: &[u16], value: u64) -> Option<u16>
     ensures { result ≡ alternate_of_value value glyphs.now }
 {
@@ -37,14 +38,14 @@ fn alternate_of_value(glyphs: &[u16], value: u64) -> Option<u16>
     glyphs.get((value - 1) as usize).copied()
 }
 
-/// Whether one of the alternates is drawn at random.
+/// Whether one of the alternates is drawn at random (HarfBuzz: feature `rand`).
 fn is_drawn(random: bool, value: u64, glyphs: &[u16]) -> bool
     ensures { result ≡ is_drawn random value glyphs.now }
 {
     random && value == MAX_VALUE && !glyphs.is_empty()
 }
 
-/// Marks all glyphs outside the least cluster as unsafe to break.
+/// Flags all glyphs outside the least cluster as unsafe to break.
 fn mark_all(buffer: &mut hb_buffer_t)
     ensures { IsPassed (Break 0 (length (whole (cut_of buffer.old))) ∷ []) buffer.old buffer.new }
 {
@@ -52,7 +53,7 @@ fn mark_all(buffer: &mut hb_buffer_t)
     buffer.unsafe_to_break_from_outbuffer(None, None);
 }
 
-/// Draws one of the alternates.
+/// Draws one of the alternates at random.
 fn draw_alternate(
     glyphs: &[u16],
     ctx: &mut hb_ot_apply_context_t,
@@ -71,7 +72,7 @@ fn draw_alternate(
     replace_glyph(ctx, glyphs[index], buffer)
 }
 
-/// Puts the alternate of a value in the place of the glyph at the cursor.
+/// Replaces the glyph at the cursor by the alternate of a value.
 fn apply_alternate(
     glyphs: &[u16],
     value: u64,
@@ -94,9 +95,9 @@ fn apply_alternate(
     }
 }
 
-/// Alternate substitution (OpenType, GSUB lookup type 3): where the subtable covers the glyph at the cursor, the alternate of
-/// the feature's value takes its place; at the value 255 a lookup that may draw takes one at random, and marks the whole
-/// text as unsafe to break.
+/// Alternate substitution (OpenType, GSUB lookup type 3): where the subtable covers the glyph at the cursor, the
+/// alternate of the feature's value replaces it; at the value 255 a lookup of the feature `rand` draws one at random,
+/// and flags the whole text as unsafe to break.
 impl Apply for AlternateSubst {
     ghost action = { λ s a. alternate_subtable a.font.gdef a.random a.mask s.rows };
 

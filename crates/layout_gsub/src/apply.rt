@@ -1,3 +1,4 @@
+//! The trait of substitution subtables, and the first of several that matches.
 ghost use Rattle.std.specs.Prelude.{◌≡◌, ◌<◌, true, [], length};
 ghost use Rattle.buffer_core.specs.Sides.{items_of};
 ghost use Rattle.layout_match.specs.Applied.{Applied, applied_of};
@@ -13,8 +14,8 @@ use layout_match::hb_ot_apply_context_t;
 pub trait Apply {
     ghost action: { Self → Applied → Action };
 
-    /// Does what the subtable does at the glyph at the cursor, and tells whether it acted. Where it didn't, it changed glyph
-    /// flags alone. It refuses for want of memory, or where a side of the buffer would have more glyphs than it may.
+    /// Applies the subtable at the cursor, and answers whether it acted. Where it didn't, it changed glyph flags only.
+    /// It refuses for want of memory, or where a side of the buffer would have more glyphs than it may.
     fn apply(
         &self,
         ctx: &mut hb_ot_apply_context_t,
@@ -29,7 +30,7 @@ pub trait Apply {
         ensures context { applied_of ctx.new ≡ applied_of ctx.old };
 }
 
-/// Does what the first of some subtables does that acts.
+/// Applies the first matching subtable at the cursor.
 #[tactic(auto, using(buffer_stages::proofs::Lemmas::Performed::passed_first, buffer_stages::proofs::Lemmas::Performed::passed_open, buffer_stages::proofs::Lemmas::Performed::passed_numbers, buffer_stages::proofs::Lemmas::Performed::passed_all))]
 pub fn apply_first<S: Apply>(
     subtables: &[S],

@@ -1,4 +1,4 @@
-// Substitution: what a subtable that calls no other lookup does at the cursor of a buffer.
+//! GSUB subtables that call no other lookup, applied at the cursor of a buffer.
 #![tactic(auto)]
 
 pub mod alternate;

@@ -1,3 +1,4 @@
+//! Makes a ligature of components (rustybuzz: hb/ot_layout_gsubgpos.rs, `ligate_input`).
 ghost use Rattle.std.specs.Prelude.{ℕ, ◌≡◌, ◌≢◌, ◌<◌, ◌≤◌, ◌+◌, ◌^◌, ◌∷◌, ◌==◌, ◌&&◌, ◌||◌, not, true, false, Some, length, nat_le, slice_get, if◌then◌else◌, IfErr, OnOk};
 ghost use Rattle.std.specs.List.{All};
 ghost use Rattle.buffer_glyphs.specs.declared.info.hb_glyph_info_t.{hb_glyph_info_t as Glyph};
@@ -24,7 +25,7 @@ use buffer_glyphs::ligature_words::{
 };
 use layout_face::Face;
 
-/// The properties of a ligature that comes in where a glyph was its first part; `own_number` tells that it gets a number.
+/// The properties of a ligature whose first component had `old`; `own_number` says whether it gets a ligature number.
 fn ligature_props(
     face: &Face,
     glyph: u16,
@@ -44,7 +45,8 @@ fn ligature_props(
     GlyphPropsFlags(props & !GlyphPropsFlags::MULTIPLIED.0)
 }
 
-/// The properties of the character of such a ligature: what begins with a mark without width is a letter.
+/// The property word of such a ligature: where its first component is a non-spacing mark (Mn), its category is Letter
+/// (Lo).
 fn ligature_category(own_number: bool, old: UnicodeProps) -> UnicodeProps
     ensures { result.0 ≡ ligature_category own_number old.0 }
 {
@@ -54,7 +56,7 @@ fn ligature_category(own_number: bool, old: UnicodeProps) -> UnicodeProps
     old
 }
 
-/// What comes in for the parts of a ligature, the first of which is `info`; `lig_id` is its number where it gets one.
+/// The ligature that replaces components, the first of which is `info`; `lig_id` is its number where it gets one.
 fn ligature_info(
     face: &Face,
     glyph: u16,
@@ -84,19 +86,19 @@ fn ligature_info(
     ligature
 }
 
-/// What marks behind a part of a ligature belong to.
+/// The ligature components that marks after a component of a new ligature belong to.
 #[derive(Clone, Copy)]
 struct PartNumbering {
-    /// Whether those between parts get another number.
+    /// Whether marks between components are renumbered.
     renumbers: bool,
     lig_id: u8,
-    /// How many of the ligature's components end with the part, and how many are its own.
+    /// How many of the ligature's components end with this glyph, and how many are its own.
     ended: u64,
     own: u32,
 }
 
 impl PartNumbering {
-    /// The component that a mark belongs to.
+    /// The component of the new ligature that a mark belongs to.
     fn component_now(&self, info: &hb_glyph_info_t) -> u64
         requires { self.now.ended < 2 ^ 60 }
         ensures { result ≡ component_now self.now.ended self.now.own (item_of info.now) }
@@ -107,7 +109,7 @@ impl PartNumbering {
         self.ended.saturating_sub(own) + component.min(own)
     }
 
-    /// A mark with this component.
+    /// The mark with its component of the new ligature.
     fn with_component(&self, info: &hb_glyph_info_t) -> hb_glyph_info_t
         requires number { self.now.lig_id < 8 }
         requires bound { self.now.ended < 2 ^ 60 }
@@ -119,7 +121,7 @@ impl PartNumbering {
         mark
     }
 
-    /// What stands between the part and the next.
+    /// A glyph between this component and the next, renumbered where it is to be.
     fn passed(&self, info: &hb_glyph_info_t) -> hb_glyph_info_t
         requires number { self.now.lig_id < 8 }
         requires bound { self.now.ended < 2 ^ 60 }
@@ -133,7 +135,7 @@ impl PartNumbering {
         *info
     }
 
-    /// The same behind the next part.
+    /// The numbering that applies after the next component.
     fn behind(&self, part: &hb_glyph_info_t) -> PartNumbering
         requires { self.now.ended < 2 ^ 60 }
         ensures numbering { result ≡ record self.now {
@@ -151,7 +153,7 @@ impl PartNumbering {
     }
 }
 
-/// Another glyph at a place from the cursor on.
+/// Sets the glyph at an index from the cursor on.
 fn set_glyph(at: usize, info: hb_glyph_info_t, buffer: &mut hb_buffer_t)
     requires { at < length buffer.old.ahead }
     ensures { buffer.new ≡ with_glyph_ahead at info buffer.old }
@@ -159,7 +161,7 @@ fn set_glyph(at: usize, info: hb_glyph_info_t, buffer: &mut hb_buffer_t)
     *buffer.cur_mut(at) = info;
 }
 
-/// The glyph at the cursor becomes another, of its origin, and goes behind the output.
+/// Replaces the glyph at the cursor by another of its origin, and outputs it.
 fn pass_as(info: hb_glyph_info_t, buffer: &mut hb_buffer_t) -> Result<(), ShapeCause>
     requires open { buffer.old.is_open ≡ true }
     requires there { 0 < length buffer.old.ahead }
@@ -175,7 +177,7 @@ fn pass_as(info: hb_glyph_info_t, buffer: &mut hb_buffer_t) -> Result<(), ShapeC
     Ok(())
 }
 
-/// So many glyphs from the cursor on, which stand between two parts, go behind the output.
+/// Outputs so many glyphs from the cursor on, which are between two components.
 fn pass_between(
     numbering: &PartNumbering,
     count: usize,
@@ -199,8 +201,8 @@ fn pass_between(
 }
 
 #[tactic(auto, using(crate::proofs::United::unite_refused, crate::proofs::United::first_refused))]
-/// A glyph takes the place of the one at the cursor; those at some places behind it, the parts, go, and what stands between
-/// them goes behind the output.
+/// Replaces the current glyph by the ligature, deletes the other components (at `others`), and outputs the glyphs
+/// between them.
 fn unite_parts(
     first: hb_glyph_info_t,
     others: &[usize],
@@ -244,8 +246,8 @@ fn is_mark_of(ligature: u8, info: &hb_glyph_info_t) -> bool
     _hb_glyph_info_get_lig_id(info) == ligature && _hb_glyph_info_get_lig_comp(info) != 0
 }
 
-/// The marks from the cursor on that belong to the last part's ligature belong to the new one; the first glyph that is none
-/// ends them.
+/// Renumbers the marks from the cursor on that belong to the last component's ligature; the first glyph that doesn't
+/// belong to it ends them.
 fn renumber_following(numbering: &PartNumbering, last_lig_id: u8, buffer: &mut hb_buffer_t)
     requires number { numbering.now.lig_id < 8 }
     requires bound { numbering.now.ended < 2 ^ 60 }
@@ -263,7 +265,7 @@ fn renumber_following(numbering: &PartNumbering, last_lig_id: u8, buffer: &mut h
     }
 }
 
-/// Marks behind the last part, where there are such.
+/// Renumbers the marks after the last component, where that is of a ligature.
 fn renumber_behind(parts: &LigatureParts, lig_id: u8, buffer: &mut hb_buffer_t)
     requires number { lig_id < 8 }
     requires bound { parts.now.component_count < 2 ^ 60 }
@@ -283,7 +285,7 @@ fn renumber_behind(parts: &LigatureParts, lig_id: u8, buffer: &mut hb_buffer_t)
     renumber_following(&numbering, parts.last_lig_id, buffer);
 }
 
-/// So many glyphs from the cursor on merge; it answers the number of what they become, 0 where that has none of its own.
+/// Merges so many glyphs from the cursor on; answers the number of the new ligature, 0 where it has none of its own.
 fn merge_parts(parts: &LigatureParts, end: usize, buffer: &mut hb_buffer_t) -> u8
     requires open { buffer.old.is_open ≡ true }
     requires within { end ≤ length buffer.old.ahead }
@@ -301,7 +303,7 @@ fn merge_parts(parts: &LigatureParts, end: usize, buffer: &mut hb_buffer_t) -> u
     buffer.allocate_lig_id()
 }
 
-/// The glyph at the cursor and those at some places behind it, its parts, become a ligature.
+/// Makes a ligature of the glyph at the cursor and the other components at some indices ahead.
 pub(crate) fn ligate_input(
     others: &[usize],
     end: usize,

@@ -1,3 +1,4 @@
+//! Ligature substitution (OpenType, GSUB lookup type 4).
 ghost use Rattle.std.specs.Prelude.{◌≡◌, ◌<◌, true, length, map};
 ghost use Rattle.buffer_glyphs.specs.Items.{strip};
 ghost use Rattle.layout_match.specs.Applied.{applied_of, own_search};
@@ -17,7 +18,7 @@ use layout_match::{
 };
 use layout_tables::ligature::{Ligature, LigatureSubst};
 
-/// Puts a ligature in the place of its parts, where the search finds them from the cursor on.
+/// Replaces the components by a ligature, where the search finds them from the cursor on.
 fn apply_ligature(
     ligature: &Ligature,
     ctx: &hb_ot_apply_context_t,
@@ -46,7 +47,8 @@ fn apply_ligature(
     }
 }
 
-/// A ligature whose first part is the glyph at the cursor. One of more parts than a rule may ask for never matches.
+/// A ligature whose first component is the glyph at the cursor. One of more components than `MAX_CONTEXT_LENGTH` never
+/// matches.
 impl Apply for Ligature {
     ghost action = { λ l a. ligature_over a l };
 
@@ -65,9 +67,9 @@ impl Apply for Ligature {
     }
 }
 
-/// Ligature substitution (OpenType, GSUB lookup type 4): the first of the subtable's ligatures whose parts are found from the
-/// glyph at the cursor on takes their place. Each before it that begins with the glyph and fails marks what the search read
-/// as unsafe to concat, where that is asked for.
+/// Ligature substitution (OpenType, GSUB lookup type 4): the first of the subtable's ligatures whose components are
+/// found from the glyph at the cursor on replaces them. Each one before it that begins with the glyph and fails flags
+/// what the search read as unsafe to concat, where that is requested.
 impl Apply for LigatureSubst {
     ghost action = { λ s a. ligature_subst a s };
 

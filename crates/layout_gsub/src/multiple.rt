@@ -1,3 +1,4 @@
+//! Multiple substitution (OpenType, GSUB lookup type 2).
 ghost use Rattle.std.specs.Prelude.{ℕ, ◌≡◌, ◌≢◌, ◌<◌, true, false, [], length, slice_get, Some, IfErr, OnOk};
 ghost use Rattle.buffer_glyphs.specs.Items.{item_of};
 ghost use Rattle.buffer_glyphs.specs.Origins.{origin_of};
@@ -21,7 +22,7 @@ use layout_face::Face;
 use layout_match::hb_ot_apply_context_t;
 use layout_subtables::sequence::MultipleSubst;
 
-/// The properties of one of several glyphs that come in where a glyph was.
+/// The properties of one of several glyphs that replace a glyph.
 fn component_props(face: &Face, glyph: u16, info: &hb_glyph_info_t) -> GlyphPropsFlags
     ensures { result.0 ≡ component_props face.now.gdef glyph (item_of info.now) }
 {
@@ -36,7 +37,7 @@ fn component_props(face: &Face, glyph: u16, info: &hb_glyph_info_t) -> GlyphProp
     GlyphPropsFlags(props)
 }
 
-/// The i-th of several glyphs that come in where a glyph was.
+/// The i-th of several glyphs that replace a glyph.
 fn component_info(face: &Face, info: &hb_glyph_info_t, i: usize, glyph: u16) -> hb_glyph_info_t
     ensures item { item_of result ≡ component_item face.now.gdef (item_of info.now) i glyph }
     ensures cluster { result.cluster ≡ info.now.cluster }
@@ -53,7 +54,7 @@ fn component_info(face: &Face, info: &hb_glyph_info_t, i: usize, glyph: u16) -> 
     component
 }
 
-/// Puts the i-th of several glyphs that come in where a glyph was behind the output.
+/// Outputs the i-th of several glyphs that replace a glyph.
 fn output_glyph_for_component(
     face: &Face,
     info: &hb_glyph_info_t,
@@ -75,7 +76,7 @@ fn output_glyph_for_component(
     Ok(())
 }
 
-/// Puts several glyphs behind the output where the glyph at the cursor was.
+/// Replaces the glyph at the cursor by several glyphs, and outputs them.
 fn multiply(glyphs: &[u16], face: &Face, buffer: &mut hb_buffer_t) -> Result<(), ShapeCause>
     requires some { 0 < length glyphs.now }
     requires open { buffer.old.is_open ≡ true }
@@ -93,7 +94,7 @@ fn multiply(glyphs: &[u16], face: &Face, buffer: &mut hb_buffer_t) -> Result<(),
     Ok(())
 }
 
-/// The glyph at the cursor goes.
+/// Deletes the glyph at the cursor.
 fn delete(buffer: &mut hb_buffer_t)
     requires open { buffer.old.is_open ≡ true }
     requires there { 0 < length buffer.old.ahead }
@@ -126,8 +127,8 @@ fn apply_sequence(
     }
 }
 
-/// Multiple substitution (OpenType, GSUB lookup type 2): where the subtable covers the glyph at the cursor, its sequence takes its
-/// place; the empty sequence deletes it, and one glyph replaces it as a single substitution does.
+/// Multiple substitution (OpenType, GSUB lookup type 2): where the subtable covers the glyph at the cursor, its
+/// sequence replaces it; the empty sequence deletes it, and one glyph replaces it as a single substitution does.
 impl Apply for MultipleSubst {
     ghost action = { λ s a. multiple_subtable a.font.gdef s.rows };
 

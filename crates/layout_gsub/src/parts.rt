@@ -1,4 +1,4 @@
-//! The glyphs that become one by a ligature: the one at the cursor, and others ahead of it.
+//! The components of a ligature: the glyph at the cursor, and others ahead of it.
 ghost use Rattle.std.specs.Prelude.{◌≡◌, ◌<◌, ◌≤◌, ◌+◌, ◌-◌, ◌*◌, ◌^◌, ◌∷◌, Some, length, slice_get};
 ghost use Rattle.std.specs.List.{All};
 ghost use Rattle.buffer_glyphs.specs.declared.info.hb_glyph_info_t.{hb_glyph_info_t as Glyph};
@@ -12,7 +12,7 @@ use buffer_glyphs::ligature_words::{
     _hb_glyph_info_is_mark,
 };
 
-/// Whether the glyphs at some places ahead are all marks.
+/// Whether the glyphs at some indices ahead are all of GDEF class MARK.
 #[tactic(auto, using(crate::proofs::Parted::mark_there, crate::proofs::Parted::other_there, crate::proofs::Parted::none_there))]
 fn are_marks(places: &[usize], buffer: &hb_buffer_t) -> bool
     requires { All (λ q. q < length buffer.now.ahead) places.now }
@@ -26,7 +26,7 @@ fn are_marks(places: &[usize], buffer: &hb_buffer_t) -> bool
     true
 }
 
-/// How many components the glyphs at some places ahead have.
+/// How many components the glyphs at some indices ahead have.
 #[tactic(auto, using(crate::proofs::Parted::counted_there, crate::proofs::Parted::counted_all))]
 fn component_count(places: &[usize], buffer: &hb_buffer_t) -> u64
     requires there { All (λ q. q < length buffer.now.ahead) places.now }
@@ -41,7 +41,7 @@ fn component_count(places: &[usize], buffer: &hb_buffer_t) -> u64
     count
 }
 
-/// What the parts of a ligature tell.
+/// The components of a ligature: their indices and what they determine.
 #[derive(Clone, Copy)]
 pub(crate) struct LigatureParts {
     pub(crate) are_marks: bool,
@@ -55,7 +55,7 @@ pub(crate) struct LigatureParts {
 }
 
 impl LigatureParts {
-    /// Of the glyph at the cursor and the glyphs at some places behind it, the last of which ends before `end`.
+    /// The components at the cursor and at some indices from there on, the last of which ends before `end`.
     pub(crate) fn new(others: &[usize], end: usize, buffer: &hb_buffer_t) -> LigatureParts
         requires there { 0 < length buffer.now.ahead }
         requires ahead { All (λ q. q < length buffer.now.ahead) others.now }

@@ -1,3 +1,4 @@
+//! One glyph replaced by another (rustybuzz: hb/ot_layout_gsubgpos.rs, `replace_glyph`).
 ghost use Rattle.std.specs.Prelude.{◌≡◌, ◌<◌, true, Some, [], length, slice_get, OnOk, IfErr};
 ghost use Rattle.buffer_glyphs.specs.declared.info.hb_glyph_info_t.{hb_glyph_info_t as Glyph};
 ghost use Rattle.buffer_core.specs.Lending.{with_glyph_ahead};
@@ -21,14 +22,14 @@ fn props_of_class(class: u16, attachment: u16) -> GlyphPropsFlags
     }
 }
 
-/// The properties that GDEF gives a glyph: its class, and of a mark its attachment class in the second byte.
+/// The properties that GDEF gives a glyph: its class, and for class MARK its attachment class in the second byte.
 pub fn glyph_props(face: &Face, glyph: u16) -> GlyphPropsFlags
     ensures { result.0 ≡ glyph_props_of face.now.gdef glyph }
 {
     props_of_class(face.glyph_class(glyph), face.mark_attachment_class(glyph))
 }
 
-/// The properties of a glyph that comes in where one with the properties `old` was.
+/// The properties of a glyph that replaces one with the properties `old`.
 pub(crate) fn substituted_props(face: &Face, glyph: u16, old: GlyphPropsFlags) -> GlyphPropsFlags
     ensures { result.0 ≡ substituted_props face.now.gdef glyph old.0 }
 {
@@ -53,8 +54,8 @@ fn set_glyph_props(buffer: &mut hb_buffer_t, props: GlyphPropsFlags)
     buffer.cur_mut(0).glyph_props = props;
 }
 
-/// Puts another glyph in the place of the one at the cursor, behind which it goes; its class is GDEF's, where GDEF has classes.
-/// It answers true, as a rule that acted.
+/// Replaces the glyph at the cursor by another, and outputs it; its class is GDEF's, where GDEF has classes. It answers
+/// true, as a rule that acted.
 pub fn replace_glyph(
     ctx: &hb_ot_apply_context_t,
     glyph: u16,

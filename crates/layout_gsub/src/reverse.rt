@@ -1,3 +1,4 @@
+//! Reverse chaining single substitution (OpenType, GSUB lookup type 8).
 ghost use Rattle.std.specs.Prelude.{◌≡◌, ◌<◌, ◌≤◌, ◌+◌, ◌-◌, ◌∷◌, true, Some, [], length, map, slice_get};
 ghost use Rattle.buffer_glyphs.specs.declared.info.hb_glyph_info_t.{hb_glyph_info_t as Glyph};
 ghost use Rattle.buffer_core.specs.Lending.{with_glyph_ahead};
@@ -19,7 +20,7 @@ use layout_common::coverage::Coverage;
 use layout_match::{MatchSequence, hb_ot_apply_context_t, match_backtrack, match_lookahead};
 use layout_subtables::reverse::ReverseChainSubst;
 
-/// Marks so many glyphs before the cursor, and so many from there on, as unsafe to concat, where that is asked for.
+/// Flags so many glyphs before the cursor, and so many from there on, as unsafe to concat, where that is requested.
 pub(crate) fn mark_attempt(back: usize, ahead: usize, buffer: &mut hb_buffer_t)
     requires before { back ≤ length buffer.old.behind }
     requires after { ahead ≤ length buffer.old.ahead }
@@ -32,7 +33,7 @@ pub(crate) fn mark_attempt(back: usize, ahead: usize, buffer: &mut hb_buffer_t)
     buffer.unsafe_to_concat_from_outbuffer(Some(start), Some(end));
 }
 
-/// Marks such glyphs outside the least cluster among them as unsafe to break.
+/// Flags such glyphs outside the least cluster among them as unsafe to break.
 fn mark_match(back: usize, ahead: usize, buffer: &mut hb_buffer_t)
     requires before { back ≤ length buffer.old.behind }
     requires after { ahead ≤ length buffer.old.ahead }
@@ -56,7 +57,7 @@ fn put_glyph(glyph: u16, props: GlyphPropsFlags, buffer: &mut hb_buffer_t)
     info.glyph_props = props;
 }
 
-/// Puts another glyph in the place of the one at the cursor, which stays there; its class is GDEF's, where GDEF has classes.
+/// Replaces the glyph at the cursor by another, in place; its class is GDEF's, where GDEF has classes.
 pub fn replace_glyph_inplace(ctx: &hb_ot_apply_context_t, glyph: u16, buffer: &mut hb_buffer_t)
     requires { 0 < length buffer.old.ahead }
     ensures { PerformsInPlace (Acts (put_in_place ctx.now.face.now.gdef glyph
@@ -66,7 +67,7 @@ pub fn replace_glyph_inplace(ctx: &hb_ot_apply_context_t, glyph: u16, buffer: &m
     put_glyph(glyph, props, buffer);
 }
 
-/// Matches what a rule asks for before the cursor, and puts its glyph in the place of the one there.
+/// Matches a rule's backtrack sequence before the cursor, and replaces the glyph there.
 fn apply_backtrack(
     backtrack: &[Coverage],
     ahead: usize,
@@ -94,9 +95,9 @@ fn apply_backtrack(
     }
 }
 
-/// Reverse chaining single substitution (OpenType, GSUB lookup type 8) at the cursor of a buffer, in place: where the subtable
-/// covers the glyph there, and its sets follow and precede it, its substitute takes its place. It tells whether it did;
-/// where it didn't, it changed glyph flags alone. It takes no memory.
+/// Reverse chaining single substitution (OpenType, GSUB lookup type 8) at the cursor of a buffer, in place: where the
+/// subtable covers the glyph there, and its sets follow and precede it, its substitute replaces it. It answers whether
+/// it did; where it didn't, it changed glyph flags only. It takes no memory.
 #[tactic(auto, using(buffer_stages::proofs::Lemmas::Glyphs::number_ahead))]
 pub fn apply_reverse_chain_single_subst(
     subtable: &ReverseChainSubst,

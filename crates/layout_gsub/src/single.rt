@@ -1,3 +1,4 @@
+//! Single substitution (OpenType, GSUB lookup type 1).
 ghost use Rattle.layout_gsub.specs.Replacements.{single_subtable};
 
 use crate::apply::Apply;
@@ -7,8 +8,8 @@ use buffer_glyphs::cause::ShapeCause;
 use layout_match::hb_ot_apply_context_t;
 use layout_subtables::single_subst::SingleSubst;
 
-/// Single substitution (OpenType, GSUB lookup type 1): where the subtable covers the glyph at the cursor, its substitute takes
-/// its place.
+/// Single substitution (OpenType, GSUB lookup type 1): where the subtable covers the glyph at the cursor, its
+/// substitute replaces it.
 impl Apply for SingleSubst {
     ghost action = { λ s a. single_subtable a.font.gdef s.rows };
 

@@ -1,3 +1,4 @@
+//! Whether a subtable would apply to given glyphs (rustybuzz: `WouldApply`).
 ghost use Rattle.std.specs.Prelude.{◌≡◌, ℕ, Bool, List, nat_eq};
 ghost use Rattle.std.specs.List.{list_any};
 ghost use Rattle.std.specs.Cmp.Lexicographic.{pointwise};
@@ -8,19 +9,19 @@ use layout_subtables::sequence::{AlternateSubst, MultipleSubst};
 use layout_subtables::single_subst::SingleSubst;
 use layout_tables::ligature::{Ligature, LigatureSubst};
 
-/// Glyphs, and nothing around them.
+/// Glyphs with no context around them (HarfBuzz: `hb_would_apply_context_t`).
 #[derive(Clone, Copy)]
 pub struct WouldApplyContext<'a> {
     pub glyphs: &'a [u16],
-    /// Whether a rule that asks for anything before or after its input doesn't count.
+    /// Whether rules that require glyphs before or after their input don't count.
     pub zero_context: bool,
 }
 
-/// A subtable that can be asked whether it would act.
+/// A subtable that can be tested for whether it would apply.
 pub trait WouldApply {
     ghost would: { Self → List ℕ → Bool → Bool };
 
-    /// Whether it would act on the glyphs where they are all its input.
+    /// Whether it would apply where the glyphs are all its input.
     fn would_apply(&self, ctx: &WouldApplyContext) -> bool
         ensures { result ≡ would self.now ctx.now.glyphs.now ctx.now.zero_context };
 }
@@ -69,7 +70,7 @@ impl WouldApply for AlternateSubst {
     }
 }
 
-/// Whether a ligature's components behind the first are such glyphs.
+/// Whether the glyphs are a ligature's components after the first.
 fn takes(ligature: &Ligature, rest: &[u16]) -> bool
     ensures { result ≡ pointwise nat_eq ligature.now.components rest.now }
 {

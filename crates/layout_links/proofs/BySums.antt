@@ -50,7 +50,7 @@ summed_pen p (suc i) (x ∷ xs) lt =
 summed_here : (i : ℕ) (ps : List Position) → i < length ps → position_at i (summed ps) ≡ with_pen (pens pen_down (take (i + 1) ps)) (position_at i ps)
 summed_here i ps lt = summed_rest pen_down i ps ∙ ap (λ (q : Pen). with_pen q (position_at i ps)) (summed_pen pen_down i ps lt)
 
--- the pen in front of a glyph
+-- the pen before a glyph
 before_here : (i : ℕ) (ps : List Position) → i < length ps → pen_before i (summed ps) ≡ pens pen_down (take i ps)
 before_here i ps lt = elim (eqb_tells i 0) [
   | inl is ↦ ap (λ (b : Bool). if b then pen_down else pen_of (position_at (i - 1) (summed ps))) is.0 ∙ ap (λ (n : ℕ). pens pen_down (take n ps)) (sym is.1)
@@ -210,7 +210,7 @@ later_seen false i j ps lt li =
     ∙ ap (λ (q : Pen). on_by (pen_way (sum_to (j + 1) ps) q) (with_pen (sum_to (i + 1) ps) p)) (pen_here i ps li)
     ∙ ap (with_pen (sum_to (i + 1) ps)) (on_by_way (i + 1) (j + 1) ps p (omega (arith, lt)) (twice ((position_at i ps).x_offset +ℤ (position_at j ps).x_offset)) (twice ((position_at i ps).y_offset +ℤ (position_at j ps).y_offset)))
 
--- a mark that hangs on a glyph after it
+-- a mark that is attached to a glyph after it
 before_parent : (forward : Bool) (i j : ℕ) (ps : List Position) → i ≤ j → mark_drawn forward i j ps ≡ offset_by (position_at j ps) (position_at i ps)
 before_parent true i j ps le = ap (λ rs. fold back_over (offset_by (position_at j ps) (position_at i ps)) rs) (nothing_between j i ps le)
 before_parent false i j ps le = ap (λ rs. fold on_over (offset_by (position_at j ps) (position_at i ps)) rs) (nothing_between (j + 1) (i + 1) ps (omega (arith, le)))
@@ -250,7 +250,7 @@ hung_seen d i j ps li lj =
 
 -- ---- all glyphs
 
--- a glyph that hangs on another is there
+-- a glyph that is attached to another is there
 parent_within : (i j : ℕ) (ps : List Position) → parent i ps ≡ Some j → i < length ps
 parent_within i j ps e = in_list ps i (λ none. absurd (let both : None ≡ Some j = sym (ap (linked (length ps) i) (ap (λ (p : Position). p.attach_chain) none)) ∙ e in cc))
   where

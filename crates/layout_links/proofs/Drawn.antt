@@ -1,4 +1,4 @@
--- Each glyph is drawn from what it hangs on, where links form no ring.
+-- Each glyph is drawn from what it is attached to, where links form no ring.
 use Rattle.std.proofs.Common.{ℕ, zero, suc, ℤ, pos, ◌≡◌, ◌≢◌, ◌≤◌, ◌<◌, ◌+◌, ◌==◌, ◌⊎◌, inl, inr, Bool, true, false, if◌then◌else◌, List, [], ◌∷◌, Option, Some, None, length, map, set, arith, refl, ap, sym, subst, ◌∙◌}
 use Rattle.std.specs.Prelude.{slice_range}
 use Rattle.std.specs.List.{fold}
@@ -79,7 +79,7 @@ position_here i p ps lt = get_or-set_same ps i p zero_position lt
 
 -- ---- a change of a glyph that is not drawn yet
 
--- what hangs on others is drawn alike
+-- what is attached to others is drawn alike
 final_elsewhere : (d : Direction) (recorded recorded' now : List Position) (i k : ℕ) (p : Position) (o : Option ℕ)
     → length now ≡ length recorded → k < length recorded → k ≢ i → position_at k recorded' ≡ position_at k recorded → only_advances p ≡ only_advances (position_at i now)
     → ((j : ℕ) → o ≡ Some j → (j ≢ i) × (j ≢ k))
@@ -158,7 +158,7 @@ record IsDrawnWith (d : Direction) (recorded result : List Position) (done : ℕ
   more : (k : ℕ) → done k ≡ true → marks k ≡ true
   only : (k : ℕ) → marks k ≡ true → (done k ≡ true) ⊎ (depth k ≤ depth i)
 
--- a glyph is drawn, once that is drawn which it hangs on: `before` is the list that it hangs on nothing in
+-- a glyph is drawn, once that is drawn which it is attached to: `before` is the list that it is attached to nothing in
 drawn_more : (d : Direction) (recorded before now : List Position) (i : ℕ) (p : Position) (done : ℕ → Bool)
     → i < length recorded → before ≡ unlinked i recorded → ArePartlyDrawn d before now done → done i ≡ false
     → only_advances p ≡ only_advances (position_at i now)

@@ -140,7 +140,7 @@ not_cursive d i j ps n = elim (eqb_tells (position_at i ps).attach_type 2) [
   | inr other ↦ ap (λ (b : Bool). if b then child_drawn (is_horizontal d) (position_at j ps) (position_at i ps) else mark_drawn (is_forward d) i j ps) other.0
 ]
 
--- a glyph that hangs on another is there
+-- a glyph that is attached to another is there
 parent_within : (i j : ℕ) (ps : List Position) → parent i ps ≡ Some j → j < i → i < length ps
 parent_within i j ps e lt = in_list ps i (λ none. absurd (let both : None ≡ Some j = sym (ap (linked (length ps) i) (ap (λ (p : Position). p.attach_chain) none)) ∙ e in cc))
   where

@@ -1,20 +1,21 @@
--- Links of a buffer followed.
+-- The links of a buffer followed.
 use Rattle.std.specs.Prelude.{ℕ, ◌==◌, Bool, true, false, not, [], bit_and}
 use Rattle.buffer_core.specs.Readings.{View, Read, with_events}
 use Rattle.layout_links.specs.Links.{finished}
 
--- whether glyphs were attached to others
+-- whether glyphs were attached to others (scratch flag HAS_GPOS_ATTACHMENT)
 abbrev pub has_attachments : ℕ → Bool
 has_attachments told = not (bit_and told 8 == 0)
 
--- all glyphs are drawn where their links say
+-- all glyphs drawn from where their links lead
 abbrev pub all_drawn : View → Read
 all_drawn v = with_events [] (record v { positions = finished v.direction v.positions })
 
+-- all glyphs drawn so, where there are links
 abbrev pub drawn_if : Bool → View → Read
 drawn_if true v = all_drawn v
 drawn_if false v = with_events [] v
 
--- where glyphs were attached to others
+-- all glyphs drawn so, where glyphs were attached to others (`position_finish_offsets`)
 abbrev pub links_followed : View → Read
 links_followed v = drawn_if (has_attachments v.told) v

@@ -1,4 +1,4 @@
--- What following links leaves, rings or not.
+-- What following links leaves, with or without cycles.
 use Rattle.std.specs.Prelude.{ℕ, pos, ◌≡◌, ◌<◌, List, map, length}
 use Rattle.buffer_glyphs.specs.Items.{Position}
 use Rattle.buffer_common.specs.declared.direction.Direction.{Direction}
@@ -12,5 +12,6 @@ pub record IsFinished (recorded drawn : List Position) : Type 0 where
   pub cleared : (k : ℕ) → k < length recorded → (position_at k drawn).attach_chain ≡ pos 0
   pub linkless : (k : ℕ) → (position_at k recorded).attach_chain ≡ pos 0 → position_at k drawn ≡ position_at k recorded
 
+-- each list of positions is finished so
 abbrev pub LinksAreCleared : Type 0
 LinksAreCleared = (d : Direction) (ps : List Position) → IsFinished ps (finished d ps)

@@ -1,4 +1,4 @@
--- Glyphs that hang on others by links, and where they are drawn.
+-- Glyphs attached to others by links, and where they are drawn.
 use Rattle.std.specs.Prelude.{ℕ, zero, suc, ◌+◌, ◌==◌, Bool, true, false, ◌||◌, if◌then◌else◌, List, set, map, length, slice_range, Option, Some, None}
 use Rattle.std.specs.List.{fold}
 use Rattle.buffer_glyphs.specs.Items.{Position}
@@ -7,14 +7,15 @@ use Rattle.buffer_common.specs.Direction.{is_forward, is_horizontal}
 pub use Rattle.layout_offsets.specs.Sums.{minus, plus}
 use Rattle.layout_offsets.specs.Links.{position_at, without_link, parent}
 
--- a link is a mark's (1) or a cursive child's (2)
+-- whether a link is a mark's (1) or a cursive child's (2)
 abbrev pub has_kind : Position → Bool
 has_kind p = p.attach_type == 1 || p.attach_type == 2
 
--- a link of any other kind is none
+-- a position, without a link of any other kind
 abbrev pub kind_tested : Position → Position
 kind_tested p = if has_kind p then p else without_link p
 
+-- positions without links of any other kind
 abbrev pub kinds_tested : List Position → List Position
 kinds_tested ps = map kind_tested ps
 
@@ -26,15 +27,16 @@ unlinked i ps = set ps i (without_link (position_at i ps))
 abbrev pub offset_by : Position → Position → Position
 offset_by q p = record p { x_offset = plus p.x_offset q.x_offset; y_offset = plus p.y_offset q.y_offset }
 
--- the pen goes back over a glyph
+-- the pen moved back over a glyph
 abbrev pub back_over : Position → Position → Position
 back_over p r = record p { x_offset = minus p.x_offset r.x_advance; y_offset = minus p.y_offset r.y_advance }
 
--- the pen goes on over a glyph
+-- the pen moved on over a glyph
 abbrev pub on_over : Position → Position → Position
 on_over p r = record p { x_offset = plus p.x_offset r.x_advance; y_offset = plus p.y_offset r.y_advance }
 
--- a mark's offset counts from where its parent is drawn: forward the pen goes back from before the mark to before the parent, backward on from after the parent to after the mark
+-- a mark's offset counts from where its parent is drawn: forward the pen moves back from before the mark to before the
+-- parent, backward on from after the parent to after the mark
 abbrev pub mark_drawn : Bool → ℕ → ℕ → List Position → Position
 mark_drawn true i j ps = fold back_over (offset_by (position_at j ps) (position_at i ps)) (slice_range ps j i)
 mark_drawn false i j ps = fold on_over (offset_by (position_at j ps) (position_at i ps)) (slice_range ps (j + 1) (i + 1))
@@ -44,36 +46,37 @@ abbrev pub child_drawn : Bool → Position → Position → Position
 child_drawn true q p = record p { y_offset = plus p.y_offset q.y_offset }
 child_drawn false q p = record p { x_offset = plus p.x_offset q.x_offset }
 
--- glyph i drawn, where glyph j that it hangs on is drawn
+-- glyph i drawn, once its parent j is drawn
 abbrev pub drawn_position : Direction → ℕ → ℕ → List Position → Position
 drawn_position d i j ps = if (position_at i ps).attach_type == 2 then child_drawn (is_horizontal d) (position_at j ps) (position_at i ps) else mark_drawn (is_forward d) i j ps
 
--- a way to draw a glyph, by the glyph that it hangs on
+-- a way to draw a glyph, from its parent
 abbrev pub Drawing : Type 0
 Drawing = ℕ → ℕ → List Position → Position
 
+-- glyph i drawn from glyph j, in a list
 abbrev pub hung : Drawing → ℕ → ℕ → List Position → List Position
 hung draw i j ps = set ps i (draw i j ps)
 
--- a glyph whose link is taken out is drawn once that is drawn which the link led to
+-- a glyph without its link is drawn once its parent is
 abbrev pub hung_on : Drawing → (ℕ → List Position → List Position) → ℕ → Option ℕ → List Position → List Position
 hung_on draw follow i None ps = unlinked i ps
 hung_on draw follow i (Some j) ps = hung draw i j (follow j (unlinked i ps))
 
--- a glyph is drawn with all that it hangs on, over at most so many links
+-- a glyph drawn with all glyphs that it is attached to, over at most so many links
 unfoldable pub followed : Drawing → ℕ → ℕ → List Position → List Position
 followed draw zero i ps = ps
 followed draw (suc fuel) i ps = hung_on draw (followed draw fuel) i (parent i ps) ps
 
--- of n positions those from i on are drawn, one after another
+-- of n positions those from i on drawn, one after another
 abbrev pub followed_from : Drawing → ℕ → ℕ → List Position → List Position
 followed_from draw i zero ps = ps
 followed_from draw i (suc n) ps = followed_from draw (i + 1) n (followed draw (length ps) i ps)
 
--- all are drawn
+-- all positions drawn
 abbrev pub all_followed : Drawing → List Position → List Position
 all_followed draw ps = followed_from draw 0 (length ps) ps
 
--- all glyphs are drawn where their links say
+-- all glyphs drawn from where their links lead
 abbrev pub finished : Direction → List Position → List Position
 finished d ps = all_followed (drawn_position d) (kinds_tested ps)

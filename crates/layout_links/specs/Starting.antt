@@ -3,10 +3,10 @@ use Rattle.std.specs.Prelude.{pos, [], map}
 use Rattle.buffer_glyphs.specs.Items.{Position}
 use Rattle.buffer_core.specs.Readings.{View, Read, with_events}
 
--- a position that hangs on nothing
+-- a position without a link
 abbrev pub unattached : Position → Position
 unattached p = record p { attach_chain = pos 0; attach_type = 0 }
 
--- no glyph hangs on another
+-- all links cleared (`position_start`)
 abbrev pub links_cleared : View → Read
 links_cleared v = with_events [] (record v { positions = map unattached v.positions })

@@ -1,24 +1,25 @@
--- What links mean that form no ring: each glyph is drawn from what it hangs on as that is drawn at last.
+-- The meaning of links without cycles: each glyph is drawn from its parent's final position.
 use Rattle.std.specs.Prelude.{ℕ, pos, ◌≡◌, ◌<◌, Bool, true, false, List, map, set, length, Option, Some, None}
 use Rattle.buffer_glyphs.specs.Items.{Position}
 use Rattle.buffer_common.specs.declared.direction.Direction.{Direction}
 use Rattle.layout_links.specs.Links.{drawn_position, kinds_tested, finished}
 use Rattle.layout_offsets.specs.Links.{position_at, parent, without_link}
 
--- links form no ring: each glyph has a depth, and hangs on one of a lesser depth
+-- links form no cycle: each glyph has a depth, and its parent a lesser one
 pub record HaveDepths (depth : ℕ → ℕ) (ps : List Position) : Type 0 where
   pub within : (k : ℕ) → k < length ps → depth k < length ps
   pub lesser : (k j : ℕ) → parent k ps ≡ Some j → depth j < depth k
 
--- the advances alone
+-- a position with its advances only
 abbrev pub only_advances : Position → Position
 only_advances p = record { x_advance = p.x_advance; y_advance = p.y_advance; x_offset = pos 0; y_offset = pos 0; attach_chain = pos 0; attach_type = 0 }
 
--- a recorded glyph drawn from what it hangs on, in a list of drawn glyphs
+-- a recorded glyph drawn from its parent, in a list of drawn glyphs
 abbrev pub drawn_from : Direction → List Position → List Position → ℕ → Option ℕ → Position
 drawn_from d recorded drawn k None = without_link (position_at k recorded)
 drawn_from d recorded drawn k (Some j) = drawn_position d k j (set drawn k (without_link (position_at k recorded)))
 
+-- a recorded glyph drawn from the parent of its link
 abbrev pub final : Direction → List Position → List Position → ℕ → Position
 final d recorded drawn k = drawn_from d recorded drawn k (parent k recorded)
 
@@ -28,10 +29,11 @@ pub record AreDrawn (d : Direction) (recorded drawn : List Position) : Type 0 wh
   pub advances : map only_advances drawn ≡ map only_advances recorded
   pub each : (k : ℕ) → k < length recorded → position_at k drawn ≡ final d recorded drawn k
 
+-- links without cycles are followed so
 abbrev pub TreesAreDrawn : Type 0
 TreesAreDrawn = (d : Direction) (depth : ℕ → ℕ) (ps : List Position) → HaveDepths depth (kinds_tested ps) → AreDrawn d (kinds_tested ps) (finished d ps)
 
--- some glyphs are drawn, and with each what it hangs on; the others are as they were recorded
+-- some glyphs are drawn, and with each its parent; the others are as they were recorded
 pub record ArePartlyDrawn (d : Direction) (recorded now : List Position) (done : ℕ → Bool) : Type 0 where
   pub long : length now ≡ length recorded
   pub advances : map only_advances now ≡ map only_advances recorded

@@ -1,4 +1,5 @@
--- A walk along links and back, without a stack: a glyph that it came through keeps the link by which it came to that glyph, and 128 more as its kind.
+-- A walk along links and back, without a stack: a glyph that it came through stores the link by which the walk reached
+-- it, with 128 added to its kind.
 use Rattle.std.specs.Prelude.{ℕ, ℤ, pos, ◌+ℤ◌, ◌+◌, ◌-◌, ◌<◌, ◌≡◌, ◌≢◌, Bool, true, false, nat_le, nat_abs, not, ◌&&◌, ◌==◌, ◌⊎◌, List, [], ◌∷◌, map, set, length, Some, None}
 use Rattle.buffer_glyphs.specs.Items.{Position}
 use Rattle.buffer_common.specs.declared.direction.Direction.{Direction}
@@ -14,24 +15,28 @@ is_link d = not (nat_abs d == 0)
 abbrev pub is_open : Position → Bool
 is_open p = nat_le 128 p.attach_type && is_link p.attach_chain
 
--- no walk is under way
+-- no glyph is open: no walk is under way
 abbrev pub are_shut : List Position → Type 0
 are_shut ps = (k : ℕ) → is_open (position_at k ps) ≡ false
 
+-- a position that stores the link back, and is open
 abbrev pub opened : ℤ → Position → Position
 opened by p = record p { attach_chain = by; attach_type = p.attach_type + 128 }
 
+-- a position shut where the test holds
 abbrev pub shut_if : Bool → Position → Position
 shut_if true p = record p { attach_chain = pos 0; attach_type = p.attach_type - 128 }
 shut_if false p = p
 
--- a position as it is where its link was taken out
+-- a position without its link
 abbrev pub shut : Position → Position
 shut p = shut_if (is_open p) p
 
+-- all positions shut
 abbrev pub all_shut : List Position → List Position
 all_shut ps = map shut ps
 
+-- a glyph is not on a trail
 abbrev pub Apart : ℕ → List ℕ → Type 0
 Apart k [] = Unit {0}
 Apart k (c ∷ rest) = (k ≢ c) × Apart k rest
@@ -41,12 +46,12 @@ abbrev pub Trail : List Position → ℕ → ℤ → List ℕ → Type 0
 Trail ps at by [] = Unit {0}
 Trail ps at by (c ∷ rest) = (c < length ps) × (is_open (position_at c ps) ≡ true) × (pos at ≡ pos c +ℤ by) × Apart c rest × Trail ps c (position_at c ps).attach_chain rest
 
--- these drawn, where the last of them hangs on `at`
+-- the glyphs of a trail drawn, where the last of them is attached to `at`
 abbrev pub unwound : Direction → ℕ → List ℕ → List Position → List Position
 unwound d at [] ps = ps
 unwound d at (c ∷ rest) ps = unwound d c rest (hung (drawn_by_sums d) c at ps)
 
--- so many glyphs after, a walk stands at a glyph, to which it came by a link
+-- a walk is at a glyph, which it reached by a link, after so many glyphs
 pub record IsWalk (count at : ℕ) (by : ℤ) (depth : ℕ) (ps : List Position) : Type 0 where
   pub stack : List ℕ
   pub long : length ps ≡ count
@@ -55,12 +60,13 @@ pub record IsWalk (count at : ℕ) (by : ℤ) (depth : ℕ) (ps : List Position)
   pub depth_is : length stack ≡ depth
   pub only : (k : ℕ) → is_open (position_at k ps) ≡ true → Apart k stack → ⊥
 
--- what is left of the way along the links, and then of the way back, leads to a list
+-- the rest of the way along the links, and then of the way back, leads to a list
 pub record IsGoing (d : Direction) (goal : List Position) (count fuel at : ℕ) (by : ℤ) (depth : ℕ) (ps : List Position) : Type 0 where
   pub walk : IsWalk count at by depth ps
   pub moves : is_link by ≡ true
   pub leads : unwound d at walk.stack (followed (drawn_by_sums d) fuel at (all_shut ps)) ≡ goal
 
+-- the rest of the way back leads to a list
 pub record IsComing (d : Direction) (goal : List Position) (count at : ℕ) (by : ℤ) (depth : ℕ) (ps : List Position) : Type 0 where
   pub walk : IsWalk count at by depth ps
   pub leads : unwound d at walk.stack (all_shut ps) ≡ goal
@@ -69,14 +75,14 @@ pub record IsComing (d : Direction) (goal : List Position) (count at : ℕ) (by 
 abbrev pub Stops : ℕ → List Position → List Position → Type 0
 Stops at old new = ((is_open (position_at at old) ≡ true) × (new ≡ old)) ⊎ ((is_open (position_at at old) ≡ false) × (parent at old ≡ None) × (new ≡ unlinked at old))
 
--- it goes on to another, by a link
+-- a walk follows a link to another glyph
 abbrev pub Goes : ℕ → ℤ → ℕ → ℤ → List Position → List Position → Type 0
 Goes to link at by old new = (is_open (position_at at old) ≡ false) × (parent at old ≡ Some to) × (link ≡ (position_at at old).attach_chain) × (new ≡ set old at (opened by (position_at at old)))
 
--- there is a glyph from which it came
+-- there is a glyph from which the walk came
 abbrev pub CameFrom : ℕ → ℤ → List Position → Type 0
 CameFrom at by ps = (c : ℕ) × (c < length ps) × (pos at ≡ pos c +ℤ by) × (is_open (position_at c ps) ≡ true)
 
--- it goes back to that glyph, which is drawn
+-- a walk returns to that glyph, which is drawn
 abbrev pub GoesBack : Direction → ℕ → ℤ → ℕ → ℤ → List Position → List Position → Type 0
 GoesBack d to link at by old new = (pos at ≡ pos to +ℤ by) × (link ≡ (position_at to old).attach_chain) × (is_open (shut (position_at to old)) ≡ false) × (new ≡ hung (drawn_by_sums d) to at (set old to (shut (position_at to old))))

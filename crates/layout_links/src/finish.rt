@@ -1,4 +1,5 @@
-//! Positioning begun and ended, on the buffer.
+//! The start and the end of positioning, on the buffer (rustybuzz: hb/ot_layout_gpos_table.rs, `position_start`,
+//! `position_finish_advances`, `position_finish_offsets`).
 ghost use Rattle.std.specs.Prelude.{◌≡◌, map};
 ghost use Rattle.buffer_core.specs.Readings.{always};
 ghost use Rattle.buffer_stages.specs.Ready.{IsDone, IsReady};
@@ -10,7 +11,7 @@ use buffer_common::constants::HB_BUFFER_SCRATCH_FLAG_HAS_GPOS_ATTACHMENT;
 use buffer_core::buffer::hb_buffer_t;
 use buffer_glyphs::position::GlyphPosition;
 
-/// Before positioning: no glyph hangs on another. It takes linear time and no memory.
+/// Clears all links before positioning. It takes linear time and no memory.
 #[tactic(auto, using(crate::proofs::Ended::cleared_done))]
 pub fn position_start(buffer: &mut hb_buffer_t)
     requires { IsReady buffer.old }
@@ -38,16 +39,16 @@ fn unattached(position: GlyphPosition) -> GlyphPosition
     }
 }
 
-/// After positioning: nothing is left to be done to the advances.
+/// No-op after positioning, as in rustybuzz.
 pub fn position_finish_advances(buffer: &mut hb_buffer_t)
     ensures { buffer.new ≡ buffer.old }
 {
     let _none = buffer;
 }
 
-/// After positioning: draws all glyphs where their links say, where glyphs were attached to others
-/// (`HB_BUFFER_SCRATCH_FLAG_HAS_GPOS_ATTACHMENT`). A mark's offset counts from where the glyph that it hangs on is drawn,
-/// a cursive child's across the line so. Each link is cleared. It takes linear time and no memory.
+/// Draws all glyphs from where their links lead, after positioning, where glyphs were attached to others
+/// (`HB_BUFFER_SCRATCH_FLAG_HAS_GPOS_ATTACHMENT`). A mark's offset counts from where its parent is drawn, a cursive
+/// child's offset across the line too. Each link is cleared. It takes linear time and no memory.
 #[tactic(auto, using(crate::proofs::Ended::attached_done, crate::proofs::Ended::unattached_done))]
 pub fn position_finish_offsets(buffer: &mut hb_buffer_t)
     requires { IsReady buffer.old }

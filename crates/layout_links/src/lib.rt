@@ -1,4 +1,5 @@
-// Positions at the end of positioning: glyphs that hang on others are drawn where their links say.
+//! The end of positioning: attached glyphs are drawn from where their links lead (rustybuzz:
+//! hb/ot_layout_gpos_table.rs, `position_finish_offsets`, `propagate_attachment_offsets`).
 #![tactic(auto)]
 
 pub mod finish;

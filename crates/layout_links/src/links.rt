@@ -1,4 +1,5 @@
-//! Glyphs drawn where their links say, on a list of positions.
+//! Glyphs drawn from where their links lead, on a list of positions (rustybuzz: hb/ot_layout_gpos_table.rs,
+//! `propagate_attachment_offsets`).
 ghost use Rattle.std.specs.Prelude.{◌≡◌, ◌<◌, length};
 ghost use Rattle.buffer_common.specs.declared.direction.Direction.{Direction as Way};
 ghost use Rattle.std.specs.Prelude.{MatchOption, true, false, pos, ◌+ℤ◌};
@@ -34,7 +35,7 @@ fn child_drawn(across: bool, base: GlyphPosition, place: GlyphPosition) -> Glyph
     drawn
 }
 
-/// A position moved along the line.
+/// A position with a distance subtracted from its offsets.
 fn back_by(way: Pen, place: GlyphPosition) -> GlyphPosition
     ensures { result ≡ back_by way place }
 {
@@ -53,7 +54,7 @@ fn on_by(way: Pen, place: GlyphPosition) -> GlyphPosition
     moved
 }
 
-/// The pen in front of a glyph.
+/// The pen before a glyph.
 fn pen_before(positions: &[GlyphPosition], at: usize) -> Pen
     requires { at < length positions.now }
     ensures { result ≡ pen_before at positions.now }
@@ -65,7 +66,7 @@ fn pen_before(positions: &[GlyphPosition], at: usize) -> Pen
     }
 }
 
-/// A mark drawn, where the glyph that it hangs on is drawn.
+/// The position of a mark, once its parent is drawn.
 fn mark_drawn(
     positions: &[GlyphPosition],
     child: usize,
@@ -92,7 +93,7 @@ fn mark_drawn(
     )
 }
 
-/// Draws a glyph, where the glyph that it hangs on is drawn.
+/// Draws a glyph, once its parent is drawn.
 fn hang(positions: &mut [GlyphPosition], child: usize, parent: usize, direction: Direction)
     requires child { child < length positions.old }
     requires parent { parent < length positions.old }
@@ -106,17 +107,17 @@ fn hang(positions: &mut [GlyphPosition], child: usize, parent: usize, direction:
     };
 }
 
-/// What is added to the kind of a link while a walk is beyond it.
+/// The bit added to the kind of a link while a walk is beyond it.
 const OPEN: u8 = 128;
 
-/// A glyph, and the link by which a walk came to it.
+/// A glyph, and the link by which a walk reached it.
 #[derive(Clone, Copy)]
 struct Step {
     by: i16,
     at: usize,
 }
 
-/// Where a walk ends, and how many glyphs it came through.
+/// The end of a walk, and how many glyphs it came through.
 #[derive(Clone, Copy)]
 struct Walk {
     last: Step,
@@ -158,7 +159,7 @@ fn unlink(positions: &mut [GlyphPosition], at: usize)
     positions[at].attach_chain = 0;
 }
 
-/// Goes on along a glyph's link, and leaves there the link by which the walk came to the glyph.
+/// Follows a glyph's link, and stores there the link by which the walk reached the glyph.
 fn go_on(positions: &mut [GlyphPosition], last: Step) -> Option<Step>
     requires here { last.at < length positions.old }
     ensures { MatchOption result (Stops last.at positions.old positions.new)
@@ -194,7 +195,7 @@ fn came_from(positions: &[GlyphPosition], last: Step) -> usize
     (last.at as isize - isize::from(last.by)) as usize
 }
 
-/// Goes back to the glyph that a walk came from, and draws it.
+/// Returns to the glyph that a walk came from, and draws it.
 fn go_back(positions: &mut [GlyphPosition], last: Step, direction: Direction) -> Step
     requires here { last.at < length positions.old }
     requires came { CameFrom last.at last.by positions.old }
@@ -211,7 +212,7 @@ fn go_back(positions: &mut [GlyphPosition], last: Step, direction: Direction) ->
     }
 }
 
-/// Goes along links from a glyph until one leads nowhere, or to a glyph that it came through.
+/// Follows links from a glyph until one leads nowhere, or to a glyph that the walk came through.
 fn go_along(positions: &mut [GlyphPosition], start: usize) -> Walk
     requires here { start < length positions.old }
     requires shut { are_shut positions.old }
@@ -229,8 +230,8 @@ fn go_along(positions: &mut [GlyphPosition], start: usize) -> Walk
     Walk { last, depth: count }
 }
 
-/// Draws a glyph with all that it hangs on. It goes along the links and leaves in each glyph the link by which it came
-/// there; then it goes back by these, and draws. So it needs neither memory nor a stack.
+/// Draws a glyph with all glyphs that it is attached to. It follows the links and stores in each glyph the link by
+/// which it got there; then it returns by these, and draws. So it needs neither memory nor a stack.
 fn follow(positions: &mut [GlyphPosition], start: usize, direction: Direction)
     requires here { start < length positions.old }
     requires shut { are_shut positions.old }
@@ -244,7 +245,7 @@ fn follow(positions: &mut [GlyphPosition], start: usize, direction: Direction)
     }
 }
 
-/// Draws all glyphs, among sums.
+/// Draws all glyphs, where advances are sums.
 fn follow_all(positions: &mut [GlyphPosition], direction: Direction)
     requires shut { are_shut positions.old }
     ensures { positions.new ≡ all_followed (drawn_by_sums direction) positions.old }
@@ -254,9 +255,9 @@ fn follow_all(positions: &mut [GlyphPosition], direction: Direction)
     }
 }
 
-/// Draws all glyphs where their links say: a mark counts its offset from where the glyph that it hangs on is drawn, a
-/// cursive child counts its offset across the line so. Each link is cleared as it is followed, rings included; a link
-/// whose kind is neither is cleared alone. It takes linear time, and neither memory nor a stack.
+/// Draws all glyphs from where their links lead: a mark's offset counts from where its parent is drawn, a cursive
+/// child's offset across the line too. Each link is cleared as it is followed, cycles included; a link of any other
+/// kind is only cleared. It takes linear time, and neither memory nor a stack.
 #[tactic(auto, using(crate::proofs::BySums::finished_by_sums, crate::proofs::BySums::summed_shut))]
 pub fn finish_offsets(positions: &mut [GlyphPosition], direction: Direction)
     ensures { positions.new ≡ finished direction positions.old }

@@ -1,4 +1,4 @@
-//! Advances as sums, so that the way between two glyphs is a difference.
+//! Advances as sums, so that the distance between two glyphs is a difference.
 ghost use Rattle.std.specs.Prelude.{◌≡◌};
 ghost use Rattle.layout_links.specs.Links.{kinds_tested, kind_tested, has_kind};
 ghost use Rattle.layout_links.specs.Sums.{AllFit, Fits, pen_down, pen_after, pen_of, pen_way, with_pen, summed, taken_apart};
@@ -6,7 +6,7 @@ ghost use Rattle.layout_links.specs.Sums.{AllFit, Fits, pen_down, pen_after, pen
 use buffer_glyphs::position::GlyphPosition;
 pub use layout_offsets::sums::{minus, plus};
 
-/// Where the pen stands, in font units from the beginning of the line, modulo 2^32.
+/// The pen's distance from the beginning of the line, in font units modulo 2^32.
 #[derive(Clone, Copy)]
 pub(crate) struct Pen {
     pub x: i32,
@@ -58,7 +58,7 @@ fn has_kind(place: GlyphPosition) -> bool
     place.attach_type == 1 || place.attach_type == 2
 }
 
-/// A position with its link, where that is a mark's or a cursive child's.
+/// A position, without a link that is neither a mark's nor a cursive child's.
 fn kind_tested(place: GlyphPosition) -> GlyphPosition
     ensures value { result ≡ kind_tested place }
     ensures fits { Fits place }
@@ -73,7 +73,7 @@ fn kind_tested(place: GlyphPosition) -> GlyphPosition
     }
 }
 
-/// Puts in the place of each advance the sum up to it, and clears links of no kind.
+/// Replaces each advance by the sum up to it, and clears links of neither kind.
 #[tactic(auto, using(crate::proofs::Summing::summing_first, crate::proofs::Summing::summing_next, crate::proofs::Summing::summing_last, crate::proofs::Summing::summing_fits))]
 pub(crate) fn sum_up(positions: &mut [GlyphPosition])
     ensures fits { AllFit positions.old }
@@ -87,7 +87,7 @@ pub(crate) fn sum_up(positions: &mut [GlyphPosition])
     }
 }
 
-/// Puts in the place of each sum its difference from the one before.
+/// Replaces each sum by its difference from the one before.
 #[tactic(auto, using(crate::proofs::Summing::parting_first, crate::proofs::Summing::parting_next, crate::proofs::Summing::parting_last))]
 pub(crate) fn take_apart(positions: &mut [GlyphPosition])
     ensures { positions.new ≡ taken_apart positions.old }

@@ -1,4 +1,4 @@
--- What each layout table of a font has for a text: the chosen script and language system, and features found there.
+-- The script and the language system that are chosen for a text in each layout table, and the features found there.
 use Rattle.std.specs.Prelude.{ℕ, ◌==◌, nat_lt, if◌then◌else◌, List, [], length, position, slice_get, Option, Some, None, Bool, false}
 use Rattle.std.specs.Option.{option_map, option_map_or, option_and_then}
 use Rattle.buffer_common.specs.declared.tag.Tag.{Tag}
@@ -7,7 +7,7 @@ use Rattle.layout_face.specs.declared.substitution.SubstitutionTable.{Substituti
 use Rattle.layout_face.specs.declared.positioning.PositioningTable.{PositioningTable}
 use Rattle.layout_tables.specs.Choice.{ChosenScript, chosen_script, chosen_lang_sys, language_feature, required_language_feature}
 
--- a layout table, as far as features are concerned, with the script and the language system that serve a text
+-- a layout table's features, with the script and the language system that are chosen for a text
 pub record ChosenTable : Type 0 where
   pub script : Option ChosenScript
   pub system : Option LangSysTable
@@ -18,6 +18,7 @@ pub record ChosenTable : Type 0 where
 abbrev pub features_of : Option LayoutLists → List FeatureTable
 features_of table = option_map_or (λ (t : LayoutLists). t.features) table []
 
+-- the script that is chosen for the wanted scripts
 abbrev pub script_of : List Tag → Option LayoutLists → Option ChosenScript
 script_of scripts table = option_and_then (λ (t : LayoutLists). chosen_script scripts t.scripts) table
 
@@ -30,34 +31,35 @@ chosen_table scripts languages table lookup_count = record {
   lookup_count = lookup_count;
 }
 
--- the table of substitution, where a font has it
+-- the GSUB table, where a font has it
 abbrev pub chosen_substitution : List Tag → List Tag → Option SubstitutionTable → ChosenTable
 chosen_substitution scripts languages None = chosen_table scripts languages None 0
 chosen_substitution scripts languages (Some t) = chosen_table scripts languages (Some t.inner) (length t.lookups)
 
--- the table of positioning, where a font has it
+-- the GPOS table, where a font has it
 abbrev pub chosen_positioning : List Tag → List Tag → Option PositioningTable → ChosenTable
 chosen_positioning scripts languages None = chosen_table scripts languages None 0
 chosen_positioning scripts languages (Some t) = chosen_table scripts languages (Some t.inner) (length t.lookups)
 
--- ---- what is found there
+-- ---- features found there
 
--- the chosen script is one of those that were wanted
+-- whether the chosen script is one of those that were wanted
 abbrev pub is_script_found : ChosenTable → Bool
 is_script_found t = option_map_or (λ (c : ChosenScript). c.found) t.script false
 
+-- the tag of the chosen script
 abbrev pub script_tag : ChosenTable → Option Tag
 script_tag t = option_map (λ (c : ChosenScript). c.script.tag) t.script
 
--- the index of the feature of a tag that the language system has
+-- the index of the language system's feature of a tag
 abbrev pub system_feature : Tag → ChosenTable → Option ℕ
 system_feature tag t = option_and_then (λ (s : LangSysTable). language_feature tag s t.features) t.system
 
--- an index as 16 bits have it
+-- an index, if it fits 16 bits
 abbrev pub short_index : ℕ → Option ℕ
 short_index i = if nat_lt i 65536 then Some i else None
 
--- the index of the first feature of a tag in the table's list, if 16 bits have it
+-- the index of the first feature of a tag in the table's list, if it fits 16 bits
 abbrev pub listed_feature : Tag → ChosenTable → Option ℕ
 listed_feature tag t = option_and_then short_index (position (λ (f : FeatureTable). f.tag.0 == tag.0) t.features)
 

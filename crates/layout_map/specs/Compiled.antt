@@ -23,13 +23,13 @@ use Rattle.buffer_glyphs.specs.declared.info.TheConstants.{DEFINED}
 
 -- ---- the builder
 
--- what was asked of a font: features, in the order in which they were asked for, and the pauses of each table
+-- the requests of a builder: features, in the order in which they were requested, and the pauses of each table
 pub record MapRequests : Type 0 where
   pub tables : PerTable ChosenTable
   pub requests : List FeatureRequest
   pub pauses : PerTable (List ℕ)
 
--- nothing is asked yet
+-- a builder without requests
 abbrev pub no_requests : List Tag → List Tag → Option SubstitutionTable → Option PositioningTable → MapRequests
 no_requests scripts languages gsub gpos = record {
   tables = record { gsub = chosen_substitution scripts languages gsub; gpos = chosen_positioning scripts languages gpos };
@@ -37,7 +37,7 @@ no_requests scripts languages gsub gpos = record {
   pauses = record { gsub = []; gpos = [] };
 }
 
--- a request falls into the stage that the pauses before it have begun; the zero tag asks for nothing
+-- a request is for the stage that the pauses before it began; the zero tag requests nothing
 abbrev pub with_request : Tag → ℕ → ℕ → MapRequests → MapRequests
 with_request tag flags value b =
     if tag.0 == 0 then b
@@ -50,9 +50,11 @@ with_request tag flags value b =
       } ∷ [];
     }
 
+-- the requests with one more GSUB pause
 abbrev pub with_gsub_pause : ℕ → MapRequests → MapRequests
 with_gsub_pause pause b = record b { pauses = record b.pauses { gsub = b.pauses.gsub ++ pause ∷ [] } }
 
+-- the requests with one more GPOS pause
 abbrev pub with_gpos_pause : ℕ → MapRequests → MapRequests
 with_gpos_pause pause b = record b { pauses = record b.pauses { gpos = b.pauses.gpos ++ pause ∷ [] } }
 
@@ -65,16 +67,18 @@ pub record TableStages : Type 0 where
   pub lookups : List lookup_map_t
   pub stages : List StageMap
 
+-- a compiled map: its features, the global mask, and the stages of each table
 pub record OtMapValue : Type 0 where
   pub global_mask : ℕ
   pub features : List feature_map_t
   pub tables : PerTable TableStages
 
--- the stages of a table for merged requests, those of them that are wanted, the features of the map, and the pauses
+-- the stages of a table for merged requests, the wanted ones of them, the features of the map, and the pauses
 abbrev pub stage_list : TableIndex → ChosenTable → List MergedRequest → List MergedRequest → List feature_map_t → List ℕ → List Stage
 stage_list table t requests wanted features pauses =
     stages_from (stage_lookups table t (required_in table t requests wanted) features) 0 pauses
 
+-- the stages of a table, as one list of lookups with the end of each stage
 abbrev pub stages_with : TableIndex → ChosenTable → List MergedRequest → List MergedRequest → List feature_map_t → List ℕ → TableStages
 stages_with table t requests wanted features pauses = record {
   found_script = is_script_found t;
@@ -83,10 +87,12 @@ stages_with table t requests wanted features pauses = record {
   stages = stage_ends 0 (stage_list table t requests wanted features pauses);
 }
 
+-- the stages of a table for merged requests
 abbrev pub table_stages : TableIndex → PerTable ChosenTable → PerTable (List ℕ) → List MergedRequest → TableStages
 table_stages table tables pauses requests =
     stages_with table (for_table table tables) requests (wanted_requests tables requests) (kept_features tables requests) (for_table table pauses)
 
+-- the map of merged requests
 abbrev pub map_with : PerTable ChosenTable → PerTable (List ℕ) → List MergedRequest → OtMapValue
 map_with tables pauses requests = record {
   global_mask = global_mask tables requests;
@@ -94,23 +100,25 @@ map_with tables pauses requests = record {
   tables = record { gsub = table_stages GSUB tables pauses requests; gpos = table_stages GPOS tables pauses requests };
 }
 
--- the map of what was asked
+-- the map of a builder's requests (`compile`)
 abbrev pub compiled : MapRequests → OtMapValue
 compiled b = map_with b.tables b.pauses (merged_requests b.requests)
 
--- a feature's bits hold no glyph flag, and the lowest of them is one of a mask's
+-- a feature's bits hold no glyph flag, and the index of the lowest of them is below 32
 abbrev pub IsApart : feature_map_t → Type 0
 IsApart f = (bit_and f.mask DEFINED ≡ 0) × (bit_and f.one_mask DEFINED ≡ 0) × (f.shift < 32)
 
 -- ---- queries
 
+-- the feature of a tag in a map
 abbrev pub feature_at : Tag → OtMapValue → Option feature_map_t
 feature_at tag m = find (λ (f : feature_map_t). f.tag.0 == tag.0) m.features
 
--- where a stage begins and where it ends, in the list of all lookups
+-- the end of a stage, in the list of all lookups
 abbrev pub stage_end : List StageMap → ℕ → ℕ
 stage_end stages i = option_map_or (λ (s : StageMap). s.last_lookup) (slice_get stages i) 0
 
+-- the start of a stage, in the list of all lookups
 abbrev pub stage_start : List StageMap → ℕ → ℕ
 stage_start stages i = if i == 0 then 0 else stage_end stages (i - 1)
 
@@ -118,7 +126,7 @@ stage_start stages i = if i == 0 then 0 else stage_end stages (i - 1)
 abbrev pub lookups_of_stage : TableStages → ℕ → List lookup_map_t
 lookups_of_stage t i = slice_range t.lookups (stage_start t.stages i) (stage_end t.stages i)
 
--- the ends of stages never fall, from one number on, and no end is past another
+-- the ends of stages never decrease, from one number on, and no end is past another
 abbrev pub are_ends : ℕ → List StageMap → ℕ → Bool
 are_ends before [] total = nat_le before total
 are_ends before (s ∷ stages) total = nat_le before s.last_lookup && are_ends s.last_lookup stages total

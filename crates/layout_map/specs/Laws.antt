@@ -1,7 +1,7 @@
--- What holds of all builders.
+-- Laws of all builders.
 use Rattle.std.specs.Prelude.{◌≡◌}
 use Rattle.layout_map.specs.Compiled.{MapRequests, OtMapValue, compiled}
 
--- builders of whom the same was asked compile one map
+-- builders with the same requests compile the same map
 abbrev pub OneBuilderOneMap : Type 0
 OneBuilderOneMap = (first second : MapRequests) (one other : OtMapValue) → first ≡ second → one ≡ compiled first → other ≡ compiled second → one ≡ other

@@ -1,3 +1,4 @@
+//! The builder of a map (rustybuzz: hb/ot_map.rs, `hb_ot_map_builder_t`).
 ghost use Rattle.std.specs.Prelude.{◌≡◌, OnOk, OnErr, IfOk};
 ghost use Rattle.std.specs.Int.RustNames.{bit_or};
 ghost use Rattle.std.specs.Option.{option_copied};
@@ -69,21 +70,21 @@ impl<'a> hb_ot_map_builder_t<'a> {
         }
     }
 
-    /// The tag of the script that serves the text in a table.
+    /// The tag of the script that was chosen for the text in a table.
     pub fn chosen_script(&self, table: TableIndex) -> Option<Tag>
         ensures { result ≡ script_tag (for_table table self.now.tables) }
     {
         self.tables.get(table).chosen_script()
     }
 
-    /// Whether a language system that serves the text has a feature.
+    /// Whether a language system that was chosen for the text has a feature.
     pub fn has_feature(&self, tag: Tag) -> bool
         ensures { result ≡ in_any (system_features tag self.now.tables) }
     {
         in_any(&system_features(&self.tables, tag))
     }
 
-    /// Asks for a feature: for every glyph with `F_GLOBAL`, else for ranges. The zero tag asks for nothing.
+    /// Requests a feature: for every glyph with `F_GLOBAL`, else for ranges. The zero tag requests nothing.
     pub fn add_feature(
         &mut self,
         tag: Tag,
@@ -109,7 +110,7 @@ impl<'a> hb_ot_map_builder_t<'a> {
         Ok(())
     }
 
-    /// Asks for a feature for every glyph.
+    /// Requests a feature for every glyph.
     pub fn enable_feature(
         &mut self,
         tag: Tag,
@@ -122,7 +123,7 @@ impl<'a> hb_ot_map_builder_t<'a> {
         self.add_feature(tag, flags | F_GLOBAL, value)
     }
 
-    /// Asks for a feature to be off for every glyph.
+    /// Requests that a feature is off for every glyph.
     pub fn disable_feature(&mut self, tag: Tag) -> Result<(), AllocError>
         ensures ok { OnOk result (self.new ≡ with_request tag 1 0 self.old) }
         ensures err { OnErr result (self.new ≡ self.old) }
@@ -130,7 +131,7 @@ impl<'a> hb_ot_map_builder_t<'a> {
         self.add_feature(tag, F_GLOBAL, 0)
     }
 
-    /// Ends the stage of substitution by a pause.
+    /// Ends the current GSUB stage with a pause.
     pub fn add_gsub_pause(&mut self, pause: u8) -> Result<(), AllocError>
         ensures ok { OnOk result (self.new ≡ with_gsub_pause pause self.old) }
         ensures err { OnErr result (self.new ≡ self.old) }
@@ -139,7 +140,7 @@ impl<'a> hb_ot_map_builder_t<'a> {
         Ok(())
     }
 
-    /// Ends the stage of positioning by a pause.
+    /// Ends the current GPOS stage with a pause.
     pub fn add_gpos_pause(&mut self, pause: u8) -> Result<(), AllocError>
         ensures ok { OnOk result (self.new ≡ with_gpos_pause pause self.old) }
         ensures err { OnErr result (self.new ≡ self.old) }
@@ -149,7 +150,7 @@ impl<'a> hb_ot_map_builder_t<'a> {
     }
 
     #[tactic(auto, using(layout_map_features::proofs::Rising::wanted_rise, crate::proofs::Sorted::features_rise))]
-    /// The map of what was asked so far. The builder can be used on.
+    /// The map of the requests so far. The builder can be used on.
     pub fn compile(&self, alloc: Global) -> Result<hb_ot_map_t, AllocError>
         ensures { IfOk result (λ map. map ≡ compiled self.now) }
     {

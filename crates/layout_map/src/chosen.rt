@@ -1,3 +1,5 @@
+//! The script and the language system that are chosen for a text, in each layout table (rustybuzz: hb/ot_map.rs,
+//! hb/ot_layout.rs).
 ghost use Rattle.std.specs.Prelude.{◌≡◌, ◌==◌, position};
 ghost use Rattle.std.specs.Option.{option_and_then, option_copied, option_map};
 ghost use Rattle.layout_tables.specs.Choice.{chosen_lang_sys};
@@ -12,7 +14,7 @@ use layout_tables::script::LangSys;
 use layout_tables::table::{FeatureRecord, LayoutTable, SelectedScript};
 use std::marker::Model;
 
-/// A layout table, where the font has it, with the script and the language system that serve a text.
+/// A layout table, where the font has it, with the script and the language system that are chosen for a text.
 #[derive(Drop)]
 pub struct ChosenTable<'a> {
     table: Option<&'a LayoutTable>,
@@ -36,7 +38,7 @@ impl<'a> Model for ChosenTable<'a> {
 }
 
 impl<'a> ChosenTable<'a> {
-    /// The table of substitution, where a font has it, for the wanted scripts and languages, the best first.
+    /// The GSUB table, where a font has it, for the wanted scripts and languages, the best first.
     pub fn of_substitution(
         table: Option<&'a SubstitutionTable>,
         scripts: &[Tag],
@@ -50,7 +52,7 @@ impl<'a> ChosenTable<'a> {
         }
     }
 
-    /// The table of positioning, the same way.
+    /// The GPOS table, where a font has it, for the wanted scripts and languages, the best first.
     pub fn of_positioning(
         table: Option<&'a PositioningTable>,
         scripts: &[Tag],
@@ -166,7 +168,7 @@ fn selected_system<'a>(script: Option<SelectedScript<'a>>, languages: &[Tag]) ->
     script?.script.select_script_language(languages)
 }
 
-/// The two layout tables of a font, each with the script and the language system that serve a text.
+/// The two layout tables of a font, each with the script and the language system that are chosen for a text.
 #[derive(Drop)]
 pub struct FontTables<'a> {
     pub gsub: ChosenTable<'a>,

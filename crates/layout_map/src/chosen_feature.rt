@@ -1,4 +1,4 @@
-//! A feature of a map.
+//! A feature of a map (rustybuzz: hb/ot_map.rs, `feature_map_t`).
 ghost use Rattle.std.specs.Prelude.{nat_eq};
 ghost use Rattle.std.specs.Cmp.{partial_order_from_own_ties};
 ghost use Rattle.std.specs.Cmp.Rules.{comparing};
@@ -15,7 +15,7 @@ use std::cmp::Ordering;
 #[derive(Clone, Copy)]
 pub struct feature_map_t {
     pub tag: Tag,
-    /// The feature in each table's list, where the table has it.
+    /// The index of the feature in each table's list, where the table has it.
     pub index: PerTable<Option<u16>>,
     pub stage: PerTable<usize>,
     /// The lowest of its bits.
@@ -23,9 +23,9 @@ pub struct feature_map_t {
     pub mask: u32,
     /// The mask of a glyph whose value is 1.
     pub one_mask: u32,
-    /// ZWNJ is passed over when contexts are matched.
+    /// ZWNJ is skipped when contexts are matched.
     pub auto_zwnj: bool,
-    /// ZWJ is passed over when input is matched.
+    /// ZWJ is skipped when input is matched.
     pub auto_zwj: bool,
     /// An alternate is drawn at random.
     pub random: bool,

@@ -1,4 +1,4 @@
-//! The features of a map.
+//! The features of a map, made of requests (rustybuzz: hb/ot_map.rs, `compile`).
 ghost use Rattle.std.specs.Prelude.{◌≡◌, ◌==◌, map, fold, find, bit_or, IfOk};
 ghost use Rattle.layout_map_features.specs.Fields.{global_bit};
 ghost use Rattle.layout_map.specs.Features.{feature_index, feature_with, in_any, is_wanted, listed_features, stage_among, system_features, wanted_requests};
@@ -59,7 +59,7 @@ fn is_wanted(tables: &FontTables, request: &MergedRequest) -> bool
     in_any(&feature_index(tables, request)) || request.has_fallback
 }
 
-/// The requests for features that a table has, or that have a fallback.
+/// The requests for features that a table has, or for which the shaper has a fallback.
 pub(crate) fn wanted_requests(
     alloc: Global,
     tables: &FontTables,

@@ -1,7 +1,8 @@
+//! Laws of builders and maps.
 ghost use Rattle.layout_map.specs.Laws.{OneBuilderOneMap};
 
-/// A builder that is asked for its map twice gives the same map, whatever was read of it between: all that can be read
-/// of the one map is what can be read of the other.
+/// A builder that compiles its map twice gives the same map, whatever was read of it between: all that can be read of
+/// the one map is what can be read of the other.
 pub fn one_builder_one_map()
     ensures { OneBuilderOneMap }
 {}

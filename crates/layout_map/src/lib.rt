@@ -1,5 +1,5 @@
-// What was asked of a font's features, compiled: what the font has for a text's script and language, the bits that stand for
-// each feature, and the stages of lookups.
+//! The compiled map of requested features: what the font has for a text's script and language, the bits of glyph masks
+//! for each feature, and the stages of lookups (rustybuzz: hb/ot_map.rs).
 #![tactic(auto)]
 
 pub mod builder;

@@ -1,3 +1,4 @@
+//! The map of requested features (rustybuzz: hb/ot_map.rs, `hb_ot_map_t`).
 ghost use Rattle.std.specs.Prelude.{◌≡◌, ◌<◌, ◌≤◌, None, true, length, slice_get, IfSome};
 ghost use Rattle.std.specs.Int.RustNames.{bit_and};
 ghost use Rattle.std.specs.Ordering.{nat_cmp};
@@ -61,8 +62,8 @@ impl TableMap {
     }
 }
 
-/// What a font does for the features that were asked for: the bits of glyph masks that stand for each feature, and for
-/// each table the stages of its lookups.
+/// The map of requested features: the bits of glyph masks for each feature, and for each table the stages of its
+/// lookups.
 #[derive(Drop)]
 pub struct hb_ot_map_t {
     pub(crate) global_mask: u32,
@@ -109,7 +110,7 @@ impl hb_ot_map_t {
         self.table(table).found_script
     }
 
-    /// The tag of the script that serves the text in a table.
+    /// The tag of the script that was chosen for the text in a table.
     pub fn chosen_script(&self, table: TableIndex) -> Option<Tag>
         ensures { result ≡ (for_table table self.now.tables).chosen_script }
     {
@@ -140,7 +141,7 @@ impl hb_ot_map_t {
         find_row(&self.features, tag.0)
     }
 
-    /// The mask of a feature, which has no glyph flag, and its lowest bit; 0 and 0 where the map lacks it.
+    /// The mask of a feature, which has no glyph flag, and the index of its lowest bit; 0 and 0 where the map lacks it.
     pub fn get_mask(&self, tag: Tag) -> (u32, u32)
         ensures value { result ≡ option_map_or (λ f. (f.mask, f.shift)) (feature_at tag self.now) (0, 0) }
         ensures flagless { bit_and result.0 DEFINED ≡ 0 }
@@ -179,14 +180,14 @@ impl hb_ot_map_t {
         Some(*feature.stage.get(table))
     }
 
-    /// Where the stages of a table end, in their order.
+    /// The ends of a table's stages, in their order.
     pub fn stages(&self, table: TableIndex) -> &[StageMap]
         ensures { result.now ≡ (for_table table self.now.tables).stages }
     {
         &self.table(table).stages
     }
 
-    /// A lookup by its place among all lookups of a table's stages.
+    /// A lookup by its index among all lookups of a table's stages.
     pub fn lookup(&self, table: TableIndex, index: usize) -> &lookup_map_t
         requires { index < length (for_table table self.now.tables).lookups }
         ensures { slice_get (for_table table self.now.tables).lookups index ≡ Some result.now }
@@ -202,7 +203,7 @@ impl hb_ot_map_t {
         self.table(table).stage_lookups(stage)
     }
 
-    /// The places of a stage's lookups among all lookups of a table's stages.
+    /// The indices of a stage's lookups among all lookups of a table's stages.
     pub fn stage_lookup_range(&self, table: TableIndex, stage: usize) -> Range<usize>
         requires { stage < length (for_table table self.now.tables).stages }
         ensures start { result.start ≡ stage_start (for_table table self.now.tables).stages stage }

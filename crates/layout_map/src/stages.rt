@@ -1,3 +1,4 @@
+//! The stages of a table's lookups (rustybuzz: hb/ot_map.rs, `StageMap`).
 ghost use Rattle.std.specs.Prelude.{◌≡◌, ◌+◌, ◌++◌, ◌∷◌, [], map, length, IfOk, OnOk, Some};
 ghost use Rattle.std.specs.List.{flat_map};
 ghost use Rattle.layout_map.specs.Lookups.{Stage, feature_lookups, lookups_if, required_lookups, stage_ends, stage_lookups, stage_uses, stages_from};
@@ -14,13 +15,13 @@ use std::alloc::{AllocError, Global};
 /// The end of a stage.
 #[derive(Clone, Copy)]
 pub struct StageMap {
-    /// How many lookups the table's stages have up to this one, it included.
+    /// How many lookups the table's stages have up to the end of this one.
     pub last_lookup: usize,
     /// The pause that ends the stage; the last stage ends without one.
     pub pause: Option<u8>,
 }
 
-/// What the stages of a table are made of.
+/// The inputs from which a table's stages are made.
 #[derive(Clone, Copy)]
 pub struct TableFeatures<'a, 'b> {
     pub table: TableIndex,
@@ -141,7 +142,7 @@ fn push_stage(
 }
 
 #[tactic(auto, using(crate::proofs::StageSteps::lookups_step, crate::proofs::StageSteps::ends_step))]
-/// The lookups of all stages, and where each stage ends.
+/// The lookups of all stages, and the end of each stage.
 pub fn all_stages(
     alloc: Global,
     of: &TableFeatures,

@@ -1,10 +1,10 @@
--- Entries of a finite map while elements come in.
+-- Entries of a finite map as elements are added.
 use Rattle.std.specs.Prelude.{ℕ, ◌+◌, ◌≤◌, ◌<◌, List, [], ◌∷◌, Option, Some, None}
 use Rattle.std.specs.Ordering.{nat_cmp}
 use Rattle.std.specs.BTreeMap.{insert_entry, is_at}
 use Rattle.std.specs.Map.{lookup}
 
--- what an element gives with those before it
+-- the value of an element added to those before it
 abbrev pub entered : {X Y : Type 0} → (X → List X → Y) → (Y → X → Y) → Option Y → X → Y
 entered together join None x = together x []
 entered together join (Some before) x = join before x
@@ -14,12 +14,12 @@ abbrev pub entries_with : {X Y : Type 0} → (X → ℕ) → (X → List X → Y
 entries_with key together join entries x =
     insert_entry nat_cmp entries (key x) (entered together join (lookup (is_at (nat_cmp (key x))) entries) x)
 
--- each key is above the one before it, and none is below a number
+-- each key is greater than the one before it, and none is below a number
 abbrev pub RisesFrom : {X : Type 0} → (X → ℕ) → ℕ → List X → Type 0
 RisesFrom key low [] = Unit {0}
 RisesFrom key low (x ∷ xs) = (low ≤ key x) × RisesFrom key (key x + 1) xs
 
--- each key is above the one before it, none is below one number, and all are below another
+-- each key is greater than the one before it, none is below one number, and all are below another
 abbrev pub RisesWithin : {X : Type 0} → (X → ℕ) → ℕ → ℕ → List X → Type 0
 RisesWithin key low high [] = Unit {0}
 RisesWithin key low high (x ∷ xs) = (low ≤ key x) × (key x < high) × RisesWithin key (key x + 1) high xs

@@ -1,4 +1,4 @@
--- The bits of glyph masks that stand for features.
+-- The bits of features in glyph masks.
 use Rattle.std.specs.Prelude.{ℕ, ◌+◌, ◌-◌, ◌*◌, ◌^◌, ◌%◌, ◌==◌, ◌&&◌, Bool, nat_lt, min, if◌then◌else◌, List, [], ◌∷◌, fold, filter, Option, Some, None}
 use Rattle.std.specs.Int.{leading_zeros, w32}
 use Rattle.std.specs.List.{flat_map}
@@ -10,10 +10,11 @@ use Rattle.layout_map_features.specs.declared.request.MergedRequest.{MergedReque
 abbrev pub global_bit : ℕ
 global_bit = 0x8000_0000
 
+-- the index of the global bit
 abbrev pub global_shift : ℕ
 global_shift = 31
 
--- the lowest bit that is no glyph flag
+-- the index of the lowest bit that is no glyph flag
 abbrev pub first_feature_bit : ℕ
 first_feature_bit = 4
 
@@ -21,11 +22,11 @@ first_feature_bit = 4
 abbrev pub bits_needed : ℕ → ℕ
 bits_needed value = min (32 - leading_zeros w32 value) 8
 
--- the global bit, for a feature that every glyph has with value 1
+-- the global bit, as the field of a feature that every glyph has with value 1
 abbrev pub global_field : FeatureField
 global_field = record { shift = global_shift; mask = global_bit; one_mask = global_bit; default_mask = global_bit }
 
--- so many bits of its own from a bit on, and in them the low bits of the value outside ranges
+-- so many bits of a feature's own from a bit on, with the low bits of the value outside ranges
 abbrev pub own_field : ℕ → ℕ → ℕ → FeatureField
 own_field next count value = record {
   shift = next;
@@ -34,11 +35,12 @@ own_field next count value = record {
   default_mask = value % 2 ^ count * 2 ^ next;
 }
 
--- every glyph has the feature with value 1
+-- whether every glyph has the feature with value 1
 abbrev pub uses_global_bit : MergedRequest → Bool
 uses_global_bit m = m.is_global && (m.max_value == 1)
 
--- the field of a feature where a bit is the lowest free one; none where it is off, or where its bits would reach the last bit
+-- the field of a feature where a bit is the lowest free one; none where the feature is off, or where its bits would
+-- reach the last bit
 abbrev pub field_of : ℕ → MergedRequest → Option FeatureField
 field_of next m =
     if m.max_value == 0 then None
@@ -62,7 +64,7 @@ free_bit before = fold bit_after first_feature_bit before
 abbrev pub below_tag : ℕ → List MergedRequest → List MergedRequest
 below_tag tag requests = filter (λ m. nat_lt m.tag.0 tag) requests
 
--- the field of a request among those that are to have one: it follows the fields of lower tags
+-- the field of a request among those that may have one: it follows the fields of lower tags
 abbrev pub field_among : List MergedRequest → MergedRequest → Option FeatureField
 field_among requests m = field_of (free_bit (below_tag m.tag.0 requests)) m
 

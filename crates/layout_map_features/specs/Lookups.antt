@@ -1,12 +1,12 @@
--- Lookups that several features run.
+-- Lookups that several features apply.
 use Rattle.std.specs.Prelude.{ℕ, ◌&&◌, nat_lt, if◌then◌else◌, List, fold}
 use Rattle.std.specs.Int.RustNames.{bit_or}
 use Rattle.layout_map_features.specs.declared.lookup.lookup_map_t.{lookup_map_t}
 use Rattle.layout_map_features.specs.Groups.{groups_below}
 use Rattle.layout_map_features.specs.Entering.{entries_with}
 
--- one lookup as several features run it: where any of them is on, with joiners passed over if all ask so; how it draws and
--- whether it keeps to syllables is the first one's
+-- one lookup of several features: on where any of them is, with joiners skipped if all features say so; random
+-- alternates and syllables are as the first feature says
 abbrev pub joined_lookups : lookup_map_t → List lookup_map_t → lookup_map_t
 joined_lookups first later = record {
   index = first.index;
@@ -17,7 +17,7 @@ joined_lookups first later = record {
   per_syllable = first.per_syllable;
 }
 
--- a lookup with one more feature that runs it
+-- a lookup with one more feature that applies it
 abbrev pub lookup_with : lookup_map_t → lookup_map_t → lookup_map_t
 lookup_with l later = record l {
   mask = bit_or l.mask later.mask;
@@ -25,7 +25,7 @@ lookup_with l later = record l {
   auto_zwj = l.auto_zwj && later.auto_zwj;
 }
 
--- the lookups below a count that are run, by index, each once
+-- the lookups below a count, by index, each merged from its features
 abbrev pub merged_lookups : ℕ → List lookup_map_t → List lookup_map_t
 merged_lookups count uses = groups_below (λ l. l.index) joined_lookups count uses
 

@@ -1,4 +1,4 @@
--- What the requests for a feature ask together.
+-- The merged requests for a feature.
 use Rattle.std.specs.Prelude.{ℕ, ◌==◌, Bool, not, ◌||◌, min, max, if◌then◌else◌, List, ◌∷◌, fold}
 use Rattle.std.specs.Int.RustNames.{bit_and}
 use Rattle.std.specs.List.{list_any}
@@ -7,14 +7,15 @@ use Rattle.layout_map_features.specs.declared.request.MergedRequest.{MergedReque
 use Rattle.layout_map_features.specs.declared.flags.TheConstants.{F_GLOBAL, F_HAS_FALLBACK, F_MANUAL_ZWNJ, F_MANUAL_ZWJ, F_GLOBAL_SEARCH, F_RANDOM, F_PER_SYLLABLE}
 use Rattle.layout_map_features.specs.Groups.{groups}
 
+-- whether a request has a flag
 abbrev pub has_flag : ℕ → FeatureRequest → Bool
 has_flag flag r = not (bit_and r.flags flag == 0)
 
--- the request is for every glyph
+-- whether the request is for every glyph
 abbrev pub is_global : FeatureRequest → Bool
 is_global r = has_flag F_GLOBAL r
 
--- the greatest value of a glyph: a request for every glyph replaces what was asked before, one for a range joins it
+-- the greatest value of a glyph: a request for every glyph replaces the earlier ones, one for a range adds its value
 abbrev pub greatest_value : ℕ → FeatureRequest → ℕ
 greatest_value before r = if is_global r then r.value else max before r.value
 
@@ -22,8 +23,8 @@ greatest_value before r = if is_global r then r.value else max before r.value
 abbrev pub outside_value : ℕ → FeatureRequest → ℕ
 outside_value before r = if is_global r then r.value else before
 
--- the requests for one feature, the first and the later ones: the last tells whether the feature is global, any may tell
--- that there is a fallback, the earliest stage stays, and the other flags are the first's
+-- the merged requests for one feature, the first and the later ones: the last says whether the feature is global, a
+-- fallback of any stays, the earliest stage stays, and the other flags are the first's
 abbrev pub merged : FeatureRequest → List FeatureRequest → MergedRequest
 merged first later = record {
   tag = first.tag;
@@ -42,7 +43,7 @@ merged first later = record {
   per_syllable = has_flag F_PER_SYLLABLE first;
 }
 
--- what requests ask together with a later one
+-- merged requests with a later one
 abbrev pub joined : MergedRequest → FeatureRequest → MergedRequest
 joined m r = record m {
   is_global = is_global r;
@@ -52,6 +53,6 @@ joined m r = record m {
   has_fallback = m.has_fallback || has_flag F_HAS_FALLBACK r;
 }
 
--- for each tag that was asked for, by rising tags, what its requests ask together
+-- the merged requests for each requested tag, by rising tags
 abbrev pub merged_requests : List FeatureRequest → List MergedRequest
 merged_requests requests = groups (λ r. r.tag.0) merged requests

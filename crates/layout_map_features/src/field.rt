@@ -1,12 +1,13 @@
+//! The bits of a feature in glyph masks (rustybuzz: hb/ot_map.rs, `compile`).
 ghost use Rattle.std.specs.Prelude.{◌≡◌, ◌≤◌, ◌<◌, ◌+◌};
 ghost use Rattle.layout_map_features.specs.Fields.{bits_needed, bit_after, field_of, own_field, uses_global_bit};
 
 use crate::request::MergedRequest;
 
-/// The greatest number of bits that a feature gets.
+/// The greatest number of bits that a feature gets (HarfBuzz: `MAX_BITS`).
 pub const MAX_BITS: u32 = 8;
 
-/// The place of the bit that every glyph has, for features that are on for all glyphs.
+/// The index of the bit that every glyph has, for features that are on for all glyphs.
 pub const GLOBAL_SHIFT: u32 = 31;
 
 pub const GLOBAL_BIT: u32 = 1 << GLOBAL_SHIFT;
@@ -17,7 +18,7 @@ pub const FIRST_FEATURE_BIT: u32 = 4;
 /// The bits of a feature in the masks of glyphs.
 #[derive(Clone, Copy)]
 pub struct FeatureField {
-    /// The lowest of the bits.
+    /// The index of the lowest of the bits.
     pub shift: u32,
     pub mask: u32,
     /// The mask of a glyph whose value is 1.
@@ -55,7 +56,7 @@ fn own_field(next: u32, count: u32, value: u32) -> FeatureField
 }
 
 impl MergedRequest {
-    /// Every glyph has the feature with value 1.
+    /// Whether every glyph has the feature with value 1.
     pub fn uses_global_bit(&self) -> bool
         ensures { result ≡ uses_global_bit self.now }
     {

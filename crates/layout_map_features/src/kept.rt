@@ -1,3 +1,4 @@
+//! The requests that get bits.
 ghost use Rattle.std.specs.Prelude.{◌≡◌, ◌≤◌, ◌++◌, if◌then◌else◌, nat_lt, IfOk, OnOk};
 ghost use Rattle.layout_map_features.specs.Entering.{RisesFrom};
 ghost use Rattle.layout_map_features.specs.Fields.{bit_after, field_among, kept_fields, kept_if};
@@ -14,7 +15,7 @@ pub struct KeptField {
 }
 
 #[tactic(auto, using(crate::proofs::Threading::below_step))]
-/// The field of a request among others: it follows the fields of lower tags.
+/// The field of a request among others: its bits follow the fields of lower tags.
 pub fn field_among(requests: &[MergedRequest], request: &MergedRequest) -> Option<FeatureField>
     ensures { result ≡ field_among requests.now request.now }
 {

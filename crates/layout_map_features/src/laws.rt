@@ -1,3 +1,4 @@
+//! Laws of feature bits, merged requests and lookups.
 ghost use Rattle.std.specs.Prelude.{◌≡◌, [], ◌∷◌};
 ghost use Rattle.layout_map_features.specs.Laws.{LookupsRise, OwnBitsAreApart, OwnBitsAreFree, TagsRise};
 
@@ -6,12 +7,12 @@ use crate::flags::{
     F_MANUAL_JOINERS, F_MANUAL_ZWJ, F_MANUAL_ZWNJ, F_NONE, F_PER_SYLLABLE, F_RANDOM,
 };
 
-/// Bits of a feature's own are no glyph flags, and not the global bit.
+/// A feature's own bits are no glyph flags, and not the global bit.
 pub fn own_bits_are_free()
     ensures { OwnBitsAreFree }
 {}
 
-/// Two features that have bits of their own share none.
+/// Two features with bits of their own share none.
 pub fn own_bits_are_apart()
     ensures { OwnBitsAreApart }
 {}
@@ -22,7 +23,7 @@ pub fn tags_rise()
     ensures { TagsRise }
 {}
 
-/// The lookups of a stage rise strictly, and the table has them.
+/// The lookups of a stage rise strictly, and are below the table's count.
 #[tactic(auto, using(crate::proofs::Rising::lookups_rise))]
 pub fn lookups_rise()
     ensures { LookupsRise }

@@ -1,4 +1,4 @@
-// Requests for features: what those for one feature ask together, and the bits that stand for it in glyph masks.
+//! Requests for features: the merged requests for each feature, and its bits in glyph masks (rustybuzz: hb/ot_map.rs).
 #![tactic(auto)]
 
 pub mod field;

@@ -1,3 +1,4 @@
+//! Requests merged by tag, and lookups merged by index (rustybuzz: hb/ot_map.rs, `compile`).
 ghost use Rattle.std.specs.Prelude.{◌≡◌, IfOk, OnOk};
 ghost use Rattle.layout_map_features.specs.Entering.{entries_with};
 ghost use Rattle.layout_map_features.specs.Lookups.{entries_below_with, merged_lookups};
@@ -24,7 +25,7 @@ fn enter_request(
 }
 
 #[tactic(auto, using(crate::proofs::Grouping::no_entries))]
-/// For each tag that was asked for, by rising tags, what its requests ask together.
+/// The merged requests for each requested tag, by rising tags.
 pub fn merged_requests(
     alloc: Global,
     requests: &[FeatureRequest],
@@ -57,7 +58,7 @@ fn enter_lookup(
 }
 
 #[tactic(auto, using(crate::proofs::Grouping::no_entries))]
-/// The lookups below a count that are run, by index, each once.
+/// The lookups below a count, by index, each merged from its features.
 pub fn merged_lookups(
     alloc: Global,
     count: usize,

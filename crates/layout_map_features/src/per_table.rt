@@ -1,7 +1,8 @@
+//! Values for the two layout tables.
 ghost use Rattle.std.specs.Prelude.{◌≡◌};
 ghost use Rattle.layout_map_features.specs.Tables.{for_table};
 
-/// A layout table of a font: substitution or positioning.
+/// A layout table of a font: GSUB or GPOS.
 #[derive(Clone, Copy)]
 pub enum TableIndex {
     GSUB,

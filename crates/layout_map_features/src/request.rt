@@ -1,3 +1,4 @@
+//! Requests for features (rustybuzz: hb/ot_map.rs, `feature_info_t`).
 ghost use Rattle.std.specs.Prelude.{◌≡◌, [], if◌then◌else◌};
 ghost use Rattle.layout_map_features.specs.Requests.{has_flag, is_global, joined, merged};
 
@@ -18,7 +19,7 @@ pub struct FeatureRequest {
     pub stage: PerTable<usize>,
 }
 
-/// What the requests for one feature ask together.
+/// The merged requests for one feature.
 #[derive(Clone, Copy)]
 pub struct MergedRequest {
     pub tag: Tag,
@@ -45,7 +46,7 @@ impl FeatureRequest {
         self.flags & flag != 0
     }
 
-    /// Its value where it is for every glyph, else another.
+    /// Its value where it is for every glyph, else the other value.
     fn value_or(&self, other: u32) -> u32
         ensures { result ≡ (if is_global self.now then self.now.value else other) }
     {
@@ -58,7 +59,7 @@ impl FeatureRequest {
 }
 
 impl MergedRequest {
-    /// What one request asks.
+    /// One request as merged requests.
     pub fn new(request: &FeatureRequest) -> MergedRequest
         ensures { result ≡ merged request.now [] }
     {
@@ -77,7 +78,7 @@ impl MergedRequest {
         }
     }
 
-    /// What it asks together with a later request for the same feature.
+    /// The merged requests with a later one for the same feature.
     pub fn with(&self, request: &FeatureRequest) -> MergedRequest
         ensures { result ≡ joined self.now request.now }
     {

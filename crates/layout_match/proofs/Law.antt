@@ -132,7 +132,7 @@ there_inside ask m [] k e = cc
 there_inside ask m (x ∷ xs) zero e = omega arith
 there_inside ask m (x ∷ xs) (suc k) e = omega (arith, there_inside ask m xs k e)
 
--- a search reads what is taken, where all before it is passed over
+-- a search reads what is taken, where all before it is skipped
 unread : (ask : Item → match_t) (ys : List Item) (d from end : ℕ) → Says ask ys d MATCH → ((k : ℕ) → k < d → Says ask ys k SKIP) → Read ask from end ys → ⊥
 unread ask ys d from end taken before (all passed is) = said_once ask ys d taken (passed d (there_inside ask MATCH ys d taken))
 unread ask ys d from end taken before (until n is passed here) = by_order (n - d) (d - n) refl refl

@@ -8,7 +8,8 @@ use Rattle.buffer_stages.specs.Buffers.{are_glyphs, IsStill}
 use Rattle.buffer_stages.specs.Performing.{cut_with}
 use Rattle.layout_match.specs.Trying.{tried}
 
--- a rule was tried at the cursor, which went on where it could, from one random state to another; whatever follows, or is refused, from here does so from before
+-- a rule was tried at the cursor, which then moved on where it could, from one random state to another; the reading
+-- from here, or its refusal, is that from before
 pub record IsStep (act : Action) (before after : ℕ) (old new : Sides) : Type 0 where
   pub still : IsStill old new
   pub less : length new.ahead ≤ length old.ahead - 1
@@ -16,6 +17,6 @@ pub record IsStep (act : Action) (before after : ℕ) (old new : Sides) : Type 0
   pub follows : (v : View) (n : ℕ) (final : Run) → Follows (tried act v n (cut_with after new)) (run_of new) final → Follows (tried act v (suc n) (cut_with before old)) (run_of old) final
   pub refuses : (v : View) (n : ℕ) (cause : ShapeCause) → tried act v n (cut_with after new) ≡ Err cause → tried act v (suc n) (cut_with before old) ≡ Err cause
 
--- a rule gave up at the cursor, or what is done could have no item more
+-- a rule refused at the cursor, or the items done have no room for one more
 abbrev pub IsGivenUp : Action → ℕ → Sides → ShapeCause → Type 0
 IsGivenUp act before old cause = (v : View) (n : ℕ) → tried act v (suc n) (cut_with before old) ≡ Err cause

@@ -1,4 +1,4 @@
--- A rule tried at each index of a list, from the left, where its lookup meets the item (OpenType, chapter 2).
+-- A rule tried at each index of a list, from the left, where its lookup applies to the item (OpenType, chapter 2).
 use Rattle.std.specs.Prelude.{ℕ, suc, zero, ◌&&◌, Bool, not, nat_le, if◌then◌else◌, List, [], ◌∷◌, length, Ok, Err}
 use Rattle.buffer_glyphs.specs.declared.cause.ShapeCause.TheVariants.{TooLong}
 use Rattle.buffer_glyphs.specs.Items.{Item}
@@ -12,26 +12,27 @@ use Rattle.buffer_stages.specs.Actions.{Cut, view_at, uncut, past_item, Outcome,
 
 -- ---- at a cut
 
--- a lookup meets an item that has its mask and that its flag doesn't leave out
+-- whether a lookup applies to an item: it has a bit of the lookup's mask, and the lookup flag admits it
 abbrev pub meets : Applied → Item → Bool
 meets a x = shares_mask a.mask x.mask && not (is_left_out a.props a.font.gdef.sets x)
 
--- a rule is tried at an item that its lookup meets
+-- a rule tried at an item that its lookup applies to
 abbrev pub at_met : Applied → Action → Item → Action
 at_met a act x c = if meets a x then act c else Passes []
 
+-- a rule tried at the cut where its lookup applies to the first item
 abbrev pub met_first : Applied → Action → Action
 met_first a act c = at_first (at_met a act) (first_of c.rest) c
 
 -- ---- at all indices
 
--- what comes of a list once a rule was tried
+-- the reading of a list once a rule was tried
 abbrev pub after_outcome : Outcome → (Cut → Reading) → View → Cut → Reading
 after_outcome (Passes events) next v c = then_reading (with_events events (view_at v c)) (next c)
 after_outcome (Acts cut events) next v c = then_reading (with_events events (view_at v cut)) (next cut)
 after_outcome (Refuses cause) next v c = Err cause
 
--- a rule that passes goes over the item, where what is done may have one more
+-- the outcome of a rule that passes, with the item passed where there is room for one more
 abbrev pub gone_over : Outcome → Cut → Outcome
 gone_over (Passes events) c = within_limit 1 c (Acts (past_item c) events)
 gone_over (Acts cut events) c = Acts cut events
@@ -47,14 +48,14 @@ abbrev pub tried : Action → View → ℕ → Cut → Reading
 tried act v zero c = Ok (with_events [] (view_at v c))
 tried act v (suc n) c = tried_before act (tried act v n) v c.rest c
 
--- what came of a list stands at positions of nothing
+-- the reading of what a list became, at zero positions
 abbrev pub unplaced : View → Read
 unplaced v = with_events [] (record v { positions = zero_positions (length v.items) })
 
--- what is done and what is left become one list, which may have so many items
+-- the items done and the items left become one list, which may have so many items
 abbrev pub joined : Stage
 joined v = if nat_le (length v.items) v.max_len then Ok (unplaced v) else Err TooLong
 
--- a rule tried at each index of a list once, from the left; what it made is not tried again
+-- a rule tried at each index of a list once, from the left; the items that it made are not tried again
 abbrev pub looked_up : Action → Stage
 looked_up act v = and_then (tried act v (length v.items) (uncut v)) joined

@@ -1,3 +1,4 @@
+//! The parameters of applying one lookup (rustybuzz: hb/ot_layout_gsubgpos.rs, `hb_ot_apply_context_t`).
 ghost use Rattle.std.specs.Prelude.{◌≡◌, ◌<◌, not, length, true, false};
 ghost use Rattle.buffer_glyphs.specs.Items.{item_of, strip};
 ghost use Rattle.layout_match.specs.Searches.{is_left_out, search_of};
@@ -9,21 +10,21 @@ use buffer_glyphs::info::hb_glyph_info_t;
 use layout_face::Face;
 use layout_map_features::per_table::TableIndex;
 
-/// With what a lookup is applied.
+/// The parameters of applying one lookup (hb_ot_apply_context_t).
 #[derive(Clone, Copy)]
 pub struct hb_ot_apply_context_t<'a> {
     pub table_index: TableIndex,
     pub face: &'a Face,
     lookup_mask: u32,
-    /// The lookup's flag, and above its 16 bits the index of its mark filtering set.
+    /// The lookup flag, and above its 16 bits the index of its mark filtering set.
     pub lookup_props: u32,
     pub auto_zwnj: bool,
     pub auto_zwj: bool,
     /// Whether a match stays within a syllable.
     pub per_syllable: bool,
-    /// Whether an alternate may be drawn at random.
+    /// Whether an alternate may be drawn at random (feature `rand`).
     pub random: bool,
-    /// The number that was drawn last, 1 at first.
+    /// The last number drawn, 1 at first.
     pub random_state: u32,
 }
 
@@ -37,8 +38,8 @@ fn positions_glyphs(table: TableIndex) -> bool
 }
 
 impl<'a> hb_ot_apply_context_t<'a> {
-    /// A context for the lookups of a table: no flag, the lowest bit as mask, joiners passed over, syllables not looked at,
-    /// and nothing drawn yet.
+    /// The parameters for the lookups of a table: no flag, the lowest bit as mask, joiners skipped, no limit to
+    /// syllables, and no number drawn.
     pub fn new(table_index: TableIndex, face: &'a Face) -> hb_ot_apply_context_t<'a>
         ensures applied { applied_of result ≡ record {
           table = table_index;
@@ -65,28 +66,28 @@ impl<'a> hb_ot_apply_context_t<'a> {
         }
     }
 
-    /// The feature bits of which a glyph needs one for the lookup to act on it.
+    /// The feature bits of the lookup: it applies to a glyph that has one of them.
     pub fn lookup_mask(&self) -> u32
         ensures { result ≡ self.now.lookup_mask }
     {
         self.lookup_mask
     }
 
-    /// Sets these bits.
+    /// Sets the feature bits of the lookup.
     pub fn set_lookup_mask(&mut self, mask: u32)
         ensures { self.new ≡ record self.old { lookup_mask = mask } }
     {
         self.lookup_mask = mask;
     }
 
-    /// Whether a lookup's flag lets it meet a glyph; above its 16 bits the flag has the index of a mark filtering set.
+    /// Whether a lookup flag admits a glyph; above its 16 bits the flag has the index of a mark filtering set.
     pub fn check_glyph_property(&self, info: &hb_glyph_info_t, match_props: u32) -> bool
         ensures { result ≡ not (is_left_out match_props self.now.face.now.gdef.sets (item_of info.now)) }
     {
         !is_left_out(self.face, match_props, info)
     }
 
-    /// Draws a number.
+    /// Draws a number (HarfBuzz: `random_number`, the minimal standard generator).
     pub fn random_number(&mut self) -> u32
         ensures value { result ≡ next_random self.old.random_state }
         ensures state { self.new ≡ record self.old { random_state = result } }
@@ -105,7 +106,7 @@ impl<'a> hb_ot_apply_context_t<'a> {
         None
     }
 
-    /// How the lookup searches its input at the buffer's cursor.
+    /// The search for a rule's input at the buffer's cursor.
     pub fn own_search(&self, buffer: &hb_buffer_t) -> GlyphSearch<'a>
         requires { 0 < length buffer.now.ahead }
         ensures { search_of result ≡ own_search (applied_of self.now) (strip buffer.now.ahead) }
@@ -122,7 +123,7 @@ impl<'a> hb_ot_apply_context_t<'a> {
         }
     }
 
-    /// How it searches what stands around the input.
+    /// The search for a rule's context around its input.
     pub fn context_search(&self, buffer: &hb_buffer_t) -> GlyphSearch<'a>
         requires { 0 < length buffer.now.ahead }
         ensures { search_of result ≡ context_search (applied_of self.now) (strip buffer.now.ahead) }

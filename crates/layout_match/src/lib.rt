@@ -1,5 +1,5 @@
-//! Matching: the glyphs that a rule asks for, with glyphs between that its lookup passes over; a lookup on its way over the
-//! glyphs of a buffer.
+//! Matching: the glyphs that a rule requires, with skipped glyphs between them; a lookup applied at each glyph of a
+//! buffer (rustybuzz: hb/ot_layout_gsubgpos.rs).
 #![tactic(auto)]
 
 pub mod apply_context;

@@ -1,3 +1,5 @@
+//! Matches of input, backtrack and lookahead sequences (rustybuzz: hb/ot_layout_gsubgpos.rs, `match_input`,
+//! `match_backtrack`, `match_lookahead`).
 ghost use Rattle.std.specs.Prelude.{◌≡◌, ◌<◌, ◌≤◌, ◌∷◌, Some, length, reverse, slice_get, IfOk, IfErr};
 ghost use Rattle.std.specs.List.{All};
 ghost use Rattle.buffer_glyphs.specs.Items.{strip};
@@ -13,7 +15,7 @@ use arrayvec::ArrayVec;
 use buffer_core::buffer::hb_buffer_t;
 use buffer_glyphs::info::hb_glyph_info_t;
 
-/// How many glyphs a rule may ask for, its first among them.
+/// How many glyphs a rule's input may have, its first glyph included.
 pub const MAX_CONTEXT_LENGTH: usize = 64;
 
 /// The indices of a match, counted from the cursor.
@@ -56,7 +58,7 @@ fn behind(buffer: &hb_buffer_t, at: usize) -> &hb_glyph_info_t
 }
 
 #[tactic(auto, using(crate::proofs::Lemmas::Nearest::taken_before, crate::proofs::Lemmas::Nearest::refused_before, crate::proofs::Lemmas::Nearest::passed_before, crate::proofs::Lemmas::Nearest::ended_before))]
-/// As `nearest_ahead`, backward from the cursor.
+/// The nearest glyph behind the cursor from an index back on that is the k-th of a sequence.
 pub(crate) fn nearest_behind<'a>(
     search: &GlyphSearch<'a>,
     sequence: Option<MatchSequence<'a>>,
@@ -83,10 +85,10 @@ pub(crate) fn nearest_behind<'a>(
 }
 
 #[tactic(auto, using(crate::proofs::Each::one_reached, crate::proofs::Each::one_failed, crate::proofs::Each::all_reached, crate::proofs::Each::noted_first, crate::proofs::Each::noted_one, crate::proofs::Each::noted_all, crate::proofs::Each::all_indices))]
-/// Matches the input of a rule: its first glyph is the one at the cursor, and each further glyph the nearest behind the
-/// one before it that the sequence asks for, with only such between as are passed over. It answers where the last ends,
-/// or how far the search read that failed: behind the glyph that ended it, or at the end of the text. The indices found
-/// are noted, also before a failure.
+/// Matches the input of a rule: its first glyph is the one at the cursor, and each further glyph the nearest after the
+/// one before it that matches the sequence, with only skipped glyphs between. It answers the index after the last
+/// glyph, or how far the failed search read: to after the glyph that ended it, or to the end of the text. The indices
+/// found are recorded, also before a failure.
 pub fn match_input(
     ctx: &hb_ot_apply_context_t,
     sequence: &MatchSequence,
@@ -187,8 +189,8 @@ fn match_behind<'a>(
     Ok(from)
 }
 
-/// Matches what a rule asks for behind its input, which ends at the index `start`. It answers where the last glyph ends, or
-/// how far the search read that failed.
+/// Matches a rule's lookahead sequence after its input, which ends at the index `start`. It answers the index after the
+/// last glyph, or how far the failed search read.
 pub fn match_lookahead(
     ctx: &hb_ot_apply_context_t,
     sequence: &MatchSequence,
@@ -207,8 +209,8 @@ pub fn match_lookahead(
     match_ahead(&search, sequence, start, buffer)
 }
 
-/// Matches what a rule asks for before the cursor, the nearest first. It answers how many glyphs back the last one is, it
-/// included, or how far back the search read that failed.
+/// Matches a rule's backtrack sequence before the cursor, the nearest first. It answers how many glyphs back the last
+/// one is, itself included, or how far back the failed search read.
 pub fn match_backtrack(
     ctx: &hb_ot_apply_context_t,
     sequence: &MatchSequence,

@@ -1,3 +1,4 @@
+//! The search for the glyphs of a rule (rustybuzz: hb/ot_layout_gsubgpos.rs, `matcher_t`).
 ghost use Rattle.std.specs.Prelude.{◌≡◌};
 ghost use Rattle.buffer_glyphs.specs.Items.{item_of};
 ghost use Rattle.layout_match.specs.Searches.{answer, has_mask, is_ignorable, is_in_syllable, is_left_out, is_other_mark, is_skippable, search_of, test_of};
@@ -8,29 +9,29 @@ use buffer_glyphs::info::{DEFINED, hb_glyph_info_t};
 use layout_common::flags::{IGNORE_FLAGS, MARK_ATTACHMENT_TYPE_MASK, USE_MARK_FILTERING_SET};
 use layout_face::Face;
 
-/// What a search says of a glyph.
+/// A search's answer for a glyph.
 #[derive(Clone, Copy)]
 pub enum match_t {
-    /// It is what is asked for.
+    /// It matches.
     MATCH,
-    /// It isn't, and ends the search.
+    /// It doesn't match, and ends the search.
     NOT_MATCH,
-    /// It is passed over.
+    /// It is skipped.
     SKIP,
 }
 
-/// How glyphs are searched: which are passed over, and what each that is taken needs beside its test.
+/// The parameters of a search: the glyphs that are skipped, and the conditions on a match besides its test.
 #[derive(Clone, Copy)]
 pub struct GlyphSearch<'a> {
     pub face: &'a Face,
-    /// The lookup's flag, and above its 16 bits the index of its mark filtering set.
+    /// The lookup flag, and above its 16 bits the index of its mark filtering set.
     pub lookup_props: u32,
     pub ignore_zwnj: bool,
     pub ignore_zwj: bool,
     pub ignore_hidden: bool,
-    /// The feature bits of which a glyph needs one, where such are asked for.
+    /// The feature bits of which a match needs one, where there is such a condition.
     pub mask: Option<u32>,
-    /// The syllable that a glyph has to be of, where one is asked for.
+    /// The syllable byte that a match needs, where there is such a condition.
     pub syllable: Option<u8>,
 }
 
@@ -46,7 +47,7 @@ fn is_other_mark(face: &Face, lookup_props: u32, info: &hb_glyph_info_t) -> bool
         && attachment != u32::from(info.glyph_props.0) & u32::from(MARK_ATTACHMENT_TYPE_MASK)
 }
 
-/// Whether a lookup's flag leaves out a glyph.
+/// Whether a lookup flag leaves out a glyph.
 pub fn is_left_out(face: &Face, lookup_props: u32, info: &hb_glyph_info_t) -> bool
     ensures { result ≡ is_left_out lookup_props face.now.gdef.sets (item_of info.now) }
 {
@@ -103,8 +104,8 @@ impl<'a> GlyphSearch<'a> {
         }
     }
 
-    /// What the search says of a glyph where the k-th glyph of a sequence is asked for; without a sequence any glyph that
-    /// can't be passed over.
+    /// The search's answer for a glyph as the k-th of a sequence; without a sequence it matches any glyph that it can't
+    /// skip.
     pub fn match_(
         &self,
         sequence: Option<MatchSequence<'a>>,

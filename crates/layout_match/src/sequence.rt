@@ -1,3 +1,5 @@
+//! The sequences of glyphs that a rule requires (rustybuzz: hb/ot_layout_gsubgpos.rs, `match_glyph`, `match_class`,
+//! `match_coverage`).
 ghost use Rattle.std.specs.Prelude.{◌≡◌, length, map};
 ghost use Rattle.buffer_glyphs.specs.Items.{item_of};
 ghost use Rattle.layout_match.specs.Sequences.{is_covered_by, is_glyph, is_of_class, test_at, tests_of};
@@ -6,14 +8,14 @@ use buffer_glyphs::info::hb_glyph_info_t;
 use layout_common::class_definition::ClassDefinition;
 use layout_common::coverage::Coverage;
 
-/// The glyphs that a rule asks for, one after another (OpenType, chapter 2, sequence context formats 1 to 3).
+/// The glyphs that a rule requires, one after another (OpenType, chapter 2, sequence context formats 1 to 3).
 #[derive(Clone, Copy)]
 pub enum MatchSequence<'a> {
-    /// Glyphs by their numbers.
+    /// Glyphs by their numbers (format 1).
     Glyphs(&'a [u16]),
-    /// Glyphs by their classes.
+    /// Glyphs by their classes (format 2).
     Classes(&'a ClassDefinition, &'a [u16]),
-    /// Glyphs of some sets.
+    /// Glyphs of some sets (format 3).
     Coverages(&'a [Coverage]),
 }
 
@@ -69,7 +71,7 @@ fn fits_coverage(info: &hb_glyph_info_t, sets: &[Coverage], k: usize) -> bool
 }
 
 impl<'a> MatchSequence<'a> {
-    /// How many glyphs it asks for.
+    /// How many glyphs the sequence has.
     pub fn len(&self) -> usize
         ensures { result ≡ length (tests_of self.now) }
     {
@@ -80,7 +82,7 @@ impl<'a> MatchSequence<'a> {
         }
     }
 
-    /// Whether a glyph is the k-th that it asks for; past the last it asks for none.
+    /// Whether a glyph matches the k-th of the sequence; past the last none does.
     pub fn fits(&self, k: usize, info: &hb_glyph_info_t) -> bool
         ensures { result ≡ test_at (tests_of self.now) k (item_of info.now) }
     {

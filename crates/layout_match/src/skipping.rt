@@ -1,3 +1,5 @@
+//! The iterator over the glyphs that a lookup does not skip (rustybuzz: hb/ot_layout_gsubgpos.rs,
+//! `skipping_iterator_t`).
 ghost use Rattle.std.specs.Prelude.{◌≡◌, ◌<◌, ◌≤◌, length, reverse, IfOk, if◌then◌else◌};
 ghost use Rattle.buffer_glyphs.specs.Items.{item_of, strip};
 ghost use Rattle.layout_match.specs.Applied.{applied_of, context_search, own_search};
@@ -12,8 +14,8 @@ use crate::sequence::MatchSequence;
 use buffer_core::buffer::hb_buffer_t;
 use buffer_glyphs::info::hb_glyph_info_t;
 
-/// A walk from glyph to glyph, ahead or back from the cursor, over those that a lookup passes over. It holds no buffer: each
-/// call is given it.
+/// An iterator ahead or back from the cursor, over the glyphs that a lookup doesn't skip. It holds no buffer: each call
+/// is given it.
 #[derive(Clone, Copy)]
 pub struct skipping_iterator_t<'a> {
     search: GlyphSearch<'a>,
@@ -23,8 +25,8 @@ pub struct skipping_iterator_t<'a> {
 }
 
 impl<'a> skipping_iterator_t<'a> {
-    /// A walk from an index on, which asks for no glyph of its own: it takes each that it can't pass over. `context_match`
-    /// is set for what stands around an input.
+    /// An iterator from an index on, without a sequence: it matches each glyph that it can't skip. `context_match` is
+    /// set for the context around an input.
     pub fn new(
         ctx: &hb_ot_apply_context_t<'a>,
         buffer: &hb_buffer_t,
@@ -50,7 +52,7 @@ impl<'a> skipping_iterator_t<'a> {
         }
     }
 
-    /// From now on it asks for the glyphs of a sequence, its first at first.
+    /// Sets the sequence whose glyphs are matched from now on, its first glyph first.
     pub fn enable_matching(&mut self, sequence: MatchSequence<'a>)
         ensures { self.new ≡ record self.old { sequence = Some sequence.entry; glyph_data = 0 } }
     {
@@ -58,42 +60,42 @@ impl<'a> skipping_iterator_t<'a> {
         self.glyph_data = 0;
     }
 
-    /// The k-th glyph of the sequence is asked for next.
+    /// Sets the index in the sequence of the glyph to match next.
     pub fn set_glyph_data(&mut self, k: usize)
         ensures { self.new ≡ record self.old { glyph_data = k } }
     {
         self.glyph_data = k;
     }
 
-    /// Another lookup flag decides what is left out.
+    /// Sets another lookup flag.
     pub fn set_lookup_props(&mut self, lookup_props: u32)
         ensures { self.new ≡ record self.old { search = record self.old.search { lookup_props = lookup_props } } }
     {
         self.search.lookup_props = lookup_props;
     }
 
-    /// Where the walk goes on.
+    /// The index from which the search continues.
     pub fn index(&self) -> usize
         ensures { result ≡ self.now.index }
     {
         self.index
     }
 
-    /// The walk goes on at an index.
+    /// Sets the index from which the search continues.
     pub fn reset(&mut self, index: usize)
         ensures { self.new ≡ record self.old { index = index } }
     {
         self.index = index;
     }
 
-    /// What it says of a glyph.
+    /// The iterator's answer for a glyph.
     pub fn match_(&self, info: &hb_glyph_info_t) -> match_t
         ensures { result ≡ asked_by self.now (item_of info.now) }
     {
         self.search.match_(self.sequence, self.glyph_data, info)
     }
 
-    /// The nearest glyph ahead that it takes, behind which it then goes on; else how far it read, and it stays.
+    /// The next match: Ok(index), and the iterator stands after it; else Err(where the search ended), and it stays.
     pub fn next(&mut self, buffer: &hb_buffer_t) -> Result<usize, usize>
         requires { self.old.index ≤ length buffer.now.ahead }
         ensures found { result ≡ nearest_from (asked_by self.old) self.old.index (strip buffer.now.ahead) }
@@ -112,7 +114,8 @@ impl<'a> skipping_iterator_t<'a> {
         Ok(at)
     }
 
-    /// The same backward from the cursor.
+    /// The next match backward from the cursor: Ok(index), and the iterator stands after it; else Err(where the search
+    /// ended), and it stays.
     pub fn prev(&mut self, buffer: &hb_buffer_t) -> Result<usize, usize>
         requires { self.old.index ≤ length buffer.now.behind }
         ensures found { result ≡ nearest_from (asked_by self.old) self.old.index (reverse (strip buffer.now.behind)) }

@@ -1,4 +1,4 @@
-//! Cursive joins, on a list of positions.
+//! Chains of cursive attachment, on a list of positions (rustybuzz: `reverse_cursive_minor_offset`).
 ghost use Rattle.std.specs.Prelude.{◌≡◌, ◌<◌, true, length};
 ghost use Rattle.buffer_common.specs.Direction.{is_forward, is_horizontal};
 ghost use Rattle.layout_offsets.specs.Links.{is_near, parent, without_link};
@@ -10,7 +10,7 @@ use buffer_common::direction::Direction;
 use buffer_glyphs::position::GlyphPosition;
 use layout_subtables::value::Anchor;
 
-/// What a glyph hangs on.
+/// The glyph that a glyph is attached to.
 fn parent(positions: &[GlyphPosition], at: usize) -> Option<usize>
     requires here { at < length positions.now }
     ensures { result ≡ parent at positions.now }
@@ -18,7 +18,7 @@ fn parent(positions: &[GlyphPosition], at: usize) -> Option<usize>
     linked(positions.len(), at, positions[at].attach_chain)
 }
 
-/// What a cursive child hangs on, up to before the new parent.
+/// The glyph that a cursive child is attached to, but none at the new parent.
 fn old_parent(positions: &[GlyphPosition], stop: usize, at: usize) -> Option<usize>
     requires here { at < length positions.now }
     ensures { result ≡ old_parent stop at positions.now }
@@ -64,7 +64,7 @@ fn without_link(position: GlyphPosition) -> GlyphPosition
     free
 }
 
-/// A glyph becomes another, and the chain from it on is turned round, over at most as many links as there are glyphs.
+/// Sets a glyph's position, and reverses the chain from it on, over at most as many links as there are glyphs.
 #[tactic(auto, using(crate::proofs::Lemmas::Turned::turned_none, crate::proofs::Lemmas::Turned::turned_stops, crate::proofs::Lemmas::Turned::turned_goes, crate::proofs::Lemmas::Turned::old_parent_within))]
 fn turn_from(
     positions: &mut [GlyphPosition],
@@ -90,8 +90,8 @@ fn turn_from(
     }
 }
 
-/// Turns the chain of a cursive child round: the child is then its root. It ends since each link is left but once, and
-/// after as many links as there are glyphs at the latest.
+/// Reverses the chain of a cursive child, which then is its root. It ends since each link is left only once, and after
+/// as many links as there are glyphs at the latest.
 pub fn turn(positions: &mut [GlyphPosition], stop: usize, start: usize, direction: Direction)
     requires here { start < length positions.old }
     ensures { positions.new ≡ chain_turned direction stop start positions.old }
@@ -146,7 +146,7 @@ fn join_at(
     positions[child] = joined_across(direction.is_horizontal(), x, y, link, position);
 }
 
-/// Unlinks a parent that hung on its child.
+/// Unlinks a parent that was attached to its child.
 fn free(positions: &mut [GlyphPosition], child: usize, to: usize, direction: Direction)
     requires to { to < length positions.old }
     ensures { positions.new ≡ freed direction child to positions.old }
@@ -160,8 +160,8 @@ fn free(positions: &mut [GlyphPosition], child: usize, to: usize, direction: Dir
     }
 }
 
-/// Hangs a cursive child on its parent at an offset across the line, once its old chain is turned round. A parent that hung
-/// on the child is unlinked. Where the parent is too far nothing changes.
+/// Attaches a cursive child to its parent at an offset across the line, once its old chain is reversed. A parent that
+/// was attached to the child is unlinked. Where the parent is more than 32,767 glyphs away nothing changes.
 pub fn hang_child(
     positions: &mut [GlyphPosition],
     child: usize,
@@ -210,7 +210,7 @@ fn shifted(across: bool, anchor: Anchor, position: GlyphPosition) -> GlyphPositi
     there
 }
 
-/// The first glyph ends at its exit and the second begins at its entry, along the line.
+/// Sets the advances of a join along the line: the first glyph ends at its exit and the second begins at its entry.
 pub fn join_advances(
     positions: &mut [GlyphPosition],
     first: usize,

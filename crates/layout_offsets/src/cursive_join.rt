@@ -8,7 +8,7 @@ use buffer_glyphs::position::GlyphPosition;
 use layout_common::flags::RIGHT_TO_LEFT;
 use layout_subtables::value::Anchor;
 
-/// Whether a lookup with this flag hangs the earlier of two glyphs on the later one.
+/// Whether a lookup with this flag attaches the earlier of two glyphs to the later one.
 pub fn hangs_earlier(props: u32) -> bool
     ensures { result ≡ hangs_earlier props }
 {
@@ -21,7 +21,7 @@ fn difference(a: i16, b: i16) -> i32
     i32::from(a) - i32::from(b)
 }
 
-/// Two glyphs that are joined: their indices, where the first is left and the second is entered.
+/// Two glyphs to join: their indices, the exit of the first and the entry of the second.
 #[derive(Clone, Copy)]
 pub struct Joint {
     pub first: usize,
@@ -30,7 +30,7 @@ pub struct Joint {
     pub entry: Anchor,
 }
 
-/// Hangs one of two glyphs on the other: the earlier on the later, or the later on the earlier.
+/// Attaches one of two glyphs to the other: the earlier to the later, or the later to the earlier.
 fn join_on(positions: &mut [GlyphPosition], earlier: bool, join: Joint, direction: Direction)
     requires first { join.first < length positions.old }
     requires second { join.second < length positions.old }

@@ -2,7 +2,7 @@
 ghost use Rattle.std.specs.Prelude.{◌≡◌, true};
 ghost use Rattle.layout_offsets.specs.Links.{is_near, link_to, linked};
 
-/// Where a link of a position leads to, among so many: none where it is 0 or leads outside.
+/// The index that a link of a position leads to, among so many: none where the link is 0 or leads outside.
 pub fn linked(count: usize, at: usize, link: i16) -> Option<usize>
     ensures { result ≡ linked count at link }
 {
@@ -20,6 +20,7 @@ pub fn is_near(child: usize, parent: usize) -> bool
     child.saturating_sub(parent) <= 32767 && parent.saturating_sub(child) <= 32767
 }
 
+/// The link from an index to another one that is near enough.
 pub fn link_to(child: usize, parent: usize) -> i16
     requires near { is_near child parent ≡ true }
     ensures { result ≡ link_to child parent }

@@ -1,11 +1,11 @@
-//! A position that the line does not go on by.
+//! A position without advances.
 ghost use Rattle.std.specs.Prelude.{◌≡◌};
 ghost use Rattle.layout_offsets.specs.Zeroing.{set_back, without_advances, zeroed};
 
 use crate::sums::minus;
 use buffer_glyphs::position::GlyphPosition;
 
-/// A position without its advances; where it is adjusted, it goes back by them first.
+/// A position without its advances; where `adjust` is set, they are first subtracted from its offsets.
 pub fn zeroed(adjust: bool, position: GlyphPosition) -> GlyphPosition
     ensures { result ≡ zeroed adjust position }
 {

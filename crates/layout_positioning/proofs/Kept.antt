@@ -86,7 +86,7 @@ pub begun_kept : (k : SequenceLookupRecord) (ps : List ℕ) (p : ℕ) (a : Appli
 begun_kept k ps p a l s t b kept =
     kept_same a l s t (map-append item_of t.behind t.ahead ∙ ap (λ (c : Cut). whole c) (b.left 1).cut_is ∙ cut_whole p (spent (cut_with 1 s)) ∙ sym (map-append item_of s.behind s.ahead)) kept
 
--- the cursor went behind a match
+-- the cursor went after a match
 behind_stays : (end r : ℕ) (s : Sides) → ItemsStay (cut_behind (Walks (cut_with r s) [] end [])) (cut_with r s)
 behind_stays end r s =
     let c = cut_with r s in

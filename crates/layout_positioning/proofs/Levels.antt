@@ -53,7 +53,7 @@ record_lookup_refused table depth a k ps rs p end r x s t u b h =
     let there = subst P (still_direction s t (b.left r).still) h in
     lookup_refused (nested_act table depth s.direction a) k ps rs p end r r x s t u b (performs_nests (nested_act table depth s.direction a k.lookup_index (cut_with r t)) (Err x) r r t u there)
 
--- a lookup passes over a glyph that it doesn't meet
+-- a lookup skips a glyph that it doesn't meet
 pub lookup_passes : (table : List PositioningLookup) (d : Direction) (a : Applied) (lookup : PositioningLookup) (r : ℕ) (s : Sides) (g : hb_glyph_info_t) → slice_get s.ahead 0 ≡ Some g → meets a (item_of g) ≡ false → Performed (lookup_action table d a lookup (cut_with r s)) false r r s s
 lookup_passes table d a lookup r s g at none = passes_nothing r s (lookup_action table d a lookup (cut_with r s)) (unmet a (first_subtable (nested table 64 d a) d a lookup.subtables) r s g at none)
 

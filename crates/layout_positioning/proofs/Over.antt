@@ -62,7 +62,7 @@ read_at_front n s input count = let both = length-append s.behind s.ahead in ome
 moved_all : (at : ℕ) (s : Sides) → all_glyphs (moved_to at s) ≡ all_glyphs s
 moved_all at s = take-append-drop at (all_glyphs s)
 
--- a lookup that was tried everywhere, once the cursor is in front of all glyphs
+-- a lookup that was tried everywhere, once the cursor is before all glyphs
 pub looked_over_done : (act : Action) (end count at r : ℕ) (s now new : Sides) → IsReady s → count ≡ length (all_glyphs s) → count ≤ at → IsUnderway act count (count - at) r r s now → end ≡ now.read + length now.ahead → end ≡ length (all_glyphs now) → new ≡ moved_to 0 now
     → length new.positions ≡ length (all_glyphs new) → IsDoneFrom r r (looked_over act) s new
 looked_over_done act end count at r s now new ready len le u0 input counted is placed =

@@ -1,4 +1,4 @@
--- A lookup of positioning by the type of its subtables, tried at each index of a list (OpenType, chapter 2).
+-- A GPOS lookup by the type of its subtables, tried at each index of a list (OpenType, chapter 2).
 use Rattle.std.specs.Prelude.{ℕ, suc, zero, List, [], length, Option, Some, None, slice_get}
 use Rattle.buffer_common.specs.declared.direction.Direction.{Direction}
 use Rattle.buffer_core.specs.Readings.{Stage, as_it_is}
@@ -18,13 +18,14 @@ use Rattle.layout_gpos.specs.Pairs.{pair_subtable}
 use Rattle.layout_gpos.specs.Singles.{single_subtable}
 use Rattle.layout_match.specs.Trying.{met_first, tried}
 
--- with what a lookup of a map is applied: its flag is its own, its mask and how it passes over joiners, keeps to syllables and draws are the map's
+-- the parameters of applying a lookup of a map: its own flag; mask, joiners, syllables and random alternates as the map
+-- says
 abbrev pub applied_by : FaceParts → PositioningLookup → lookup_map_t → Applied
 applied_by font lookup m = record { table = GPOS; font = font; props = props_of lookup.flags lookup.mark_filtering_set; mask = m.mask; auto_zwnj = m.auto_zwnj; auto_zwj = m.auto_zwj; per_syllable = m.per_syllable; random = m.random }
 
 -- ---- at a cut
 
--- of a lookup the first subtable that acts, in text of a direction; contexts apply the lookups that may be nested in it
+-- the first matching subtable of a lookup, in text of a direction; contexts apply the lookups that may be nested in it
 abbrev pub first_subtable : Option (ℕ → Action) → Direction → Applied → PositioningSubtables → Action
 first_subtable nest d a (Single subtables) c = first_rule (λ s. single_subtable d s.rows) subtables c
 first_subtable nest d a (Pair subtables) c = first_rule (pair_subtable d a) subtables c
@@ -35,35 +36,36 @@ first_subtable nest d a (MarkToMark subtables) c = first_rule (mark_to_mark a) s
 first_subtable nest d a (Context subtables) c = first_rule (context_subtable nest a) subtables c
 first_subtable nest d a (ChainContext subtables) c = first_rule (context_subtable nest a) subtables c
 
--- a lookup nested in another keeps to that one's mask, joiners and syllables, and has a flag of its own
+-- the parameters of a lookup nested in another: the other's mask, joiners and syllables, and its own flag
 abbrev pub under_flag : PositioningLookup → Applied → Applied
 under_flag lookup a = record a { props = props_of lookup.flags lookup.mark_filtering_set }
 
--- what a nested lookup does at its place, where neither mask nor flag is asked; an index without one does nothing
+-- a nested lookup at its index, where neither mask nor flag is tested; an index without a lookup does nothing
 abbrev pub nested_lookup : (Applied → Option (ℕ → Action)) → Option PositioningLookup → Direction → Applied → Action
 nested_lookup below None d a c = Passes []
 nested_lookup below (Some lookup) d a c = first_subtable (below (under_flag lookup a)) d (under_flag lookup a) lookup.subtables c
 
--- what the lookups of a table do that are nested in one, each by its index, at so many levels; at none there are none
+-- the lookups of a table that may be nested in one, each by its index, at so many levels; none at level 0
 unfoldable pub nested : List PositioningLookup → ℕ → Direction → Applied → Option (ℕ → Action)
 nested table zero d a = None
 nested table (suc depth) d a = Some (λ i. nested_lookup (nested table depth d) (slice_get table i) d a)
 
--- what those do in which lookups may be nested at so many levels more
+-- a nested lookup, by its index, in which lookups may be nested at so many levels more
 abbrev pub nested_act : List PositioningLookup → ℕ → Direction → Applied → ℕ → Action
 nested_act table depth d a i c = nested_lookup (nested table depth d) (slice_get table i) d a c
 
--- what a lookup does at an index; lookups may be nested in it 64 levels deep
+-- a lookup at an index; lookups may be nested in it 64 levels deep
 abbrev pub lookup_action : List PositioningLookup → Direction → Applied → PositioningLookup → Action
 lookup_action table d a lookup c = met_first a (first_subtable (nested table 64 d a) d a lookup.subtables) c
 
 -- ---- at all indices
 
--- a rule tried at each index of a list once, from the left; it leaves the items, and what it went behind is not tried again
+-- a rule tried at each index of a list once, from the left; it leaves the items, and those that it moved over are not
+-- tried again
 abbrev pub looked_over : Action → Stage
 looked_over act v = tried act v (length v.items) (uncut_placed v)
 
--- an index without a lookup does nothing
+-- the lookup of a map at an index of the table; an index without one does nothing
 abbrev pub lookup_stage : FaceParts → List PositioningLookup → Option PositioningLookup → lookup_map_t → Stage
 lookup_stage font table None m v = as_it_is v
 lookup_stage font table (Some lookup) m v = looked_over (lookup_action table v.direction (applied_by font lookup m) lookup) v

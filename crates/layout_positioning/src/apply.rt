@@ -1,3 +1,4 @@
+//! Applies positioning lookups to a whole buffer (rustybuzz: hb/ot_layout.rs, `apply_string`, `apply_layout_table`).
 ghost use Rattle.std.specs.Prelude.{◌≡◌, ◌≢◌, true, Err, slice_get, IfErr, OnOk};
 ghost use Rattle.buffer_core.specs.Readings.{read_of};
 ghost use Rattle.buffer_core.specs.Sides.{items_of};
@@ -16,7 +17,7 @@ use layout_map_features::lookup::lookup_map_t;
 use layout_map_features::per_table::TableIndex;
 use layout_match::hb_ot_apply_context_t;
 
-/// With what a lookup is applied: its own flag, and what the map says of it.
+/// The parameters of applying one lookup: its own flag, and those that the map gives it.
 fn context_of<'a>(
     face: &'a Face,
     lookup: &PositioningLookup,
@@ -35,7 +36,7 @@ fn context_of<'a>(
     ctx
 }
 
-/// Does what the lookup at an index of the table does; an index without one does nothing.
+/// Applies the lookup at an index of the table; an index without one does nothing.
 #[tactic(auto, using(crate::proofs::Ways::no_lookup_done))]
 fn apply_mapped(
     face: &Face,
@@ -57,8 +58,8 @@ fn apply_mapped(
     apply_forward(table, lookup, &ctx, buffer)
 }
 
-/// Does lookups of the font's table of positioning one after another, each at all glyphs from the left. It takes no memory,
-/// and refuses only where a list has more glyphs than it may.
+/// Applies GPOS lookups of the font one after another, each at all glyphs from the left. It takes no memory, and
+/// refuses only where a list has more glyphs than it may.
 #[tactic(auto, using(crate::proofs::Ways::none_done, crate::proofs::Ways::one_refused, crate::proofs::Ways::all_done))]
 pub fn apply_lookups(
     face: &Face,

@@ -1,4 +1,4 @@
-//! Cursive attachment.
+//! Cursive attachment (OpenType, GPOS lookup type 3).
 ghost use Rattle.std.specs.Prelude.{ℕ, ◌≡◌, ◌<◌, ◌≤◌, IfErr, IfOk, Ok, false, true, length};
 ghost use Rattle.buffer_core.specs.Sides.{all_glyphs, items_of};
 ghost use Rattle.layout_match.specs.Applied.{applied_of};
@@ -32,7 +32,7 @@ fn join_at(buffer: &mut hb_buffer_t, earlier: bool, join: Joint)
     join_both(buffer.pos_slice_mut(), earlier, join, direction);
 }
 
-/// Joins the glyph at the cursor to one before it, and goes on.
+/// Joins the glyph at the cursor to one before it, and moves the cursor on.
 fn join(
     ctx: &hb_ot_apply_context_t,
     exit: Anchor,
@@ -104,7 +104,7 @@ fn join_if(
     true
 }
 
-/// Joins the glyph at the cursor to what was found before it.
+/// Joins the glyph at the cursor to the glyph that the search found before it.
 #[tactic(auto, using(layout_gpos::proofs::Lemmas::Nearest::number_back, crate::proofs::Joined::found_joined, layout_gpos::proofs::Lemmas::Performed::attempt_performed))]
 fn join_found(
     subtable: &CursivePos,
@@ -134,9 +134,10 @@ fn join_found(
     }
 }
 
-/// Cursive attachment (OpenType, GPOS lookup type 3): where the subtable has an entry for the glyph at the cursor, and an exit
-/// for the nearest before it, the two are joined. With RIGHT_TO_LEFT in the lookup's flag the earlier glyph hangs on the
-/// later one. It tells whether it acted; where it didn't, it changed glyph flags alone. It takes no memory.
+/// Cursive attachment (OpenType, GPOS lookup type 3): where the subtable has an entry for the glyph at the cursor, and
+/// an exit for the nearest before it, the two are joined. With RIGHT_TO_LEFT in the lookup flag the earlier glyph is
+/// attached to the later one. It answers whether it acted; where it didn't, it changed glyph flags only. It takes no
+/// memory.
 #[tactic(auto, using(buffer_stages::proofs::Lemmas::Glyphs::number_ahead, crate::proofs::Joined::no_entry))]
 pub fn apply_cursive_pos(
     subtable: &CursivePos,

@@ -1,3 +1,4 @@
+//! A positioning lookup over a buffer (rustybuzz: hb/ot_layout.rs, `apply_forward`).
 ghost use Rattle.std.specs.Prelude.{◌≡◌, ◌≢◌, true, false, Err, IfErr, OnOk};
 ghost use Rattle.buffer_core.specs.Readings.{read_of};
 ghost use Rattle.buffer_core.specs.Sides.{items_of};
@@ -16,7 +17,7 @@ use layout_gpos::bases::LastSearches;
 use layout_gpos::placing::pass;
 use layout_match::hb_ot_apply_context_t;
 
-/// Tries a lookup at the cursor, and goes on over the glyph where it doesn't act; at the end it does nothing.
+/// Tries a lookup at the cursor, and moves over the glyph where it doesn't act; at the end it does nothing.
 #[tactic(auto, using(layout_match::proofs::Lemmas::Steps::step_ended, layout_match::proofs::Lemmas::Steps::given_up, layout_match::proofs::Lemmas::Steps::passed_there, crate::proofs::Passed::closed_there, crate::proofs::Kept::passed_kept))]
 fn apply_next(
     table: &PositioningTable,
@@ -47,7 +48,7 @@ fn apply_next(
     Ok(())
 }
 
-/// Tries a lookup at each glyph once, from the left, and goes on behind what it positioned.
+/// Tries a lookup at each glyph once, from the left, and moves on after the glyphs that it positioned.
 pub fn apply_forward(
     table: &PositioningTable,
     lookup: &PositioningLookup,

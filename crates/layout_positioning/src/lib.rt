@@ -1,4 +1,5 @@
-// The lookups of positioning, each tried at all glyphs of a buffer without an output, and cursive attachment at the cursor.
+//! GPOS lookups, each tried at all glyphs of a buffer without an output, and cursive attachment at the cursor
+//! (rustybuzz: hb/ot_layout.rs, hb/ot_layout_gpos_table.rs).
 #![tactic(auto)]
 
 pub mod apply;

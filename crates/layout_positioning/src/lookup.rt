@@ -1,3 +1,4 @@
+//! A GPOS lookup at the cursor (rustybuzz: `PositioningLookup`).
 ghost use Rattle.std.specs.Prelude.{◌≡◌, ◌<◌, true, false, OnOk, length};
 ghost use Rattle.buffer_core.specs.Sides.{items_of};
 ghost use Rattle.layout_match.specs.Applied.{applied_of};
@@ -15,9 +16,9 @@ use layout_gpos::bases::LastSearches;
 use layout_match::hb_ot_apply_context_t;
 use layout_match::lookup::meets;
 
-/// Does what a lookup does at the glyph at the cursor of a buffer without an output, where it meets it: what the first of
-/// its subtables does that acts. It tells whether one acted; where none did it changed glyph flags alone. Searches for
-/// bases and ligatures go on from the last ones of this lookup on these glyphs, those of nested lookups included.
+/// Applies the first matching subtable of a lookup at the cursor of a buffer without an output, where the lookup
+/// applies to the glyph there. It answers whether one acted; where none did it changed glyph flags only. Searches for
+/// bases and ligatures continue the last ones of this lookup on these glyphs, those of nested lookups included.
 #[tactic(auto, using(crate::proofs::Levels::lookup_passes, crate::proofs::Levels::lookup_tries))]
 pub fn apply_lookup(
     table: &PositioningTable,

@@ -1,4 +1,5 @@
-//! Lookups that are nested in others: a rule of a context applies them at the places of its match.
+//! Lookups nested in others: a rule of a context applies them at indices of its match (rustybuzz:
+//! hb/ot_layout_gsubgpos.rs, `apply_lookup`, `recurse`).
 ghost use Rattle.std.specs.Prelude.{◌≡◌, ◌≢◌, ◌≤◌, ◌<◌, ◌+◌, true, false, length, slice_get, IfOk, OnOk, Some, None};
 ghost use Rattle.buffer_core.specs.Sides.{items_of};
 ghost use Rattle.layout_contexts.specs.Chains.{chain_rule, context_subtable};
@@ -29,7 +30,7 @@ use layout_gpos::bases::LastSearches;
 use layout_match::{MatchPositions, hb_ot_apply_context_t};
 use layout_subtables::context::{ContextSubtable, SequenceLookupRecord};
 
-/// With what a lookup is applied that is nested in another: its own flag, and all else as that one.
+/// The parameters of a lookup nested in another: its own flag, and all else as the other's.
 fn under_flag<'a>(
     lookup: &PositioningLookup,
     ctx: &hb_ot_apply_context_t<'a>,
@@ -42,8 +43,9 @@ fn under_flag<'a>(
     nested
 }
 
-/// Applies the lookup at an index of the table at the cursor, nested in another: with its own flag, and without asking
-/// whether it meets the glyph there. An index without one does nothing. Lookups may be nested in it so many levels deep.
+/// Applies the lookup at an index of the table at the cursor, nested in another: with its own flag, and without a test
+/// whether it applies to the glyph there. An index without one does nothing. Lookups may be nested in it so many levels
+/// deep.
 #[cycle(nested)]
 #[tactic(auto, using(crate::proofs::Levels::no_lookup, crate::proofs::Levels::lookup_there))]
 fn recurse(
@@ -72,7 +74,7 @@ fn recurse(
     apply_subtables(table, depth, &lookup.subtables, &nested, last, buffer)
 }
 
-/// Does what the first of the subtables does that acts, at the cursor.
+/// Applies the first matching subtable at the cursor.
 #[cycle(nested)]
 pub(crate) fn apply_subtables(
     table: &PositioningTable,
@@ -117,7 +119,7 @@ pub(crate) fn apply_subtables(
     }
 }
 
-/// Does what the first of some contexts does that acts.
+/// Applies the first matching context at the cursor.
 #[cycle(nested)]
 #[tactic(auto, using(buffer_stages::proofs::Lemmas::Performed::passed_first, crate::proofs::Passed::passed_closed, buffer_stages::proofs::Lemmas::Performed::passed_unrefused, buffer_stages::proofs::Lemmas::Performed::passed_numbers))]
 fn apply_contexts(
@@ -149,7 +151,7 @@ fn apply_contexts(
     Ok(false)
 }
 
-/// Does what a context does at the cursor: where its rules are tried there, what the first does that matches.
+/// Applies a context at the cursor: its first rule that matches, where its rules are tried there.
 #[cycle(nested)]
 fn apply_context(
     table: &PositioningTable,
@@ -175,7 +177,7 @@ fn apply_context(
     apply_rules(table, depth, subtable, ctx, last, buffer)
 }
 
-/// Does what the first of a context's rules does that matches at the cursor.
+/// Applies the first matching rule of a context at the cursor.
 #[cycle(nested)]
 #[tactic(auto, using(buffer_stages::proofs::Lemmas::Performed::passed_first, crate::proofs::Passed::passed_closed, buffer_stages::proofs::Lemmas::Performed::passed_unrefused, buffer_stages::proofs::Lemmas::Performed::passed_numbers))]
 fn apply_rules(
@@ -208,7 +210,7 @@ fn apply_rules(
     Ok(false)
 }
 
-/// Does what a rule does at the cursor: where it matches, its records, and then the cursor goes behind the match.
+/// Applies a rule at the cursor: where it matches, its records, and the cursor then moves to the end of the match.
 #[cycle(nested)]
 fn apply_rule(
     table: &PositioningTable,
@@ -247,7 +249,7 @@ fn apply_rule(
     }
 }
 
-/// Applies the records of a rule in their order, where lookups may be nested; answers where the match ends then.
+/// Applies the records of a rule in their order, where lookups may be nested; answers the end of the match afterwards.
 #[cycle(nested)]
 fn apply_records(
     table: &PositioningTable,
@@ -295,7 +297,7 @@ fn apply_records(
     Ok(at)
 }
 
-/// Applies a record of a rule: its lookup, at its place; answers where the match ends then.
+/// Applies a record of a rule: its lookup, at its index of the match; answers the end of the match afterwards.
 #[cycle(nested)]
 #[tactic(auto, using(layout_contexts::proofs::Lemmas::Nested::begun_closed, layout_contexts::proofs::Lemmas::Nested::begun_unrefused, layout_contexts::proofs::Lemmas::Nested::begun_numbers, layout_contexts::proofs::Lemmas::Nested::begun_there))]
 fn apply_record(

@@ -1,4 +1,5 @@
-//! Positioning, stage after stage.
+//! Positioning, GPOS stage after GPOS stage (rustybuzz: hb/ot_layout_gpos_table.rs, `position`; hb/ot_layout.rs,
+//! `apply_layout_table`).
 ghost use Rattle.std.specs.Prelude.{ℕ, ◌≡◌, ◌≢◌, true, Err, IfErr, OnOk};
 ghost use Rattle.buffer_core.specs.Readings.{read_of};
 ghost use Rattle.buffer_core.specs.Sides.{items_of, run_of};
@@ -16,7 +17,7 @@ use layout_map::map::hb_ot_map_t;
 use layout_map_features::lookup::lookup_map_t;
 use layout_map_features::per_table::TableIndex;
 
-/// Does the lookups of a stage one after another; a font without a table of positioning has none.
+/// Applies the lookups of a GPOS stage one after another; a font without a GPOS table has none.
 fn apply_stage(
     face: &Face,
     lookups: &[lookup_map_t],
@@ -35,7 +36,7 @@ fn apply_stage(
     }
 }
 
-/// Does the lookups of a map's stages for positioning, each stage ended by its pause.
+/// Applies the lookups of a map's GPOS stages, each stage ended by its pause.
 #[tactic(auto, using(crate::proofs::Ways::stage_lookups_refused, crate::proofs::Ways::all_stages_done))]
 fn apply_layout_table<P: Pause>(
     map: &hb_ot_map_t,
@@ -60,10 +61,10 @@ fn apply_layout_table<P: Pause>(
     Ok(())
 }
 
-/// Positions glyphs by the font's rules for the features of a map: stage after stage the stage's lookups by their indices,
-/// each at all glyphs, and then the stage's pause. Glyphs that are attached keep links until `position_finish_offsets`;
-/// before it `position_start` clears those of an earlier run. It takes no memory but what a pause takes, and refuses by a
-/// pause's cause, or where a list has more glyphs than it may.
+/// Positions glyphs by the font's rules for the features of a map: stage after stage the stage's lookups by their
+/// indices, each at all glyphs, and then the stage's pause. Attached glyphs keep links until `position_finish_offsets`;
+/// `position_start` clears older links before. It takes no memory except in pauses, and refuses with a pause's cause,
+/// or where a list has more glyphs than it may.
 #[tactic(auto, using(crate::proofs::Ways::done_from_one, crate::proofs::Left::positioned_left))]
 pub fn position<P: Pause>(
     map: &hb_ot_map_t,

@@ -1,4 +1,4 @@
-//! Subtables of positioning that call no other lookup, tried one after another.
+//! GPOS subtables that call no other lookup, tried one after another.
 ghost use Rattle.std.specs.Prelude.{◌≡◌, ◌<◌, false, true, length};
 ghost use Rattle.buffer_core.specs.Sides.{items_of};
 ghost use Rattle.layout_match.specs.Applied.{applied_of};
@@ -20,7 +20,7 @@ use layout_match::hb_ot_apply_context_t;
 use layout_subtables::cursive::CursivePos;
 use layout_subtables::mark::{MarkBasePos, MarkLigPos};
 
-/// Does what the first of some subtables does that acts, and tells whether one acted.
+/// Applies the first matching subtable at the cursor, and answers whether one acted.
 #[tactic(auto, using(buffer_stages::proofs::Lemmas::Performed::passed_first, crate::proofs::Passed::passed_closed, buffer_stages::proofs::Lemmas::Performed::passed_numbers, buffer_stages::proofs::Lemmas::Performed::passed_all))]
 pub fn apply_first<S: Apply>(
     subtables: &[S],
@@ -43,7 +43,7 @@ pub fn apply_first<S: Apply>(
     false
 }
 
-/// The same with subtables of cursive attachment.
+/// Applies the first matching subtable of cursive attachment, and answers whether one acted.
 #[tactic(auto, using(buffer_stages::proofs::Lemmas::Performed::passed_first, crate::proofs::Passed::passed_closed, buffer_stages::proofs::Lemmas::Performed::passed_numbers, buffer_stages::proofs::Lemmas::Performed::passed_all))]
 pub fn apply_first_cursive(
     subtables: &[CursivePos],
@@ -66,7 +66,7 @@ pub fn apply_first_cursive(
     false
 }
 
-/// The same with subtables of mark to mark attachment.
+/// Applies the first matching subtable of mark to mark attachment, and answers whether one acted.
 #[tactic(auto, using(buffer_stages::proofs::Lemmas::Performed::passed_first, crate::proofs::Passed::passed_closed, buffer_stages::proofs::Lemmas::Performed::passed_numbers, buffer_stages::proofs::Lemmas::Performed::passed_all))]
 pub fn apply_first_mark(
     subtables: &[MarkBasePos],
@@ -89,7 +89,8 @@ pub fn apply_first_mark(
     false
 }
 
-/// The same with subtables of mark to base attachment; the search for a base goes on from the last one.
+/// Applies the first matching subtable of mark to base attachment, and answers whether one acted; the search for a base
+/// continues the last one.
 #[tactic(auto, using(buffer_stages::proofs::Lemmas::Performed::passed_first, crate::proofs::Passed::passed_closed, buffer_stages::proofs::Lemmas::Performed::passed_numbers))]
 pub fn apply_first_base(
     subtables: &[MarkBasePos],
@@ -115,7 +116,8 @@ pub fn apply_first_base(
     false
 }
 
-/// The same with subtables of mark to ligature attachment; the search for a ligature goes on from the last one.
+/// Applies the first matching subtable of mark to ligature attachment, and answers whether one acted; the search for a
+/// ligature continues the last one.
 #[tactic(auto, using(buffer_stages::proofs::Lemmas::Performed::passed_first, crate::proofs::Passed::passed_closed, buffer_stages::proofs::Lemmas::Performed::passed_numbers))]
 pub fn apply_first_ligature(
     subtables: &[MarkLigPos],

@@ -148,7 +148,7 @@ ready_cut r s none = rw none refl
 read_at_front : (n : ℕ) (s : Sides) → n ≡ s.read + length s.ahead → n ≡ length (all_glyphs s) → (moved_to 0 s).read ≡ 0
 read_at_front n s input count = let both = length-append s.behind s.ahead in omega (arith, input, count, both)
 
--- a lookup that was tried everywhere, once the cursor is in front of all glyphs
+-- a lookup that was tried everywhere, once the cursor is before all glyphs
 pub looked_back_done : (act : Action) (n k : ℕ) (s now new : Sides) → IsReady s → k ≡ length (all_glyphs s) → IsOnItsWayBack act k 0 s now → n ≡ now.read + length now.ahead → n ≡ length (all_glyphs now) → new ≡ moved_to 0 now → length new.positions ≡ length (all_glyphs new) → (r : ℕ) → IsDoneFrom r r (looked_back act) s new
 looked_back_done act end k s now new ready counted v0 input count is placed r =
     let K : ℕ → Type 0 = λ m. IsOnItsWayBack act m 0 s now in

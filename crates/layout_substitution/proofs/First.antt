@@ -16,7 +16,7 @@ use Rattle.layout_match.specs.Trying.{meets}
 use Rattle.layout_substitution.specs.Lookups.{lookup_action, reverse_action, first_subtable, first_reverse, nested}
 use Rattle.layout_match.proofs.Lemmas.Met.{met, unmet}
 
--- a lookup passes over a glyph that it doesn't meet
+-- a lookup skips a glyph that it doesn't meet
 pub lookup_passes : (table : List SubstLookup) (a : Applied) (lookup : SubstLookup) (r : ℕ) (s : Sides) (g : hb_glyph_info_t) → slice_get s.ahead 0 ≡ Some g → meets a (item_of g) ≡ false → Performed (lookup_action table a lookup (cut_with r s)) false r r s s
 lookup_passes table a lookup r s g at none = passes_nothing r s (lookup_action table a lookup (cut_with r s)) (unmet a (first_subtable (nested table 64 a) a lookup.subtables) r s g at none)
 

@@ -18,13 +18,15 @@ use Rattle.layout_gsub.specs.Replacements.{single_subtable}
 use Rattle.layout_gsub.specs.Reverses.{reverse_subtable}
 use Rattle.layout_match.specs.Trying.{met_first, after_outcome, looked_up}
 
--- with what a lookup of a map is applied: its flag is its own, its mask and how it passes over joiners, keeps to syllables and draws are the map's
+-- the parameters of applying a lookup of a map: its own flag; mask, joiners, syllables and random alternates as the map
+-- says
 abbrev pub applied_by : FaceParts → SubstLookup → lookup_map_t → Applied
 applied_by font lookup m = record { table = GSUB; font = font; props = props_of lookup.flags lookup.mark_filtering_set; mask = m.mask; auto_zwnj = m.auto_zwnj; auto_zwj = m.auto_zwj; per_syllable = m.per_syllable; random = m.random }
 
 -- ---- at a cut
 
--- of a lookup that is tried from the left the first subtable that acts; contexts apply the lookups that may be nested in it
+-- the first matching subtable of a lookup that is tried from the left; contexts apply the lookups that may be nested in
+-- it
 abbrev pub first_subtable : Option (ℕ → Action) → Applied → SubstitutionSubtables → Action
 first_subtable nest a (Single subtables) c = first_rule (λ s. single_subtable a.font.gdef s.rows) subtables c
 first_subtable nest a (Multiple subtables) c = first_rule (λ s. multiple_subtable a.font.gdef s.rows) subtables c
@@ -34,25 +36,25 @@ first_subtable nest a (Context subtables) c = first_rule (context_subtable nest 
 first_subtable nest a (ChainContext subtables) c = first_rule (context_subtable nest a) subtables c
 first_subtable nest a (ReverseChainSingle subtables) c = Passes []
 
--- a lookup nested in another keeps to that one's mask, joiners and syllables, and has a flag of its own
+-- the parameters of a lookup nested in another: the other's mask, joiners and syllables, and its own flag
 abbrev pub under_flag : SubstLookup → Applied → Applied
 under_flag lookup a = record a { props = props_of lookup.flags lookup.mark_filtering_set }
 
--- what a nested lookup does at its place, where neither mask nor flag is asked; an index without one does nothing
+-- a nested lookup at its index, where neither mask nor flag is tested; an index without a lookup does nothing
 abbrev pub nested_lookup : (Applied → Option (ℕ → Action)) → Option SubstLookup → Applied → Action
 nested_lookup below None a c = Passes []
 nested_lookup below (Some lookup) a c = first_subtable (below (under_flag lookup a)) (under_flag lookup a) lookup.subtables c
 
--- what the lookups of a table do that are nested in one, each by its index, at so many levels; at none there are none
+-- the lookups of a table that may be nested in one, each by its index, at so many levels; none at level 0
 unfoldable pub nested : List SubstLookup → ℕ → Applied → Option (ℕ → Action)
 nested table zero a = None
 nested table (suc depth) a = Some (λ i. nested_lookup (nested table depth) (slice_get table i) a)
 
--- what those do in which lookups may be nested at so many levels more
+-- a nested lookup, by its index, in which lookups may be nested at so many levels more
 abbrev pub nested_act : List SubstLookup → ℕ → Applied → ℕ → Action
 nested_act table depth a i c = nested_lookup (nested table depth) (slice_get table i) a c
 
--- of a lookup that is tried from the right: reverse chaining substitution alone
+-- the first matching subtable of a lookup that is tried from the right: reverse chaining substitution only
 abbrev pub first_reverse : Applied → SubstitutionSubtables → Action
 first_reverse a (ReverseChainSingle subtables) c = first_rule (reverse_subtable a) subtables c
 first_reverse a (Single subtables) c = Passes []
@@ -62,10 +64,11 @@ first_reverse a (Ligature subtables) c = Passes []
 first_reverse a (Context subtables) c = Passes []
 first_reverse a (ChainContext subtables) c = Passes []
 
--- what a lookup does at an index, from the left and from the right; lookups may be nested in it 64 levels deep
+-- a lookup tried from the left at an index, where it applies to the item; lookups may be nested in it 64 levels deep
 abbrev pub lookup_action : List SubstLookup → Applied → SubstLookup → Action
 lookup_action table a lookup c = met_first a (first_subtable (nested table 64 a) a lookup.subtables) c
 
+-- a reverse chaining lookup tried at an index, where it applies to the item
 abbrev pub reverse_action : Applied → SubstLookup → Action
 reverse_action a lookup c = met_first a (first_reverse a lookup.subtables) c
 
@@ -84,17 +87,18 @@ tried_back act v (suc n) c = after_outcome (act (cut_at n c)) (tried_back act v 
 abbrev pub looked_back : Action → Stage
 looked_back act v = tried_back act v (length v.items) (uncut_placed v)
 
+-- a lookup tried at each index of a list, from the right for reverse chaining, else from the left
 abbrev pub lookup_applied : List SubstLookup → Applied → SubstLookup → Stage
 lookup_applied table a lookup v = if is_reverse lookup.subtables then looked_back (reverse_action a lookup) v else looked_up (lookup_action table a lookup) v
 
--- ---- lookups of a stage
+-- ---- lookups of a GSUB stage
 
--- an index without a lookup does nothing
+-- the lookup of a map at an index of the table; an index without one does nothing
 abbrev pub lookup_stage : FaceParts → List SubstLookup → Option SubstLookup → lookup_map_t → Stage
 lookup_stage font table None m v = as_it_is v
 lookup_stage font table (Some lookup) m v = lookup_applied table (applied_by font lookup m) lookup v
 
--- lookups of a table, one after another
+-- lookups of a map, one after another
 abbrev pub lookups_stage : FaceParts → List SubstLookup → List lookup_map_t → Stage
 lookups_stage font table [] v = as_it_is v
 lookups_stage font table (m ∷ maps) v = and_then (lookup_stage font table (slice_get table m.index) m v) (lookups_stage font table maps)

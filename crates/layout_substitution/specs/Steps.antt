@@ -7,7 +7,7 @@ use Rattle.buffer_stages.specs.Buffers.{are_glyphs, IsStill}
 use Rattle.buffer_stages.specs.Performing.{cut_with}
 use Rattle.layout_substitution.specs.Lookups.{tried_back}
 
--- a rule was tried in place at an index; whatever follows from here at those before it does so from before
+-- a rule was tried in place at an index; the reading from here of the indices before it is that from before
 pub record IsStepBack (act : Action) (at : ℕ) (old new : Sides) : Type 0 where
   pub still : IsStill old new
   pub count : length (all_glyphs new) ≡ length (all_glyphs old)

@@ -1,3 +1,4 @@
+//! Applies lookups to a whole buffer (rustybuzz: hb/ot_layout.rs, `apply_string`, `apply_layout_table`).
 ghost use Rattle.std.specs.Prelude.{◌≡◌, ◌≢◌, true, Err, slice_get, IfErr, OnOk};
 ghost use Rattle.buffer_core.specs.Readings.{read_of};
 ghost use Rattle.buffer_core.specs.Sides.{items_of, run_of};
@@ -18,7 +19,7 @@ use layout_map_features::lookup::lookup_map_t;
 use layout_map_features::per_table::TableIndex;
 use layout_match::hb_ot_apply_context_t;
 
-/// Tries a lookup at each glyph: one of reverse chaining from the right in place, any other from the left.
+/// Tries a lookup at each glyph: one of reverse chaining from the right, in place, any other from the left.
 fn apply_everywhere(
     table: &SubstitutionTable,
     lookup: &SubstLookup,
@@ -42,7 +43,7 @@ fn apply_everywhere(
     apply_forward(table, lookup, ctx, buffer)
 }
 
-/// Applies a lookup from now on: with its own flag, and what the map says of it.
+/// Sets the lookup to apply from now on: its own flag, and the parameters that the map gives it.
 fn set_lookup(ctx: &mut hb_ot_apply_context_t, lookup: &SubstLookup, lookup_map: &lookup_map_t)
     requires { ctx.old.table_index ≡ GSUB }
     ensures applied { applied_of ctx.new ≡ applied_by ctx.old.face.now lookup.now lookup_map.now }
@@ -56,7 +57,7 @@ fn set_lookup(ctx: &mut hb_ot_apply_context_t, lookup: &SubstLookup, lookup_map:
     ctx.lookup_props = lookup.props();
 }
 
-/// Does what the lookup at an index of the table does; an index without one does nothing.
+/// Applies the lookup at an index of the table; an index without one does nothing.
 fn apply_mapped(
     table: &SubstitutionTable,
     lookup_map: &lookup_map_t,
@@ -107,9 +108,9 @@ pub(crate) fn apply_all(
     Ok(())
 }
 
-/// Does lookups of the font's table of substitution one after another, each at all glyphs: from the left, going on after what
-/// it made, or where it is of reverse chaining from the right. Alternates are drawn from 1 on. It refuses for want of memory,
-/// or where a list would have more glyphs than it may.
+/// Applies GSUB lookups of the font one after another, each at all glyphs: from the left, moving on after the glyphs
+/// that it made, or for reverse chaining from the right. Random numbers are drawn from the state 1 on. It refuses for
+/// want of memory, or where a list would have more glyphs than it may.
 pub fn apply_lookups(
     face: &Face,
     table: &SubstitutionTable,

@@ -1,3 +1,4 @@
+//! A reverse chaining lookup over a buffer, in place (rustybuzz: hb/ot_layout.rs, `apply_backward`).
 ghost use Rattle.std.specs.Prelude.{ℕ, ◌≡◌, ◌<◌, true, false, length};
 ghost use Rattle.buffer_core.specs.Sides.{all_glyphs, items_of};
 ghost use Rattle.layout_match.specs.Applied.{applied_of};
@@ -11,7 +12,7 @@ use buffer_core::buffer::hb_buffer_t;
 use layout_face::substitution::SubstLookup;
 use layout_match::hb_ot_apply_context_t;
 
-/// Tries a lookup of reverse chaining in place at an index.
+/// Tries a reverse chaining lookup in place at an index.
 #[tactic(auto, using(crate::proofs::Back::step_back))]
 fn apply_at(lookup: &SubstLookup, at: usize, ctx: &hb_ot_apply_context_t, buffer: &mut hb_buffer_t)
     requires closed { buffer.old.is_open ≡ false }
@@ -25,7 +26,7 @@ fn apply_at(lookup: &SubstLookup, at: usize, ctx: &hb_ot_apply_context_t, buffer
     let _after = buffer.pos_slice();
 }
 
-/// Tries a lookup of reverse chaining at each glyph once, from the right, in place. It takes no memory.
+/// Tries a reverse chaining lookup at each glyph once, from the right, in place. It takes no memory.
 #[tactic(auto, using(crate::proofs::Back::back_begun))]
 pub fn apply_backward(lookup: &SubstLookup, ctx: &hb_ot_apply_context_t, buffer: &mut hb_buffer_t)
     requires ready { IsReady buffer.old }

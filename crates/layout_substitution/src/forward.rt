@@ -1,3 +1,4 @@
+//! A lookup over a buffer with an open output (rustybuzz: hb/ot_layout.rs, `apply_forward`).
 ghost use Rattle.std.specs.Prelude.{◌≡◌, ◌≢◌, true, false, Err, IfErr, OnOk};
 ghost use Rattle.buffer_core.specs.Readings.{read_of};
 ghost use Rattle.buffer_core.specs.Sides.{items_of};
@@ -14,7 +15,7 @@ use buffer_glyphs::cause::ShapeCause;
 use layout_face::substitution::{SubstLookup, SubstitutionTable};
 use layout_match::hb_ot_apply_context_t;
 
-/// Tries a lookup at the cursor, and goes on over the glyph where it doesn't act; at the end it does nothing.
+/// Tries a lookup at the cursor, and moves over the glyph where it doesn't act; at the end it does nothing.
 #[tactic(auto, using(layout_match::proofs::Lemmas::Steps::step_ended))]
 fn apply_next(
     table: &SubstitutionTable,
@@ -44,7 +45,7 @@ fn apply_next(
     Ok(())
 }
 
-/// Tries a lookup at each glyph once, from the left, and goes on after what it made.
+/// Tries a lookup at each glyph once, from the left, and moves on after the glyphs that it made.
 #[tactic(auto, using(layout_match::proofs::Lemmas::Passage::begun))]
 pub fn apply_forward(
     table: &SubstitutionTable,

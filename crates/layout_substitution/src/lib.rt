@@ -1,4 +1,5 @@
-// The lookups of a stage, each tried at all glyphs of a buffer.
+//! GSUB lookups, stage after stage, each tried at all glyphs of a buffer (rustybuzz: hb/ot_layout.rs,
+//! hb/ot_layout_gsub_table.rs).
 #![tactic(auto)]
 
 pub mod apply;

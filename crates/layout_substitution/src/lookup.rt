@@ -1,3 +1,4 @@
+//! A GSUB lookup at the cursor (rustybuzz: `SubstLookup`).
 ghost use Rattle.std.specs.Prelude.{◌≡◌, ◌<◌, true, false, length};
 ghost use Rattle.buffer_core.specs.Sides.{items_of};
 ghost use Rattle.layout_match.specs.Applied.{applied_of};
@@ -17,9 +18,9 @@ use layout_match::hb_ot_apply_context_t;
 use layout_match::lookup::meets;
 use layout_subtables::reverse::ReverseChainSubst;
 
-/// Does what a lookup does at the glyph at the cursor, where it meets it: what the first of its subtables does that acts. It
-/// tells whether one acted; where none did it changed glyph flags alone. It refuses for want of memory, or where the output
-/// would have more glyphs than it may.
+/// Applies the first matching subtable of a lookup at the cursor, where the lookup applies to the glyph there. It
+/// answers whether one acted; where none did it changed glyph flags only. It refuses for want of memory, or where the
+/// output would have more glyphs than it may.
 #[tactic(auto, using(crate::proofs::First::lookup_passes, crate::proofs::First::lookup_tries))]
 pub fn apply_lookup(
     table: &SubstitutionTable,
@@ -42,7 +43,7 @@ pub fn apply_lookup(
     apply_subtables(table, MAX_NESTING_LEVEL, &lookup.subtables, ctx, buffer)
 }
 
-/// Does what the first of some subtables of reverse chaining does that acts, in place.
+/// Applies the first matching subtable of reverse chaining, in place.
 #[tactic(auto, using(crate::proofs::InPlace::put_first, crate::proofs::InPlace::put_numbers, crate::proofs::InPlace::put_there, crate::proofs::InPlace::put_acted, crate::proofs::InPlace::put_all))]
 fn apply_reverse_subtables(
     subtables: &[ReverseChainSubst],
@@ -62,7 +63,7 @@ fn apply_reverse_subtables(
     false
 }
 
-/// The same where the subtables are of reverse chaining; others do nothing from the right.
+/// Applies the first matching subtable where the subtables are of reverse chaining; others do nothing from the right.
 fn apply_reverse_substitution(
     subtables: &SubstitutionSubtables,
     ctx: &hb_ot_apply_context_t,
@@ -86,8 +87,8 @@ fn apply_reverse_substitution(
     }
 }
 
-/// Does what a lookup of reverse chaining does at the glyph at the cursor of a buffer without an output, where it meets it. It
-/// tells whether it acted; where it didn't, it changed glyph flags alone. It takes no memory.
+/// Applies a reverse chaining lookup at the cursor of a buffer without an output, where it applies to the glyph there.
+/// It answers whether it acted; where it didn't, it changed glyph flags only. It takes no memory.
 #[tactic(auto, using(crate::proofs::First::reverse_passes, crate::proofs::First::reverse_tries))]
 pub fn apply_reverse_lookup(
     lookup: &SubstLookup,

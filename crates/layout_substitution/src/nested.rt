@@ -1,4 +1,5 @@
-//! Lookups that are nested in others: a rule of a context applies them at the places of its match.
+//! Lookups nested in others: a rule of a context applies them at indices of its match (rustybuzz:
+//! hb/ot_layout_gsubgpos.rs, `apply_lookup`, `recurse`).
 ghost use Rattle.std.specs.Prelude.{◌≡◌, ◌≢◌, ◌≤◌, ◌<◌, ◌+◌, true, false, length, slice_get, IfOk, Some, None};
 ghost use Rattle.buffer_core.specs.Sides.{items_of};
 ghost use Rattle.layout_contexts.specs.Chains.{chain_rule, context_subtable};
@@ -25,8 +26,9 @@ use layout_gsub::apply::apply_first;
 use layout_match::{MatchPositions, hb_ot_apply_context_t};
 use layout_subtables::context::{ContextSubtable, SequenceLookupRecord};
 
-/// Applies the lookup at an index of the table at the cursor, nested in another: with its own flag, and without asking
-/// whether it meets the glyph there. An index without one does nothing. Lookups may be nested in it so many levels deep.
+/// Applies the lookup at an index of the table at the cursor, nested in another: with its own flag, and without a test
+/// whether it applies to the glyph there. An index without one does nothing. Lookups may be nested in it so many levels
+/// deep.
 #[cycle(nested)]
 fn recurse(
     table: &SubstitutionTable,
@@ -54,7 +56,7 @@ fn recurse(
     applied
 }
 
-/// Does what the first of the subtables does that acts, at the cursor. Reverse chaining is not applied from the left.
+/// Applies the first matching subtable at the cursor. Reverse chaining is not applied from the left.
 #[cycle(nested)]
 pub(crate) fn apply_subtables(
     table: &SubstitutionTable,
@@ -93,7 +95,7 @@ pub(crate) fn apply_subtables(
     }
 }
 
-/// Does what the first of some contexts does that acts.
+/// Applies the first matching context at the cursor.
 #[cycle(nested)]
 #[tactic(auto, using(buffer_stages::proofs::Lemmas::Performed::passed_first, buffer_stages::proofs::Lemmas::Performed::passed_open, buffer_stages::proofs::Lemmas::Performed::passed_unrefused, buffer_stages::proofs::Lemmas::Performed::passed_numbers))]
 fn apply_contexts(
@@ -122,7 +124,7 @@ fn apply_contexts(
     Ok(false)
 }
 
-/// Does what a context does at the cursor: where its rules are tried there, what the first does that matches.
+/// Applies a context at the cursor: its first rule that matches, where its rules are tried there.
 #[cycle(nested)]
 fn apply_context(
     table: &SubstitutionTable,
@@ -146,7 +148,7 @@ fn apply_context(
     apply_rules(table, depth, subtable, ctx, buffer)
 }
 
-/// Does what the first of a context's rules does that matches at the cursor.
+/// Applies the first matching rule of a context at the cursor.
 #[cycle(nested)]
 #[tactic(auto, using(buffer_stages::proofs::Lemmas::Performed::passed_first, buffer_stages::proofs::Lemmas::Performed::passed_open, buffer_stages::proofs::Lemmas::Performed::passed_unrefused, buffer_stages::proofs::Lemmas::Performed::passed_numbers))]
 fn apply_rules(
@@ -176,7 +178,7 @@ fn apply_rules(
     Ok(false)
 }
 
-/// Does what a rule does at the cursor: where it matches, its records, and then the cursor goes behind the match.
+/// Applies a rule at the cursor: where it matches, its records, and the cursor then moves to the end of the match.
 #[cycle(nested)]
 fn apply_rule(
     table: &SubstitutionTable,
@@ -204,7 +206,7 @@ fn apply_rule(
     }
 }
 
-/// Applies the records of a rule in their order, where lookups may be nested; answers where the match ends then.
+/// Applies the records of a rule in their order, where lookups may be nested; answers the end of the match afterwards.
 #[cycle(nested)]
 fn apply_records(
     table: &SubstitutionTable,
@@ -240,7 +242,7 @@ fn apply_records(
     Ok(at)
 }
 
-/// Applies a record of a rule: its lookup, at its place; answers where the match ends then.
+/// Applies a record of a rule: its lookup, at its index of the match; answers the end of the match afterwards.
 #[cycle(nested)]
 #[tactic(auto, using(layout_contexts::proofs::Lemmas::Nested::begun_open, layout_contexts::proofs::Lemmas::Nested::begun_unrefused, layout_contexts::proofs::Lemmas::Nested::begun_numbers, layout_contexts::proofs::Lemmas::Nested::begun_there))]
 fn apply_record(

@@ -1,4 +1,5 @@
-//! Substitution, stage after stage.
+//! Substitution, GSUB stage after GSUB stage (rustybuzz: hb/ot_layout_gsub_table.rs, `substitute`; hb/ot_layout.rs,
+//! `apply_layout_table`).
 ghost use Rattle.std.specs.Prelude.{ℕ, ◌≡◌, ◌≢◌, true, Err, IfErr, OnOk};
 ghost use Rattle.std.specs.Option.{option_map_or, option_map};
 ghost use Rattle.buffer_core.specs.Readings.{read_of};
@@ -20,7 +21,7 @@ use layout_map_features::lookup::lookup_map_t;
 use layout_map_features::per_table::TableIndex;
 use layout_match::hb_ot_apply_context_t;
 
-/// Does the lookups of a stage one after another; a font without a table of substitution has none.
+/// Applies the lookups of a GSUB stage one after another; a font without a GSUB table has none.
 fn apply_stage(
     lookups: &[lookup_map_t],
     ctx: &mut hb_ot_apply_context_t,
@@ -43,7 +44,7 @@ fn apply_stage(
     }
 }
 
-/// Does the lookups of a map's stages for substitution, each stage ended by its pause.
+/// Applies the lookups of a map's GSUB stages, each stage ended by its pause.
 #[tactic(auto, using(crate::proofs::Ways::stage_lookups_refused))]
 fn apply_layout_table<P: Pause>(
     map: &hb_ot_map_t,
@@ -73,8 +74,8 @@ fn apply_layout_table<P: Pause>(
 }
 
 /// Substitutes glyphs by the font's rules for the features of a map: stage after stage the stage's lookups by their
-/// indices, each at all glyphs, and then the stage's pause. One state serves all that is drawn at random in lookups. It
-/// refuses for want of memory, where a list would have more glyphs than it may, or by a pause's cause.
+/// indices, each at all glyphs, and then the stage's pause. One random state serves all lookups. It refuses for want of
+/// memory, where a list would have more glyphs than it may, or with a pause's cause.
 pub fn substitute<P: Pause>(
     map: &hb_ot_map_t,
     face: &Face,

@@ -14,27 +14,28 @@ abbrev pub class_count : ℕ → List (GlyphRow ℕ) → ℕ
 class_count count [] = count
 class_count count (r ∷ rows) = class_count (max count (r.value + 1)) rows
 
+-- how many classes the mark records name, from class 0 to the highest
 abbrev pub mark_class_count : ℕ → List (GlyphRow MarkRecord) → ℕ
 mark_class_count count [] = count
 mark_class_count count (r ∷ marks) = mark_class_count (max count (r.value.class + 1)) marks
 
--- each base has an anchor for each class of marks
+-- whether each base has an anchor for each class of marks
 abbrev pub marks_fit_bases : List (GlyphRow MarkRecord) → List BaseRow → Bool
 marks_fit_bases marks bases = list_all (λ b. nat_le (mark_class_count 0 marks) (length b.anchors)) bases
 
--- each component has one
+-- whether each component has an anchor for each class of marks
 abbrev pub components_fit : ℕ → List ComponentRecord → Bool
 components_fit count components = list_all (λ c. nat_le count (length c.anchors)) components
 
--- each component of each ligature
+-- whether each component of each ligature has an anchor for each class of marks
 abbrev pub marks_fit_ligatures : List (GlyphRow MarkRecord) → List LigatureRow → Bool
 marks_fit_ligatures marks ligatures = list_all (λ l. components_fit (mark_class_count 0 marks) l.components) ligatures
 
--- each row of records has so many
+-- whether each row of records has at least so many
 abbrev pub records_fit : ℕ → List Class1Record → Bool
 records_fit count records = list_all (λ r. nat_le count (length r.class2_records)) records
 
--- each class of a first glyph has a row of records, and each class of a second one a record in each row
+-- whether each class of a first glyph has a row of records, and each class of a second one a record in each row
 abbrev pub pairs_fit : ClassPairs → Bool
 pairs_fit pairs =
     nat_le (class_count 0 pairs.class_def1.rows) (length pairs.records) && records_fit (class_count 0 pairs.class_def2.rows) pairs.records

@@ -10,6 +10,7 @@ use Rattle.layout_subtables.specs.declared.mark.ComponentRecord.{ComponentRecord
 abbrev pub anchor_at : List (Option Anchor) → ℕ → Option Anchor
 anchor_at anchors class = option_and_then (λ anchor. anchor) (slice_get anchors class)
 
+-- the anchor of a base for marks of a class
 abbrev pub base_anchor : ℕ → ℕ → List BaseRow → Option Anchor
 base_anchor glyph class bases = option_and_then (λ r. anchor_at r.anchors class) (row_of (λ r. r.glyph) glyph bases)
 
@@ -17,9 +18,11 @@ base_anchor glyph class bases = option_and_then (λ r. anchor_at r.anchors class
 abbrev pub component_at : List ComponentRecord → ℕ → ℕ → Option Anchor
 component_at components component class = option_and_then (λ r. anchor_at r.anchors class) (slice_get components component)
 
+-- the anchor of a ligature's component for marks of a class
 abbrev pub component_anchor : ℕ → ℕ → ℕ → List LigatureRow → Option Anchor
 component_anchor glyph component class ligatures =
     option_and_then (λ r. component_at r.components component class) (row_of (λ r. r.glyph) glyph ligatures)
 
+-- how many components a ligature has
 abbrev pub component_count : ℕ → List LigatureRow → Option ℕ
 component_count glyph ligatures = option_map (λ r. length r.components) (row_of (λ r. r.glyph) glyph ligatures)

@@ -11,14 +11,16 @@ use Rattle.layout_subtables.specs.declared.pair.Class1Record.{Class1Record}
 abbrev pub row_of_glyphs : ℕ → ℕ → List PairRow → Option PairRow
 row_of_glyphs first second rows = find (λ r. r.first == first && r.second == second) rows
 
+-- the value records of two glyphs by their row (format 1)
 abbrev pub glyph_pair_values : ℕ → ℕ → List PairRow → Option PairValues
 glyph_pair_values first second rows = option_map (λ r. r.values) (row_of_glyphs first second rows)
 
--- the record of two classes
+-- the value records of two classes
 abbrev pub record_at : List Class1Record → ℕ → ℕ → Option PairValues
 record_at records class1 class2 = option_and_then (λ r. slice_get r.class2_records class2) (slice_get records class1)
 
--- the first glyph is covered, and the classes of both have a record
+-- the value records of two glyphs by their classes (format 2), where the first glyph is covered and both classes have a
+-- record
 abbrev pub class_pair_values : ℕ → ℕ → ClassPairs → Option PairValues
 class_pair_values first second pairs =
     if is_covered first pairs.coverage then record_at pairs.records (class_of first pairs.class_def1) (class_of second pairs.class_def2) else None

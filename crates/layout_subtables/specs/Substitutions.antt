@@ -1,4 +1,4 @@
--- What takes the place of a glyph (OpenType, GSUB).
+-- The glyphs that replace a glyph (OpenType, GSUB lookup types 2 and 3).
 use Rattle.std.specs.Prelude.{ℕ, List, Option, option_map}
 use Rattle.buffer_rows.specs.Keys.{row_of}
 use Rattle.layout_subtables.specs.declared.sequence.SequenceRow.{SequenceRow}

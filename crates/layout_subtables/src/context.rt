@@ -1,3 +1,4 @@
+//! Contexts and chained contexts (OpenType, chapter 2, sequence context and chained sequence context formats 1 to 3).
 use layout_common::array::Array;
 use layout_common::class_definition::ClassDefinition;
 use layout_common::coverage::Coverage;
@@ -11,15 +12,15 @@ pub struct SequenceLookupRecord {
     pub lookup_index: u16,
 }
 
-/// A rule: what stands before, in and after the input sequence, and the lookups to apply then. An item is a glyph, a
-/// class or a set of glyphs.
+/// A rule: its backtrack, input and lookahead sequences, and the lookups to apply where they match. An item is a glyph,
+/// a class or a set of glyphs.
 #[derive(Debug, Drop)]
 pub struct SequenceRule<I> {
-    /// What stands before the input, the nearest item first.
+    /// The backtrack sequence, before the input, the nearest item first.
     pub backtrack: Array<I>,
     /// The input sequence with its first glyph.
     pub input: Array<I>,
-    /// What stands after the input, the nearest item first.
+    /// The lookahead sequence, after the input, the nearest item first.
     pub lookahead: Array<I>,
     /// The lookups, in the order in which they are applied.
     pub records: Array<SequenceLookupRecord>,
@@ -36,7 +37,8 @@ pub struct ClassRules {
     pub rules: Array<SequenceRule<u16>>,
 }
 
-/// A contextual or chained contextual subtable in one of its formats; its rules stand in the order in which they are tried.
+/// A contextual or chained contextual subtable in one of its formats, with its rules in the order in which they are
+/// tried.
 #[derive(Debug, Drop)]
 pub enum ContextSubtable {
     /// Items are glyphs (format 1).

@@ -1,3 +1,4 @@
+//! Cursive attachment (OpenType, GPOS lookup type 3).
 ghost use Rattle.std.specs.Prelude.{◌≡◌};
 ghost use Rattle.layout_common.specs.Rows.{value_of};
 
@@ -5,7 +6,8 @@ use crate::value::Anchor;
 use buffer_rows::SortedRows;
 use layout_common::glyph_row::{GlyphRow, find_value};
 
-/// Where a glyph is joined to the one before it and to the one after it; none where it isn't.
+/// The entry anchor of a glyph, which joins the glyph before it, and its exit anchor, which joins the one after it;
+/// none where it has none.
 #[derive(Clone, Copy, Debug, Drop)]
 pub struct EntryExit {
     pub entry: Option<Anchor>,

@@ -1,4 +1,5 @@
-// The subtables of both layout tables (OpenType, GSUB and GPOS): substitutions, positions, contexts.
+//! The subtables of both layout tables (OpenType, GSUB and GPOS): substitutions, positions, contexts (rustybuzz takes
+//! them from the crate ttf-parser).
 #![tactic(auto)]
 
 pub mod context;

@@ -1,3 +1,4 @@
+//! Attachment of marks (OpenType, GPOS lookup types 4, 5 and 6).
 ghost use Rattle.std.specs.Prelude.{◌≡◌};
 ghost use Rattle.layout_common.specs.Rows.{value_of};
 ghost use Rattle.layout_subtables.specs.Marks.{anchor_at, base_anchor, component_anchor, component_at, component_count};
@@ -7,14 +8,15 @@ use buffer_rows::{Keyed, SortedRows};
 use layout_common::array::Array;
 use layout_common::glyph_row::{GlyphRow, find_value};
 
-/// A mark's class, and the point of the mark that is put on an anchor of that class; none where it isn't attached.
+/// A mark's class, and the anchor of the mark that is put on the other glyph's anchor of that class; none where it
+/// isn't attached.
 #[derive(Clone, Copy, Debug, Drop)]
 pub struct MarkRecord {
     pub class: u16,
     pub anchor: Option<Anchor>,
 }
 
-/// A base, or a mark that bears marks, with an anchor for each class of marks, from class 0 on.
+/// A base, or a mark that marks are attached to, with an anchor for each class of marks, from class 0 on.
 #[derive(Debug, Drop)]
 pub struct BaseRow {
     pub glyph: u16,
@@ -59,7 +61,7 @@ impl Keyed for LigatureRow {
 pub struct MarkBasePos {
     /// The marks that it covers.
     pub marks: SortedRows<GlyphRow<MarkRecord>>,
-    /// The bases, or the marks that bear marks.
+    /// The bases, or the marks that marks are attached to.
     pub bases: SortedRows<BaseRow>,
 }
 

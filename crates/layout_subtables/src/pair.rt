@@ -1,3 +1,4 @@
+//! Pair adjustment (OpenType, GPOS lookup type 2).
 ghost use Rattle.std.specs.Prelude.{◌≡◌};
 ghost use Rattle.layout_subtables.specs.Pairs.{glyph_pair_values, class_pair_values, record_at};
 
@@ -7,7 +8,7 @@ use layout_common::array::Array;
 use layout_common::class_definition::ClassDefinition;
 use layout_common::coverage::Coverage;
 
-/// The adjustments of two glyphs; without a second one the second glyph may begin the next pair.
+/// The value records of two glyphs; without a second record the second glyph may begin the next pair.
 #[derive(Clone, Copy, Debug, Drop)]
 pub struct PairValues {
     pub first: ValueRecord,

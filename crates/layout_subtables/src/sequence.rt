@@ -1,3 +1,4 @@
+//! Multiple and alternate substitution (OpenType, GSUB lookup types 2 and 3).
 ghost use Rattle.std.specs.Prelude.{◌≡◌};
 ghost use Rattle.std.specs.Option.{option_copied};
 ghost use Rattle.layout_subtables.specs.Substitutions.{glyphs_of};
@@ -30,7 +31,7 @@ pub struct MultipleSubst {
 }
 
 impl MultipleSubst {
-    /// The glyphs that take the place of a glyph, in their order, none where it covers no such glyph.
+    /// The glyphs that replace a glyph, in their order, none where the subtable doesn't cover it.
     #[tactic(auto, using(buffer_rows::proofs::Searched::row_of_number))]
     pub fn sequence(&self, glyph: u16) -> Option<&[u16]>
         ensures { option_copied result ≡ glyphs_of glyph self.now.rows }
@@ -47,7 +48,7 @@ pub struct AlternateSubst {
 }
 
 impl AlternateSubst {
-    /// The glyphs one of which takes the place of a glyph, the first of them number 1, none where it covers no such glyph.
+    /// The glyphs one of which replaces a glyph, the first of them number 1, none where the subtable doesn't cover it.
     #[tactic(auto, using(buffer_rows::proofs::Searched::row_of_number))]
     pub fn alternates(&self, glyph: u16) -> Option<&[u16]>
         ensures { option_copied result ≡ glyphs_of glyph self.now.rows }

@@ -1,3 +1,4 @@
+//! Single adjustment (OpenType, GPOS lookup type 1).
 ghost use Rattle.std.specs.Prelude.{◌≡◌};
 ghost use Rattle.layout_common.specs.Rows.{value_of};
 
@@ -13,7 +14,7 @@ pub struct SinglePos {
 }
 
 impl SinglePos {
-    /// The adjustment of a glyph, none where it covers no such glyph.
+    /// The value record of a glyph, none where the subtable doesn't cover it.
     pub fn value(&self, glyph: u16) -> Option<ValueRecord>
         ensures { result ≡ value_of glyph self.now.rows }
     {

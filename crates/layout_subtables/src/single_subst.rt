@@ -1,3 +1,4 @@
+//! Single substitution (OpenType, GSUB lookup type 1).
 ghost use Rattle.std.specs.Prelude.{◌≡◌};
 ghost use Rattle.layout_common.specs.Rows.{value_of};
 
@@ -12,7 +13,7 @@ pub struct SingleSubst {
 }
 
 impl SingleSubst {
-    /// The glyph that takes the place of a glyph, none where it covers no such glyph.
+    /// The glyph that replaces a glyph, none where the subtable doesn't cover it.
     pub fn substitute(&self, glyph: u16) -> Option<u16>
         ensures { result ≡ value_of glyph self.now.rows }
     {

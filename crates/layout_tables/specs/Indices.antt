@@ -4,20 +4,20 @@ use Rattle.std.specs.List.{list_all}
 use Rattle.std.specs.Option.{option_map_or}
 use Rattle.layout_tables.specs.Layout.{LangSysTable, ScriptTable, LayoutLists}
 
--- each index is below the length of its list
+-- whether each index is below the length of its list
 abbrev pub all_below : ℕ → List ℕ → Bool
 all_below count indices = list_all (λ i. nat_lt i count) indices
 
--- the features of a language system are there, the required one too
+-- whether the features of a language system exist, the required one included
 abbrev pub system_fits : ℕ → LangSysTable → Bool
 system_fits count system = option_map_or (λ i. nat_lt i count) system.required_feature true && all_below count system.features
 
--- those of each language system of a script
+-- whether the features of each language system of a script exist
 abbrev pub script_fits : ℕ → ScriptTable → Bool
 script_fits count script =
     option_map_or (λ s. system_fits count s) script.default_lang_sys true && list_all (λ s. system_fits count s.lang_sys) script.lang_systems
 
--- the features of each language system, and the lookups of each feature, are there
+-- whether the features of each language system, and the lookups of each feature, exist
 abbrev pub indices_fit : ℕ → LayoutLists → Bool
 indices_fit lookup_count table =
     list_all (λ s. script_fits (length table.features) s) table.scripts && list_all (λ f. all_below lookup_count f.lookups) table.features

@@ -8,7 +8,7 @@ use crate::script::{LangSys, LangSysRecord, ScriptRecord};
 use crate::table::{FeatureRecord, LayoutTable};
 
 impl LayoutTable {
-    /// Whether the features of each language system, and the lookups of each feature, are there, in a table with so many
+    /// Whether all features of each language system, and all lookups of each feature, exist, in a table with so many
     /// lookups.
     pub fn indices_fit(&self, lookup_count: usize) -> bool
         ensures { result ≡ indices_fit lookup_count self.now }

@@ -1,3 +1,4 @@
+//! The search for records by number or by tags.
 ghost use Rattle.std.specs.Prelude.{◌≡◌, find, ◌==◌, None, true};
 ghost use Rattle.std.specs.Option.{option_copied};
 ghost use Rattle.layout_tables.specs.Choice.{first_found};

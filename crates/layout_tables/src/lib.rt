@@ -1,4 +1,5 @@
-// What the two layout tables of a font have in common: scripts, language systems and features; and sets of ligatures.
+//! The common lists of the layout tables of a font: scripts, language systems and features (OpenType, chapter 2); and
+//! sets of ligatures.
 #![tactic(auto)]
 
 mod indices;

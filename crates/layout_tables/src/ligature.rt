@@ -1,3 +1,4 @@
+//! Ligatures and sets of them (OpenType, GSUB lookup type 4).
 ghost use Rattle.std.specs.Prelude.{◌≡◌, None, true};
 ghost use Rattle.std.specs.Option.{option_copied};
 ghost use Rattle.layout_tables.specs.Keyed.{is_rising};
@@ -7,7 +8,7 @@ use crate::keyed::find_keyed;
 use buffer_rows::Keyed;
 use std::marker::Model;
 
-/// A ligature: the components after the first, and the glyph that takes the place of all.
+/// A ligature: the components after the first, and the glyph that replaces all components.
 #[derive(Debug, Drop)]
 pub struct Ligature {
     components: Vec<u16>,
@@ -23,21 +24,21 @@ impl Model for Ligature {
 }
 
 impl Ligature {
-    /// Of the glyphs after the first, and the ligature's glyph.
+    /// A ligature of the components after the first, and the ligature glyph.
     pub fn new(components: Vec<u16>, glyph: u16) -> Ligature
         ensures { result ≡ record { components = components.items; glyph = glyph } }
     {
         Ligature { components, glyph }
     }
 
-    /// The glyphs that follow the first one.
+    /// The components after the first one.
     pub fn components(&self) -> &[u16]
         ensures { result.now ≡ self.now.components }
     {
         &self.components
     }
 
-    /// The glyph that takes the place of all.
+    /// The glyph that replaces all components.
     pub fn glyph(&self) -> u16
         ensures { result ≡ self.now.glyph }
     {
@@ -71,7 +72,7 @@ impl Keyed for LigatureSet {
 }
 
 impl LigatureSet {
-    /// Of the first glyph, and its ligatures by preference.
+    /// A set of a first glyph, and its ligatures by preference.
     pub fn new(first: u16, ligatures: Vec<Ligature>) -> LigatureSet
         ensures { result ≡ record { first = first; ligatures = ligatures.items } }
     {
@@ -112,7 +113,7 @@ impl Model for LigatureSubst {
 }
 
 impl LigatureSubst {
-    /// Of sets whose first glyphs rise strictly.
+    /// A subtable of sets whose first glyphs rise strictly.
     pub fn new(sets: Vec<LigatureSet>) -> LigatureSubst
         requires { is_rising (λ r. r.first) None sets.items ≡ true }
         ensures { result ≡ sets.items }

@@ -1,3 +1,4 @@
+//! Scripts and language systems of a layout table (OpenType, chapter 2).
 ghost use Rattle.std.specs.Prelude.{◌≡◌, None, true};
 ghost use Rattle.std.specs.Option.{option_copied};
 ghost use Rattle.layout_tables.specs.Choice.{first_lang_sys, chosen_lang_sys};
@@ -9,7 +10,7 @@ use buffer_common::tag::{Tag, TagExt};
 use buffer_rows::Keyed;
 use std::marker::Model;
 
-/// A language system: the features that it has, each by its place in the table's list of features.
+/// A language system: its features, each by its index in the table's list of features.
 #[derive(Debug, Drop)]
 pub struct LangSys {
     required_feature: Option<u16>,
@@ -25,7 +26,7 @@ impl Model for LangSys {
 }
 
 impl LangSys {
-    /// Of places in the list of features.
+    /// A language system with these indices in the list of features.
     pub fn new(required_feature: Option<u16>, features: Vec<u16>) -> LangSys
         ensures { result ≡ record { required_feature = required_feature; features = features.items } }
     {
@@ -35,14 +36,14 @@ impl LangSys {
         }
     }
 
-    /// The place of the feature that is always on, where there is one.
+    /// The index of the required feature, which is always on, where there is one.
     pub fn required_feature(&self) -> Option<u16>
         ensures { result ≡ self.now.required_feature }
     {
         self.required_feature
     }
 
-    /// The places of the features that may be asked for.
+    /// The indices of the features that may be requested.
     pub fn features(&self) -> &[u16]
         ensures { result.now ≡ self.now.features }
     {
@@ -76,7 +77,7 @@ impl Keyed for LangSysRecord {
 }
 
 impl LangSysRecord {
-    /// Of a language system's tag and the system.
+    /// A record of a language system's tag and the system.
     pub fn new(tag: Tag, lang_sys: LangSys) -> LangSysRecord
         ensures { result ≡ record { tag = tag; lang_sys = lang_sys } }
     {
@@ -133,7 +134,7 @@ impl Keyed for ScriptRecord {
 }
 
 impl ScriptRecord {
-    /// Of language systems whose tags rise strictly, as numbers.
+    /// A script with language systems whose tags rise strictly, as numbers.
     pub fn new(
         tag: Tag,
         default_lang_sys: Option<LangSys>,
@@ -157,7 +158,7 @@ impl ScriptRecord {
         self.tag
     }
 
-    /// The system for languages that the script has no other for, where it has such a system.
+    /// The default language system, for languages without a system of their own, where there is one.
     pub fn default_lang_sys(&self) -> Option<&LangSys>
         ensures { option_copied result ≡ self.now.default_lang_sys }
     {

@@ -1,3 +1,4 @@
+//! The lists of a layout table (OpenType, chapter 2).
 ghost use Rattle.std.specs.Prelude.{◌≡◌, None, true, slice_get};
 ghost use Rattle.std.specs.Option.{option_copied, option_map};
 ghost use Rattle.layout_tables.specs.Choice.{ChosenScript, first_script, default_scripts, chosen_script, has_tag_at, language_feature, required_language_feature};
@@ -9,7 +10,7 @@ use crate::script::{LangSys, ScriptRecord};
 use buffer_common::tag::{Tag, TagExt};
 use std::marker::Model;
 
-/// A feature with its tag and its lookups, each by its place in the table's list of lookups.
+/// A feature with its tag and its lookups, each by its index in the table's list of lookups.
 #[derive(Debug, Drop)]
 pub struct FeatureRecord {
     tag: Tag,
@@ -25,7 +26,7 @@ impl Model for FeatureRecord {
 }
 
 impl FeatureRecord {
-    /// Of a feature's tag, and places in the list of lookups.
+    /// A feature with a tag, and with indices in the list of lookups.
     pub fn new(tag: Tag, lookups: Vec<u16>) -> FeatureRecord
         ensures { result ≡ record { tag = tag; lookups = lookups.items } }
     {
@@ -39,7 +40,7 @@ impl FeatureRecord {
         self.tag
     }
 
-    /// The places of its lookups.
+    /// The indices of its lookups.
     pub fn lookups(&self) -> &[u16]
         ensures { result.now ≡ self.now.lookups }
     {
@@ -47,15 +48,15 @@ impl FeatureRecord {
     }
 }
 
-/// The script of a table that serves a text.
+/// The script of a table that is chosen for a text.
 #[derive(Clone, Copy)]
 pub struct SelectedScript<'a> {
-    /// The script is one of those that were wanted.
+    /// Whether the script is one of those that were wanted.
     pub found: bool,
     pub script: &'a ScriptRecord,
 }
 
-/// What a layout table has beside its lookups: scripts by rising tags, and features in the order of their indices.
+/// A layout table without its lookups: scripts by rising tags, and features in the order of their indices.
 #[derive(Debug, Drop)]
 pub struct LayoutTable {
     scripts: Vec<ScriptRecord>,
@@ -75,7 +76,7 @@ impl Model for LayoutTable {
 }
 
 impl LayoutTable {
-    /// Of scripts whose tags rise strictly, as numbers.
+    /// A table with scripts whose tags rise strictly, as numbers.
     pub fn new(scripts: Vec<ScriptRecord>, features: Vec<FeatureRecord>) -> LayoutTable
         requires { is_rising (λ s. s.tag.0) None scripts.items ≡ true }
         ensures { result ≡ record { scripts = scripts.items; features = features.items } }
@@ -104,7 +105,7 @@ impl LayoutTable {
         &self.features
     }
 
-    /// The feature at a place of the list of features.
+    /// The feature at an index of the list of features.
     pub fn feature(&self, index: u16) -> Option<&FeatureRecord>
         ensures { option_copied result ≡ slice_get self.now.features index }
     {
@@ -146,7 +147,7 @@ impl LayoutTable {
         find_first(&self.scripts, tags)
     }
 
-    /// The place of the first feature of a tag that the language system has; its required feature is none of these.
+    /// The index of the first feature of a tag that the language system has; its required feature is none of these.
     pub fn find_language_feature(&self, system: &LangSys, tag: Tag) -> Option<u16>
         ensures { result ≡ language_feature tag system.now self.now.features }
     {
@@ -166,7 +167,7 @@ impl LayoutTable {
         }
     }
 
-    /// The place and the tag of the feature that a language system always has on, where there is one.
+    /// The index and the tag of a language system's required feature, where there is one.
     pub fn get_required_language_feature(&self, system: &LangSys) -> Option<(u16, Tag)>
         ensures { result ≡ required_language_feature system.now self.now.features }
     {

@@ -16,7 +16,7 @@ fit_uneven fits [] (g ∷ gs) h = refl
 fit_uneven fits (i ∷ is) [] h = refl
 fit_uneven fits (i ∷ is) (g ∷ gs) h = rw (fit_uneven fits is gs (λ e. h (ap suc e))) (none (fits i g))
 
--- those from one on fit where it does, and those behind it
+-- those from one on fit where it does, and those after it
 pub fit_next : {I : Type 0} (fits : I → ℕ → Bool) (items : List I) (glyphs : List ℕ) (k : ℕ) (item : I) (glyph : ℕ) → k < length items → k < length glyphs → item ≡ get_or items k item → glyph ≡ get_or glyphs k glyph
     → fit fits (drop k items) (drop k glyphs) ≡ (fits item glyph && fit fits (drop (k + 1) items) (drop (k + 1) glyphs))
 fit_next fits items glyphs k item glyph in_items in_glyphs is_item is_glyph =

@@ -1,4 +1,5 @@
-// Whether a lookup would act on glyphs that are all its input, which a shaper asks of a font before it forms a syllable.
+//! Whether a lookup would apply to glyphs that are all its input, which a shaper tests before it forms a syllable
+//! (rustybuzz: `WouldApply`).
 #![tactic(auto)]
 
 pub mod lookup;

@@ -1,4 +1,4 @@
-//! Whether a lookup would act on glyphs with nothing around them.
+//! Whether a lookup would apply to glyphs with no context around them.
 ghost use Rattle.std.specs.Prelude.{◌≡◌, ◌==◌};
 ghost use Rattle.std.specs.List.{list_any};
 ghost use Rattle.layout_common.specs.Classes.{class_of};
@@ -11,7 +11,8 @@ use layout_face::substitution::{SubstLookup, SubstitutionSubtables};
 use layout_gsub::would_apply::{WouldApply, WouldApplyContext};
 use layout_subtables::context::{ClassRules, ContextSubtable, SequenceRule};
 
-/// Whether a rule counts: with nothing around the glyphs, one that asks for something before or after its input doesn't.
+/// Whether a rule counts: without context around the glyphs, one that requires glyphs before or after its input
+/// doesn't.
 fn counts<I>(rule: &SequenceRule<I>, ctx: &WouldApplyContext) -> bool
     ensures { result ≡ counts ctx.now.zero_context rule.now }
 {
@@ -120,8 +121,8 @@ fn any_rule_would_apply(subtable: &ContextSubtable, ctx: &WouldApplyContext) -> 
     }
 }
 
-/// Whether a context or a chained context would act on the glyphs where they are all its input: one of its rules asks for as
-/// many glyphs, and each is as the rule asks. What the rule's lookups would do doesn't count.
+/// Whether a context or a chained context would apply to the glyphs where they are all its input: one of its rules
+/// requires as many glyphs, and each matches. What the rule's lookups would do doesn't count.
 pub fn context_would_apply(subtable: &ContextSubtable, ctx: &WouldApplyContext) -> bool
     ensures { result ≡ context_would subtable.now ctx.now.glyphs.now ctx.now.zero_context }
 {
@@ -142,7 +143,7 @@ fn any_context_would_apply(subtables: &[ContextSubtable], ctx: &WouldApplyContex
         .any(|subtable| context_would_apply(subtable, ctx))
 }
 
-/// Whether a lookup would act on the glyphs where they are all its input.
+/// Whether a lookup would apply to the glyphs where they are all its input.
 pub fn would_apply(lookup: &SubstLookup, ctx: &WouldApplyContext) -> bool
     ensures { result ≡ lookup_would lookup.now.subtables ctx.now.glyphs.now ctx.now.zero_context }
 {

@@ -1,4 +1,4 @@
--- What the shapers of Indic scripts, of Khmer and of Myanmar tell apart.
+-- The categories, positions and features of the Indic, Khmer and Myanmar shapers.
 use Rattle.std.specs.Prelude.{ℕ, List, [], ◌∷◌, codes}
 use Rattle.script_categories.specs.declared.ot_category_t.TheConstants as category
 use Rattle.script_categories.specs.declared.ot_position_t.TheConstants as position
@@ -6,7 +6,7 @@ use Rattle.script_categories.specs.declared.indic_feature.TheConstants as indic
 use Rattle.script_categories.specs.declared.khmer_feature.TheConstants as khmer
 use Rattle.script_categories.specs.Names.{AreInOrder, AreNumbered}
 
--- categories of characters in syllables
+-- the names of the categories of characters in syllables
 abbrev pub ot_categories : List (List ℕ × ℕ)
 ot_categories =
     (codes "X", category.OT_X) ∷
@@ -46,10 +46,11 @@ ot_categories =
     (codes "ML", category.OT_ML) ∷
     []
 
+-- law: the categories are numbered from 0 on, each with a name of its own
 abbrev pub CategoriesAreNumbered : Type 0
 CategoriesAreNumbered = AreNumbered ot_categories
 
--- positions of characters around the base of a syllable
+-- the names of the positions of characters around the base of a syllable
 abbrev pub ot_positions : List (List ℕ × ℕ)
 ot_positions =
     (codes "START", position.POS_START) ∷
@@ -69,19 +70,22 @@ ot_positions =
     (codes "END", position.POS_END) ∷
     []
 
+-- law: the positions are numbered from 0 on, each with a name of its own
 abbrev pub PositionsAreNumbered : Type 0
 PositionsAreNumbered = AreNumbered ot_positions
 
--- features of the Indic shaper
+-- the features of the Indic shaper, by their indices
 abbrev pub indic_features : List ℕ
 indic_features = indic.NUKT ∷ indic.AKHN ∷ indic.RPHF ∷ indic.RKRF ∷ indic.PREF ∷ indic.BLWF ∷ indic.ABVF ∷ indic.HALF ∷ indic.PSTF ∷ indic.VATU ∷ indic.CJCT ∷ indic.INIT ∷ indic.PRES ∷ indic.ABVS ∷ indic.BLWS ∷ indic.PSTS ∷ indic.HALN ∷ []
 
+-- law: the Indic features are numbered from 0 on
 abbrev pub IndicFeaturesAreInOrder : Type 0
 IndicFeaturesAreInOrder = AreInOrder indic_features
 
--- features of the Khmer shaper
+-- the features of the Khmer shaper, by their indices
 abbrev pub khmer_features : List ℕ
 khmer_features = khmer.PREF ∷ khmer.BLWF ∷ khmer.ABVF ∷ khmer.PSTF ∷ khmer.CFAR ∷ []
 
+-- law: the Khmer features are numbered from 0 on
 abbrev pub KhmerFeaturesAreInOrder : Type 0
 KhmerFeaturesAreInOrder = AreInOrder khmer_features

@@ -1,4 +1,4 @@
--- What a table of machines keeps.
+-- The invariant of a table of machines.
 use Rattle.script_categories.specs.Machines.{machines_in}
 use Rattle.script_categories.specs.Sound.{AreRising}
 use Rattle.script_categories.specs.declared.table.SyllableTable.TheInside.{Inside}

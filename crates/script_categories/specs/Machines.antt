@@ -1,4 +1,4 @@
--- Machines of states that read the categories of characters, as their rows say.
+-- State machines that read the categories of characters, by their rows.
 use Rattle.std.specs.Prelude.{ℕ, Bool, List, ◌==◌, ◌&&◌, nat_lt, length, find, Option, None, Some}
 use Rattle.std.specs.Option.{option_map, option_or}
 use Rattle.script_categories.specs.Shapers.{kinds_of}
@@ -11,23 +11,27 @@ use Rattle.script_categories.specs.declared.machine.SyllableMachines.{SyllableMa
 use Rattle.buffer_unicode_rows.specs.Keys.{row_fault}
 use Rattle.buffer_unicode_rows.specs.declared.fault.TablesFault.{TablesFault}
 
--- ---- machines as their rows, without what their lists keep of memory
+-- ---- machines as their rows, without the memory that their lists occupy
 
+-- the rows of a machine
 pub record Machine : Type 0 where
-  -- how many states there are
+  -- the number of states
   pub states : ℕ
   pub next : List Step
   pub accept : List Accept
 
+-- the machines of all shapers that find syllables
 pub record Machines : Type 0 where
   pub indic : Machine
   pub khmer : Machine
   pub myanmar : Machine
   pub universal : Machine
 
+-- a machine's rows, without the memory that their lists occupy
 abbrev pub machine_in : SyllableMachine → Machine
 machine_in m = record { states = m.states; next = m.next.items; accept = m.accept.items }
 
+-- the rows of all machines, without the memory that their lists occupy
 abbrev pub machines_in : SyllableMachines → Machines
 machines_in ms = record {
   indic = machine_in ms.indic;
@@ -36,18 +40,18 @@ machines_in ms = record {
   universal = machine_in ms.universal;
 }
 
--- ---- where a machine leads
+-- ---- transitions
 
--- the state to which a category leads
+-- the state to which a category leads, if there is a transition
 abbrev pub next_state : Machine → ℕ → ℕ → Option ℕ
 next_state m state category =
     option_map (λ (step : Step). step.next) (find (λ (step : Step). step.state == state && step.category == category) m.next)
 
--- the kind of syllable that may end in a state
+-- the kind of syllable that ends in a state, if it is accepting
 abbrev pub accepted_kind : Machine → ℕ → Option ℕ
 accepted_kind m state = option_map (λ (accept : Accept). accept.kind) (find (λ (accept : Accept). accept.state == state) m.accept)
 
--- the machine of a shaper, if it sees syllables
+-- the machine of a shaper, if it finds syllables
 abbrev pub machine_of : Machines → hb_ot_script_shaper_t → Option Machine
 machine_of ms INDIC_SHAPER = Some ms.indic
 machine_of ms KHMER_SHAPER = Some ms.khmer
@@ -55,21 +59,23 @@ machine_of ms MYANMAR_SHAPER = Some ms.myanmar
 machine_of ms UNIVERSAL_SHAPER = Some ms.universal
 machine_of ms _ = None
 
--- both states of a step are states of the machine
+-- both states of a transition are states of the machine
 abbrev pub is_step_in_range : Machine → Step → Bool
 is_step_in_range m step = nat_lt step.state m.states && nat_lt step.next m.states
 
--- a state of the machine, and a kind that the shaper knows
+-- an accepting state is a state of the machine, and its kind is one of the shaper's
 abbrev pub is_accept_in_range : hb_ot_script_shaper_t → Machine → Accept → Bool
 is_accept_in_range shaper m accept = nat_lt accept.state m.states && nat_lt accept.kind (length (kinds_of shaper))
 
+-- the first fault of a machine's transitions
 abbrev pub steps_fault : Machine → Option TablesFault
 steps_fault m = row_fault (is_step_in_range m) (λ (step : Step). step.state) (λ (step : Step). step.category) None m.next
 
+-- the first fault of a machine's accepting states
 abbrev pub accepts_fault : hb_ot_script_shaper_t → Machine → Option TablesFault
 accepts_fault shaper m = row_fault (is_accept_in_range shaper m) (λ _. 0) (λ (accept : Accept). accept.state) None m.accept
 
--- the first fault of a machine: of its steps, then of its accepting states
+-- the first fault of a machine: of its transitions, then of its accepting states
 abbrev pub machine_fault : hb_ot_script_shaper_t → Machine → Option TablesFault
 machine_fault shaper m = option_or (steps_fault m) (accepts_fault shaper m)
 

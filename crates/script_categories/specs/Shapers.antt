@@ -1,4 +1,4 @@
--- The shapers that see syllables: their categories of characters and their kinds of syllables.
+-- The shapers that find syllables: their categories of characters and their kinds of syllables.
 use Rattle.std.specs.Prelude.{ℕ, Bool, ◌==◌, List, [], ◌∷◌, Option, Some, None, codes, unwrap_or, if◌then◌else◌}
 use Rattle.std.specs.List.{list_any}
 use Rattle.std.specs.Str.{bytes_eq}
@@ -12,6 +12,7 @@ use Rattle.script_categories.specs.Indic.{ot_categories}
 use Rattle.script_categories.specs.Names.{AreNumbered, number_of}
 use Rattle.script_categories.specs.Universal.{universal_categories}
 
+-- the names of the Indic shaper's kinds
 abbrev pub indic_kinds : List (List ℕ × ℕ)
 indic_kinds =
     (codes "consonant", indic.CONSONANT_SYLLABLE) ∷
@@ -22,13 +23,16 @@ indic_kinds =
     (codes "non", indic.NON_INDIC_CLUSTER) ∷
     []
 
+-- the names of the Khmer shaper's kinds
 abbrev pub khmer_kinds : List (List ℕ × ℕ)
 khmer_kinds = (codes "consonant", khmer.CONSONANT_SYLLABLE) ∷ (codes "broken", khmer.BROKEN_CLUSTER) ∷ (codes "non", khmer.NON_KHMER_CLUSTER) ∷ []
 
+-- the names of the Myanmar shaper's kinds
 abbrev pub myanmar_kinds : List (List ℕ × ℕ)
 myanmar_kinds =
     (codes "consonant", myanmar.CONSONANT_SYLLABLE) ∷ (codes "broken", myanmar.BROKEN_CLUSTER) ∷ (codes "non", myanmar.NON_MYANMAR_CLUSTER) ∷ []
 
+-- the names of the universal shaper's kinds
 abbrev pub universal_kinds : List (List ℕ × ℕ)
 universal_kinds =
     (codes "independent", universal.INDEPENDENT_CLUSTER) ∷
@@ -43,7 +47,7 @@ universal_kinds =
     (codes "non", universal.NON_CLUSTER) ∷
     []
 
--- the kinds of a shaper's syllables, with their names; none where it sees no syllables
+-- the names of a shaper's kinds of syllables, none where it finds no syllables
 abbrev pub kinds_of : hb_ot_script_shaper_t → List (List ℕ × ℕ)
 kinds_of INDIC_SHAPER = indic_kinds
 kinds_of KHMER_SHAPER = khmer_kinds
@@ -51,7 +55,7 @@ kinds_of MYANMAR_SHAPER = myanmar_kinds
 kinds_of UNIVERSAL_SHAPER = universal_kinds
 kinds_of _ = []
 
--- the kind of what is no syllable: the one named non, 0 where there is none
+-- the kind of non-clusters, 0 where the shaper has none
 abbrev pub non_kind_of : hb_ot_script_shaper_t → ℕ
 non_kind_of shaper = unwrap_or (number_of (kinds_of shaper) (codes "non")) 0
 
@@ -65,10 +69,11 @@ reordered_kinds UNIVERSAL_SHAPER =
     ∷ universal.BROKEN_CLUSTER ∷ []
 reordered_kinds _ = []
 
+-- the shaper reorders syllables of the kind
 abbrev pub is_reordered : hb_ot_script_shaper_t → ℕ → Bool
 is_reordered shaper kind = list_any (λ reordered. kind == reordered) (reordered_kinds shaper)
 
--- the categories of characters in a shaper's syllables, with their names
+-- the names of a shaper's categories
 abbrev pub categories_of : hb_ot_script_shaper_t → List (List ℕ × ℕ)
 categories_of INDIC_SHAPER = ot_categories
 categories_of KHMER_SHAPER = ot_categories
@@ -76,7 +81,7 @@ categories_of MYANMAR_SHAPER = ot_categories
 categories_of UNIVERSAL_SHAPER = universal_categories
 categories_of _ = []
 
--- the shaper whose machine of syllables a name is of
+-- the shaper of a machine's name
 abbrev pub machine_shaper : List ℕ → Option hb_ot_script_shaper_t
 machine_shaper name =
     if bytes_eq name (codes "indic") then Some INDIC_SHAPER
@@ -85,5 +90,6 @@ machine_shaper name =
     else if bytes_eq name (codes "universal") then Some UNIVERSAL_SHAPER
     else None
 
+-- law: the kinds of each shaper are numbered from 0 on, each with a name of its own
 abbrev pub KindsAreNumbered : Type 0
 KindsAreNumbered = (shaper : hb_ot_script_shaper_t) → AreNumbered (kinds_of shaper)

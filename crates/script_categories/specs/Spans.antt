@@ -8,7 +8,7 @@ use Rattle.script_categories.specs.Fronts.{front_or, kind_of_front, longest_fron
 use Rattle.script_categories.specs.Machines.{Machine, Machines, machine_of}
 use Rattle.script_categories.specs.declared.scan.Front.{Front}
 
--- a front is not empty, and of a length at most
+-- a prefix is not empty, and at most of a length
 abbrev IsWithin : ℕ → Option Front → Type 0
 IsWithin most front = IfSome front (λ (f : Front). (0 < f.length) × (f.length ≤ most))
 
@@ -38,11 +38,13 @@ span_inside : (start other len : ℕ) (front : Option Front) → start < len →
 span_inside start other len None lt h = omega arith
 span_inside start other len (Some front) lt h = omega (arith, h.1)
 
+-- lemma: a syllable ends after its start
 pub ends_after_start : (ms : Machines) (shaper : hb_ot_script_shaper_t) (categories : List ℕ) (start : ℕ)
     → start < length categories → start < (syllable_at ms shaper categories start).0
 ends_after_start ms shaper cs start lt =
     span_after start (non_kind_of shaper) (length (drop start cs)) _ (found_within (drop start cs) (machine_of ms shaper))
 
+-- lemma: a syllable ends within the list
 pub ends_inside : (ms : Machines) (shaper : hb_ot_script_shaper_t) (categories : List ℕ) (start : ℕ)
     → start < length categories → (syllable_at ms shaper categories start).0 ≤ length categories
 ends_inside ms shaper cs start lt =

@@ -1,9 +1,9 @@
--- What the universal shaper tells apart.
+-- The categories of the universal shaper.
 use Rattle.std.specs.Prelude.{ℕ, List, [], ◌∷◌, codes}
 use Rattle.script_categories.specs.declared.category.TheConstants as category
 use Rattle.script_categories.specs.Names.{AreNumbered}
 
--- categories of characters in clusters
+-- the names of the categories of characters in clusters
 abbrev pub universal_categories : List (List ℕ × ℕ)
 universal_categories =
     (codes "O", category.O) ∷
@@ -53,5 +53,6 @@ universal_categories =
     (codes "HR", category.HR) ∷
     []
 
+-- law: the categories are numbered from 0 on, each with a name of its own
 abbrev pub UniversalCategoriesAreNumbered : Type 0
 UniversalCategoriesAreNumbered = AreNumbered universal_categories

@@ -1,4 +1,4 @@
-//! The first fault of machines' rows.
+//! The first fault of the rows that a machine is made of.
 ghost use Rattle.std.specs.Prelude.{◌≡◌, ◌&&◌, nat_lt};
 ghost use Rattle.script_categories.specs.Machines.{accepts_fault, is_accept_in_range, is_step_in_range, machine_fault, machine_in, machines_fault, machines_in, steps_fault};
 
@@ -8,7 +8,7 @@ use crate::hb_ot_script_shaper_t::{
 use crate::machine::{Accept, Step, SyllableMachine, SyllableMachines};
 use buffer_unicode_rows::{TablesFault, follows};
 
-/// The first fault of all machines.
+/// The first fault of the machines' rows.
 pub(crate) fn machines_fault(machines: &SyllableMachines) -> Option<TablesFault>
     ensures { result ≡ machines_fault (machines_in machines.now) }
 {

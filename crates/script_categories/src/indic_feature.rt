@@ -1,4 +1,4 @@
-//! The features of the Indic shaper, by their places in its list of masks.
+//! The features of the Indic shaper, by their indices in its list of masks (rustybuzz: hb/ot_shaper_indic.rs).
 ghost use Rattle.script_categories.specs.Indic.{IndicFeaturesAreInOrder};
 
 pub const NUKT: usize = 0;
@@ -35,7 +35,7 @@ pub const PSTS: usize = 15;
 
 pub const HALN: usize = 16;
 
-/// The features are numbered from 0 on.
+/// The features are numbered from 0 on, without gaps.
 pub fn law_indic_features_are_in_order()
     ensures { IndicFeaturesAreInOrder }
 {}

@@ -1,28 +1,28 @@
-//! How Arabic letters join.
+//! The joining types of Arabic-like scripts (rustybuzz: hb/ot_shaper_arabic.rs).
 ghost use Rattle.std.specs.Prelude.{◌≡◌, Some, slice_get};
 ghost use Rattle.script_categories.specs.Joining.{joining_types, joining_type_names, JoiningTypesAreNumbered};
 ghost use Rattle.script_categories.specs.Names.{number_of};
 
 use crate::names::number_of;
 
-/// How a letter joins its neighbours.
+/// The joining types of letters (ArabicShaping.txt), with those of Syriac.
 #[derive(Clone, Copy, PartialEq, Eq, Debug)]
 pub enum hb_arabic_joining_type_t {
-    /// Neither.
+    /// Non-joining.
     U,
-    /// The letter that follows.
+    /// Left-joining: joins to the next letter.
     L,
-    /// The letter before.
+    /// Right-joining: joins to the previous letter.
     R,
-    /// Both.
+    /// Dual-joining: joins to both.
     D,
-    /// The letter before, as Syriac Alaph.
+    /// Right-joining, Syriac Alaph.
     GroupAlaph,
-    /// The letter before, as Syriac Dalath and Rish.
+    /// Right-joining, Syriac Dalath and Rish.
     GroupDalathRish,
-    /// Transparent: its neighbours join one another.
+    /// Transparent: the letters on both sides join to each other.
     T,
-    /// Not listed.
+    /// Without a row in the tables.
     X,
 }
 
@@ -37,7 +37,7 @@ const ALL: [hb_arabic_joining_type_t; 8] = [
     hb_arabic_joining_type_t::X,
 ];
 
-/// The names of the types that a letter can be listed with.
+/// The names of the types that a table row may have.
 const NAMES: [(&str, u8); 7] = [
     ("U", 0),
     ("L", 1),
@@ -48,7 +48,7 @@ const NAMES: [(&str, u8); 7] = [
     ("T", 6),
 ];
 
-/// The number of the joining type that a name is of.
+/// The number of a joining type's name.
 pub fn joining_type_number(name: &str) -> Option<u8>
     ensures { result ≡ number_of joining_type_names name.now }
 {
@@ -62,7 +62,7 @@ pub fn joining_type_of_number(number: u8) -> Option<hb_arabic_joining_type_t>
     ALL.get(number as usize).copied()
 }
 
-/// The joining types are numbered from 0 on, and each but the last has a name of its own.
+/// The joining types are numbered from 0 on, without gaps, and each but the last has a name of its own.
 #[tactic(auto, using(crate::proofs::Tables::joining_types_are_numbered))]
 pub fn law_joining_types_are_numbered()
     ensures { JoiningTypesAreNumbered }

@@ -1,5 +1,5 @@
-// What the shapers of scripts tell apart (categories, positions, kinds of syllables, names of features, joining types), and where
-// syllables end: a machine of states for each shaper that sees them, and its longest match.
+//! The values that the scripts' shapers distinguish (categories, positions, kinds of syllables, features, joining
+//! types), and the machines that find where syllables end, by their longest match.
 #![tactic(auto)]
 
 pub mod arabic_action_t;

@@ -1,8 +1,8 @@
-//! Machines of states that read the categories of characters.
+//! State machines that read the categories of characters.
 use buffer_unicode_rows::Keyed;
 use std::alloc::Global;
 
-/// In a state a category leads to another state.
+/// A transition: in a state a category leads to another state.
 #[derive(Clone, Copy)]
 pub struct Step {
     pub state: u32,
@@ -24,7 +24,7 @@ impl Keyed for Step {
     }
 }
 
-/// In a state a syllable of a kind may end.
+/// An accepting state, with the kind of syllable that ends in it.
 #[derive(Clone, Copy)]
 pub struct Accept {
     pub state: u32,
@@ -45,21 +45,21 @@ impl Keyed for Accept {
     }
 }
 
-/// The rows of a machine, which begins in state 0.
+/// The rows of a machine, whose initial state is 0.
 #[derive(Drop)]
 pub struct SyllableMachine {
-    /// How many states there are.
+    /// The number of states.
     pub states: u32,
-    /// By state and category.
+    /// The transitions, sorted by state and category.
     pub next: Vec<Step>,
-    /// By state.
+    /// The accepting states, sorted by state.
     pub accept: Vec<Accept>,
 }
 
 impl SyllableMachine {
     ghost use Rattle.std.specs.Prelude.{◌≡◌, []};
 
-    /// No states.
+    /// A machine without states.
     pub fn new(alloc: Global) -> SyllableMachine
         ensures states { result.states ≡ 0 }
         ensures next { result.next.items ≡ [] }
@@ -73,7 +73,7 @@ impl SyllableMachine {
     }
 }
 
-/// The machines of the shapers that see syllables.
+/// The machines of the shapers that find syllables.
 #[derive(Drop)]
 pub struct SyllableMachines {
     pub indic: SyllableMachine,

@@ -4,7 +4,7 @@ ghost use Rattle.std.specs.Option.{option_map};
 ghost use Rattle.std.specs.Str.{bytes_eq};
 ghost use Rattle.script_categories.specs.Names.{number_of};
 
-/// The number beside a name, if it stands in a list.
+/// The number of a name, if it is in the list.
 pub(crate) fn number_of(rows: &[(&str, u8)], name: &str) -> Option<u8>
     ensures { result ≡ number_of (map (λ row. (row.0.now, row.1)) rows.now) name.now }
 {

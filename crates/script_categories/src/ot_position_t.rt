@@ -1,4 +1,4 @@
-//! Positions of characters around the base of a syllable.
+//! The positions of characters around the base of a syllable (rustybuzz: hb/ot_shaper_indic.rs).
 ghost use Rattle.std.specs.Prelude.{◌≡◌};
 ghost use Rattle.script_categories.specs.Indic.{ot_positions, PositionsAreNumbered};
 ghost use Rattle.script_categories.specs.Names.{number_of};
@@ -8,34 +8,49 @@ use crate::names::number_of;
 /// A position in a syllable.
 pub type Position = u8;
 
+/// At the start.
 pub const POS_START: Position = 0;
 
+/// A Ra that becomes a reph.
 pub const POS_RA_TO_BECOME_REPH: Position = 1;
 
+/// Left matra.
 pub const POS_PRE_M: Position = 2;
 
+/// Consonant before the base.
 pub const POS_PRE_C: Position = 3;
 
+/// The base consonant.
 pub const POS_BASE_C: Position = 4;
 
+/// After the base.
 pub const POS_AFTER_MAIN: Position = 5;
 
+/// Consonant above the base.
 pub const POS_ABOVE_C: Position = 6;
 
+/// Before the below-base consonants.
 pub const POS_BEFORE_SUB: Position = 7;
 
+/// Consonant below the base.
 pub const POS_BELOW_C: Position = 8;
 
+/// After the below-base consonants.
 pub const POS_AFTER_SUB: Position = 9;
 
+/// Before the post-base consonants.
 pub const POS_BEFORE_POST: Position = 10;
 
+/// Consonant after the base.
 pub const POS_POST_C: Position = 11;
 
+/// After the post-base consonants.
 pub const POS_AFTER_POST: Position = 12;
 
+/// Syllable modifier or Vedic sign.
 pub const POS_SMVD: Position = 13;
 
+/// At the end.
 pub const POS_END: Position = 14;
 
 /// The names of the positions.
@@ -57,14 +72,14 @@ const NAMES: [(&str, u8); 15] = [
     ("END", POS_END),
 ];
 
-/// The position that a name is of.
+/// The position of a name.
 pub fn indic_position_number(name: &str) -> Option<Position>
     ensures { result ≡ number_of ot_positions name.now }
 {
     number_of(&NAMES, name)
 }
 
-/// The positions are numbered from 0 on, and each has a name of its own.
+/// The positions are numbered from 0 on, without gaps, and each has a name of its own.
 #[tactic(auto, using(crate::proofs::Tables::positions_are_numbered))]
 pub fn law_positions_are_numbered()
     ensures { PositionsAreNumbered }

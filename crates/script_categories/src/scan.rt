@@ -1,4 +1,4 @@
-//! The longest front of a list of categories that a machine accepts.
+//! The longest prefix of a list of categories that a machine accepts.
 ghost use Rattle.std.specs.Prelude.{◌≡◌, ◌<◌, ◌≤◌, IfSome, length};
 ghost use Rattle.script_categories.specs.Fronts.{front_or, longest_front};
 ghost use Rattle.script_categories.specs.Machines.{accepted_kind, machine_in, next_state};
@@ -7,14 +7,14 @@ ghost use Rattle.script_categories.specs.Sound.{IsRising};
 use crate::machine::SyllableMachine;
 use buffer_unicode_rows::find_row;
 
-/// A front of a list that is a syllable.
+/// A prefix of a list that is a syllable.
 #[derive(Clone, Copy)]
 pub struct Front {
     pub length: usize,
     pub kind: u8,
 }
 
-/// The longest nonempty front whose categories lead from state 0 to an accepting state.
+/// The longest nonempty prefix whose categories lead from state 0 to an accepting state.
 pub fn longest_front(machine: &SyllableMachine, categories: &[u8]) -> Option<Front>
     requires { IsRising (machine_in machine.now) }
     ensures front { result ≡ longest_front (machine_in machine.now) categories.now }

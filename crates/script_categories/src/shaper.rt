@@ -1,4 +1,4 @@
-//! The shapers of scripts, and what those that see syllables tell apart.
+//! The shapers of scripts, with the categories and syllable kinds of those that find syllables.
 ghost use Rattle.std.specs.Prelude.{◌≡◌, nat_lt, length};
 ghost use Rattle.script_categories.specs.Names.{number_of};
 ghost use Rattle.script_categories.specs.Shapers.{categories_of, kinds_of, non_kind_of, is_reordered, machine_shaper, universal_kinds, KindsAreNumbered};
@@ -23,7 +23,7 @@ pub enum hb_ot_script_shaper_t {
 
 use hb_ot_script_shaper_t::{INDIC_SHAPER, KHMER_SHAPER, MYANMAR_SHAPER, UNIVERSAL_SHAPER};
 
-/// The shaper whose machine of syllables a name is of: indic, khmer, myanmar or universal.
+/// The shaper of a machine's name: indic, khmer, myanmar or universal.
 pub fn machine_shaper(name: &str) -> Option<hb_ot_script_shaper_t>
     ensures { result ≡ machine_shaper name.now }
 {
@@ -41,7 +41,7 @@ pub fn machine_shaper(name: &str) -> Option<hb_ot_script_shaper_t>
 }
 
 impl hb_ot_script_shaper_t {
-    /// The category of characters, as the shaper tells them apart, that a name is of. None where it sees no syllables.
+    /// The number of a category's name, in the shaper's categories; `None` where the shaper finds no syllables.
     pub fn category_number(self, name: &str) -> Option<u8>
         ensures { result ≡ number_of (categories_of self) name.now }
     {
@@ -54,7 +54,7 @@ impl hb_ot_script_shaper_t {
         }
     }
 
-    /// The kind of syllables that a name is of. None where the shaper sees no syllables.
+    /// The number of a syllable kind's name; `None` where the shaper finds no syllables.
     pub fn kind_number(self, name: &str) -> Option<u8>
         ensures { result ≡ number_of (kinds_of self) name.now }
     {
@@ -67,7 +67,7 @@ impl hb_ot_script_shaper_t {
         }
     }
 
-    /// Whether the shaper has a kind of syllables of this number.
+    /// Whether the shaper has a kind of syllables with this number.
     pub fn has_kind(self, kind: u8) -> bool
         ensures { result ≡ nat_lt kind (length (kinds_of self)) }
     {
@@ -80,7 +80,7 @@ impl hb_ot_script_shaper_t {
         }
     }
 
-    /// The kind of what is no syllable, 0 where the shaper sees none.
+    /// The kind of non-clusters, 0 where the shaper finds no syllables.
     pub fn non_cluster_kind(self) -> u8
         ensures { result ≡ non_kind_of self }
     {
@@ -93,7 +93,7 @@ impl hb_ot_script_shaper_t {
         }
     }
 
-    /// Whether the shaper reorders syllables of a kind.
+    /// Whether the shaper reorders syllables of the kind.
     pub fn is_reordered(self, kind: u8) -> bool
         ensures { result ≡ is_reordered self kind }
     {
@@ -126,7 +126,7 @@ fn universal_kind_number(name: &str) -> Option<u8>
     number_of(&universal::NAMES, name)
 }
 
-/// The kinds of each shaper are numbered from 0 on, and each has a name of its own.
+/// The kinds of each shaper are numbered from 0 on, without gaps, and each has a name of its own.
 #[tactic(auto, using(crate::proofs::Tables::kinds_are_numbered))]
 pub fn law_kinds_are_numbered()
     ensures { KindsAreNumbered }

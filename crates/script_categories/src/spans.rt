@@ -1,15 +1,15 @@
-//! What tells where syllables end.
+//! The trait of what finds where a text's syllables end.
 ghost use Rattle.std.specs.Prelude.{◌≡◌, ◌<◌, ◌≤◌, ℕ, List, length};
 ghost use Rattle.script_categories.specs.declared.shaper.hb_ot_script_shaper_t.{hb_ot_script_shaper_t};
 
 use crate::hb_ot_script_shaper_t;
 
-/// Syllables of a list of categories, one after another.
+/// What finds the syllables of a list of categories, one after another.
 pub trait SyllableSpans {
     ghost span_of: { Self → hb_ot_script_shaper_t → List ℕ → ℕ → ℕ × ℕ };
 
-    /// Where the syllable that begins at an index ends, and its kind: an answer that hangs on nothing but the value
-    /// and the arguments.
+    /// The end and the kind of the syllable that begins at an index. The answer depends on the value and the arguments
+    /// only.
     fn next(&self, shaper: hb_ot_script_shaper_t, categories: &[u8], start: usize) -> (usize, u8)
         requires { start < length categories.now }
         ensures span { result ≡ span_of self.now shaper categories.now start }

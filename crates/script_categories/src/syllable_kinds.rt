@@ -1,6 +1,6 @@
-//! The kinds of syllables that the machine of a shaper tells apart, each with its name.
+//! The kinds of syllables of each shaper's machine, with their names.
 
-/// Of Indic scripts.
+/// Kinds of the Indic shaper's syllables.
 pub mod indic {
     pub const CONSONANT_SYLLABLE: u8 = 0;
 
@@ -24,7 +24,7 @@ pub mod indic {
     ];
 }
 
-/// Of Khmer.
+/// Kinds of the Khmer shaper's syllables.
 pub mod khmer {
     pub const CONSONANT_SYLLABLE: u8 = 0;
 
@@ -39,7 +39,7 @@ pub mod khmer {
     ];
 }
 
-/// Of Myanmar.
+/// Kinds of the Myanmar shaper's syllables.
 pub mod myanmar {
     pub const CONSONANT_SYLLABLE: u8 = 0;
 
@@ -54,7 +54,7 @@ pub mod myanmar {
     ];
 }
 
-/// Of the universal shaper.
+/// Kinds of the universal shaper's syllables.
 pub mod universal {
     pub const INDEPENDENT_CLUSTER: u8 = 0;
 

@@ -1,4 +1,4 @@
-//! Syllables by the machines that are handed in.
+//! The syllables that the given machines find.
 ghost use Rattle.std.specs.Prelude.{◌≡◌, ◌<◌, ◌≤◌, IfOk, IfErr, IfSome, OnOk, None, Some, length};
 ghost use Rattle.std.specs.Option.{option_and_then};
 ghost use Rattle.script_categories.specs.Fronts.{longest_front};
@@ -15,7 +15,7 @@ use crate::spans::SyllableSpans;
 use buffer_unicode_rows::TablesFault;
 use std::marker::Model;
 
-/// The machines of all shapers, whose states and kinds are known.
+/// The machines of all shapers, with checked states and kinds.
 #[derive(Drop)]
 pub struct SyllableTable {
     machines: SyllableMachines,
@@ -33,9 +33,10 @@ impl Model for SyllableTable {
 }
 
 impl SyllableTable {
-    /// The table of these machines, or the first fault of a row: a state that the machine does not have or a kind
-    /// that the shaper does not know (`OutOfRange`), else a key that is not above the one before (`OutOfOrder`).
-    /// Machines come in the order of the shapers' names, and the steps of a machine before its accepting states.
+    /// Makes a table of machines, or returns the first fault of a row: a state that the machine lacks or a kind that
+    /// the shaper lacks (`OutOfRange`), else a key that is not greater than the previous one (`OutOfOrder`). The
+    /// machines are checked in the order of the shapers' names, and the transitions of a machine before its accepting
+    /// states.
     pub fn new(machines: SyllableMachines) -> Result<SyllableTable, TablesFault>
         ensures table { IfOk result (λ t. t ≡ machines_in machines) }
         ensures sound { OnOk result (machines_fault (machines_in machines) ≡ None) }
@@ -47,7 +48,7 @@ impl SyllableTable {
         }
     }
 
-    /// The table of machines whose rows rise by their keys; that states and kinds are known has been seen to.
+    /// Makes a table of machines whose rows rise by their keys, and whose states and kinds were checked.
     pub fn of_machines(machines: SyllableMachines) -> SyllableTable
         requires { AreRising (machines_in machines) }
         ensures { result ≡ machines_in machines }

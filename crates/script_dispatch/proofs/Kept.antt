@@ -50,7 +50,7 @@ private_followed b t font old new holds f = let P : Bool → Type 0 = λ c. IsFo
 pub no_private : (b : Bool) (t : Tables) (font : FaceParts) (s : Sides) → b ≡ false → IsReady s → IsFollowed (private_if b t font) s s
 no_private b t font s fails ready = let P : Bool → Type 0 = λ c. IsFollowed (private_if c t font) s s in subst P (sym fails) (unchanged_followed s ready)
 
--- ---- circles for tone marks, where they are asked for
+-- ---- dotted circles for tone marks, where they are inserted
 
 circles_kept : (flags : BufferFlags) → wants_circles flags ≡ wants_circles (text_flags flags)
 circles_kept flags = ap (λ n. not (n == 16)) (sym (and_assoc 16 flags.0 0x3F))

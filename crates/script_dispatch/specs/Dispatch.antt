@@ -1,4 +1,4 @@
--- Which shaper a script has.
+-- The choice of a shaper for a script (HarfBuzz: hb_ot_shape_complex_categorize).
 use Rattle.std.specs.Prelude.{◌==◌, Bool, false, ◌&&◌, ◌||◌, not, List, [], ◌∷◌, Option, Some, None, ℕ, ◌%◌, codes, if◌then◌else◌}
 use Rattle.buffer_common.specs.declared.tag.Tag.{Tag}
 use Rattle.buffer_common.specs.Tag.{tag_of}
@@ -10,16 +10,16 @@ use Rattle.script_categories.specs.declared.shaper.hb_ot_script_shaper_t.TheVari
 use Rattle.script_dispatch.specs.declared.any_shaper.hb_ot_any_shaper_t.{hb_ot_any_shaper_t}
 use Rattle.script_dispatch.specs.declared.any_shaper.hb_ot_any_shaper_t.TheVariants as any
 
--- whether the font's script is of this tag
+-- the font's script has the tag
 abbrev pub is_tag : List ℕ → Option Tag → Bool
 is_tag name None = false
 is_tag name (Some t) = t.0 == (tag_of name).0
 
--- a font that serves the script only by default, or as Latin, was not made for its shaper
+-- the font has the script only as DFLT or latn, so it was not made for the script's shaper
 abbrev pub is_default_or_latin : Option Tag → Bool
 is_default_or_latin chosen = is_tag (codes "DFLT") chosen || is_tag (codes "latn") chosen
 
--- whether the font's script is of the third shaping model
+-- the font's script tag ends in 3
 abbrev pub ends_in_three : Option Tag → Bool
 ends_in_three None = false
 ends_in_three (Some t) = t.0 % 256 == 51
@@ -29,7 +29,7 @@ abbrev pub indic_scripts : List Script
 indic_scripts =
     script.BENGALI ∷ script.DEVANAGARI ∷ script.GUJARATI ∷ script.GURMUKHI ∷ script.KANNADA ∷ script.MALAYALAM ∷ script.ORIYA ∷ script.TAMIL ∷ script.TELUGU ∷ []
 
--- scripts of the universal shaping engine
+-- the scripts of the universal shaper
 abbrev pub universal_scripts : List Script
 universal_scripts =
     script.TIBETAN ∷
@@ -118,25 +118,29 @@ universal_scripts =
     script.TULU_TIGALARI ∷
     []
 
+-- two scripts are equal
 abbrev pub is_script : Script → Script → Bool
 is_script s t = s.0.0 == t.0.0
 
+-- the shaper of an Indic script, by the font's script tag: default, universal or Indic
 abbrev pub indic_shaper : Option Tag → hb_ot_any_shaper_t
 indic_shaper chosen =
     if is_default_or_latin chosen then any.Default else if ends_in_three chosen then any.Script UNIVERSAL_SHAPER else any.Script INDIC_SHAPER
 
+-- the shaper of Myanmar, by the font's script tag
 abbrev pub myanmar_shaper : Option Tag → hb_ot_any_shaper_t
 myanmar_shaper chosen = if is_default_or_latin chosen || is_tag (codes "mymr") chosen then any.Default else any.Script MYANMAR_SHAPER
 
+-- the shaper of a script of the universal shaper, by the font's script tag
 abbrev pub universal_shaper : Option Tag → hb_ot_any_shaper_t
 universal_shaper chosen = if is_default_or_latin chosen then any.Default else any.Script UNIVERSAL_SHAPER
 
--- lines of Arabic and Syriac join their letters, columns do not; Syriac only where the font knows it
+-- a text has the Arabic shaper: horizontal lines in Arabic, or in Syriac where the font has a script for it
 abbrev pub joins : Script → Direction → Option Tag → Bool
 joins s direction chosen =
     is_horizontal direction && (is_script s script.ARABIC || is_script s script.SYRIAC && not (is_tag (codes "DFLT") chosen))
 
--- the shaper of a script that has one of its own, whatever the font says
+-- the shaper of a script whose choice doesn't depend on the font
 abbrev pub own_shaper : Script → hb_ot_any_shaper_t
 own_shaper s =
     if is_script s script.THAI || is_script s script.LAO then any.Script THAI_SHAPER
@@ -146,7 +150,7 @@ own_shaper s =
     else if is_script s script.MYANMAR_ZAWGYI then any.Script MYANMAR_ZAWGYI_SHAPER
     else any.Default
 
--- the shaper of a text by its script, its direction, and the script of GSUB that serves it
+-- the shaper of a text by its script, its direction, and the chosen GSUB script
 abbrev pub categorized : Script → Direction → Option Tag → hb_ot_any_shaper_t
 categorized s direction chosen =
     if joins s direction chosen then any.Script ARABIC_SHAPER
@@ -155,14 +159,14 @@ categorized s direction chosen =
     else if is_among universal_scripts s then universal_shaper chosen
     else own_shaper s
 
--- a text without a script has the default shaper
+-- the shaper of a text; one without a script has the default shaper
 abbrev pub shaper_of : Option Script → Direction → Option Tag → hb_ot_any_shaper_t
 shaper_of None direction chosen = any.Default
 shaper_of (Some s) direction chosen = categorized s direction chosen
 
--- ---- scripts whose shaper is not there yet
+-- ---- scripts whose shaper is not implemented yet
 
--- a script waits where a text of it may have the Indic shaper
+-- a text of the script may need the Indic shaper, which is not implemented yet
 abbrev pub script_waits : Option Script → Bool
 script_waits None = false
 script_waits (Some s) = is_among indic_scripts s

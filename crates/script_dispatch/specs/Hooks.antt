@@ -1,4 +1,4 @@
--- What the shapers of scripts do to a text, at the places where the pipeline asks them.
+-- The hooks of the scripts' shapers, as stages on a text.
 use Rattle.std.specs.Prelude.{ℕ, ◌==◌, ◌&&◌, not, Bool, false, if◌then◌else◌, List, Option, Some, None, codes}
 use Rattle.buffer_common.specs.declared.script.Script.{Script}
 use Rattle.buffer_common.specs.declared.script.TheConstants as script
@@ -36,22 +36,24 @@ use Rattle.script_dispatch.specs.Masks.{form_masks, jamo_masks, khmer_masks, let
 
 -- ---- the text
 
+-- a text's script is Thai
 abbrev pub is_thai : Option Script → Bool
 is_thai None = false
 is_thai (Some s) = s.0.0 == script.THAI.0.0
 
--- a font that does not know Thai may have forms of its marks at private characters
+-- the text is Thai and the font has no GSUB script for it, so it may have private-use forms of its marks
 abbrev pub has_private_forms : OtMapValue → Option Script → Bool
 has_private_forms m s = is_thai s && not m.tables.gsub.found_script
 
+-- the stage of Thai private-use forms, if a condition holds
 abbrev pub private_if : Bool → Tables → FaceParts → Stage
 private_if b t font v = if b then always (with_private t font) v else as_it_is v
 
--- the vowels with two parts are split, and then marks take such forms
+-- the stage of Thai and Lao texts: vowels are decomposed, then marks replaced by private-use forms
 abbrev pub thai_text : OtMapValue → Option Script → Tables → FaceParts → Stage
 thai_text m s t font v = and_then (vowels_split v) (private_if (has_private_forms m s) t font)
 
--- what becomes of a text before it is normalised: vowels of Thai and Lao, syllables of Hangul
+-- the stage before normalizing: vowels of Thai and Lao, syllables of Hangul (HarfBuzz: preprocess_text)
 abbrev pub preprocessed_by : hb_ot_script_shaper_t → OtMapValue → Option Script → FaceParts → Tables → TextSettings → Stage
 preprocessed_by THAI_SHAPER m s font t settings = thai_text m s t font
 preprocessed_by HANGUL_SHAPER m s font t settings = syllables_formed font settings.flags
@@ -59,16 +61,17 @@ preprocessed_by _ m s font t settings = as_it_is
 
 -- ---- characters
 
--- how characters split: a vowel of Khmer with a left part does so otherwise than in Unicode
+-- the decompositions of characters: Unicode's, but for Khmer vowels with a left half (HarfBuzz: decompose)
 abbrev pub splits_by : hb_ot_script_shaper_t → Tables → Splits
 splits_by KHMER_SHAPER t = khmer_split t
 splits_by _ t = split_of t
 
--- a mark composes with nothing after it
+-- the composition of two characters, the first of which is no mark
 abbrev pub unmarked_pair : Tables → ℕ → ℕ → Option ℕ
 unmarked_pair t a b = if is_mark_character a then None else pair_of t a b
 
--- what two characters compose to: Hebrew has presentation forms where the font places no marks
+-- the compositions of characters: Unicode's, with presentation forms in Hebrew where the font has no GPOS mark
+-- positioning (HarfBuzz: compose)
 abbrev pub composes_by : hb_ot_script_shaper_t → Bool → Tables → ℕ → ℕ → Option ℕ
 composes_by HEBREW_SHAPER has_gpos_mark t = hebrew_pair t has_gpos_mark
 composes_by INDIC_SHAPER has_gpos_mark t = unmarked_pair t
@@ -76,7 +79,7 @@ composes_by KHMER_SHAPER has_gpos_mark t = unmarked_pair t
 composes_by UNIVERSAL_SHAPER has_gpos_mark t = unmarked_pair t
 composes_by _ has_gpos_mark t = pair_of t
 
--- the order of a run of marks beside that of their classes
+-- the order of a run of marks that is sorted by class (HarfBuzz: reorder_marks)
 abbrev pub reorders_by : hb_ot_script_shaper_t → List Item → Arranged
 reorders_by ARABIC_SHAPER = arabic_order
 reorders_by HEBREW_SHAPER = hebrew_order
@@ -84,7 +87,7 @@ reorders_by _ = λ run. kept run
 
 -- ---- masks
 
--- letters take their forms, letters of Hangul their places in syllables; the shapers of syllables see categories
+-- the stage that sets letters' forms, jamo masks and categories (HarfBuzz: setup_masks)
 abbrev pub masks_set_by : hb_ot_script_shaper_t → OtMapValue → Option Script → Tables → TextSettings → Stage
 masks_set_by ARABIC_SHAPER m s t settings = letters_joined m s t settings.pre_context settings.post_context
 masks_set_by HANGUL_SHAPER m s t settings = always (mapped (with_place_mask (jamo_masks m)))
@@ -95,15 +98,16 @@ masks_set_by _ m s t settings = as_it_is
 
 -- ---- pauses
 
--- where syllables end
+-- the machines' answer: where syllables end
 abbrev pub Spans : Type 0
 Spans = hb_ot_script_shaper_t → List ℕ → ℕ → ℕ × ℕ
 
+-- the stage that finds the syllables of a shaper
 abbrev pub syllables_found_by : hb_ot_script_shaper_t → OtMapValue → Option Script → Spans → Stage
 syllables_found_by UNIVERSAL_SHAPER m s spans = universal_syllables_set spans (mask_at_one (codes "rphf") m) (form_masks m s)
 syllables_found_by shaper m s spans = syllables_set spans shaper
 
--- a pause; the orders of Indic syllables are not there yet
+-- the stage of a pause; the reordering of Indic syllables is not implemented yet
 abbrev pub pause_done : hb_ot_script_shaper_t → OtMapValue → Option Script → FaceParts → Spans → TextSettings → hb_script_pause_t → Stage
 pause_done shaper m s font spans settings RecordStch = tiles_recorded (has_mask (codes "stch") m)
 pause_done shaper m s font spans settings SetupSyllables = syllables_found_by shaper m s spans
@@ -117,17 +121,18 @@ pause_done shaper m s font spans settings ReorderUse = universal_order font sett
 pause_done shaper m s font spans settings InitialReordering = as_it_is
 pause_done shaper m s font spans settings FinalReordering = as_it_is
 
+-- the stage of a pause, if there is one
 abbrev pub pause_if : hb_ot_script_shaper_t → OtMapValue → Option Script → FaceParts → Spans → TextSettings → Option hb_script_pause_t → Stage
 pause_if shaper m s font spans settings None = as_it_is
 pause_if shaper m s font spans settings (Some pause) = pause_done shaper m s font spans settings pause
 
--- the pause of a number of a map
+-- the stage of the pause with a number
 abbrev pub pauses_by : hb_ot_script_shaper_t → OtMapValue → Option Script → FaceParts → Spans → TextSettings → Pauses
 pauses_by shaper m s font spans settings n = pause_if shaper m s font spans settings (pause_of_number n)
 
 -- ---- glyphs
 
--- what becomes of glyphs that stand as they are drawn: tiles of Arabic are laid over their words
+-- the stage on glyphs in visual order: Arabic tiles are laid over their words (HarfBuzz: postprocess_glyphs)
 abbrev pub postprocessed_by : hb_ot_script_shaper_t → FaceParts → Stage
 postprocessed_by ARABIC_SHAPER font = tiles_laid font
 postprocessed_by _ font = as_it_is

@@ -1,4 +1,4 @@
--- The masks that the shapers of scripts read of a map, and the hooks that set them.
+-- The masks that the shapers read of a compiled map, and the stages that set them.
 use Rattle.std.specs.Prelude.{ℕ, ◌==◌, Bool, false, if◌then◌else◌, List, [], ◌∷◌, Option, None, Some, codes}
 use Rattle.std.specs.Int.RustNames.{bit_or}
 use Rattle.std.specs.Option.{option_map_or}
@@ -20,25 +20,28 @@ use Rattle.script_pauses.specs.Categories.{categories_set, universal_category_of
 
 -- ---- Arabic
 
+-- a text's script is Mongolian
 abbrev pub is_mongolian : Option Script → Bool
 is_mongolian None = false
 is_mongolian (Some s) = s.0.0 == script.MONGOLIAN.0.0
 
--- the masks of the forms, in the order of their numbers
+-- the masks of the forms' features, in the order of their numbers
 abbrev pub arabic_masks : OtMapValue → List ℕ
 arabic_masks m =
     mask_at_one (codes "isol") m ∷ mask_at_one (codes "fina") m ∷ mask_at_one (codes "fin2") m ∷ mask_at_one (codes "fin3") m
     ∷ mask_at_one (codes "medi") m ∷ mask_at_one (codes "med2") m ∷ mask_at_one (codes "init") m ∷ []
 
--- letters take their forms between what stands before the text and after it, and the masks of these
+-- the stage that sets letters' forms and their masks, by the contexts before and after the text
 abbrev pub letters_joined : OtMapValue → Option Script → Tables → List ℕ → List ℕ → Stage
 letters_joined m s t pre post = always (joined t (is_mongolian s) (arabic_masks m) pre post)
 
 -- ---- Hangul and Khmer
 
+-- the masks of ljmo, vjmo and tjmo
 abbrev pub jamo_masks : OtMapValue → JamoMasks
 jamo_masks m = record { ljmo = mask_at_one (codes "ljmo") m; vjmo = mask_at_one (codes "vjmo") m; tjmo = mask_at_one (codes "tjmo") m }
 
+-- the masks of the Khmer shaper
 abbrev pub khmer_masks : OtMapValue → KhmerMasks
 khmer_masks m = record {
   pref = mask_at_one (codes "pref") m;
@@ -48,29 +51,32 @@ khmer_masks m = record {
 
 -- ---- the universal shaper
 
--- scripts whose letters join as those of Arabic
+-- the scripts whose letters join as Arabic ones do
 abbrev pub joining_scripts : List Script
 joining_scripts =
     script.ADLAM ∷ script.ARABIC ∷ script.CHORASMIAN ∷ script.HANIFI_ROHINGYA ∷ script.MANDAIC ∷ script.MANICHAEAN ∷ script.MONGOLIAN ∷ script.NKO
     ∷ script.OLD_UYGHUR ∷ script.PHAGS_PA ∷ script.PSALTER_PAHLAVI ∷ script.SOGDIAN ∷ script.SYRIAC ∷ []
 
+-- the letters of the script join as Arabic ones do (HarfBuzz: has_arabic_joining)
 abbrev pub letters_join : Option Script → Bool
 letters_join None = false
 letters_join (Some s) = is_among joining_scripts s
 
+-- the stage of letters' forms, in scripts whose letters join
 abbrev pub joined_if : OtMapValue → Option Script → Tables → List ℕ → List ℕ → Stage
 joined_if m s t pre post v = if letters_join s then letters_joined m s t pre post v else as_it_is v
 
--- letters of such a script take their forms, and then each character its category
+-- the stage of the universal shaper's masks: letters' forms in scripts that join, then each character's category
 abbrev pub universal_masks_set : OtMapValue → Option Script → Tables → List ℕ → List ℕ → Stage
 universal_masks_set m s t pre post v = and_then (joined_if m s t pre post v) (categories_set (universal_category_of t))
 
--- the mask of a form of syllables; one that all glyphs have is none
+-- the mask of a form's feature, 0 where it is the mask of every glyph
 abbrev pub form_mask : Tag → OtMapValue → ℕ
 form_mask tag m =
     if option_map_or (λ (f : feature_map_t). f.one_mask) (feature_at tag m) 0 == m.global_mask then 0
     else option_map_or (λ (f : feature_map_t). f.one_mask) (feature_at tag m) 0
 
+-- the masks of topographical forms, none where the script's letters join
 abbrev pub form_masks : OtMapValue → Option Script → Option FormMasks
 form_masks m s =
     if letters_join s then None

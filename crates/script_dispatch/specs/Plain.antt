@@ -1,4 +1,4 @@
--- Stages that put no glyph in another order without a merge: so clusters in order stay so at the monotone levels.
+-- Stages that reorder no glyphs without merging them: they keep the order of clusters at the monotone levels.
 use Rattle.std.specs.Prelude.{ℕ, Bool, List, Option}
 use Rattle.buffer_common.specs.declared.constants.BufferFlags.{BufferFlags}
 use Rattle.buffer_common.specs.declared.script.Script.{Script}
@@ -23,11 +23,13 @@ use Rattle.script_pauses.specs.Syllables.{khmer_order, myanmar_order, substituti
 use Rattle.script_dispatch.specs.Masks.{letters_joined, universal_masks_set}
 use Rattle.script_pauses.specs.Tiles.{tiles_recorded}
 
+-- the stages on texts before normalizing keep the order of clusters
 pub record TextsLeavePlain : Type 0 where
   pub thai : StaysPlain vowels_split
   pub private_forms : (t : Tables) (font : FaceParts) → StaysPlain (always (with_private t font))
   pub hangul : (font : FaceParts) (flags : BufferFlags) → StaysPlain (syllables_formed font flags)
 
+-- the stages on syllables keep the order of clusters
 pub record SyllablesLeavePlain : Type 0 where
   pub bytes : (span_of : Spans) (shaper : hb_ot_script_shaper_t) → StaysPlain (syllables_set span_of shaper)
   pub universal : (span_of : Spans) (rphf : ℕ) (forms : Option FormMasks) → StaysPlain (universal_syllables_set span_of rphf forms)
@@ -36,11 +38,13 @@ pub record SyllablesLeavePlain : Type 0 where
   pub cleared : StaysPlain syllables_cleared
   pub forgotten : StaysPlain substitutions_forgotten
 
+-- the stages that reorder syllables keep the order of clusters
 pub record OrdersLeavePlain : Type 0 where
   pub khmer : (font : FaceParts) (flags : BufferFlags) (masks : KhmerMasks) → StaysPlain (khmer_order font flags masks)
   pub myanmar : (font : FaceParts) (flags : BufferFlags) → StaysPlain (myanmar_order font flags)
   pub universal : (font : FaceParts) (flags : BufferFlags) → StaysPlain (universal_order font flags)
 
+-- the stages that set masks keep the order of clusters
 pub record MasksLeavePlain : Type 0 where
   pub joined : (m : OtMapValue) (s : Option Script) (t : Tables) (pre post : List ℕ) → StaysPlain (letters_joined m s t pre post)
   pub places : (masks : JamoMasks) → StaysPlain (always (mapped (with_place_mask masks)))

@@ -1,4 +1,4 @@
--- What a shaper of the stack asks of a font.
+-- The feature requests of this stack's shapers.
 use Rattle.std.specs.Prelude.{Bool, fold, Option, codes, ⊤}
 use Rattle.buffer_common.specs.declared.script.Script.{Script}
 use Rattle.buffer_common.specs.Tag.{tag_of}
@@ -10,19 +10,19 @@ use Rattle.script_dispatch.specs.declared.any_shaper.hb_ot_any_shaper_t.{hb_ot_a
 use Rattle.script_dispatch.specs.Dispatch.{shaper_of}
 use Rattle.script_dispatch.specs.Shapers.{shaper_features, shaper_overrides, traits_of}
 
--- whether a language system of the font has the feature for required contexts
+-- a language system of the font has the feature rclt
 abbrev pub has_rclt : MapRequests → Bool
 has_rclt b = in_any (system_features (tag_of (codes "rclt")) b.tables)
 
--- what a shaper asks beside what every text asks
+-- the requests with a shaper's features, between the common ones
 abbrev pub collected : hb_ot_any_shaper_t → Option Script → MapRequests → MapRequests
 collected shaper script b = fold with_ask b (shaper_features shaper script (has_rclt b))
 
--- what it asks whatever the user asked
+-- the requests with a shaper's features after the user's
 abbrev pub overridden : hb_ot_any_shaper_t → Option Script → MapRequests → MapRequests
 overridden shaper script b = fold with_ask b (shaper_overrides shaper)
 
--- what a plan takes of the stack's shapers, which keep nothing for their texts
+-- the family of this stack's shapers, which have no data of their own in a plan
 abbrev pub any_kind : ShaperKind hb_ot_any_shaper_t ⊤
 any_kind = record {
   shaper_of = shaper_of;

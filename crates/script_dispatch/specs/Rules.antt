@@ -1,4 +1,4 @@
--- What the shapers of the stack do to a text.
+-- The rules of this stack's shapers.
 use Rattle.std.specs.Prelude.{⊤}
 use Rattle.script_plan.specs.declared.plan.hb_script_plan_t.{hb_script_plan_t}
 use Rattle.script_plan.specs.Rules.{ShaperRules, plain_rules}
@@ -7,7 +7,7 @@ use Rattle.script_dispatch.specs.Hooks.{composes_by, masks_set_by, pauses_by, po
 use Rattle.script_dispatch.specs.declared.any_shaper.hb_ot_any_shaper_t.{hb_ot_any_shaper_t}
 use Rattle.script_dispatch.specs.declared.any_shaper.hb_ot_any_shaper_t.TheVariants as any
 
--- the rules of a shaper that is made for some scripts, for the texts of a plan
+-- the rules of a shaper of some scripts, for the texts of a plan
 abbrev pub script_rules : hb_ot_script_shaper_t → hb_script_plan_t ⊤ → ShaperRules
 script_rules shaper plan = record {
   preprocesses = λ font t settings. preprocessed_by shaper plan.map plan.script font t settings;
@@ -19,7 +19,7 @@ script_rules shaper plan = record {
   postprocesses = λ font settings. postprocessed_by shaper font;
 }
 
--- the shaper of most scripts and that which does as little as can be leave a text as it is
+-- the rules of a shaper; the default and the dumber one leave a text unchanged
 abbrev pub rules_of : hb_ot_any_shaper_t → hb_script_plan_t ⊤ → ShaperRules
 rules_of (any.Script shaper) plan = script_rules shaper plan
 rules_of _ plan = plain_rules

@@ -1,4 +1,4 @@
--- The shapers, and what each decides once for all texts.
+-- The shapers and their choices for all texts.
 use Rattle.std.specs.Prelude.{ℕ, Bool, true, false, List, [], Option, Some, None, codes}
 use Rattle.buffer_common.specs.declared.script.Script.{Script}
 use Rattle.buffer_common.specs.Tag.{tag_of}
@@ -12,16 +12,19 @@ use Rattle.script_dispatch.specs.declared.any_shaper.hb_ot_any_shaper_t.{hb_ot_a
 use Rattle.script_dispatch.specs.declared.any_shaper.hb_ot_any_shaper_t.TheVariants as any
 use Rattle.script_plan.specs.declared.planned.TheConstants.{HB_OT_SHAPE_ZERO_WIDTH_MARKS_NONE, HB_OT_SHAPE_ZERO_WIDTH_MARKS_BY_GDEF_EARLY, HB_OT_SHAPE_ZERO_WIDTH_MARKS_BY_GDEF_LATE}
 
+-- the choices of most shapers
 abbrev pub simple_traits : ShaperTraits
 simple_traits = record { normalization = mode.Auto; gpos_tag = None; zero_width_marks = HB_OT_SHAPE_ZERO_WIDTH_MARKS_BY_GDEF_LATE; fallback_position = true }
 
--- those of shapers that reorder syllables
+-- the choices of shapers that reorder syllables
 abbrev pub syllabic_traits : ℕ → ShaperTraits
 syllabic_traits zero_width = record { normalization = mode.ComposedDiacriticsNoShortCircuit; gpos_tag = None; zero_width_marks = zero_width; fallback_position = false }
 
+-- the choices of the dumber shaper
 abbrev pub untouched_traits : ShaperTraits
 untouched_traits = record { normalization = mode.None; gpos_tag = None; zero_width_marks = HB_OT_SHAPE_ZERO_WIDTH_MARKS_NONE; fallback_position = false }
 
+-- the choices of each script's shaper
 abbrev pub script_traits : hb_ot_script_shaper_t → ShaperTraits
 script_traits ARABIC_SHAPER = simple_traits
 script_traits HANGUL_SHAPER = untouched_traits
@@ -33,22 +36,23 @@ script_traits MYANMAR_ZAWGYI_SHAPER = untouched_traits
 script_traits THAI_SHAPER = record simple_traits { fallback_position = false }
 script_traits UNIVERSAL_SHAPER = syllabic_traits HB_OT_SHAPE_ZERO_WIDTH_MARKS_BY_GDEF_EARLY
 
+-- the choices of a shaper
 abbrev pub traits_of : hb_ot_any_shaper_t → ShaperTraits
 traits_of any.Default = simple_traits
 traits_of any.Dumber = record simple_traits { zero_width_marks = HB_OT_SHAPE_ZERO_WIDTH_MARKS_NONE; fallback_position = false }
 traits_of (any.Script s) = script_traits s
 
--- what a shaper asks of a font beside what every text asks, where the font has or lacks `rclt`
+-- the requests of a shaper between the common ones, where the font has or lacks `rclt`
 abbrev pub shaper_features : hb_ot_any_shaper_t → Option Script → Bool → List Ask
 shaper_features (any.Script s) script has_rclt = features_of s script has_rclt
 shaper_features _ script has_rclt = []
 
--- what it asks after what the user asked
+-- the requests of a shaper after the user's
 abbrev pub shaper_overrides : hb_ot_any_shaper_t → List Ask
 shaper_overrides (any.Script s) = overrides_of s
 shaper_overrides _ = []
 
--- only the Indic shaper may leave clusters in no order
+-- a shaper keeps the order of clusters: all but the Indic one do
 abbrev pub keeps_order : hb_ot_any_shaper_t → Bool
 keeps_order (any.Script INDIC_SHAPER) = false
 keeps_order _ = true

@@ -1,4 +1,4 @@
-//! The shapers, and what each decides once for all texts.
+//! The shapers, and the choices each of them makes once for all texts (rustybuzz: hb/ot_shaper.rs).
 ghost use Rattle.std.specs.Prelude.{◌≡◌};
 ghost use Rattle.script_dispatch.specs.Shapers.{traits_of, keeps_order};
 
@@ -13,7 +13,7 @@ use script_plan::planned::{
     HB_OT_SHAPE_ZERO_WIDTH_MARKS_NONE, hb_ot_shape_zero_width_marks_type_t,
 };
 
-/// A shaper: that of most scripts, one that does as little as can be, or one made for some scripts.
+/// A shaper: the default one, the dumber one, or one made for some scripts.
 #[derive(Clone, Copy)]
 pub enum hb_ot_any_shaper_t {
     Default,
@@ -21,12 +21,14 @@ pub enum hb_ot_any_shaper_t {
     Script(hb_ot_script_shaper_t),
 }
 
+/// The shaper of scripts without one of their own (HarfBuzz: _hb_ot_shaper_default).
 pub const DEFAULT_SHAPER: hb_ot_any_shaper_t = hb_ot_any_shaper_t::Default;
 
+/// The shaper that neither zeroes mark advances nor positions marks by itself (HarfBuzz: _hb_ot_shaper_dumber).
 pub const DUMBER_SHAPER: hb_ot_any_shaper_t = hb_ot_any_shaper_t::Dumber;
 
 impl hb_ot_any_shaper_t {
-    /// How far characters are split and composed.
+    /// The form in which the shaper prefers characters.
     pub fn normalization_preference(self) -> NormalizationMode
         ensures { result ≡ (traits_of self).normalization }
     {
@@ -40,7 +42,7 @@ impl hb_ot_any_shaper_t {
         }
     }
 
-    /// The script of GPOS that the shaper is made for. Under another script the table is not used.
+    /// The GPOS script that the shaper is made for; with another script GPOS is not applied.
     pub fn gpos_tag(self) -> Option<Tag>
         ensures { result ≡ (traits_of self).gpos_tag }
     {
@@ -50,7 +52,7 @@ impl hb_ot_any_shaper_t {
         }
     }
 
-    /// When marks lose their advances.
+    /// When the advances of marks are zeroed.
     pub fn zero_width_marks(self) -> hb_ot_shape_zero_width_marks_type_t
         ensures { result ≡ (traits_of self).zero_width_marks }
     {
@@ -66,7 +68,7 @@ impl hb_ot_any_shaper_t {
         }
     }
 
-    /// Whether marks that the font does not place are placed by their boxes.
+    /// Whether marks are positioned by glyph extents where the font has no rules for them.
     pub fn fallback_position(self) -> bool
         ensures { result ≡ (traits_of self).fallback_position }
     {
@@ -76,7 +78,7 @@ impl hb_ot_any_shaper_t {
         )
     }
 
-    /// Whether clusters that are in order stay so at the levels that keep them in order.
+    /// Whether the order of clusters is kept at the monotone levels.
     pub fn keeps_cluster_order(self) -> bool
         ensures { result ≡ keeps_order self }
     {

@@ -1,4 +1,4 @@
-//! The masks of Arabic letters.
+//! The masks of Arabic letters (rustybuzz: hb/ot_shaper_arabic.rs).
 ghost use Rattle.std.specs.Prelude.{◌≡◌, codes};
 ghost use Rattle.std.specs.Int.RustNames.{bit_and};
 ghost use Rattle.buffer_stages.specs.Ready.{IsReady};
@@ -16,16 +16,16 @@ use buffer_glyphs::info::hb_mask_t;
 use buffer_unicode_tables::UnicodeTables;
 use layout_map::map::hb_ot_map_t;
 
-/// What the shaper of Arabic reads of a map.
+/// The Arabic shaper's data of a plan (`arabic_shape_plan_t`).
 #[derive(Clone, Copy)]
 pub struct arabic_shape_plan_t {
     /// The masks of ISOL, FINA, FIN2, FIN3, MEDI, MED2 and INIT, in this order.
     pub mask_array: [hb_mask_t; 7],
-    /// Whether the font stretches words.
+    /// Whether the font has the feature stch.
     pub has_stch: bool,
 }
 
-/// What the shaper of Arabic reads of a map. It is the same for each script.
+/// The Arabic shaper's data of a compiled map. It is the same for each script.
 pub fn data_create_arabic(map: &hb_ot_map_t, _script: Option<Script>) -> arabic_shape_plan_t
     ensures masks { result.mask_array ≡ arabic_masks map.now }
     ensures flagless { AreFlagless result.mask_array }
@@ -44,7 +44,7 @@ pub fn data_create_arabic(map: &hb_ot_map_t, _script: Option<Script>) -> arabic_
     }
 }
 
-/// Gives each letter of a text its form by its neighbours, and the mask of the form's feature. It takes linear time and no
+/// Sets each letter's form by its neighbours, and adds the mask of the form's feature. It takes linear time and no
 /// memory.
 pub fn setup_masks(
     map: &hb_ot_map_t,
@@ -60,8 +60,8 @@ pub fn setup_masks(
     setup_masks_inner(&arabic_plan, script, buffer, tables);
 }
 
-/// Gives each letter of a text its form by its neighbours, and the mask of the form's feature. It takes linear time and no
-/// memory.
+/// Sets each letter's form by its neighbours, with the given data, and adds the mask of the form's feature. It takes
+/// linear time and no memory.
 pub fn setup_masks_inner(
     arabic_plan: &arabic_shape_plan_t,
     script: Option<Script>,
@@ -91,7 +91,7 @@ fn is_mongolian(script: Option<Script>) -> bool
     }
 }
 
-/// Whether the font stretches words.
+/// Whether the font has the feature stch.
 pub fn has_stch(map: &hb_ot_map_t) -> bool
     ensures { result ≡ has_mask (codes "stch") map.now }
 {

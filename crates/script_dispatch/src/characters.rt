@@ -1,4 +1,4 @@
-//! How characters split and compose for a shaper, and the order of a run of marks.
+//! How a shaper decomposes and composes characters, and how it reorders a run of marks.
 ghost use Rattle.std.specs.Prelude.{◌≡◌, ◌≤◌, length};
 ghost use Rattle.buffer_core.specs.Sides.{all_glyphs};
 ghost use Rattle.buffer_stages.specs.Ready.{IsReady};
@@ -13,7 +13,7 @@ use script_hebrew_thai::hebrew;
 use script_khmer_myanmar::khmer;
 use script_mark_orders::orders::{reorder_arabic_marks, reorder_hebrew_marks};
 
-/// The two parts of a character; the second is U+0000 where it is absent.
+/// The two halves of a character's decomposition; the second is U+0000 where there is only one.
 pub fn decompose(
     shaper: hb_ot_script_shaper_t,
     tables: &UnicodeTables,
@@ -27,7 +27,7 @@ pub fn decompose(
     }
 }
 
-/// What two characters compose to, for a font that places marks itself or not.
+/// The composition of two characters; `has_gpos_mark` says whether the font has GPOS mark positioning.
 pub fn compose(
     shaper: hb_ot_script_shaper_t,
     has_gpos_mark: bool,
@@ -56,7 +56,7 @@ fn compose_unmarked(tables: &UnicodeTables, a: char, b: char) -> Option<char>
     }
 }
 
-/// Puts a run of marks, from `start` up to before `end` and in the order of their classes, in the shaper's own order.
+/// Reorders the run of marks `start..end`, which is sorted by combining class, in the shaper's own order.
 #[tactic(auto, using(crate::proofs::Kept::unchanged_run))]
 pub fn reorder_marks(
     shaper: hb_ot_script_shaper_t,

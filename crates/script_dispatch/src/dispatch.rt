@@ -1,4 +1,4 @@
-//! Which shaper a script has.
+//! The choice of a shaper for a script, hb_ot_shape_complex_categorize (rustybuzz: hb/ot_shaper.rs).
 ghost use Rattle.std.specs.Prelude.{◌≡◌};
 ghost use Rattle.script_dispatch.specs.Dispatch.{categorized, ends_in_three, indic_shaper, is_default_or_latin, joins, myanmar_shaper, own_shaper, script_waits, universal_shaper};
 
@@ -15,7 +15,7 @@ const INDIC: [Script; 9] = [
     BENGALI, DEVANAGARI, GUJARATI, GURMUKHI, KANNADA, MALAYALAM, ORIYA, TAMIL, TELUGU,
 ];
 
-/// Scripts of the universal shaping engine.
+/// The scripts of the universal shaper.
 const UNIVERSAL: [Script; 84] = [
     TIBETAN,
     MONGOLIAN,
@@ -103,7 +103,7 @@ const UNIVERSAL: [Script; 84] = [
     TULU_TIGALARI,
 ];
 
-/// Whether a script waits for its shaper: whether a text of it may have the Indic shaper.
+/// Whether a text of the script may need the Indic shaper, which is not implemented yet.
 pub fn script_waits(script: Option<Script>) -> bool
     ensures { result ≡ script_waits script }
 {
@@ -113,7 +113,7 @@ pub fn script_waits(script: Option<Script>) -> bool
     }
 }
 
-/// The shaper of a text by its script, its direction, and the script of GSUB that serves it (`chosen_script`).
+/// The shaper of a text by its script, its direction, and the GSUB script `chosen_script`.
 pub fn hb_ot_shape_complex_categorize(
     script: Script,
     direction: Direction,
@@ -140,7 +140,7 @@ fn is_default_or_latin(tag: Option<Tag>) -> bool
     tag == Some(Tag::from_bytes(b"DFLT")) || tag == Some(Tag::from_bytes(b"latn"))
 }
 
-/// Whether the font's script is of the third shaping model.
+/// Whether the font's script tag ends in 3, which the universal shaper takes.
 fn ends_in_three(tag: Option<Tag>) -> bool
     ensures { result ≡ ends_in_three tag }
 {
@@ -189,7 +189,7 @@ fn universal_shaper(tag: Option<Tag>) -> hb_ot_any_shaper_t
     }
 }
 
-/// The shaper of a script that has one of its own, whatever the font says.
+/// The shaper of a script whose choice doesn't depend on the font.
 fn own_shaper(script: Script) -> hb_ot_any_shaper_t
     ensures { result ≡ own_shaper script }
 {

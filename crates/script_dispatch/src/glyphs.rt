@@ -1,4 +1,4 @@
-//! What a shaper does to glyphs that stand as they are drawn.
+//! The shapers' postprocess_glyphs hook.
 ghost use Rattle.std.specs.Prelude.{◌≡◌, ◌≢◌, Err, IfErr, OnOk};
 ghost use Rattle.buffer_core.specs.Readings.{read_of};
 ghost use Rattle.buffer_core.specs.Sides.{run_of};
@@ -12,12 +12,13 @@ use script_categories::hb_ot_script_shaper_t;
 use script_pauses::stretch::apply_stch;
 use std::alloc::Global;
 
-/// Changes the glyphs and their positions: tiles of Arabic are laid over the words that they stretch.
+/// Changes the glyphs and their positions (`postprocess_glyphs`): the Arabic shaper lays tiles over the words that they
+/// stretch.
 ///
 /// # Errors
 ///
-/// `StretchRange` where a word or its tiles have a width outside 32 bits, `TooLong` where the text would grow past its
-/// limit, or want of memory.
+/// `StretchRange` where a word or its tiles have a width outside 32 bits, `TooLong` where the text would have more
+/// glyphs than the buffer may hold, or lack of memory.
 #[tactic(auto, using(crate::proofs::Kept::unchanged_done))]
 pub fn postprocess_glyphs(
     shaper: hb_ot_script_shaper_t,

@@ -1,4 +1,4 @@
-//! The masks of the letters of Hangul.
+//! The masks of Hangul jamo (rustybuzz: hb/ot_shaper_hangul.rs).
 ghost use Rattle.std.specs.Prelude.{◌≡◌};
 ghost use Rattle.buffer_core.specs.Readings.{always};
 ghost use Rattle.buffer_stages.specs.Ready.{IsReady};
@@ -11,8 +11,7 @@ use buffer_core::buffer::hb_buffer_t;
 use layout_map::map::hb_ot_map_t;
 use script_hangul::masks::{self, JamoMasks};
 
-/// Gives each letter that stands for itself the mask of the feature of its place in the syllable. It takes linear time and
-/// no memory.
+/// Adds to the mask of each jamo the mask of its feature. It takes linear time and no memory.
 pub fn setup_masks(map: &hb_ot_map_t, buffer: &mut hb_buffer_t)
     requires ready { IsReady buffer.old }
     ensures { IsFollowed (always (mapped (with_place_mask (jamo_masks map.now)))) buffer.old buffer.new }

@@ -1,4 +1,4 @@
-//! Which hooks a shaper has: those that the tables of rustybuzz name for it.
+//! Which hooks each shaper has: those of rustybuzz's table of it.
 ghost use Rattle.std.specs.Prelude.{◌≡◌, Bool};
 ghost use Rattle.script_dispatch.specs.Present.{collects_features, composes, creates_data, decomposes, overrides_features, postprocesses_glyphs, preprocesses_text, reorders_marks, sets_masks};
 ghost use Rattle.script_dispatch.specs.Present.{AsksNothing, ComposesAsUnicode, LeavesGlyphs, LeavesMarks, LeavesMasks, LeavesText, OverridesNothing, SplitsAsUnicode};
@@ -8,7 +8,7 @@ use script_categories::hb_ot_script_shaper_t::{
     THAI_SHAPER, UNIVERSAL_SHAPER,
 };
 
-/// Whether a shaper has each of the hooks. One that it lacks changes nothing; one that it has may change nothing all the same.
+/// Which hooks a shaper has. A missing hook changes nothing; an existing one may change nothing in a given text.
 pub trait ScriptHooks: Sized {
     ghost collects: { Self → Bool };
 
@@ -28,39 +28,39 @@ pub trait ScriptHooks: Sized {
 
     ghost reorders: { Self → Bool };
 
-    /// Whether it asks a font for features, between what every text asks and what the user asks.
+    /// Whether it requests features, between the common ones and the user's.
     fn has_collect_features(self) -> bool
         ensures { result ≡ collects self };
 
-    /// Whether it asks for features whatever the user asked.
+    /// Whether it requests features after the user's.
     fn has_override_features(self) -> bool
         ensures { result ≡ overrides self };
 
-    /// Whether it reads masks of a map that are the same for each text of a plan.
+    /// Whether it makes its own data of a plan, by the map's masks.
     fn has_create_data(self) -> bool
         ensures { result ≡ creates self };
 
-    /// Whether it looks at a text before it is normalised.
+    /// Whether it changes texts before they are normalized.
     fn has_preprocess_text(self) -> bool
         ensures { result ≡ preprocesses self };
 
-    /// Whether it looks at glyphs that stand as they are drawn.
+    /// Whether it changes glyphs in visual order.
     fn has_postprocess_glyphs(self) -> bool
         ensures { result ≡ postprocesses self };
 
-    /// Whether it has a rule of its own on what characters split to.
+    /// Whether it has its own rule for decomposing characters.
     fn has_decompose(self) -> bool
         ensures { result ≡ splits self };
 
-    /// Whether it has a rule of its own on what characters compose to.
+    /// Whether it has its own rule for composing characters.
     fn has_compose(self) -> bool
         ensures { result ≡ joins self };
 
-    /// Whether it sets masks, or sees categories of characters.
+    /// Whether it sets masks or categories.
     fn has_setup_masks(self) -> bool
         ensures { result ≡ masks self };
 
-    /// Whether it has an order of marks beside that of their classes.
+    /// Whether it has its own order of marks.
     fn has_reorder_marks(self) -> bool
         ensures { result ≡ reorders self };
 }
@@ -164,8 +164,8 @@ impl ScriptHooks for hb_ot_script_shaper_t {
     }
 }
 
-/// A hook that a shaper lacks changes nothing: nothing is asked of a font, and texts, masks, glyphs and marks stay as they
-/// are; characters split and compose by Unicode.
+/// A missing hook changes nothing: it requests no feature, leaves texts, masks, glyphs and the order of marks
+/// unchanged, and characters decompose and compose as Unicode says.
 #[tactic(auto, using(crate::proofs::Present::asks_nothing, crate::proofs::Present::overrides_nothing, crate::proofs::Present::leaves_text, crate::proofs::Present::leaves_masks, crate::proofs::Present::leaves_glyphs, crate::proofs::Present::splits_as_unicode, crate::proofs::Present::composes_as_unicode, crate::proofs::Present::leaves_marks))]
 pub fn law_absent_hooks_change_nothing()
     ensures asks { AsksNothing }

@@ -1,4 +1,4 @@
-//! The masks of Khmer.
+//! The masks of the Khmer shaper (rustybuzz: hb/ot_shaper_khmer.rs).
 ghost use Rattle.std.specs.Prelude.{◌≡◌};
 ghost use Rattle.script_dispatch.specs.Masks.{khmer_masks};
 
@@ -6,7 +6,7 @@ use buffer_common::tag::Tag;
 use layout_map::map::hb_ot_map_t;
 use script_khmer_myanmar::khmer::KhmerMasks;
 
-/// The masks that the order of Khmer sets.
+/// The masks that the Khmer shaper sets.
 pub fn khmer_masks(map: &hb_ot_map_t) -> KhmerMasks
     ensures { result ≡ khmer_masks map.now }
 {

@@ -1,25 +1,26 @@
-//! No rule of a script puts glyphs in another order without a merge.
+//! The law that no rule of a shaper reorders glyphs without merging their clusters.
 ghost use Rattle.script_dispatch.specs.Plain.{MasksLeavePlain, OrdersLeavePlain, SyllablesLeavePlain, TextsLeavePlain};
 
-/// The vowels of Thai and Lao, private forms of Thai, and the syllables of Hangul.
+/// The preprocessing of texts (Thai and Lao vowels, private-use forms of Thai, Hangul syllables) keeps the order of
+/// clusters.
 #[tactic(auto, using(crate::specs::Lemmas::Plain::Texts::texts_leave_plain))]
 pub fn law_texts_leave_plain()
     ensures { TextsLeavePlain }
 {}
 
-/// Where syllables stand, the features of their glyphs and what is recorded.
+/// The stages that set syllable bytes, masks and records of syllables keep the order of clusters.
 #[tactic(auto, using(crate::specs::Lemmas::Plain::Syllables::syllables_leave_plain))]
 pub fn law_syllables_leave_plain()
     ensures { SyllablesLeavePlain }
 {}
 
-/// Circles and the order of syllables of Khmer, Myanmar and the universal shaper.
+/// Dotted circles and the reordering of Khmer, Myanmar and universal syllables keep the order of clusters.
 #[tactic(auto, using(crate::specs::Lemmas::Plain::Orders::orders_leave_plain))]
 pub fn law_orders_leave_plain()
     ensures { OrdersLeavePlain }
 {}
 
-/// The forms of letters, their places in syllables, the categories of characters, and which glyphs are tiles.
+/// The stages that set letters' forms, jamo masks, categories and tiles keep the order of clusters.
 #[tactic(auto, using(crate::specs::Lemmas::Plain::Masks::masks_leave_plain))]
 pub fn law_masks_leave_plain()
     ensures { MasksLeavePlain }

@@ -1,5 +1,5 @@
-// The shapers of the stack: which of them a text has, and which rule each has, at the places where the pipeline asks; what they
-// read of a map.
+//! The shapers of this stack: the choice of one for a text, the rule each has at every hook of the pipeline, and what
+//! they read from a compiled map.
 #![tactic(auto)]
 
 pub mod any_shaper;

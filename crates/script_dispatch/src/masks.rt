@@ -1,4 +1,4 @@
-//! The masks and the categories that a shaper sets.
+//! The shapers' setup_masks hook: the masks and categories that a shaper sets.
 ghost use Rattle.std.specs.Prelude.{◌≡◌};
 ghost use Rattle.buffer_stages.specs.Ready.{IsReady};
 ghost use Rattle.buffer_stages.specs.Settings.{text_settings};
@@ -12,7 +12,8 @@ use script_categories::hb_ot_script_shaper_t;
 use script_pauses::categories::set_ot_categories;
 use script_plan::plan::hb_script_plan_t;
 
-/// Sets the masks of features that act on some characters alone, and what the shaper sees of characters. It takes no memory.
+/// Sets the masks of features that apply to some characters only, and the characters' categories (`setup_masks`). It
+/// takes no memory.
 #[tactic(auto, using(crate::proofs::Kept::unchanged_followed))]
 pub fn setup_masks<D>(
     shaper: hb_ot_script_shaper_t,

@@ -1,4 +1,4 @@
-//! What a shaper does between the stages of lookups.
+//! The shapers' pauses between two GSUB stages.
 ghost use Rattle.std.specs.Prelude.{◌≡◌, ◌≢◌, true, false, Ok, Err, IfErr, OnOk, codes};
 ghost use Rattle.buffer_core.specs.Readings.{read_of};
 ghost use Rattle.buffer_core.specs.Sides.{items_of, run_of};
@@ -69,7 +69,7 @@ fn reorder_khmer<D>(
     khmer::reorder_khmer(face, &masks, buffer)
 }
 
-/// Records the tiles of stretched words, where the font has any.
+/// Records the tiles of stretched words, where the font has the feature stch.
 fn record_stch<D>(plan: &hb_script_plan_t<D>, buffer: &mut hb_buffer_t) -> Result<bool, ShapeCause>
     requires { IsReady buffer.old }
     ensures ok { OnOk result (IsDone (tiles_recorded (has_mask (codes "stch") plan.now.map)) buffer.old buffer.new) }
@@ -133,12 +133,12 @@ fn do_pause<D, P: SyllableSpans>(
     }
 }
 
-/// Does what the pause of a number does, and answers true whenever a glyph number came in.
+/// Performs the pause of a number, and returns true whenever a glyph number was inserted.
 ///
 /// # Errors
 ///
-/// `TooLong` where circles would make the text too long, `UnknownSyllableKind` where the spans name a kind that the shaper
-/// does not have, or want of memory.
+/// `TooLong` where circles would make the text too long, `UnknownSyllableKind` where the spans name a kind that the
+/// shaper does not have, or lack of memory.
 #[tactic(auto, using(crate::proofs::Kept::unchanged_done, crate::proofs::Kept::brings_none))]
 pub fn run_pause<D, P: SyllableSpans>(
     shaper: hb_ot_script_shaper_t,

@@ -1,4 +1,4 @@
-//! What the planner asks of the shapers of the stack.
+//! The planner's hooks of the shapers of this stack.
 ghost use Rattle.std.specs.Prelude.{◌≡◌, OnOk, fold};
 ghost use Rattle.script_plan.specs.Asks.{with_ask};
 ghost use Rattle.script_dispatch.specs.Dispatch.{shaper_of};

@@ -1,4 +1,4 @@
-//! What the shapers of the stack do to a text.
+//! The pipeline's hooks of the shapers of this stack.
 use crate::any_shaper::hb_ot_any_shaper_t;
 use crate::{characters, glyphs, masks, pauses, text};
 use buffer_core::buffer::hb_buffer_t;
@@ -10,7 +10,7 @@ use script_plan::hb_ot_shaper_t;
 use script_plan::plan::hb_script_plan_t;
 use std::alloc::Global;
 
-/// The shaper of most scripts and that which does as little as can be have no hook; those of scripts have their own.
+/// The default and the dumber shaper have no hooks; each script's shaper has its own.
 impl hb_ot_shaper_t for hb_ot_any_shaper_t {
     ghost use Rattle.script_dispatch.specs.Shapers.{keeps_order};
     ghost use Rattle.script_dispatch.specs.Rules.{rules_of};

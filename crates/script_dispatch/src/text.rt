@@ -1,4 +1,4 @@
-//! What a shaper does to a text before it is normalised.
+//! The shapers' preprocess_text hook, before the text is normalized.
 ghost use Rattle.std.specs.Prelude.{◌≡◌, ◌≢◌, ◌&&◌, not, Err, IfErr, OnOk};
 ghost use Rattle.buffer_core.specs.Readings.{always, read_of};
 ghost use Rattle.buffer_core.specs.Sides.{run_of};
@@ -79,11 +79,12 @@ fn preprocess_hangul(face: &Face, buffer: &mut hb_buffer_t) -> Result<(), ShapeC
     hangul::preprocess_text(face, buffer)
 }
 
-/// Changes a text's characters: the vowels of Thai and Lao with two parts, the syllables of Hangul.
+/// Changes a text's characters before they are normalized (`preprocess_text`): SARA AM of Thai and AM of Lao, and
+/// Hangul syllables.
 ///
 /// # Errors
 ///
-/// `TooLong` where the text would grow past its limit, or want of memory.
+/// `TooLong` where the text would have more characters than the buffer may hold, or lack of memory.
 #[tactic(auto, using(crate::proofs::Kept::unchanged_followed))]
 pub fn preprocess_text<D>(
     shaper: hb_ot_script_shaper_t,

@@ -1,4 +1,4 @@
-//! The masks and categories of the universal shaper.
+//! The masks and categories of the universal shaper (rustybuzz: hb/ot_shaper_use.rs).
 ghost use Rattle.std.specs.Prelude.{◌≡◌, codes, List, ℕ};
 ghost use Rattle.buffer_stages.specs.Ready.{IsReady};
 ghost use Rattle.buffer_stages.specs.Stages.{IsFollowed};
@@ -18,7 +18,7 @@ use layout_map::map::hb_ot_map_t;
 use script_pauses::categories::set_universal_categories;
 use script_syllabic::forms::FormMasks;
 
-/// Scripts whose letters join as those of Arabic.
+/// The scripts whose letters join as Arabic ones do.
 const JOINING: [Script; 13] = [
     ADLAM,
     ARABIC,
@@ -35,8 +35,7 @@ const JOINING: [Script; 13] = [
     SYRIAC,
 ];
 
-/// Gives letters their forms where those of the script join, and each character its category. It takes linear time and no
-/// memory.
+/// Sets the forms of letters in scripts that join, and each character's category. It takes linear time and no memory.
 #[tactic(auto, using(script_pauses::proofs::Lemmas::Quiet::followed_then))]
 pub fn setup_masks(
     map: &hb_ot_map_t,
@@ -67,7 +66,7 @@ fn join_letters(
     }
 }
 
-/// Whether letters of a script join as those of Arabic.
+/// Whether the letters of a script join as Arabic ones do (`has_arabic_joining`).
 fn letters_join(script: Option<Script>) -> bool
     ensures { result ≡ letters_join script }
 {
@@ -77,14 +76,14 @@ fn letters_join(script: Option<Script>) -> bool
     }
 }
 
-/// The mask of the glyphs that may become a reph.
+/// The mask of the feature rphf.
 pub fn rphf_mask(map: &hb_ot_map_t) -> hb_mask_t
     ensures { result ≡ mask_at_one (codes "rphf") map.now }
 {
     map.get_1_mask(Tag::from_bytes(b"rphf"))
 }
 
-/// The masks of the forms of syllables; none where letters of the script join.
+/// The masks of the topographical forms; none where the script's letters join.
 pub fn form_masks(map: &hb_ot_map_t, script: Option<Script>) -> Option<FormMasks>
     ensures { result ≡ form_masks map.now script }
 {
@@ -99,7 +98,7 @@ pub fn form_masks(map: &hb_ot_map_t, script: Option<Script>) -> Option<FormMasks
     })
 }
 
-/// The mask of a form; one that all glyphs have is none.
+/// The mask of a form's feature; 0 where it is the mask of every glyph.
 fn form_mask(map: &hb_ot_map_t, tag: Tag) -> hb_mask_t
     ensures { result ≡ form_mask tag map.now }
 {

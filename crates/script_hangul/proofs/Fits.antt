@@ -36,7 +36,7 @@ letters_fit font o k n ge le there = by_case o
     by_case None = apart_fits
     by_case (Some u) = either (has_character font u) (Compose k u) (Apart k) n (compose_fits u) apart_fits
 
--- a character stands there only where there are so many
+-- an index has a character only where the list is that long
 abbrev pub Within : ℕ → Option ℕ → ℕ → Type 0
 Within k None n = Unit {0}
 Within k (Some u) n = k < n

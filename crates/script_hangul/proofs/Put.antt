@@ -1,4 +1,4 @@
--- Letters, syllables and tone marks that went behind the output.
+-- Letters, syllables and tone marks that were appended to the output.
 use Rattle.std.proofs.Common.{ℕ, ◌≡◌, ◌<◌, ◌+◌, ◌-◌, Bool, true, false, if◌then◌else◌, List, [], ◌∷◌, ◌++◌, Some, length, take, drop, arith, refl, ap, ap₂, sym, subst, ◌∙◌, append_assoc}
 use Rattle.std.specs.Prelude.{slice_get}
 use Rattle.std.proofs.lemmas.List.{append-nil, drop-drop, length-append, length-drop, length-map, length-take-le, take-append-le, drop-append-le}
@@ -32,7 +32,7 @@ first_seen g (h ∷ gs) at = let e : h ≡ g = cc in ap (λ k. item_of k ∷ str
 seen_long : (s : Sides) → length (strip s.behind) ≡ length s.behind
 seen_long s = length-map s.behind item_of
 
--- how many are behind
+-- the number of output items
 behind_long : (o r : List Item) (es : List Event) (s t : Sides) → Walked o r es s t → length t.behind ≡ length o
 behind_long o r es s t w = sym (length-map t.behind item_of) ∙ ap (λ (xs : List Item). length xs) w.behind
 
@@ -86,7 +86,7 @@ two_letters s a b w v =
     ∙ append_assoc bs (letters_from 1 (take 1 xs)) (letters_from 2 (take 1 (drop 1 xs))) ∙ ap (λ ys. bs ++ ys) (letters_two xs))
     (ap (drop 1) w.ahead ∙ drop-drop 1 1 xs) refl
 
--- what was brought behind the output becomes a grapheme
+-- the output items of a syllable become a grapheme
 pub then_merged : (o r : List Item) (es : List Event) (at n : ℕ) (s m t : Sides) → Walked o r es s m → Walked (strip m.behind) (strip m.ahead) (grapheme_merged m.level at n) m t → Walked o r (es ++ grapheme_merged s.level at n) s t
 then_merged o r es at n s m t w v =
     let both = both_walked o r (strip m.behind) (strip m.ahead) es (grapheme_merged m.level at n) s m t w v in
@@ -206,7 +206,7 @@ joined_long (Two l v) [] e lt = absurd (omega (arith, lt))
 joined_long (Two l v) (x ∷ []) e lt = absurd (omega (arith, lt))
 joined_long (Two l v) (x ∷ y ∷ xs) e lt = refl
 
--- a letter that was too many behind two
+-- a third letter after two that makes the list too long
 pub joined_exceeds : (letters : Letters) (joins : Bool) (e : ShapeCause) (s m : Sides) → joins ≡ true → is_two letters ≡ true → 1 < length s.ahead
     → Walked (strip s.behind ++ letters_from 1 (parted letters (strip s.ahead))) (drop 1 (strip s.ahead)) (Replace (length s.behind) 1 (length (numbers_of letters)) ∷ []) s m
     → Exceeds (length m.behind + 1) e m → Refuses (split letters (if joins then 1 else 0) (strip s.behind) (strip s.ahead)) e s
@@ -247,7 +247,7 @@ none_left : (xs : List Item) → drop (length xs) xs ≡ []
 none_left [] = refl
 none_left (x ∷ xs) = none_left xs
 
--- one behind others comes to stand before some of them
+-- an output item after others is moved before some of them
 put_moved : (start n : ℕ) (bs one : List Item) → start + n ≡ length bs → length one ≡ 1 → moved start n 1 (bs ++ one) ≡ take start bs ++ (one ++ drop start bs)
 put_moved start n bs one sum long =
     let past : start + (n + 1) ≡ length bs + 1 = omega (arith, sum) in

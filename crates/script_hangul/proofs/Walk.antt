@@ -24,7 +24,7 @@ use Rattle.script_hangul.specs.Hangul.{character_at, events_behind, step, step_b
 use Rattle.script_hangul.specs.Stepped.{Passes, Stepped}
 use Rattle.buffer_stages.proofs.Lemmas.Fitting.{limit_same, written_exceed, written_fit}
 
--- what is behind and ahead comes to what all does
+-- the output and input together are what the whole walk makes
 pub record IsUnderway (font : FaceParts) (circles : Bool) (left start : ℕ) (s t : Sides) : Type 0 where
   pub events : List Event
   pub walked : Walked (strip t.behind) (strip t.ahead) events s t
@@ -80,7 +80,7 @@ stepped_more font circles k start n s t u h some d = by_ahead t.ahead refl
           few = omega (arith, fewer, a, b, c, few, some);
         }
 
--- nothing is ahead
+-- the input is empty
 still_more : (font : FaceParts) (circles : Bool) (k start : ℕ) (s t : Sides) → IsUnderway font circles (suc k) start s t → length t.ahead ≡ 0 → IsUnderway font circles k start s t
 still_more font circles k start s t h none = by_ahead t.ahead refl
   where

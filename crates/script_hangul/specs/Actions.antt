@@ -1,4 +1,4 @@
--- What becomes of a letter or a syllable of Hangul, by the characters after it and the font.
+-- The action on a jamo or a syllable of Hangul, by the next characters and the font.
 use Rattle.std.specs.Prelude.{ℕ, Bool, true, false, ◌&&◌, if◌then◌else◌, is_some, Option, Some, None}
 use Rattle.layout_face.specs.declared.parts.FaceParts.{FaceParts}
 use Rattle.layout_face.specs.Glyphs.{nominal_glyph}
@@ -9,55 +9,61 @@ use Rattle.script_hangul.specs.declared.actions.Action.{Action}
 use Rattle.script_hangul.specs.declared.actions.Action.TheVariants.{Keep, Apart, Compose, Split}
 use Rattle.script_hangul.specs.Jamo.{is_leading, is_vowel, is_trailing, is_syllable, whole_of, letters_of}
 
+-- the font has a glyph of the character
 abbrev pub has_character : FaceParts → ℕ → Bool
 has_character font u = is_some (nominal_glyph u font)
 
+-- the font has glyphs of all the jamo
 abbrev pub has_letters : FaceParts → Letters → Bool
 has_letters font (Two l v) = has_character font l && has_character font v
 has_letters font (Three l v t) = has_character font l && has_character font v && has_character font t
 
--- letters are composed where the font has their syllable, else they stay apart
+-- the action on jamo that may compose: to their syllable where the font has it, else apart
 abbrev pub letters_action : FaceParts → Option ℕ → ℕ → Action
 letters_action font None n = Apart n
 letters_action font (Some u) n = if has_character font u then Compose n u else Apart n
 
--- a character that is a trailing consonant
+-- the character, if it is a trailing consonant
 abbrev pub trailing_of : Option ℕ → Option ℕ
 trailing_of None = None
 trailing_of (Some u) = if is_trailing u then Some u else None
 
--- a leading consonant begins a syllable with a vowel and perhaps a trailing consonant after it
+-- the action on a leading consonant: with a vowel and an optional trailing consonant after it, it begins a syllable
 abbrev pub leading_action : FaceParts → ℕ → Option ℕ → Option ℕ → Action
 leading_action font l None t = Keep false
 leading_action font l (Some v) t = if is_vowel v then letters_action font (whole_of l v t) (if is_some t then 3 else 2) else Keep false
 
+-- the action on a syllable by its jamo: decomposed where the font has them all, else kept
 abbrev pub split_by : FaceParts → ℕ → Bool → Option Letters → Action
 split_by font u joins None = Keep (has_character font u)
 split_by font u joins (Some letters) = if has_letters font letters then Split letters joins else Keep (has_character font u)
 
--- a syllable is split where the font has all its letters
+-- the action that decomposes a syllable where the font has all its jamo
 abbrev pub split_action : FaceParts → ℕ → Bool → Action
 split_action font u joins = split_by font u joins (letters_of u)
 
+-- the action on a syllable by its jamo: one of two jamo is decomposed for the trailing consonant, any other is kept
 abbrev pub open_by : FaceParts → ℕ → Option Letters → Action
 open_by font u None = Keep true
 open_by font u (Some (Two l v)) = split_action font u true
 open_by font u (Some (Three l v t)) = Keep true
 
--- a syllable before a trailing consonant that stays apart: one that the font lacks is split for itself; one that it has is split where it has no such consonant yet, and takes this one
+-- the action on a syllable before a trailing consonant that it doesn't compose with: a syllable that the font lacks is
+-- decomposed by itself; one that it has is decomposed where it has no trailing consonant yet, and takes this one
 abbrev pub before_trailing : FaceParts → ℕ → Action
 before_trailing font u = if has_character font u then open_by font u (letters_of u) else split_action font u false
 
--- a syllable and a trailing consonant after it are composed where the font has the result
+-- the action on a syllable and the trailing consonant after it: composed where the font has the result
 abbrev pub joining_action : FaceParts → ℕ → Option ℕ → Action
 joining_action font u None = before_trailing font u
 joining_action font u (Some whole) = if has_character font whole then Compose 2 whole else before_trailing font u
 
+-- the action on a syllable, which a trailing consonant may follow
 abbrev pub syllable_action : FaceParts → ℕ → Option ℕ → Action
 syllable_action font u None = if has_character font u then Keep true else split_action font u false
 syllable_action font u (Some t) = joining_action font u (hangul_pair u t)
 
--- what becomes of a character that two others follow, if they do
+-- the action on a character, by the next two characters (HarfBuzz: preprocess_text_hangul)
 abbrev pub action_on : FaceParts → ℕ → Option ℕ → Option ℕ → Action
 action_on font u second third =
     if is_leading u then leading_action font u second (trailing_of third)

@@ -1,4 +1,5 @@
--- Hangul: a text whose syllables are composed or split as the font wants it, and whose tone marks come to stand before them.
+-- Hangul: a text with its syllables composed or decomposed as the font requires, and tone marks moved before their
+-- syllables.
 use Rattle.std.specs.Prelude.{ℕ, zero, suc, ◌+◌, ◌==◌, not, ◌&&◌, ◌||◌, Bool, false, nat_le, nat_lt, if◌then◌else◌, List, [], ◌∷◌, ◌++◌, length, drop, slice_get, Option, Some, None, Ok, Err}
 use Rattle.std.specs.Int.RustNames.{bit_and}
 use Rattle.buffer_glyphs.specs.declared.cause.ShapeCause.TheVariants.{TooLong}
@@ -13,7 +14,7 @@ use Rattle.script_hangul.specs.Jamo.{is_tone}
 use Rattle.script_hangul.specs.Actions.{action_on}
 use Rattle.script_hangul.specs.Steps.{Step, kept, performed, toned}
 
--- circles are not switched off
+-- DO_NOT_INSERT_DOTTED_CIRCLE is not set
 abbrev pub wants_circles : BufferFlags → Bool
 wants_circles flags = not (bit_and flags.0 16 == 16)
 
@@ -21,23 +22,26 @@ wants_circles flags = not (bit_and flags.0 16 == 16)
 abbrev pub is_character : ℕ → Bool
 is_character u = nat_lt u 0xD800 || (nat_le 0xE000 u && nat_le u 0x10FFFF)
 
+-- the character of an item, if there is one and it is a scalar value
 abbrev pub character_by : Option Item → Option ℕ
 character_by None = None
 character_by (Some x) = if is_character x.number then Some x.number else None
 
--- the character at a place, if one stands there
+-- the character at an index, if there is one
 abbrev pub character_at : ℕ → List Item → Option ℕ
 character_at i xs = character_by (slice_get xs i)
 
--- what becomes of the front of the rest, by its first character, after a text that ends with a syllable from a place on, or with none
+-- the step at the next characters, by the first of them, after a text that ends with a syllable from an index on, or
+-- with none
 abbrev pub step_by : FaceParts → Bool → ℕ → Option ℕ → List Item → List Item → Step
 step_by font circles n None out xs = kept false out xs
 step_by font circles n (Some u) out xs = if is_tone u then toned font circles n u out xs else performed (action_on font u (character_at 1 xs) (character_at 2 xs)) out xs
 
+-- the step at the next characters of a text
 abbrev pub step : FaceParts → Bool → ℕ → List Item → List Item → Step
 step font circles n out xs = step_by font circles n (character_at 0 xs) out xs
 
--- a text after what came of the text before it, in at most so many steps
+-- the text after that many steps at most, by the text before and the rest
 abbrev pub text_behind : FaceParts → Bool → ℕ → ℕ → List Item → List Item → List Item
 text_behind font circles steps n out [] = out
 text_behind font circles zero n out (x ∷ xs) = out
@@ -45,6 +49,7 @@ text_behind font circles (suc steps) n out (x ∷ xs) =
     let s : Step = step font circles n out (x ∷ xs) in
     text_behind font circles steps s.start s.out (drop (s.more + 1) (x ∷ xs))
 
+-- the events of that many steps at most
 abbrev pub events_behind : FaceParts → Bool → BufferClusterLevel → ℕ → ℕ → List Item → List Item → List Event
 events_behind font circles level steps n out [] = []
 events_behind font circles level zero n out (x ∷ xs) = []
@@ -52,7 +57,8 @@ events_behind font circles level (suc steps) n out (x ∷ xs) =
     let s : Step = step font circles n out (x ∷ xs) in
     s.events level ++ events_behind font circles level steps s.start s.out (drop (s.more + 1) (x ∷ xs))
 
--- a text of Hangul, where it does not grow past the limit; each step takes an item at least, so as many steps as there are items are enough
+-- the stage of a Hangul text, where the result is within the limit; each step consumes an item, so as many steps as
+-- items are enough
 abbrev pub syllables_formed : FaceParts → BufferFlags → Stage
 syllables_formed font flags v =
     let xs : List Item = text_behind font (wants_circles flags) (length v.items) 0 [] v.items in

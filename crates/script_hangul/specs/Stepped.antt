@@ -12,26 +12,27 @@ use Rattle.layout_face.specs.declared.parts.FaceParts.{FaceParts}
 use Rattle.script_hangul.specs.Steps.{Step}
 use Rattle.script_hangul.specs.Hangul.{step}
 
--- a step was done, and a call tells where the syllable begins that ends the text
+-- a step was made, and the call returns the start of the syllable that ends the text
 pub record Stepped (s : Step) (n : ℕ) (old new : Sides) : Type 0 where
   pub walked : Walked s.out (drop (s.more + 1) (strip old.ahead)) (s.events old.level) old new
   pub start : n ≡ s.start
 
--- it refuses for want of memory, or as what came of it is too long
+-- the step fails for lack of memory, or because its result is too long
 abbrev pub Refuses : Step → ShapeCause → Sides → Type 0
 Refuses s e old = Exceeds (length s.out) e old
 
+-- a syllable has two jamo
 abbrev pub is_two : Letters → Bool
 is_two (Two l v) = true
 is_two (Three l v t) = false
 
--- an action has the items that it takes: two or three letters stay apart, and two are joined by a third
+-- the input has the items that an action takes: two or three jamo that stay apart, and the consonant that joins two
 abbrev pub fits_ahead : Action → ℕ → Bool
 fits_ahead (Keep whole) n = nat_lt 0 n
 fits_ahead (Apart k) n = nat_le 2 k && nat_le k 3 && nat_le k n
 fits_ahead (Compose k u) n = nat_lt 0 k && nat_le k n
 fits_ahead (Split letters joins) n = if joins then nat_lt 1 n && is_two letters else nat_lt 0 n
 
--- a step was done where there is something ahead, and nothing where there is not
+-- a step was made where there is an input item, and nothing changed where there is none
 abbrev pub Passes : FaceParts → Bool → ℕ → ℕ → Sides → Sides → Type 0
 Passes font circles start n old new = ((length old.ahead ≡ 0) × ((n ≡ start) × (new ≡ old))) ⊎ ((0 < length old.ahead) × Stepped (step font circles start (strip old.behind) (strip old.ahead)) n old new)

@@ -1,4 +1,4 @@
--- What becomes of the front of the rest of a text, and of the text before it.
+-- One step of the walk over a Hangul text: the next characters, and the text before them.
 use Rattle.std.specs.Prelude.{ℕ, ◌+◌, ◌-◌, ◌==◌, ◌&&◌, Bool, false, nat_lt, if◌then◌else◌, List, [], ◌∷◌, ◌++◌, length, map, take, drop}
 use Rattle.std.specs.Option.{option_map_or}
 use Rattle.buffer_glyphs.specs.declared.level.BufferClusterLevel.{BufferClusterLevel}
@@ -18,53 +18,56 @@ use Rattle.script_hangul.specs.declared.actions.Action.{Action}
 use Rattle.script_hangul.specs.declared.actions.Action.TheVariants.{Keep, Apart, Compose, Split}
 use Rattle.script_hangul.specs.Actions.{has_character}
 
+-- the result of one step
 pub record Step : Type 0 where
-  -- the text up to there
+  -- the text so far
   pub out : List Item
   pub events : BufferClusterLevel → List Event
-  -- how many items after the first it took
+  -- the number of items after the first that the step took
   pub more : ℕ
-  -- where the syllable begins that ends the text and a tone mark may follow; with none, where the text ends
+  -- the start of the syllable that ends the text and that a tone mark may follow; without one, the text's length
   pub start : ℕ
 
 -- ---- syllables
 
--- a letter marked with its place in a syllable: 1, 2, 3
+-- a jamo with its feature: 1 ljmo, 2 vjmo, 3 tjmo
 abbrev pub placed : ℕ → Item → Item
 placed n x = record x { auxiliary = n }
 
+-- jamo with features from a number on
 abbrev pub letters_from : ℕ → List Item → List Item
 letters_from n [] = []
 letters_from n (x ∷ xs) = placed n x ∷ letters_from (n + 1) xs
 
--- the letters of a syllable are one grapheme
+-- the merge of a syllable's jamo into one grapheme
 abbrev pub grapheme_merged : BufferClusterLevel → ℕ → ℕ → List Event
 grapheme_merged MonotoneGraphemes at n = Merge InOutput at (at + n) ∷ []
 grapheme_merged MonotoneCharacters at n = []
 grapheme_merged Characters at n = []
 
--- the first stays as it is
+-- the step that keeps the first item
 abbrev pub kept : Bool → List Item → List Item → Step
 kept whole out xs = record { out = out ++ take 1 xs; events = λ level. []; more = 0; start = if whole then length out else length (out ++ take 1 xs) }
 
--- so many letters stay apart, as one syllable
+-- the step that keeps that many jamo apart, as one syllable
 abbrev pub apart : ℕ → List Item → List Item → Step
 apart n out xs = record { out = out ++ letters_from 1 (take n xs); events = λ level. grapheme_merged level (length out) n; more = n - 1; start = length out }
 
--- so many items become one syllable. A letter stays a letter, so only the number of the first changes
+-- the step that composes that many items to one syllable; only the character of the first changes
 abbrev pub composed : ℕ → ℕ → List Item → List Item → Step
 composed n u out xs = record { out = out ++ renumbered_first u xs; events = λ level. Replace (length out) n 1 ∷ []; more = n - 1; start = length out }
 
+-- the characters of jamo
 abbrev pub numbers_of : Letters → List ℕ
 numbers_of (Two l v) = l ∷ v ∷ []
 numbers_of (Three l v t) = l ∷ v ∷ t ∷ []
 
--- the letters of the syllable that stands first
+-- the jamo of the syllable that is first
 abbrev pub parted : Letters → List Item → List Item
 parted letters [] = []
 parted letters (x ∷ xs) = map (item_numbered x) (numbers_of letters)
 
--- a syllable becomes its letters, with so many letters after it
+-- the step that decomposes a syllable, with that many jamo after it
 abbrev pub split : Letters → ℕ → List Item → List Item → Step
 split letters n out xs = record {
   out = out ++ letters_from 1 (parted letters xs ++ take n (drop 1 xs));
@@ -73,6 +76,7 @@ split letters n out xs = record {
   start = length out;
 }
 
+-- the step of an action
 abbrev pub performed : Action → List Item → List Item → Step
 performed (Keep whole) out xs = kept whole out xs
 performed (Apart n) out xs = apart n out xs
@@ -81,14 +85,15 @@ performed (Split letters joins) out xs = split letters (if joins then 1 else 0) 
 
 -- ---- tone marks
 
--- the font has a glyph of no width for it
+-- the font has a glyph with advance 0 for the character
 abbrev pub has_no_width : FaceParts → ℕ → Bool
 has_no_width font u = option_map_or (λ glyph. width_of glyph font == 0) (nominal_glyph u font) false
 
--- the mark comes to stand before what the text has from a place on
+-- a text with the mark inserted at an index, before its last syllable
 abbrev pub put_before : ℕ → List Item → List Item → List Item
 put_before start out xs = take start out ++ (take 1 xs ++ drop start out)
 
+-- the step that moves a tone mark before the syllable it follows
 abbrev pub before_syllable : ℕ → List Item → List Item → Step
 before_syllable start out xs = record {
   out = put_before start out xs;
@@ -97,22 +102,25 @@ before_syllable start out xs = record {
   start = length (put_before start out xs);
 }
 
+-- U+25CC DOTTED CIRCLE
 abbrev pub DOTTED_CIRCLE : ℕ
 DOTTED_CIRCLE = 0x25CC
 
--- a circle for a mark to stand on
+-- the dotted circle of a mark
 abbrev pub circle_for : Item → Item
 circle_for x = record x { number = DOTTED_CIRCLE; unicode_props = properties_of DOTTED_CIRCLE; class = 0 }
 
--- a mark of no width stands after its circle
+-- a mark and its dotted circle: a mark with advance 0 follows the circle
 abbrev pub circled : Bool → List Item → List Item
 circled thin [] = []
 circled thin (x ∷ xs) = if thin then circle_for x ∷ x ∷ [] else x ∷ circle_for x ∷ []
 
+-- the step that gives a mark a dotted circle
 abbrev pub with_circle : Bool → List Item → List Item → Step
 with_circle thin out xs = record { out = out ++ circled thin xs; events = λ level. Replace (length out) 1 2 ∷ []; more = 0; start = length (out ++ circled thin xs) }
 
--- a tone mark goes before the syllable that it follows, where it has a width; without one it gets a circle, where circles are not switched off and the font has one
+-- the step at a tone mark: one with an advance is moved before the syllable that it follows; one without a syllable
+-- gets a dotted circle, unless circles are switched off or the font lacks one
 abbrev pub toned : FaceParts → Bool → ℕ → ℕ → List Item → List Item → Step
 toned font circles start u out xs =
     if nat_lt start (length out)

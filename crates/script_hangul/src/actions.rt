@@ -1,4 +1,5 @@
-//! What becomes of a letter or a syllable, by the characters after it and the font.
+//! The choice of what is done with a jamo, a syllable or a tone mark, by the next characters and the font
+//! (rustybuzz: hb/ot_shaper_hangul.rs).
 ghost use Rattle.std.specs.Prelude.{◌≡◌};
 ghost use Rattle.script_hangul.specs.Actions.{action_on, before_trailing, has_letters, joining_action, leading_action, letters_action, split_action, syllable_action, trailing_of};
 
@@ -6,20 +7,20 @@ use crate::jamo::{Letters, is_leading, is_syllable, is_trailing, is_vowel, lette
 use buffer_unicode_tables::compose_hangul;
 use layout_face::Face;
 
-/// What becomes of the characters at the front of a text.
+/// The action on the next characters of a text.
 #[derive(Clone, Copy)]
 pub enum Action {
-    /// The first stays; whether a tone mark may follow it as a syllable.
+    /// Keeps the first character; the flag says whether a tone mark may follow it as a syllable.
     Keep(bool),
-    /// So many letters stay apart, as one syllable.
+    /// Keeps that many jamo apart, as one syllable.
     Apart(usize),
-    /// So many characters become a syllable.
+    /// Composes that many characters to a syllable.
     Compose(usize, char),
-    /// A syllable becomes its letters; whether a trailing consonant after it joins them.
+    /// Decomposes a syllable into its jamo; the flag says whether the trailing consonant after it joins them.
     Split(Letters, bool),
 }
 
-/// What becomes of a character that two others follow, if they do.
+/// The action on a character, by the next two characters where there are any.
 pub fn action_on(face: &Face, u: char, second: Option<char>, third: Option<char>) -> Action
     ensures { result ≡ action_on face.now u second third }
 {
@@ -32,7 +33,7 @@ pub fn action_on(face: &Face, u: char, second: Option<char>, third: Option<char>
     Action::Keep(false)
 }
 
-/// A character that is a trailing consonant.
+/// The character, if it is a trailing consonant.
 fn trailing_of(u: Option<char>) -> Option<char>
     ensures { result ≡ trailing_of u }
 {
@@ -42,7 +43,7 @@ fn trailing_of(u: Option<char>) -> Option<char>
     }
 }
 
-/// What becomes of a leading consonant.
+/// The action on a leading consonant.
 fn leading_action(face: &Face, l: char, second: Option<char>, t: Option<char>) -> Action
     ensures { result ≡ leading_action face.now l second t }
 {
@@ -58,7 +59,7 @@ fn leading_action(face: &Face, l: char, second: Option<char>, t: Option<char>) -
     }
 }
 
-/// What becomes of so many letters of a syllable that they may compose to.
+/// The action on that many jamo, which may compose to a syllable.
 fn letters_action(face: &Face, whole: Option<char>, count: usize) -> Action
     ensures { result ≡ letters_action face.now whole count }
 {
@@ -74,7 +75,7 @@ fn letters_action(face: &Face, whole: Option<char>, count: usize) -> Action
     }
 }
 
-/// What becomes of a syllable that a trailing consonant may follow.
+/// The action on a syllable, which a trailing consonant may follow.
 fn syllable_action(face: &Face, u: char, trailing: Option<char>) -> Action
     ensures { result ≡ syllable_action face.now u trailing }
 {
@@ -90,7 +91,7 @@ fn syllable_action(face: &Face, u: char, trailing: Option<char>) -> Action
     }
 }
 
-/// What becomes of a syllable and a trailing consonant after it that may compose.
+/// The action on a syllable and a trailing consonant after it, which may compose.
 fn joining_action(face: &Face, u: char, whole: Option<char>) -> Action
     ensures { result ≡ joining_action face.now u whole }
 {
@@ -106,7 +107,7 @@ fn joining_action(face: &Face, u: char, whole: Option<char>) -> Action
     }
 }
 
-/// What becomes of a syllable before a trailing consonant that stays apart.
+/// The action on a syllable before a trailing consonant that it doesn't compose with.
 fn before_trailing(face: &Face, u: char) -> Action
     ensures { result ≡ before_trailing face.now u }
 {
@@ -119,7 +120,7 @@ fn before_trailing(face: &Face, u: char) -> Action
     }
 }
 
-/// A syllable is split where the font has all its letters.
+/// Decomposes a syllable where the font has all its jamo.
 fn split_action(face: &Face, u: char, joins: bool) -> Action
     ensures { result ≡ split_action face.now u joins }
 {

@@ -1,4 +1,4 @@
-//! A text of Hangul.
+//! The Hangul shaper's preprocess_text (rustybuzz: hb/ot_shaper_hangul.rs).
 ghost use Rattle.std.specs.Prelude.{◌≡◌, ◌≢◌, ◌<◌, ◌≤◌, true, false, length, IfOk, OnOk, IfErr, Err};
 ghost use Rattle.buffer_glyphs.specs.Items.{strip};
 ghost use Rattle.buffer_core.specs.Readings.{read_of};
@@ -22,13 +22,13 @@ use buffer_glyphs::cause::ShapeCause;
 use buffer_stages::walks::finish;
 use layout_face::Face;
 
-/// Composes letters to syllables that the font has, and splits syllables that it lacks into letters; marks letters that
-/// stay apart with their place in the syllable; puts tone marks that have a width before the syllable that they follow,
-/// and others beside a circle. It takes linear time.
+/// Composes jamo to syllables that the font has, and decomposes syllables that it lacks; sets the feature of each jamo
+/// that stays by itself; moves a tone mark with an advance before the syllable that it follows, and gives a tone mark
+/// without a syllable a dotted circle (`preprocess_text`). It takes linear time.
 ///
 /// # Errors
 ///
-/// `TooLong` where the text would have more characters than the buffer may hold, or want of memory.
+/// `TooLong` where the text would have more characters than the buffer may hold, or lack of memory.
 pub fn preprocess_text(face: &Face, buffer: &mut hb_buffer_t) -> Result<(), ShapeCause>
     requires ready { IsReady buffer.old }
     ensures ok { OnOk result (IsFollowed (syllables_formed face.now buffer.old.flags) buffer.old buffer.new) }
@@ -52,8 +52,8 @@ fn wants_circles(flags: BufferFlags) -> bool
     !flags.contains(BufferFlags::DO_NOT_INSERT_DOTTED_CIRCLE)
 }
 
-/// What stands at the cursor goes behind it, if something does. Tells where the syllable begins that ends the output, or
-/// where the output ends.
+/// Outputs the current character and those that belong to it, if there is one. Returns the start of the syllable that
+/// ends the output, or the output's length.
 fn pass(
     face: &Face,
     circles: bool,
@@ -72,7 +72,7 @@ fn pass(
     Ok(next)
 }
 
-/// What stands at the cursor goes behind it.
+/// Outputs the current character and those that belong to it; returns the start of the last syllable.
 fn pass_next(
     face: &Face,
     circles: bool,
@@ -97,7 +97,7 @@ fn pass_next(
     }
 }
 
-/// A character at the cursor that is no tone mark goes behind it, with those that are of its syllable.
+/// Outputs a current character that is no tone mark, with those of its syllable.
 fn pass_other(face: &Face, u: char, buffer: &mut hb_buffer_t) -> Result<usize, ShapeCause>
     requires open { buffer.old.is_open ≡ true }
     requires there { 0 < length buffer.old.ahead }
@@ -113,7 +113,7 @@ fn pass_other(face: &Face, u: char, buffer: &mut hb_buffer_t) -> Result<usize, S
     perform(action, buffer)
 }
 
-/// The character at a place from the cursor on, if one stands there.
+/// The i-th character from the cursor on, if there is one.
 fn character_at(i: usize, buffer: &hb_buffer_t) -> Option<char>
     ensures { result ≡ character_at i (strip buffer.now.ahead) }
 {

@@ -1,10 +1,10 @@
-//! The letters of Hangul (The Unicode Standard, section 3.12).
+//! The classes of Hangul jamo and syllables (The Unicode Standard, section 3.12; rustybuzz: hb/ot_shaper_hangul.rs).
 ghost use Rattle.std.specs.Prelude.{◌≡◌};
 ghost use Rattle.script_hangul.specs.Jamo.{is_leading, is_syllable, is_tone, is_trailing, is_vowel, letters_of, whole_of};
 
 use buffer_unicode_tables::{compose_hangul, decompose_hangul};
 
-/// The letters of a syllable.
+/// The jamo of a syllable.
 #[derive(Clone, Copy)]
 pub enum Letters {
     Two(char, char),
@@ -18,6 +18,7 @@ pub fn is_leading(u: char) -> bool
     matches!(u, '\u{1100}'..='\u{115F}' | '\u{A960}'..='\u{A97C}')
 }
 
+/// Whether it is a vowel.
 pub fn is_vowel(u: char) -> bool
     ensures { result ≡ is_vowel u }
 {
@@ -45,7 +46,8 @@ pub fn is_tone(u: char) -> bool
     matches!(u, '\u{302E}' | '\u{302F}')
 }
 
-/// The syllable of a leading consonant, a vowel and perhaps a trailing consonant, where all of them compose.
+/// The syllable of a leading consonant, a vowel and an optional trailing consonant, where they compose (The Unicode
+/// Standard, 3.12.2).
 pub(crate) fn whole_of(l: char, v: char, t: Option<char>) -> Option<char>
     ensures { result ≡ whole_of l v t }
 {
@@ -56,7 +58,7 @@ pub(crate) fn whole_of(l: char, v: char, t: Option<char>) -> Option<char>
     }
 }
 
-/// The letters of a syllable, none of another character.
+/// The jamo of a syllable, none for another character (The Unicode Standard, 3.12.3).
 pub fn letters_of(syllable: char) -> Option<Letters>
     ensures { result ≡ letters_of syllable }
 {

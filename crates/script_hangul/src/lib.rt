@@ -1,4 +1,4 @@
-// Hangul: syllables are composed or split as the font wants it, and tone marks come to stand before them.
+//! Hangul: composes or decomposes syllables as the font requires, and moves tone marks before their syllables.
 #![tactic(auto)]
 
 pub mod actions;

@@ -1,4 +1,4 @@
-//! The masks of the letters of Hangul.
+//! The masks of Hangul jamo (rustybuzz: hb/ot_shaper_hangul.rs).
 ghost use Rattle.std.specs.Prelude.{◌≡◌};
 ghost use Rattle.std.specs.Int.RustNames.{bit_and};
 ghost use Rattle.buffer_glyphs.specs.Items.{item_of};
@@ -13,7 +13,7 @@ use buffer_core::buffer::hb_buffer_t;
 use buffer_glyphs::info::{hb_glyph_info_t, hb_mask_t};
 use buffer_stages::glyphs::map_glyphs;
 
-/// The masks of the features for the letters of a syllable, by their places in it.
+/// The masks of the features ljmo, vjmo and tjmo.
 #[derive(Clone, Copy)]
 pub struct JamoMasks {
     pub ljmo: hb_mask_t,
@@ -21,8 +21,7 @@ pub struct JamoMasks {
     pub tjmo: hb_mask_t,
 }
 
-/// Joins to the mask of each letter that stands for itself that of the feature of its place. It takes linear time and no
-/// memory.
+/// Adds to the mask of each jamo the mask of its feature (`setup_masks`). It takes linear time and no memory.
 pub fn setup_masks(masks: &JamoMasks, buffer: &mut hb_buffer_t)
     requires ready { IsReady buffer.old }
     requires flagless { AreFlagless masks.now }
@@ -31,7 +30,7 @@ pub fn setup_masks(masks: &JamoMasks, buffer: &mut hb_buffer_t)
     map_glyphs(buffer, |glyph| with_place_mask(masks, glyph));
 }
 
-/// A glyph with the mask of its place.
+/// A glyph with the mask of its jamo feature.
 #[tactic(auto, using(crate::proofs::Masked::masked_item, crate::proofs::Masked::masked_origin))]
 fn with_place_mask(masks: &JamoMasks, glyph: &hb_glyph_info_t) -> hb_glyph_info_t
     requires flagless { AreFlagless masks.now }
@@ -44,7 +43,7 @@ fn with_place_mask(masks: &JamoMasks, glyph: &hb_glyph_info_t) -> hb_glyph_info_
     }
 }
 
-/// The mask of a place in a syllable.
+/// The mask of a jamo feature.
 fn mask_of(masks: &JamoMasks, place: u8) -> hb_mask_t
     ensures { result ≡ mask_of masks.now place }
 {

@@ -1,4 +1,4 @@
-//! What becomes of characters, done on a buffer.
+//! Performs the chosen action on a buffer with an open output (rustybuzz: hb/ot_shaper_hangul.rs).
 ghost use Rattle.std.specs.Prelude.{◌≡◌, if◌then◌else◌, ◌<◌, ◌≤◌, ◌+◌, ◌++◌, ◌∷◌, [], true, drop, length, take, slice_get, Some, IfOk, IfErr, OnOk};
 ghost use Rattle.buffer_glyphs.specs.Items.{item_of, strip};
 ghost use Rattle.buffer_glyphs.specs.Origins.{origin_of};
@@ -16,15 +16,17 @@ use buffer_glyphs::info::hb_glyph_info_t;
 use buffer_glyphs::level::BufferClusterLevel;
 use buffer_stages::walks::{advance, advance_as, merge_behind, replace_current, replace_front};
 
-/// What the letters of a syllable are marked with: their places in it.
+/// The jamo features, as `auxiliary` of a glyph: 1 ljmo, 2 vjmo, 3 tjmo.
 pub const LJMO: u8 = 1;
 
+/// The number of the feature vjmo.
 pub const VJMO: u8 = 2;
 
+/// The number of the feature tjmo.
 pub const TJMO: u8 = 3;
 
-/// Does what an action says to the characters at the cursor. Tells where the syllable begins that ends the output and a
-/// tone mark may follow, or where the output ends.
+/// Performs an action on the characters at the cursor. Returns the start of the syllable that ends the output and that
+/// a tone mark may follow, or the output's length.
 pub(crate) fn perform(action: Action, buffer: &mut hb_buffer_t) -> Result<usize, ShapeCause>
     requires open { buffer.old.is_open ≡ true }
     requires there { fits_ahead action (length buffer.old.ahead) ≡ true }
@@ -41,7 +43,7 @@ pub(crate) fn perform(action: Action, buffer: &mut hb_buffer_t) -> Result<usize,
     }
 }
 
-/// The character at the cursor stays as it is.
+/// Outputs the current character unchanged.
 pub(crate) fn keep(is_whole: bool, buffer: &mut hb_buffer_t) -> Result<usize, ShapeCause>
     requires open { buffer.old.is_open ≡ true }
     requires there { 0 < length buffer.old.ahead }
@@ -59,7 +61,7 @@ pub(crate) fn keep(is_whole: bool, buffer: &mut hb_buffer_t) -> Result<usize, Sh
     Ok(end)
 }
 
-/// So many characters at the cursor become a syllable.
+/// Composes that many characters at the cursor to a syllable.
 fn compose(count: usize, u: char, buffer: &mut hb_buffer_t) -> Result<usize, ShapeCause>
     requires open { buffer.old.is_open ≡ true }
     requires some { 0 < count }
@@ -74,7 +76,7 @@ fn compose(count: usize, u: char, buffer: &mut hb_buffer_t) -> Result<usize, Sha
     Ok(at)
 }
 
-/// Two or three letters at the cursor stay apart, as one syllable.
+/// Outputs two or three jamo as one syllable.
 fn put_apart(count: usize, buffer: &mut hb_buffer_t) -> Result<usize, ShapeCause>
     requires open { buffer.old.is_open ≡ true }
     requires there { fits_ahead (Action.Apart count) (length buffer.old.ahead) ≡ true }
@@ -94,7 +96,7 @@ fn put_apart(count: usize, buffer: &mut hb_buffer_t) -> Result<usize, ShapeCause
     Ok(at)
 }
 
-/// The letter at the cursor goes behind it, marked with its place in a syllable.
+/// Outputs the current jamo, with its feature.
 fn put_letter(place: u8, buffer: &mut hb_buffer_t) -> Result<(), ShapeCause>
     requires open { buffer.old.is_open ≡ true }
     requires there { 0 < length buffer.old.ahead }
@@ -107,7 +109,7 @@ fn put_letter(place: u8, buffer: &mut hb_buffer_t) -> Result<(), ShapeCause>
     Ok(())
 }
 
-/// A letter marked with its place in a syllable.
+/// A jamo with its feature.
 fn placed(glyph: &hb_glyph_info_t, place: u8) -> hb_glyph_info_t
     ensures item { item_of result ≡ placed place (item_of glyph.now) }
     ensures origin { origin_of result ≡ origin_of glyph.now }
@@ -118,7 +120,7 @@ fn placed(glyph: &hb_glyph_info_t, place: u8) -> hb_glyph_info_t
     }
 }
 
-/// A letter of the syllable that a glyph is, marked with its place in it.
+/// A jamo of the syllable that a glyph shows, with its feature.
 fn letter_of(glyph: &hb_glyph_info_t, u: char, place: u8) -> hb_glyph_info_t
     ensures item { item_of result ≡ placed place (item_numbered (item_of glyph.now) u) }
     ensures origin { origin_of result ≡ origin_of glyph.now }
@@ -130,7 +132,7 @@ fn letter_of(glyph: &hb_glyph_info_t, u: char, place: u8) -> hb_glyph_info_t
     }
 }
 
-/// The glyphs of the output from a place on become one grapheme, where graphemes are to be clusters.
+/// Merges the output's glyphs from an index on into one grapheme, at level MonotoneGraphemes.
 fn merge_grapheme(at: usize, count: usize, buffer: &mut hb_buffer_t)
     requires open { buffer.old.is_open ≡ true }
     requires within { at + count ≡ length buffer.old.behind }
@@ -144,7 +146,7 @@ fn merge_grapheme(at: usize, count: usize, buffer: &mut hb_buffer_t)
     }
 }
 
-/// The third letter at the cursor goes behind the others, and all three become one grapheme.
+/// Outputs the third jamo after the other two, and merges all three into one grapheme.
 fn put_third(at: usize, buffer: &mut hb_buffer_t) -> Result<(), ShapeCause>
     requires open { buffer.old.is_open ≡ true }
     requires there { 0 < length buffer.old.ahead }
@@ -158,7 +160,7 @@ fn put_third(at: usize, buffer: &mut hb_buffer_t) -> Result<(), ShapeCause>
     Ok(())
 }
 
-/// The syllable at the cursor becomes its letters; a trailing consonant behind it joins two of them.
+/// Decomposes the current syllable into its jamo; a trailing consonant after it joins two of them.
 fn split(letters: Letters, joins: bool, buffer: &mut hb_buffer_t) -> Result<usize, ShapeCause>
     requires open { buffer.old.is_open ≡ true }
     requires there { fits_ahead (Action.Split letters joins) (length buffer.old.ahead) ≡ true }
@@ -178,7 +180,7 @@ fn split(letters: Letters, joins: bool, buffer: &mut hb_buffer_t) -> Result<usiz
     Ok(at)
 }
 
-/// The letters of the syllable at the cursor take its place behind it.
+/// Replaces the current syllable by its jamo in the output.
 fn put_parts(letters: Letters, buffer: &mut hb_buffer_t) -> Result<(), ShapeCause>
     requires open { buffer.old.is_open ≡ true }
     requires there { 0 < length buffer.old.ahead }

@@ -1,4 +1,4 @@
-//! Tone marks.
+//! Hangul tone marks (rustybuzz: hb/ot_shaper_hangul.rs).
 ghost use Rattle.std.specs.Prelude.{◌≡◌, ◌<◌, ◌≤◌, true, false, length, IfOk, IfErr};
 ghost use Rattle.buffer_glyphs.specs.Items.{item_of, strip};
 ghost use Rattle.buffer_glyphs.specs.Origins.{origin_of};
@@ -16,9 +16,9 @@ use layout_face::Face;
 
 const DOTTED_CIRCLE: char = '\u{25CC}';
 
-/// The tone mark at the cursor goes behind it: before the syllable that begins at `start` of the output, where it has a
-/// width; and where no syllable ends the output, beside a circle, where those are wanted and the font has one. Tells where
-/// the output ends.
+/// Outputs the current tone mark: before the syllable that begins at `start` of the output, where its glyph has an
+/// advance; where no syllable ends the output, with a dotted circle, unless circles are switched off or the font lacks
+/// one. Returns the output's length.
 pub(crate) fn put_tone(
     face: &Face,
     circles: bool,
@@ -46,7 +46,7 @@ pub(crate) fn put_tone(
     keep(false, buffer)
 }
 
-/// The mark at the cursor comes to stand before what the output has from `start` on, and merges with it.
+/// Outputs the current mark before the output's glyphs from `start` on, and merges it with them.
 fn put_before(start: usize, buffer: &mut hb_buffer_t) -> Result<usize, ShapeCause>
     requires open { buffer.old.is_open ≡ true }
     requires there { 0 < length buffer.old.ahead }
@@ -63,7 +63,7 @@ fn put_before(start: usize, buffer: &mut hb_buffer_t) -> Result<usize, ShapeCaus
     Ok(end)
 }
 
-/// The mark at the cursor goes behind it beside a circle.
+/// Outputs the current mark with a dotted circle.
 fn put_circle(is_thin: bool, buffer: &mut hb_buffer_t) -> Result<usize, ShapeCause>
     requires open { buffer.old.is_open ≡ true }
     requires there { 0 < length buffer.old.ahead }
@@ -84,7 +84,7 @@ fn put_circle(is_thin: bool, buffer: &mut hb_buffer_t) -> Result<usize, ShapeCau
     Ok(end)
 }
 
-/// A circle for a mark to stand on.
+/// The dotted circle of a mark.
 fn circle_for(mark: &hb_glyph_info_t) -> hb_glyph_info_t
     ensures item { item_of result ≡ circle_for (item_of mark.now) }
     ensures origin { origin_of result ≡ origin_of mark.now }
@@ -97,7 +97,7 @@ fn circle_for(mark: &hb_glyph_info_t) -> hb_glyph_info_t
     }
 }
 
-/// Whether the font has a glyph of no width for a character.
+/// Whether the font has a glyph with advance 0 for a character.
 fn has_no_width(face: &Face, u: char) -> bool
     ensures { result ≡ has_no_width face.now u }
 {

@@ -18,7 +18,7 @@ use Rattle.script_hebrew_thai.proofs.Vowel.{vowel_long}
 use Rattle.script_hebrew_thai.specs.ThaiVowel.{is_sara_am, with_vowel, with_character, split_behind, events_of_character, events_behind, vowels_split}
 use Rattle.buffer_stages.proofs.Lemmas.Fitting.{level_same, limit_same, written_exceed, written_fit}
 
--- what is behind and ahead comes to what all does
+-- the output and input together are what the whole walk makes
 pub record IsUnderway (left : ℕ) (s t : Sides) : Type 0 where
   pub events : List Event
   pub walked : Walked (strip t.behind) (strip t.ahead) events s t

@@ -1,4 +1,5 @@
--- The vowels SARA AM of Thai and AM of Lao: each splits into a mark above and a vowel after the letter (Unicode core specification, 'Thai', 'Lao').
+-- The vowels SARA AM of Thai and AM of Lao: each decomposes into a mark above and a vowel after the letter (Unicode
+-- core specification, 'Thai', 'Lao').
 use Rattle.std.specs.Prelude.{ℕ, ◌+◌, ◌-◌, ◌==◌, nat_le, Bool, if◌then◌else◌, List, [], ◌∷◌, ◌++◌, length, take, drop, reverse, Ok, Err}
 use Rattle.std.specs.Int.RustNames.{bit_or}
 use Rattle.std.specs.List.{list_any, prefix_len}
@@ -16,72 +17,77 @@ use Rattle.buffer_core.specs.Readings.{Stage}
 use Rattle.buffer_core.specs.Sides.{zero_positions}
 use Rattle.buffer_stages.specs.Moves.{order_of_move}
 
--- a character of Thai, or that of Lao which stands at the same place of its block
+-- the Thai character of one of Thai or Lao, at the same offset of its block
 abbrev pub thai_or_lao : ℕ → ℕ
 thai_or_lao u = without_bits 0x80 u
 
+-- an item is SARA AM of Thai or AM of Lao (HarfBuzz: IS_SARA_AM)
 abbrev pub is_sara_am : Item → Bool
 is_sara_am x = thai_or_lao x.number == 0x0E33
 
--- the marks that stand above a letter, under the first part of the vowel
+-- the marks above a letter that the first half of the vowel is moved before (HarfBuzz: IS_ABOVE_BASE_MARK)
 abbrev pub marks_above : List ℕ
 marks_above = 0x0E31 ∷ 0x0E34 ∷ 0x0E35 ∷ 0x0E36 ∷ 0x0E37 ∷ 0x0E3B ∷ 0x0E47 ∷ 0x0E48 ∷ 0x0E49 ∷ 0x0E4A ∷ 0x0E4B ∷ 0x0E4C ∷ 0x0E4D ∷ 0x0E4E ∷ []
 
+-- an item is one of those marks
 abbrev pub is_mark_above : Item → Bool
 is_mark_above x = list_any (λ u. u == thai_or_lao x.number) marks_above
 
--- the properties of a nonspacing mark that goes on with the character before it
+-- the property word of a nonspacing mark that continues the grapheme
 abbrev pub nonspacing : ℕ → ℕ
 nonspacing props = bit_or (with_category (category_number NonspacingMark) props) CONTINUATION
 
--- the first part
+-- the first half of the vowel: NIKHAHIT, a nonspacing mark
 abbrev pub nikhahit : Item → Item
 nikhahit x = record x { number = x.number + 0x1A; unicode_props = nonspacing x.unicode_props }
 
--- the second part
+-- the second half of the vowel: SARA AA
 abbrev pub sara_aa : Item → Item
 sara_aa x = record x { number = x.number - 1 }
 
--- how many marks above end a text
+-- the number of marks above that end a text
 abbrev pub count_above : List Item → ℕ
 count_above out = prefix_len is_mark_above (reverse out)
 
--- the two parts of a vowel after a text: the first goes before the marks above that end it
+-- a text and a vowel's two halves, the first before the marks above that end the text
 abbrev pub with_vowel : List Item → Item → List Item
 with_vowel out x =
     let before : ℕ = length out - count_above out in
     take before out ++ (nikhahit x ∷ drop before out) ++ sara_aa x ∷ []
 
+-- a text and its next character, decomposed if it is such a vowel
 abbrev pub with_character : List Item → Item → List Item
 with_character out x = if is_sara_am x then with_vowel out x else out ++ x ∷ []
 
--- a text after what was split before it
+-- a text and the characters after it, decomposed
 abbrev pub split_behind : List Item → List Item → List Item
 split_behind out [] = out
 split_behind out (x ∷ xs) = split_behind (with_character out x) xs
 
--- without marks both parts merge with what stands before them, where graphemes are to be clusters
+-- the merge of a vowel without marks above: both halves with the item before them, at level MonotoneGraphemes
 abbrev pub merge_of_vowel : BufferClusterLevel → ℕ → List Event
 merge_of_vowel MonotoneGraphemes at = if at == 0 then [] else Merge InOutput (at - 1) (at + 2) ∷ []
 merge_of_vowel MonotoneCharacters at = []
 merge_of_vowel Characters at = []
 
--- the first part of a vowel at a place goes before so many marks above
+-- the events that move a vowel's first half at an index before that many marks above
 abbrev pub placing : BufferClusterLevel → ℕ → ℕ → List Event
 placing level at n = if n == 0 then merge_of_vowel level at else Move InOutput (at - n) (order_of_move n 1) ∷ []
 
--- a vowel at a place, after so many marks above
+-- the events of a vowel at an index, after that many marks above
 abbrev pub events_of_vowel : BufferClusterLevel → ℕ → ℕ → List Event
 events_of_vowel level at n = Replace at 1 2 ∷ placing level at n
 
+-- the events of one character after a text
 abbrev pub events_of_character : BufferClusterLevel → List Item → Item → List Event
 events_of_character level out x = if is_sara_am x then events_of_vowel level (length out) (count_above out) else []
 
+-- the events of characters after a text
 abbrev pub events_behind : BufferClusterLevel → List Item → List Item → List Event
 events_behind level out [] = []
 events_behind level out (x ∷ xs) = events_of_character level out x ++ events_behind level (with_character out x) xs
 
--- the vowels of a text split, where it does not grow past the limit
+-- the stage that decomposes the vowels of a text, where the result is within the limit
 abbrev pub vowels_split : Stage
 vowels_split v =
     let xs : List Item = split_behind [] v.items in

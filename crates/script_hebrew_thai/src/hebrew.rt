@@ -1,4 +1,4 @@
-//! Hebrew: presentation forms, and the order of marks.
+//! Hebrew: presentation forms, and the reordering of marks (rustybuzz: hb/ot_shaper_hebrew.rs).
 ghost use Rattle.std.specs.Prelude.{◌≡◌, ◌≤◌, ◌+◌, ◌<◌, ◌==◌, ◌&&◌, ◌^◌, find, length, slice_range};
 ghost use Rattle.std.specs.Option.{option_map};
 ghost use Rattle.buffer_glyphs.specs.Items.{item_of, strip};
@@ -16,7 +16,7 @@ use buffer_properties::categories::is_mark;
 use buffer_stages::moves::move_back;
 use buffer_unicode_tables::UnicodeTables;
 
-/// A letter, a point, and the form that stands for both.
+/// Letter, point, and the presentation form of both.
 const PRESENTATION_FORMS: [(char, char, char); 36] = [
     ('\u{05D9}', '\u{05B4}', '\u{FB1D}'),
     ('\u{05F2}', '\u{05B7}', '\u{FB1F}'),
@@ -56,7 +56,8 @@ const PRESENTATION_FORMS: [(char, char, char); 36] = [
     ('\u{FB49}', '\u{05C2}', '\u{FB2D}'),
 ];
 
-/// What two characters compose to: as in Unicode, else to a presentation form, where the font does not place marks itself.
+/// The composition of two characters (`compose`): as in Unicode, else a presentation form where the font has no GPOS
+/// mark positioning.
 pub fn compose(tables: &UnicodeTables, has_gpos_mark: bool, a: char, b: char) -> Option<char>
     ensures { result ≡ hebrew_pair tables.now has_gpos_mark a b }
 {
@@ -82,8 +83,9 @@ fn form_in(forms: &[(char, char, char)], a: char, b: char) -> Option<char>
     Some(form.2)
 }
 
-/// Of the first three neighbours in a run of marks that are patah or qamats, sheva or hiriq, and meteg or another mark
-/// below, the last two change places, and merge. It takes linear time and no memory.
+/// Among the marks `start..end`, finds the first three neighbours that are patah or qamats, sheva or hiriq, and meteg
+/// or another mark below; swaps the last two of them, and merges them (`reorder_marks`). It takes linear time and no
+/// memory.
 #[tactic(auto, using(crate::proofs::Swapped::part_seen, crate::proofs::Swapped::within_run))]
 pub fn reorder_marks(buffer: &mut hb_buffer_t, start: usize, end: usize)
     requires ready { IsReady buffer.old }
@@ -108,7 +110,7 @@ fn swap(buffer: &mut hb_buffer_t, start: usize, three: Option<usize>, end: usize
     }
 }
 
-/// Where the first three such neighbours stand.
+/// The index of the first three such neighbours.
 #[tactic(auto, using(crate::proofs::Swapped::none_met, crate::proofs::Swapped::next_met, crate::proofs::Swapped::met_three, crate::proofs::Swapped::met_none))]
 fn first_three(run: &[hb_glyph_info_t]) -> Option<usize>
     ensures place { result ≡ first_three (strip run.now) }

@@ -1,4 +1,4 @@
-// What the shapers of Hebrew, Thai and Lao do to a text.
+//! The shapers of Hebrew, and of Thai and Lao.
 #![tactic(auto)]
 
 pub mod hebrew;

@@ -1,4 +1,4 @@
-//! Thai in fonts that have forms of their own at private characters.
+//! Thai in fonts with private-use presentation forms, do_thai_pua_shaping (rustybuzz: hb/ot_shaper_thai.rs).
 ghost use Rattle.std.specs.Prelude.{◌≡◌, Some, map};
 ghost use Rattle.std.specs.Option.{option_or};
 ghost use Rattle.buffer_core.specs.Readings.{always};
@@ -13,20 +13,21 @@ use buffer_unicode_tables::UnicodeTables;
 use layout_face::Face;
 use script_categories::thai_action::{RD, SD, SDL, SL};
 
-/// How consonants differ for the marks on them.
+/// The types of consonants, by how they combine with marks.
 #[derive(Clone, Copy)]
 pub enum Consonant {
-    /// One without an upper or a lower part.
+    /// Neither an ascender nor a descender.
     NC,
-    /// One with an upper part.
+    /// With an ascender.
     AC,
-    /// One with a lower part that can go.
+    /// With a removable descender.
     RC,
-    /// One with a lower part that stays.
+    /// With a strict descender.
     DC,
     NotConsonant,
 }
 
+/// The types of marks (HarfBuzz: get_mark_type).
 #[derive(Clone, Copy)]
 pub enum Mark {
     /// A vowel above.
@@ -38,39 +39,39 @@ pub enum Mark {
     NotMark,
 }
 
-/// What stands above the last consonant.
+/// The state above the last consonant.
 #[derive(Clone, Copy)]
 pub enum Above {
     /// Nothing.
     T0,
-    /// An upper part of the consonant.
+    /// An ascender of the consonant.
     T1,
-    /// An upper part, and a mark.
+    /// An ascender, and a mark.
     T2,
     /// A mark.
     T3,
 }
 
-/// What stands below the last consonant.
+/// The state below the last consonant.
 #[derive(Clone, Copy)]
 pub enum Below {
     /// Nothing.
     B0,
-    /// A lower part that can go.
+    /// A removable descender.
     B1,
-    /// A lower part that stays, or a mark.
+    /// A strict descender, or a mark.
     B2,
 }
 
-/// What stands on the last consonant.
+/// The states above and below the last consonant.
 #[derive(Clone, Copy)]
 pub struct State {
     pub above: Above,
     pub below: Below,
 }
 
-/// Puts in the place of marks that are to go down or to the left, and of consonants that are to lose their lower part, the
-/// private characters that stand for them so, where the font has these. It takes linear time and no memory.
+/// Replaces marks that must be shifted down or left, and consonants that must lose their descender, by the private-use
+/// characters of those forms, where the font has them (`do_thai_pua_shaping`). It takes linear time and no memory.
 pub fn shape_private(face: &Face, tables: &UnicodeTables, buffer: &mut hb_buffer_t)
     requires ready { IsReady buffer.old }
     ensures { IsFollowed (always (with_private tables.now face.now)) buffer.old buffer.new }
@@ -96,7 +97,7 @@ fn shape(face: &Face, tables: &UnicodeTables, start: State, glyphs: &mut [hb_gly
     }
 }
 
-/// The character that comes to stand for one before others.
+/// The character that replaces one, by those after it.
 fn character_shaped(
     face: &Face,
     tables: &UnicodeTables,
@@ -149,7 +150,7 @@ fn consonant_action(consonant: Consonant, rest: &[hb_glyph_info_t]) -> Option<u8
     }
 }
 
-/// Whether a vowel below stands among the marks that follow.
+/// Whether a vowel below is among the marks that follow.
 #[tactic(auto, using(crate::proofs::Shaped::none_passed, crate::proofs::Shaped::next_passed, crate::proofs::Shaped::tone_passed, crate::proofs::Shaped::passed_below, crate::proofs::Shaped::passed_other, crate::proofs::Shaped::passed_all))]
 fn is_followed_below(rest: &[hb_glyph_info_t]) -> bool
     ensures { result ≡ is_followed_below (map number_of rest.now) }

@@ -1,4 +1,4 @@
-//! The vowels SARA AM of Thai and AM of Lao.
+//! Decomposes Thai SARA AM and Lao AM (rustybuzz: hb/ot_shaper_thai.rs).
 ghost use Rattle.std.specs.Prelude.{◌≡◌, ◌≢◌, ◌<◌, ◌≤◌, ◌+◌, ◌-◌, ◌∷◌, List, Some, true, length, slice_get, OnOk, IfErr, Err};
 ghost use Rattle.buffer_glyphs.specs.Items.{Item, item_of, strip};
 ghost use Rattle.buffer_glyphs.specs.Origins.{origin_of};
@@ -21,15 +21,15 @@ use unicode::properties::GeneralCategory;
 
 const SARA_AM: u32 = 0x0E33;
 
-/// What a character of Lao has more than that of Thai which stands at its place of the block.
+/// The difference between a character of Lao and the one of Thai at the same offset of its block.
 const LAO: u32 = 0x80;
 
-/// Splits each SARA AM, and each AM of Lao, into a mark above, which goes before the marks above that precede it, and a
-/// vowel after these. It takes linear time.
+/// Decomposes each SARA AM, and each AM of Lao, into a mark above, which is moved before the marks above that precede
+/// it, and a vowel after these (`preprocess_text`). It takes linear time.
 ///
 /// # Errors
 ///
-/// `TooLong` where the text would have more characters than the buffer may hold, or want of memory.
+/// `TooLong` where the text would have more characters than the buffer may hold, or lack of memory.
 pub fn preprocess_text(buffer: &mut hb_buffer_t) -> Result<(), ShapeCause>
     requires ready { IsReady buffer.old }
     ensures ok { OnOk result (IsFollowed vowels_split buffer.old buffer.new) }
@@ -44,7 +44,7 @@ pub fn preprocess_text(buffer: &mut hb_buffer_t) -> Result<(), ShapeCause>
     Ok(())
 }
 
-/// The character at the cursor goes behind it, in two parts where it is such a vowel.
+/// Outputs the current character, as two halves where it is such a vowel.
 fn pass(buffer: &mut hb_buffer_t) -> Result<(), ShapeCause>
     requires open { buffer.old.is_open ≡ true }
     requires there { 0 < length buffer.old.ahead }
@@ -63,7 +63,7 @@ fn pass(buffer: &mut hb_buffer_t) -> Result<(), ShapeCause>
     Ok(())
 }
 
-/// The vowel at the cursor goes behind it in two parts.
+/// Outputs the current vowel as its two halves.
 fn split(glyph: &hb_glyph_info_t, buffer: &mut hb_buffer_t) -> Result<(), ShapeCause>
     requires open { buffer.old.is_open ≡ true }
     requires there { slice_get buffer.old.ahead 0 ≡ Some glyph.now }
@@ -81,8 +81,8 @@ fn split(glyph: &hb_glyph_info_t, buffer: &mut hb_buffer_t) -> Result<(), ShapeC
     Ok(())
 }
 
-/// The first part of a vowel whose two parts stand behind the cursor from `at` on goes before the marks above, and merges
-/// with them; without marks both parts merge with what stands before them, where graphemes are to be clusters.
+/// Moves the first half of a vowel, whose halves begin at `at` of the output, before the marks above, and merges it
+/// with them; without marks both halves are merged with the character before them, at level MonotoneGraphemes.
 fn place(at: usize, marks: usize, buffer: &mut hb_buffer_t)
     requires open { buffer.old.is_open ≡ true }
     requires parts { at + 2 ≡ length buffer.old.behind }
@@ -97,7 +97,7 @@ fn place(at: usize, marks: usize, buffer: &mut hb_buffer_t)
     move_behind(at - marks, at, end - 1, buffer);
 }
 
-/// Both parts of a vowel merge with what stands before them, where graphemes are to be clusters.
+/// Merges both halves of a vowel with the character before them, at level MonotoneGraphemes.
 fn join(at: usize, buffer: &mut hb_buffer_t)
     requires open { buffer.old.is_open ≡ true }
     requires parts { at + 2 ≡ length buffer.old.behind }
@@ -114,7 +114,7 @@ fn join(at: usize, buffer: &mut hb_buffer_t)
     }
 }
 
-/// The first part: a nonspacing mark that goes on with the character before it.
+/// The first half, NIKHAHIT: a nonspacing mark that continues the grapheme.
 fn nikhahit(glyph: &hb_glyph_info_t) -> hb_glyph_info_t
     requires vowel { is_sara_am (item_of glyph.now) ≡ true }
     ensures item { item_of result ≡ nikhahit (item_of glyph.now) }
@@ -127,7 +127,7 @@ fn nikhahit(glyph: &hb_glyph_info_t) -> hb_glyph_info_t
     }
 }
 
-/// The second part.
+/// The second half, SARA AA.
 fn sara_aa(glyph: &hb_glyph_info_t) -> hb_glyph_info_t
     requires vowel { is_sara_am (item_of glyph.now) ≡ true }
     ensures item { item_of result ≡ sara_aa (item_of glyph.now) }
@@ -139,7 +139,7 @@ fn sara_aa(glyph: &hb_glyph_info_t) -> hb_glyph_info_t
     }
 }
 
-/// The properties of a nonspacing mark that goes on with the character before it.
+/// The property word of a nonspacing mark that continues the grapheme.
 fn nonspacing(props: UnicodeProps) -> UnicodeProps
     ensures { result.0 ≡ nonspacing props.0 }
 {
@@ -147,7 +147,7 @@ fn nonspacing(props: UnicodeProps) -> UnicodeProps
     UnicodeProps((props.0 - (props.0 & 0x1F) + category) | UnicodeProps::CONTINUATION.0)
 }
 
-/// How many marks above end a text.
+/// The number of marks above that end a text.
 fn count_above(glyphs: &[hb_glyph_info_t]) -> usize
     ensures count { result ≡ count_above (strip glyphs.now) }
     ensures within { result ≤ length glyphs.now }
@@ -176,7 +176,7 @@ fn is_mark_above(glyph: &hb_glyph_info_t) -> bool
     )
 }
 
-/// A character of Thai, or the one that stands at its place in the block of Lao.
+/// The Thai character of one of Thai or Lao, at the same offset of its block.
 fn thai_or_lao(u: u32) -> u32
     ensures { result ≡ thai_or_lao u }
 {

@@ -22,7 +22,7 @@ use Rattle.script_joining.specs.Glyphs.{type_kept}
 
 -- ---- one call
 
--- of a buffer that stands ready an index of the input is one of all glyphs
+-- in a prepared buffer an index of the input is one of all glyphs
 whole_index : (i : ℕ) (s : Sides) → IsReady s → index_in_all i s ≡ i
 whole_index i s ready =
     let none = ap (λ (ys : List hb_glyph_info_t). length ys) ready.front in

@@ -7,40 +7,46 @@ use Rattle.buffer_glyphs.specs.Origins.{changed_within}
 use Rattle.buffer_core.specs.Readings.{View, Read, then_read, with_events}
 use Rattle.buffer_stages.specs.Moves.{with_move}
 
--- the modifier combining marks
+-- the modifier combining marks (UTR 53; HarfBuzz: MODIFIER_COMBINING_MARKS)
 abbrev pub modifier_marks : List ℕ
 modifier_marks =
     0x0654 ∷ 0x0655 ∷ 0x0658 ∷ 0x06DC ∷ 0x06E3 ∷ 0x06E7 ∷ 0x06E8 ∷ 0x08CA ∷ 0x08CB ∷ 0x08CD ∷ 0x08CE ∷ 0x08CF ∷ 0x08D3 ∷ 0x08F3 ∷ []
 
+-- an item has the class and is a modifier combining mark
 abbrev pub is_modifier_of : ℕ → Item → Bool
 is_modifier_of class x = mark_class x == class && list_any (λ u. u == x.number) modifier_marks
 
--- how many marks of a run stand before those of a class
+-- the number of marks of a run before those of a class
 abbrev pub count_below : ℕ → List Item → ℕ
 count_below class run = prefix_len (λ x. nat_lt (mark_class x) class) run
 
--- how many modifier marks lead those of a class
+-- the number of modifier marks that lead those of a class
 abbrev pub count_leading : ℕ → List Item → ℕ
 count_leading class run = prefix_len (is_modifier_of class) (drop (count_below class run) run)
 
+-- an item with a combining class
 abbrev pub classed : ℕ → Item → Item
 classed class x = record x { class = class }
 
+-- a reading whose items in a range have a combining class
 abbrev pub reclassed : ℕ → ℕ → ℕ → Read → Read
 reclassed class from to r = record r { view = record r.view { items = changed_within (classed class) from to r.view.items } }
 
--- so many modifier marks, after so many others, come to stand at the start of a run and take another class; the marks from the start of the run to their end merge
+-- the view where that many modifier marks, after that many others, are moved to the start of the run and have another
+-- class; the marks from the run's start to their end are merged
 abbrev pub led : ℕ → ℕ → ℕ → ℕ → View → Read
 led class start below leading v = if leading == 0 then with_events [] v else reclassed class start (start + leading) (with_move start below leading v)
 
+-- the items of a run
 abbrev pub run_of_items : ℕ → ℕ → View → List Item
 run_of_items start end v = slice_range v.items start end
 
--- the modifier marks that lead those of a class lead the run
+-- the view where the modifier marks that lead those of a class are at the start of the run
 abbrev pub with_leading : ℕ → ℕ → ℕ → ℕ → View → Read
 with_leading class new start end v = led new start (count_below class (run_of_items start end v)) (count_leading class (run_of_items start end v)) v
 
--- the class 220 of marks below comes first, and takes the class of CCC22; then 230 of those above, with the class of CCC26
+-- the view of a run of marks reordered: class 220 first, with class CCC22 for its modifiers; then class 230, with class
+-- CCC26 (HarfBuzz: reorder_marks_arabic)
 abbrev pub marks_reordered : ℕ → ℕ → View → Read
 marks_reordered start end v =
     let below : Read = with_leading 220 25 start end v in

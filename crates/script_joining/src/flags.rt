@@ -1,4 +1,5 @@
-//! Where a text may be stretched between two letters, or may not be put together.
+//! The flags between two joining letters: unsafe to concat, and safe to insert a tatweel
+//! (rustybuzz: hb/ot_shaper_arabic.rs).
 ghost use Rattle.std.specs.Prelude.{◌≡◌, ◌<◌, ◌+◌, ◌^◌, ◌==◌, not, None, Some, [], ◌∷◌, length, map, slice_get};
 ghost use Rattle.buffer_core.specs.Sides.{all_glyphs, items_of};
 ghost use Rattle.buffer_stages.specs.Ready.{IsReady};
@@ -13,7 +14,7 @@ use crate::types::{is_letter, nearest_past, type_kept};
 use buffer_core::buffer::hb_buffer_t;
 use script_categories::hb_arabic_joining_type_t;
 
-/// A letter that stands in the text: its index, its type, and that of the nearest letter before it.
+/// A letter of the text: its index, its joining type, and the type of the nearest letter before it.
 #[derive(Clone, Copy)]
 pub struct Letter {
     pub at: usize,
@@ -21,8 +22,8 @@ pub struct Letter {
     pub before: hb_arabic_joining_type_t,
 }
 
-/// Between each two neighbouring letters a tatweel may come where the second gives the first another form than it has by
-/// itself; elsewhere texts may not be put together. `start` is the nearest letter in front of the text.
+/// Flags each two neighbouring letters: as safe to insert a tatweel where the second changes the form of the first,
+/// else as unsafe to concat. `start` is the type of the nearest letter before the text.
 #[tactic(auto, using(crate::proofs::Marked::none_flagged, crate::proofs::Marked::next_flagged, crate::proofs::Marked::all_flagged, crate::proofs::Marked::same_count))]
 pub(crate) fn flag_neighbours(start: hb_arabic_joining_type_t, buffer: &mut hb_buffer_t)
     requires { IsReady buffer.old }
@@ -67,7 +68,7 @@ fn letter_after(
     }
 }
 
-/// Flags a letter and the one before it in the text, if there is one.
+/// Flags a letter and the previous letter of the text, if there is one.
 #[tactic(auto, using(buffer_stages::proofs::Lemmas::Happened::nothing_happens))]
 fn flag_after(
     last: Option<Letter>,
@@ -109,7 +110,7 @@ fn flag_between(
     }
 }
 
-/// Whether a letter has the form that it has by itself before one that follows.
+/// Whether a letter keeps its isolated form before a letter of the type `joining`.
 fn keeps_form(letter: Letter, joining: hb_arabic_joining_type_t) -> bool
     ensures { result
         ≡ (letter_form letter.before letter.joining joining == letter_form letter.before letter.joining U) }

@@ -1,12 +1,12 @@
-//! The form that a letter takes between its neighbours.
+//! The state table of Arabic joining: a letter's form between its neighbours (rustybuzz: hb/ot_shaper_arabic.rs).
 ghost use Rattle.std.specs.Prelude.{◌≡◌};
 ghost use Rattle.script_joining.specs.Forms.{alaph_form, final_alaph, joined_form, joins_before, joins_next, letter_form};
 
 use script_categories::arabic_action_t::{FIN2, FIN3, FINA, INIT, ISOL, MED2, MEDI, NONE};
 use script_categories::hb_arabic_joining_type_t;
 
-/// The form of a letter between the nearest letters before and after it: by how the three join. What is transparent or
-/// does not join has none.
+/// The form of a letter by its joining type and those of the nearest letters before and after it (`STATE_TABLE`). A
+/// transparent or non-joining character has none.
 pub fn letter_form(
     before: hb_arabic_joining_type_t,
     letter: hb_arabic_joining_type_t,

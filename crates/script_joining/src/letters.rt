@@ -1,4 +1,4 @@
-//! The forms of a text's letters.
+//! The forms of a text's letters, arabic_joining and mongolian_variation_selectors (rustybuzz: hb/ot_shaper_arabic.rs).
 ghost use Rattle.std.specs.Prelude.{◌≡◌, None, find, map};
 ghost use Rattle.std.specs.Option.{option_map};
 ghost use Rattle.buffer_glyphs.specs.Items.{item_of};
@@ -11,8 +11,8 @@ use crate::types::{is_letter, nearest_past, type_kept};
 use buffer_glyphs::info::{hb_glyph_info_t, hb_mask_t};
 use script_categories::hb_arabic_joining_type_t;
 
-/// Gives glyphs that keep how they join their forms, between the nearest letters before and after them, and the masks of
-/// these.
+/// Sets the forms of glyphs that hold their joining types, by the nearest letters before and after them, and adds the
+/// masks of the forms.
 pub(crate) fn join(
     is_mongolian: bool,
     masks: &[hb_mask_t],
@@ -45,8 +45,8 @@ fn form_letters(
     }
 }
 
-/// The form of a letter before some characters. What is transparent has none whatever follows: so a letter with many
-/// marks is looked for once.
+/// The form of a letter before the given characters. A transparent one has none whatever follows, so the marks after a
+/// letter are walked only once.
 fn form_before(
     before: hb_arabic_joining_type_t,
     letter: hb_arabic_joining_type_t,
@@ -88,7 +88,7 @@ fn settle_selectors(is_mongolian: bool, glyphs: &mut [hb_glyph_info_t])
     }
 }
 
-/// Mongolian selectors take the forms before them.
+/// Copies to each Mongolian variation selector the form of the glyph before it (`mongolian_variation_selectors`).
 #[tactic(auto, using(crate::proofs::Formed::none_copied, crate::proofs::Formed::next_copied, crate::proofs::Formed::all_copied))]
 fn copy_forms(glyphs: &mut [hb_glyph_info_t])
     ensures { glyphs.new ≡ glyphs_copied None glyphs.old }

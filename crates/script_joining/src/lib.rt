@@ -1,4 +1,4 @@
-// Arabic joining: the forms of letters between their neighbours, and the order of Arabic marks.
+//! Arabic joining: the letters' forms between their neighbours, and the order of Arabic marks.
 #![tactic(auto)]
 
 mod flags;

@@ -1,4 +1,4 @@
-//! The order of Arabic marks.
+//! The order of Arabic marks, reorder_marks (rustybuzz: hb/ot_shaper_arabic.rs).
 ghost use Rattle.std.specs.Prelude.{◌≡◌, ◌≤◌, ◌+◌, ◌<◌, ◌^◌, length, map, nat_lt, slice_range};
 ghost use Rattle.std.specs.List.{prefix_len};
 ghost use Rattle.buffer_glyphs.specs.Items.{item_of, strip};
@@ -16,14 +16,14 @@ use buffer_glyphs::info::hb_glyph_info_t;
 use buffer_properties::categories::is_mark;
 use buffer_stages::moves::move_back;
 
-/// The class that modifier marks below come to have.
+/// The combining class that modifier marks below get.
 const CCC22: u8 = 25;
-/// The class that modifier marks above come to have.
+/// The combining class that modifier marks above get.
 const CCC26: u8 = 26;
 
-/// Puts the modifier marks that lead those below the letter (class 220) in front of a run of marks in the order of their
-/// classes, and then those that lead the marks above it (class 230) after these. What they pass merges with them.
-/// It takes linear time and no memory.
+/// Moves the modifier combining marks that lead the marks below the letter (class 220) to the start of a run of marks
+/// sorted by class, and then those that lead the marks above it (class 230) after these (`reorder_marks`; UTR 53). What
+/// moves merges with what it passes. It takes linear time and no memory.
 #[tactic(auto, using(crate::proofs::Reordered::both_led))]
 pub fn reorder_marks(buffer: &mut hb_buffer_t, start: usize, end: usize)
     requires ready { IsReady buffer.old }
@@ -35,7 +35,7 @@ pub fn reorder_marks(buffer: &mut hb_buffer_t, start: usize, end: usize)
     lead(buffer, start + below, end, 230, CCC26);
 }
 
-/// Puts the modifier marks that lead those of a class in front of a run, and answers how many they are.
+/// Moves the modifier marks that lead those of a class to the start of the run, and returns their number.
 #[tactic(auto, using(crate::proofs::Reordered::part_seen, crate::proofs::Reordered::led_length))]
 fn lead(buffer: &mut hb_buffer_t, start: usize, end: usize, class: u8, new_class: u8) -> usize
     requires ready { IsReady buffer.old }
@@ -90,7 +90,7 @@ fn mark_class(glyph: &hb_glyph_info_t) -> u8
     }
 }
 
-/// Whether a mark is of a class, and one of the modifier combining marks.
+/// Whether a mark has the class and is one of the modifier combining marks.
 fn is_modifier_of(class: u8, glyph: &hb_glyph_info_t) -> bool
     ensures { result ≡ is_modifier_of class (item_of glyph.now) }
 {
@@ -114,7 +114,7 @@ fn is_modifier_of(class: u8, glyph: &hb_glyph_info_t) -> bool
         )
 }
 
-/// Puts so many modifier marks, which stand after others, at a start, with a class of their own.
+/// Moves that many modifier marks, which follow others, to `start`, and sets their class.
 #[tactic(auto, using(crate::proofs::Reordered::none_led, crate::proofs::Reordered::led_followed))]
 fn put_first(buffer: &mut hb_buffer_t, start: usize, below: usize, leading: usize, new_class: u8)
     requires ready { IsReady buffer.old }

@@ -1,4 +1,4 @@
-//! The masks of the features that give letters their forms.
+//! The masks of the features that select the letters' forms, setup_masks (rustybuzz: hb/ot_shaper_arabic.rs).
 ghost use Rattle.std.specs.Prelude.{◌≡◌};
 ghost use Rattle.buffer_core.specs.Readings.{always};
 ghost use Rattle.buffer_stages.specs.Ready.{IsReady};
@@ -15,10 +15,11 @@ use buffer_glyphs::info::hb_mask_t;
 use buffer_stages::glyphs::map_glyphs;
 use buffer_unicode_tables::UnicodeTables;
 
-/// Gives each letter of a text its form, as its `auxiliary`, and the mask of the form's feature: `masks` has those of ISOL,
-/// FINA, FIN2, FIN3, MEDI, MED2 and INIT, in this order. The contexts' letters count as neighbours. In Mongolian a selector
-/// takes the form of the character before it. Between two letters a tatweel may come where the second changes the form of
-/// the first; elsewhere texts may not be put together. It takes linear time and no memory.
+/// Sets each letter's form, as its `auxiliary`, and adds the mask of the form's feature (`setup_masks`): `masks` has
+/// those of ISOL, FINA, FIN2, FIN3, MEDI, MED2 and INIT, in this order. The letters of the contexts count as
+/// neighbours. In Mongolian a variation selector gets the form of the character before it. Two neighbouring letters are
+/// flagged as safe to insert a tatweel where the second changes the form of the first, else as unsafe to concat. It
+/// takes linear time and no memory.
 pub fn setup_masks_inner(
     tables: &UnicodeTables,
     is_mongolian: bool,
@@ -38,7 +39,7 @@ pub fn setup_masks_inner(
     join(is_mongolian, masks, before, after, buffer.info_slice_mut());
 }
 
-/// Each glyph keeps how its character joins, until it has its form.
+/// Stores in each glyph its joining type, which its form replaces later.
 fn keep_types(tables: &UnicodeTables, buffer: &mut hb_buffer_t)
     requires ready { IsReady buffer.old }
     ensures { IsFollowed (always (mapped (item_typed tables.now))) buffer.old buffer.new }

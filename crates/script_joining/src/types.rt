@@ -1,4 +1,4 @@
-//! How a character joins.
+//! The joining type of a character (rustybuzz: hb/ot_shaper_arabic.rs).
 ghost use Rattle.std.specs.Prelude.{◌≡◌, find};
 ghost use Rattle.std.specs.Option.{option_map};
 ghost use Rattle.buffer_glyphs.specs.Items.{item_of};
@@ -13,8 +13,8 @@ use buffer_unicode_tables::UnicodeTables;
 use script_categories::{hb_arabic_joining_type_t, joining_type_of_number};
 use unicode::properties::GeneralCategory;
 
-/// How a character of a general category joins: by its row in the tables; what has none is transparent where it is a
-/// nonspacing or an enclosing mark or a format character, else it does not join.
+/// The joining type of a character of a general category (`get_joining_type`): that of its row in the tables; without a
+/// row, transparent for Mn, Me and Cf, else non-joining.
 pub fn joining_type(tables: &UnicodeTables, u: u32, category: u32) -> hb_arabic_joining_type_t
     ensures { result ≡ joining_type tables.now u category }
 {
@@ -55,7 +55,7 @@ fn type_of_category(category: u32) -> hb_arabic_joining_type_t
     }
 }
 
-/// How the nearest letter of a context joins, which begins next to the text.
+/// The joining type of the nearest letter in a context, whose first character is next to the text.
 #[tactic(auto, using(crate::proofs::Formed::found_seen))]
 pub(crate) fn nearest_in_context(
     tables: &UnicodeTables,
@@ -83,7 +83,7 @@ fn type_of_character(tables: &UnicodeTables, u: char) -> hb_arabic_joining_type_
     joining_type(tables, u32::from(u), u.general_category().to_rb())
 }
 
-/// A glyph that keeps how its character joins.
+/// A glyph that stores its joining type.
 pub(crate) fn typed(tables: &UnicodeTables, glyph: &hb_glyph_info_t) -> hb_glyph_info_t
     ensures item { item_of result ≡ item_typed tables.now (item_of glyph.now) }
     ensures origin { origin_of result ≡ origin_of glyph.now }
@@ -110,21 +110,21 @@ fn number_of(joining: hb_arabic_joining_type_t) -> u8
     }
 }
 
-/// How a glyph joins that keeps it.
+/// The joining type that a glyph stores.
 pub(crate) fn type_kept(glyph: &hb_glyph_info_t) -> hb_arabic_joining_type_t
     ensures { result ≡ type_kept glyph.now }
 {
     joining_type_of_number(glyph.auxiliary).unwrap_or(hb_arabic_joining_type_t::U)
 }
 
-/// Whether a character stands between others as a letter: all but what is transparent.
+/// Whether a character is a letter for its neighbours: all but transparent ones are.
 pub(crate) fn is_letter(joining: hb_arabic_joining_type_t) -> bool
     ensures { result ≡ is_letter joining }
 {
     !matches!(joining, hb_arabic_joining_type_t::T)
 }
 
-/// The type of the nearest letter, once one more character was passed.
+/// The type of the nearest letter after one more character.
 pub(crate) fn nearest_past(
     before: hb_arabic_joining_type_t,
     joining: hb_arabic_joining_type_t,

@@ -11,7 +11,7 @@ use Rattle.buffer_groups.specs.Turning.{groups, groups_turned, in_front}
 use Rattle.buffer_groups.specs.Lemmas.Picked.{AreAt}
 use Rattle.script_khmer_myanmar.specs.Turned.{leading_turned}
 
--- what stands after the first of a group begins none
+-- what follows the first item of a group begins no group
 abbrev NoneBegins : {X : Type 0} → (X → Bool) → List X → Type 0
 NoneBegins begins [] = Unit {0}
 NoneBegins begins (x ∷ xs) = (begins x ≡ false) × NoneBegins begins xs
@@ -55,7 +55,7 @@ turned_group begins x group (y ∷ ys) done h = by_test (begins y) refl (turned_
         first ∙ sym (append_assoc (groups_turned (follows_on begins) (y ∷ ys)) (x ∷ group) done) ∙ ap (λ zs. zs ++ done) (sym whole)
     by_test false e first later = later e ∙ ap (λ zs. groups_turned (follows_on begins) (x ∷ zs) ++ done) (append_assoc group (y ∷ []) ys)
 
--- groups that are put in front one by one stand in reversed order
+-- groups that are put in front one by one are in reversed order
 pub turned_all : {X : Type 0} (begins : X → Bool) (xs : List X) → leading_turned begins xs [] [] ≡ groups_turned (follows_on begins) xs
 turned_all begins [] = refl
 turned_all begins (x ∷ xs) = by_test (begins x) (turned_group begins x [] xs [] tt ∙ append-nil (groups_turned (follows_on begins) (x ∷ xs)))

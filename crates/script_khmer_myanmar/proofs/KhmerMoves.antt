@@ -51,7 +51,7 @@ vowel_does start end place a b last fits f =
 pub passed_does : (start end : ℕ) (a : Sides) → start ≤ end → end ≤ length (all_glyphs a) → IsReady a → IsRewritten (kept (slice_range (items_of a) start end)) start end a a
 passed_does start end a le fits ready = rewritten_same start end a le ready
 
--- what happens at a place, by what stands there
+-- the step at an index, by the item there
 pub at_none : (m : KhmerMasks) (place count : ℕ) (xs : List Item) → slice_get xs place ≡ None → khmer_at m place count xs ≡ passed count xs
 at_none m place count xs e = rw e refl
 

@@ -1,4 +1,4 @@
--- Runs of places of a Khmer syllable.
+-- Runs of indices of a Khmer syllable.
 use Rattle.std.proofs.Common.{ℕ, suc, ◌≡◌, ◌<◌, ◌+◌, ◌==◌, ◌&&◌, not, Bool, true, false, nat_le, nat_lt, if◌then◌else◌, List, [], ◌∷◌, ◌++◌, Some, length, map, take, drop, slice_get, refl, sym, ap, subst, ◌∙◌, arith, append_assoc}
 use Rattle.std.specs.Int.RustNames.{bit_or}
 use Rattle.std.specs.Int.Bits.{or_add_and}
@@ -86,7 +86,7 @@ single forms m k i c x front zs post at some other first later =
         ∙ ap (λ ys. then_rule (record { items = all_moved 0 rest ys; events = move_events 0 rest }) (khmer_walk m k (i + 1 + length zs) c)) (append_assoc front (x ∷ []) (formed ++ post))
         ∙ ap (λ j. then_rule (record { items = all_moved 0 rest (front ++ (x ∷ (formed ++ post))); events = move_events 0 rest }) (khmer_walk m k j c)) last
 
--- a form, after which the walk meets once more what stands before it, and leaves that
+-- a form, after which the walk meets the item before it once more, and leaves it unchanged
 form_step : (m : KhmerMasks) (n i c : ℕ) (x y t : Item) (fs rest : List Item) → i ≡ length (fs ++ t ∷ []) → IsPlain t → is_coeng c x ≡ true → (y.category == category.OT_Ra) ≡ true
     → khmer_walk m (suc (suc n)) i c ((fs ++ t ∷ []) ++ (x ∷ y ∷ rest))
     ≡ then_rule (record { items = (masked m.pref x ∷ masked m.pref y ∷ (fs ++ t ∷ [])) ++ map (masked m.cfar) rest; events = Move InList 0 (order_of_move i 2) ∷ [] }) (khmer_walk m n (i + 2) 2)
@@ -134,7 +134,7 @@ both_true true true e = (refl, refl)
 both_true true false e = cc
 both_true false b e = cc
 
--- of a run's first item that is in no form, it is told that it is no coeng that counts
+-- a run's first item that is in no form is no coeng that counts
 alone_not : (a b : Bool) → b ≡ false → (a && not b) ≡ false → a ≡ false
 alone_not true true e f = cc
 alone_not true false e f = cc
@@ -189,7 +189,7 @@ form_then m k i c x y t fs zs post at plain coeng pair does =
 abbrev EndsPlain : List Item → Type 0
 EndsPlain front = (fs : List Item) × (t : Item) × (front ≡ fs ++ t ∷ []) × IsPlain t
 
--- after a form all has the features of what stands there
+-- after a form all items have the masks for it
 record IsAfterForm (m : KhmerMasks) (c : ℕ) (front zs post : List Item) : Type 0 where
   count : c ≡ 2
   items : map (masked m.cfar) zs ≡ zs

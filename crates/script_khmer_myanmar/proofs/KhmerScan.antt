@@ -64,7 +64,7 @@ ra_goes_on : (forms few : Bool) (y : Item) (zs : List Item) → (y.category == c
 ra_goes_on forms few y [] e = ap (λ b. b && few) (ra_no_coeng y e)
 ra_goes_on forms few y (z ∷ zs) e = ap (λ b. (b && few) && not (together forms y z)) (ra_no_coeng y e)
 
--- what stands before the first that ends it is a run
+-- the items before the first one that ends it are a run
 pub run_is : (forms few : Bool) (xs : List Item) → IsRun forms few (take (run_length forms few xs) xs)
 run_is forms few [] = tt
 run_is forms few (x ∷ xs) = by_test (ends_run forms few (x ∷ xs)) refl (run_is forms few xs)

@@ -1,4 +1,4 @@
--- A walk over the places of a Khmer syllable.
+-- The walk over the indices of a Khmer syllable.
 use Rattle.std.proofs.Common.{ℕ, zero, suc, ◌≡◌, ◌≤◌, ◌<◌, ◌+◌, ◌-◌, ◌==◌, ◌&&◌, Bool, true, false, nat_le, List, [], ◌∷◌, ◌++◌, Some, slice_get, length, take, drop, refl, sym, ap, subst, ◌∙◌, arith}
 use Rattle.std.specs.Prelude.{slice_range}
 use Rattle.std.proofs.lemmas.Bool.{and_parts, true≢false}
@@ -52,7 +52,7 @@ by_rule m start end place count to met rule a b le fits keeps walk f =
       does = λ new g. subst (λ r. IsRewritten r start end a new) (sym walk) (rewritten_next (rule xs) (khmer_walk m (end - start - to) to met) start end a b new le there (keeps ∙ range_size start end (items_of a) le there) f g);
     }
 
--- one place
+-- one index
 pub one_walked : (m : KhmerMasks) (start end place count met : ℕ) (a b : Sides) → start + place < end → end ≤ length (all_glyphs a)
     → IsRewritten (khmer_at m place count (slice_range (items_of a) start end)).rewritten start end a b
     → met ≡ (khmer_at m place count (slice_range (items_of a) start end)).count → IsWalked m start end place count (place + 1) met a b
@@ -149,7 +149,7 @@ run_two : (n : ℕ) (x y : Item) (rest : List Item) → together true x y ≡ tr
 run_two zero x y rest pair run = absurd (true≢false (sym (ap (λ b. b && true) (and_parts (x.category == category.OT_H) (y.category == category.OT_Ra) pair).0) ∙ run.0))
 run_two (suc n) x y rest pair run = omega arith
 
--- the items of a part where a form stands at an index
+-- the items of a sublist where a form is at an index
 record IsCut (place to : ℕ) (t x y : Item) (fs zs xs : List Item) : Type 0 where
   front : take place xs ≡ fs ++ t ∷ []
   part : slice_range xs place to ≡ x ∷ y ∷ zs

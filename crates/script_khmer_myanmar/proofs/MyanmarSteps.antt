@@ -165,7 +165,7 @@ sort_rewrites from to a b ready e count items from_where =
 
 -- ---- reversed groups
 
--- what stands at indices is seen there
+-- the items at indices, as they are read there
 at_seen : {X Y : Type 0} (v : X → Y) (all : List X) (is : List ℕ) (zs : List X) → AreAt all is zs → AreAt (map v all) is (map v zs)
 at_seen v all [] [] h = tt
 at_seen v all [] (z ∷ zs) h = absurd h

@@ -1,4 +1,4 @@
--- Glyphs that get their places.
+-- Glyphs that get their positions.
 use Rattle.std.proofs.Common.{ℕ, zero, suc, ◌≡◌, ◌≤◌, ◌<◌, ◌+◌, ◌-◌, ◌||◌, Bool, true, false, if◌then◌else◌, List, [], ◌∷◌, ◌++◌, length, map, take, drop, get_or, set, Some, slice_get, refl, sym, ap, subst, ◌∙◌, arith}
 use Rattle.std.specs.Prelude.{not, replicate}
 use borrow.Rule.Slice.PartMut.{mid_of, put_mid}
@@ -14,7 +14,7 @@ use Rattle.script_khmer_myanmar.specs.Lemmas.Sizes.{after_size}
 abbrev pub kinds : List hb_glyph_info_t → List ℕ
 kinds gs = map (λ (g : hb_glyph_info_t). g.category) gs
 
--- glyphs before an index are at their places
+-- the glyphs before an index have their positions
 abbrev pub placed_to : List ℕ → ℕ → List hb_glyph_info_t → List hb_glyph_info_t
 placed_to ps i gs = glyphs_at (take i ps) (take i gs) ++ drop i gs
 
@@ -43,7 +43,7 @@ glyphs_at_size [] gs e = refl
 glyphs_at_size (p ∷ ps) [] e = absurd (omega (arith, e))
 glyphs_at_size (p ∷ ps) (g ∷ gs) e = ap suc (glyphs_at_size ps gs (omega (arith, e)))
 
--- places of two stretches
+-- the positions of two ranges
 pub glyphs_at_both : (ps qs : List ℕ) (gs hs : List hb_glyph_info_t) → length ps ≡ length gs → glyphs_at (ps ++ qs) (gs ++ hs) ≡ glyphs_at ps gs ++ glyphs_at qs hs
 glyphs_at_both [] qs [] hs e = refl
 glyphs_at_both [] qs (g ∷ gs) hs e = absurd (omega (arith, e))
@@ -52,7 +52,7 @@ glyphs_at_both (p ∷ ps) qs (g ∷ gs) hs e = ap (λ ks. glyph_at p g ∷ ks) (
 
 -- ---- the walk after the base
 
--- glyphs before an index are at their places, and those of the others follow from where the walk is
+-- the glyphs before an index have their positions, and those of the others follow from the walk's state
 pub record ArePlaced (i now before : ℕ) (old done : List hb_glyph_info_t) : Type 0 where
   pub glyphs : done ≡ placed_to (places_after position.POS_AFTER_MAIN position.POS_BASE_C (kinds old)) i old
   pub rest : places_after now before (kinds (drop i old)) ≡ drop i (places_after position.POS_AFTER_MAIN position.POS_BASE_C (kinds old))
@@ -100,9 +100,9 @@ pub placing_done : (i now before : ℕ) (old done : List hb_glyph_info_t) → le
 placing_done i now before old done le u =
     u.glyphs ∙ all_at (places_after position.POS_AFTER_MAIN position.POS_BASE_C (kinds old)) old i le (after_size position.POS_AFTER_MAIN position.POS_BASE_C (kinds old) ∙ length-map old (λ (g : hb_glyph_info_t). g.category))
 
--- ---- stretches, one after another
+-- ---- ranges, one after another
 
--- a front got a place, and the rest its places
+-- a prefix got one position, and the rest its positions
 pub placed_both : (n p : ℕ) (qs : List ℕ) (gs front back : List hb_glyph_info_t) → n ≤ length gs → front ≡ glyphs_at (replicate n p) (take n gs) → back ≡ glyphs_at qs (drop n gs) → front ++ back ≡ glyphs_at (replicate n p ++ qs) gs
 placed_both n p qs gs front back le e f =
     let len : length (replicate n p) ≡ length (take n gs) = length-replicate n p ∙ sym (length-take-le n gs le) in
@@ -113,7 +113,7 @@ kinds_left n gs = sym (drop-map (λ (g : hb_glyph_info_t). g.category) n gs)
 
 -- ---- the first consonant
 
--- none stands before an index
+-- none is before an index
 pub record IsSought (i : ℕ) (cs : List ℕ) : Type 0 where
   pub any : list_any is_base (drop i cs) ≡ list_any is_base cs
   pub index : i + position_or_len is_base (drop i cs) ≡ position_or_len is_base cs
@@ -152,7 +152,7 @@ none_found gs i le s =
 
 -- ---- the steps of the code
 
--- all got one place
+-- all got one position
 pub all_one : (p i : ℕ) (old done : List hb_glyph_info_t) → length old ≤ i → done ≡ placed_to (replicate (length old) p) i old → done ≡ glyphs_at (replicate (length old) p) old
 all_one p i old done le e = e ∙ all_at (replicate (length old) p) old i le (length-replicate (length old) p)
 
@@ -164,7 +164,7 @@ placing_by i now before b n old done d h lt len u place behind is =
     let Q : ℕ → Type 0 = λ m. ArePlaced (i + 1) (place_after now g.category) m old (set done i h) in
     subst P (sym behind) (subst Q (sym place) (placing_next i now before old done d h lt len u (is ∙ ap (λ m. glyph_at m g) place)))
 
--- a front got one place, and then the rest its places
+-- a prefix got one position, and then the rest its positions
 pub two_stretches : (n p : ℕ) (rule : List ℕ → List ℕ) (gs front back : List hb_glyph_info_t) → n ≤ length gs → front ≡ glyphs_at (replicate (length (take n gs)) p) (take n gs)
     → back ≡ glyphs_at (rule (kinds (mid_of n (length (front ++ drop n gs) - n) (front ++ drop n gs)))) (mid_of n (length (front ++ drop n gs) - n) (front ++ drop n gs))
     → put_mid n (length (front ++ drop n gs) - n) (front ++ drop n gs) back ≡ glyphs_at (replicate n p ++ rule (drop n (kinds gs))) gs

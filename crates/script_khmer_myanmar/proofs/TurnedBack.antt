@@ -21,7 +21,7 @@ none_begin begins (z ∷ zs) group done h =
     ap (λ b. if b then leading_turned begins zs (z ∷ []) (group ++ done) else leading_turned begins zs (group ++ z ∷ []) done) h.0
     ∙ none_begin begins zs (group ++ z ∷ []) done h.1 ∙ ap (λ ys. ys ++ done) (append_assoc group (z ∷ []) zs)
 
--- the last group comes to stand in front
+-- the last group is moved to the front
 last_front : {X : Type 0} (begins : X → Bool) (xs : List X) (y : X) (zs group done : List X) → begins y ≡ true → NoneBegins begins zs → leading_turned begins (xs ++ y ∷ zs) group done ≡ (y ∷ zs) ++ leading_turned begins xs group done
 last_front begins [] y zs group done e h =
     ap (λ b. if b then leading_turned begins zs (y ∷ []) (group ++ done) else leading_turned begins zs (group ++ y ∷ []) done) e ∙ none_begin begins zs (y ∷ []) (group ++ done) h

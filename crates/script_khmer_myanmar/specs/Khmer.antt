@@ -1,4 +1,5 @@
--- Khmer: how vowels split, and which items of a syllable go to its start (Unicode core specification, Khmer; OpenType specification, Creating fonts for Khmer).
+-- Khmer: how vowels split, and which items of a syllable go to its start (Unicode core specification, Khmer; OpenType
+-- specification, Creating fonts for Khmer).
 use Rattle.std.specs.Prelude.{ℕ, zero, suc, ◌+◌, ◌-◌, ◌==◌, ◌&&◌, Bool, nat_le, bit_and, if◌then◌else◌, List, [], ◌∷◌, length, map, slice_get, Option, None, Some}
 use Rattle.std.specs.List.{list_any}
 use Rattle.script_categories.specs.declared.ot_category_t.TheConstants as category
@@ -11,77 +12,82 @@ use Rattle.buffer_stages.specs.Rewriting.{Rewritten, kept, then_rule, within, in
 use Rattle.buffer_stages.specs.Parts.{masked_all, first_to_back}
 use Rattle.script_khmer_myanmar.specs.declared.khmer.KhmerMasks.{KhmerMasks}
 
--- ---- vowels that split
+-- ---- split vowels
 
--- U+17C1, the part of split vowels that stands on the left
+-- U+17C1, the left half of split vowels
 abbrev pub LEFT_PART : ℕ
 LEFT_PART = 0x17C1
 
--- the vowels with a part on the left
+-- the vowels with a left half
 abbrev pub split_vowels : List ℕ
 split_vowels = 0x17BE ∷ 0x17BF ∷ 0x17C0 ∷ 0x17C4 ∷ 0x17C5 ∷ []
 
--- such a vowel splits into U+17C1 and itself, U+17C1 does not split, and all else splits as in Unicode
+-- the decomposition for Khmer: such a vowel becomes U+17C1 and itself, U+17C1 has none, and others decompose as in
+-- Unicode (HarfBuzz: decompose_khmer)
 abbrev pub khmer_split : Tables → ℕ → Option (ℕ × ℕ)
 khmer_split t u = if u == LEFT_PART then None else if list_any (λ v. u == v) split_vowels then Some (LEFT_PART, u) else split_of t u
 
 -- ---- a syllable
 
--- what is left of a syllable after an index, and how many coengs were met
+-- the rest of a syllable after an index of the walk, and the number of coengs counted
 pub record Step : Type 0 where
   pub rewritten : Rewritten
   pub count : ℕ
 
--- nothing happens
+-- the step at an item that doesn't move
 abbrev pub passed : ℕ → List Item → Step
 passed count xs = record { rewritten = kept xs; count = count }
 
--- a coeng and the Ra after it get a feature and go to the start, and what stands after them gets another
+-- a coeng and the Ro after it get a mask and move to the start, and the items after them get another mask
 abbrev pub coeng_moved : KhmerMasks → ℕ → List Item → Rewritten
 coeng_moved m place xs = then_rule (then_rule (within place (place + 2) (masked_all m.pref) xs) (within 0 (place + 2) (first_to_back place))) (within (place + 2) (length xs) (masked_all m.cfar))
 
+-- the left matra at an index moves to the start
 abbrev pub vowel_moved : ℕ → List Item → Rewritten
 vowel_moved place xs = within 0 (place + 1) (first_to_back place) xs
 
--- a coeng before an item: with Ra it is a form
+-- the step at a coeng, by the item after it: with Ro it is a form
 abbrev pub coeng_met : KhmerMasks → ℕ → ℕ → List Item → Item → Step
 coeng_met m place count xs y = if y.category == category.OT_Ra then record { rewritten = coeng_moved m place xs; count = 2 } else passed (count + 1) xs
 
--- a left vowel goes to the start
+-- the step at a left matra, which moves to the start
 abbrev pub vowel_met : ℕ → ℕ → List Item → Item → Step
 vowel_met place count xs x = if x.category == category.OT_VPre then record { rewritten = vowel_moved place xs; count = count } else passed count xs
 
--- a coeng counts while no more than two were met
+-- an item is a coeng that still counts: at most two were counted
 abbrev pub is_coeng : ℕ → Item → Bool
 is_coeng count x = x.category == category.OT_H && nat_le count 2
 
--- what stands at an index, and what after it
+-- the step at an item, by what is after it
 abbrev pub met : KhmerMasks → ℕ → ℕ → List Item → Option Item → Option Item → Step
 met m place count xs None next = passed count xs
 met m place count xs (Some x) None = vowel_met place count xs x
 met m place count xs (Some x) (Some y) = if is_coeng count x then coeng_met m place count xs y else vowel_met place count xs x
 
+-- the step at an index of a syllable
 abbrev pub khmer_at : KhmerMasks → ℕ → ℕ → List Item → Step
 khmer_at m place count xs = met m place count xs (slice_get xs place) (slice_get xs (place + 1))
 
--- so many indices one after another, while items move
+-- that many steps of the walk, while items move
 abbrev pub khmer_walk : KhmerMasks → ℕ → ℕ → ℕ → List Item → Rewritten
 khmer_walk m zero place count xs = kept xs
 khmer_walk m (suc n) place count xs = then_rule (khmer_at m place count xs).rewritten (khmer_walk m n (place + 1) (khmer_at m place count xs).count)
 
--- all after the first item get the features of such, and indices from the second on are walked
+-- a syllable whose items after the first have the post-base mask, walked from the second item on (HarfBuzz:
+-- reorder_consonant_syllable)
 abbrev pub khmer_reordered : KhmerMasks → List Item → Rewritten
 khmer_reordered m xs = then_rule (within 1 (length xs) (masked_all m.post_base) xs) (khmer_walk m (length xs - 1) 1 0)
 
--- the kind in a syllable's byte tells whether it is reordered
+-- a syllable, reordered if the kind in its first item's byte is reordered
 abbrev pub khmer_first : KhmerMasks → List Item → Option Item → Rewritten
 khmer_first m xs None = kept xs
 khmer_first m xs (Some x) = if is_reordered KHMER_SHAPER (bit_and x.syllable 15) then khmer_reordered m xs else kept xs
 
+-- the reading of one Khmer syllable
 abbrev pub khmer_syllable : KhmerMasks → List Item → Rewritten
 khmer_syllable m xs = khmer_first m xs (slice_get xs 0)
 
--- the reordering permutes each syllable by itself, by glyph numbers
+-- law: the reordering permutes each syllable by itself, by glyph numbers
 abbrev pub KhmerPermutes : Type 0
 KhmerPermutes = (m : KhmerMasks) (xs : List Item)
     → ArePermuted (map (map (λ (x : Item). x.number)) (in_syllables xs)) (map (λ (x : Item). x.number) (by_syllable (khmer_syllable m) xs).items)

@@ -1,4 +1,5 @@
--- Myanmar: the places of the items of a syllable, and their order (OpenType specification, Creating fonts for Myanmar).
+-- Myanmar: the positions of the items of a syllable, and their order (OpenType specification, Creating fonts for
+-- Myanmar).
 use Rattle.std.specs.Prelude.{ℕ, ◌==◌, ◌&&◌, ◌||◌, not, Bool, false, nat_lt, bit_and, if◌then◌else◌, List, [], ◌∷◌, ◌++◌, drop, filter, length, map, replicate, slice_get, take, Option, None, Some}
 use Rattle.std.specs.List.{list_any, position_or_len, prefix_len, range_with_len}
 use Rattle.script_categories.specs.declared.ot_category_t.TheConstants as category
@@ -14,25 +15,26 @@ use Rattle.buffer_glyphs.specs.Events.{Move, Sort}
 use Rattle.buffer_stages.specs.Pieces.{ArePermuted}
 use Rattle.buffer_stages.specs.Rewriting.{Rewritten, kept, then_rule, within, in_syllables, by_syllable}
 
--- ---- places, by the categories of a syllable's items
+-- ---- positions, by the categories of a syllable's items
 
--- the consonants, and what stands for one
+-- the categories of consonants and of what takes a consonant's role
 abbrev pub base_categories : List ℕ
 base_categories = category.OT_C ∷ category.OT_CS ∷ category.OT_Ra ∷ category.OT_V ∷ category.OT_PLACEHOLDER ∷ category.OT_DOTTEDCIRCLE ∷ []
 
+-- a category is that of a base
 abbrev pub is_base : ℕ → Bool
 is_base c = list_any (λ b. c == b) base_categories
 
--- the place of an item in what stands below
+-- the position of an item in the below-base state of the walk
 abbrev pub place_below : ℕ → ℕ
 place_below c = if c == category.OT_A then position.POS_BEFORE_SUB else if c == category.OT_VBlw then position.POS_BELOW_C else position.POS_AFTER_SUB
 
--- the place of an item after the base that goes where the others go, by the place that these have come to
+-- the position of an item after the base that follows the others, by the position that the walk is in
 abbrev pub place_there : ℕ → ℕ → ℕ
 place_there now c =
     if now == position.POS_AFTER_MAIN && c == category.OT_VBlw then position.POS_BELOW_C else if now == position.POS_BELOW_C then place_below c else now
 
--- the place of an item after the base, by the place that the others have come to and that of the item before it
+-- the position of an item after the base, by the position that the walk is in and that of the item before
 abbrev pub place_of : ℕ → ℕ → ℕ → ℕ
 place_of now before c =
     if c == category.OT_MR then position.POS_PRE_C
@@ -40,62 +42,70 @@ place_of now before c =
     else if c == category.OT_VS then before
     else place_there now c
 
+-- a category whose item leaves the walk's position unchanged
 abbrev pub stays_apart : ℕ → Bool
 stays_apart c = c == category.OT_MR || c == category.OT_VPre || c == category.OT_VS
 
--- the place that the others have come to after an item: an A in what stands below leaves it where it is
+-- the position that the walk is in after an item: an anusvara in the below-base state leaves it unchanged
 abbrev pub place_after : ℕ → ℕ → ℕ
 place_after now c = if stays_apart c then now else if now == position.POS_BELOW_C && c == category.OT_A then now else place_there now c
 
+-- the positions of the items after the base
 abbrev pub places_after : ℕ → ℕ → List ℕ → List ℕ
 places_after now before [] = []
 places_after now before (c ∷ cs) = place_of now before c ∷ places_after (place_after now c) (place_of now before c) cs
 
--- how many items are a kinzi, which a syllable may begin with
+-- the number of items of the kinzi that a syllable may begin with
 abbrev pub kinzi : List ℕ → ℕ
 kinzi (a ∷ b ∷ c ∷ cs) = if a == category.OT_Ra && b == category.OT_As && c == category.OT_H then 3 else 0
 kinzi cs = 0
 
+-- the categories from the base on
 abbrev pub from_base : List ℕ → List ℕ
 from_base [] = []
 from_base (c ∷ cs) = position.POS_BASE_C ∷ places_after position.POS_AFTER_MAIN position.POS_BASE_C cs
 
--- where the base stands: the first consonant, else the first item
+-- the index of the base: the first consonant, else the first item
 abbrev pub base_of : List ℕ → ℕ
 base_of cs = if list_any is_base cs then position_or_len is_base cs else 0
 
--- the places of what stands after a kinzi: before the base, the base, after it
+-- the positions of the items after a kinzi: before the base, the base, after it
 abbrev pub based : List ℕ → List ℕ
 based cs = replicate (base_of cs) position.POS_PRE_C ++ from_base (drop (base_of cs) cs)
 
+-- the positions of a syllable's items, by their categories
 abbrev pub myanmar_places : List ℕ → List ℕ
 myanmar_places cs = replicate (kinzi cs) position.POS_AFTER_MAIN ++ based (drop (kinzi cs) cs)
 
--- items at places
+-- an item with a position in its `auxiliary`
 abbrev pub with_place : ℕ → Item → Item
 with_place p x = record x { auxiliary = p }
 
+-- items with positions
 abbrev pub with_places : List ℕ → List Item → List Item
 with_places [] xs = xs
 with_places (p ∷ ps) [] = []
 with_places (p ∷ ps) (x ∷ xs) = with_place p x ∷ with_places ps xs
 
+-- a syllable whose items have their positions
 abbrev pub all_placed : List Item → Rewritten
 all_placed xs = kept (with_places (myanmar_places (map (λ (x : Item). x.category) xs)) xs)
 
 -- ---- order
 
--- in stable order by their places
+-- a syllable in stable order by its items' positions
 abbrev pub sorted_by_place : List Item → Rewritten
 sorted_by_place xs = record { items = key_order (λ (x : Item). x.auxiliary) xs; events = Sort 0 (order_of (map (λ (x : Item). x.auxiliary) xs)) ∷ [] }
 
+-- an item's category is that of left matras
 abbrev pub is_left_matra : Item → Bool
 is_left_matra x = x.category == category.OT_VPre
 
--- a left matra and what stands after it up to the next are a group
+-- two neighbours are in one group: a left matra and what follows up to the next one are a group
 abbrev pub same_group : Item → Item → Bool
 same_group x y = not (is_left_matra y)
 
+-- a left matra is at the index
 abbrev pub is_left_at : List Item → ℕ → Bool
 is_left_at xs i = left_matra_at (slice_get xs i)
   where
@@ -103,36 +113,39 @@ is_left_at xs i = left_matra_at (slice_get xs i)
     left_matra_at None = false
     left_matra_at (Some x) = is_left_matra x
 
--- the groups in reversed order, and all merge
+-- a list with its groups reversed, and all merged
 abbrev pub groups_reversed : List Item → Rewritten
 groups_reversed xs = record {
   items = groups_turned same_group xs;
   events = Move InList 0 (groups_turned (λ i j. not (is_left_at xs j)) (range_with_len 0 (length xs))) ∷ [];
 }
 
--- how many items in front are left matras with their selectors, once they are sorted
+-- the number of items at the start of a sorted syllable that are left matras with their variation selectors
 abbrev pub matras_of : List Item → ℕ
 matras_of xs = prefix_len (λ (x : Item). x.auxiliary == position.POS_PRE_M) xs
 
+-- a syllable has two left matras or more
 abbrev pub has_two_matras : List Item → Bool
 has_two_matras xs = nat_lt 1 (length (filter is_left_matra xs))
 
--- two or more left matras, each with its selectors, are reversed
+-- a syllable where two or more left matras, each with its variation selectors, are reversed
 abbrev pub matras_reversed : List Item → Rewritten
 matras_reversed xs = if has_two_matras (take (matras_of xs) xs) then within 0 (matras_of xs) groups_reversed xs else kept xs
 
+-- a Myanmar syllable in its order (HarfBuzz: initial_reordering_consonant_syllable)
 abbrev pub myanmar_reordered : List Item → Rewritten
 myanmar_reordered xs = then_rule (then_rule (all_placed xs) sorted_by_place) matras_reversed
 
--- the kind in a syllable's byte tells whether it is reordered
+-- a syllable, reordered if the kind in its first item's byte is reordered
 abbrev pub myanmar_first : List Item → Option Item → Rewritten
 myanmar_first xs None = kept xs
 myanmar_first xs (Some x) = if is_reordered MYANMAR_SHAPER (bit_and x.syllable 15) then myanmar_reordered xs else kept xs
 
+-- the reading of one Myanmar syllable
 abbrev pub myanmar_syllable : List Item → Rewritten
 myanmar_syllable xs = myanmar_first xs (slice_get xs 0)
 
--- the reordering permutes each syllable by itself, by glyph numbers
+-- law: the reordering permutes each syllable by itself, by glyph numbers
 abbrev pub MyanmarPermutes : Type 0
 MyanmarPermutes = (xs : List Item)
     → ArePermuted (map (map (λ (x : Item). x.number)) (in_syllables xs)) (map (λ (x : Item). x.number) (by_syllable myanmar_syllable xs).items)

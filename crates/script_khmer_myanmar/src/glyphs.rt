@@ -7,7 +7,7 @@ ghost use Rattle.buffer_stages.specs.Ready.{IsReady};
 use buffer_core::buffer::hb_buffer_t;
 use buffer_glyphs::info::hb_glyph_info_t;
 
-/// Of the glyphs from `start` up to before `end` the one at an index, where there is one.
+/// The glyph with an index among the glyphs `start..end`, if there is one.
 #[tactic(auto, using(crate::proofs::There::there, crate::proofs::There::none_there))]
 pub(crate) fn glyph_in(
     buffer: &hb_buffer_t,

@@ -1,4 +1,5 @@
-//! Khmer: vowels that split, and coeng forms and left vowels, which go to the start of their syllable.
+//! Khmer: decomposes split vowels, and moves coeng forms and left matras to the start of their syllable
+//! (rustybuzz: hb/ot_shaper_khmer.rs).
 ghost use Rattle.std.specs.Prelude.{◌≡◌, ◌≤◌, ◌<◌, ◌+◌, ◌-◌, length, nat_le, slice_range, true, OnOk};
 ghost use Rattle.buffer_glyphs.specs.Items.{item_of};
 ghost use Rattle.buffer_core.specs.Readings.{always};
@@ -21,19 +22,19 @@ use script_categories::hb_ot_script_shaper_t::KHMER_SHAPER;
 use script_categories::ot_category_t::{OT_H, OT_Ra, OT_VPre};
 use std::alloc::AllocError;
 
-/// The masks of the features that parts of a syllable get.
+/// The masks of the features of a syllable's glyphs.
 #[derive(Clone, Copy)]
 pub struct KhmerMasks {
-    /// Of a coeng and its Ra.
+    /// The mask of a coeng and the Ro after it.
     pub pref: hb_mask_t,
-    /// Of all after the first glyph: blwf, abvf and pstf together.
+    /// The mask of all glyphs after the first: blwf, abvf and pstf together.
     pub post_base: hb_mask_t,
-    /// Of what stands after a coeng form.
+    /// The mask of the glyphs after a coeng form.
     pub cfar: hb_mask_t,
 }
 
-/// What a character splits into: a vowel with a part on the left into U+17C1 and itself, as fonts for Khmer have it, all
-/// else as in Unicode. U+17C1 does not split.
+/// The decomposition of a character (`decompose`): a vowel with a left half becomes U+17C1 and itself, as fonts for
+/// Khmer have it; U+17C1 does not decompose; all others decompose as in Unicode.
 pub fn decompose(tables: &UnicodeTables, ab: char) -> Option<(char, char)>
     ensures { result ≡ khmer_split tables.now ab }
 {
@@ -44,9 +45,10 @@ pub fn decompose(tables: &UnicodeTables, ab: char) -> Option<(char, char)>
     }
 }
 
-/// Reorders each Khmer syllable that is one: all after its first glyph get the features of what follows a base. From the
-/// second glyph on, a coeng with Ra after it and each left vowel go to the syllable's start, and all before them merge with
-/// them. A coeng is one with a glyph after it while no more than two were counted; a coeng with Ra sets the count to two.
+/// Reorders each Khmer syllable of a kind that is reordered (`reorder_consonant_syllable`): all glyphs after the first
+/// get the post-base mask; then each coeng with a Ro after it and each left matra, from the second glyph on, moves to
+/// the syllable's start and merges with all glyphs that it passes. A coeng counts while at most two were counted; a
+/// coeng with Ro sets the count to two.
 pub fn reorder_khmer(masks: &KhmerMasks, buffer: &mut hb_buffer_t) -> Result<(), AllocError>
     requires ready { IsReady buffer.old }
     ensures { OnOk result
@@ -90,12 +92,12 @@ fn reorder_syllable(masks: &KhmerMasks, buffer: &mut hb_buffer_t, start: usize, 
     reorder_from_second(masks, buffer, start, end);
 }
 
-/// How far a syllable was walked.
+/// How far the walk of a syllable is.
 #[derive(Clone, Copy)]
 struct Walk {
     /// The index of the next glyph.
     place: usize,
-    /// How many coengs were met.
+    /// The number of coengs that were counted.
     count: u32,
 }
 
@@ -114,9 +116,9 @@ fn reorder_from_second(masks: &KhmerMasks, buffer: &mut hb_buffer_t, start: usiz
     }
 }
 
-/// Walks glyphs from an index on: those that can be walked at once, where there are any, else one. Only a coeng of no form,
-/// or what a form finds before it, ends a run, and a coeng of no form does so at most three times: in a syllable with one
-/// left vowel there are few runs.
+/// Walks the glyphs from an index on: a whole run where there is one, else one glyph. Only a coeng of no form, or the
+/// glyph that a form finds before it, ends a run, and a coeng of no form does so at most three times: a syllable with
+/// left matras has few runs.
 fn reorder_from(
     masks: &KhmerMasks,
     buffer: &mut hb_buffer_t,
@@ -162,7 +164,7 @@ fn reorder_one(
     }
 }
 
-/// Walks a run of glyphs from an index on.
+/// Walks the run of glyphs that begins at an index.
 fn reorder_run(
     masks: &KhmerMasks,
     buffer: &mut hb_buffer_t,
@@ -199,7 +201,7 @@ fn reorder_run(
     }
 }
 
-/// What happens at an index of a syllable; tells how many coengs were met.
+/// Handles the glyph at an index of a syllable, and returns the number of coengs counted so far.
 fn reorder_at(
     masks: &KhmerMasks,
     buffer: &mut hb_buffer_t,

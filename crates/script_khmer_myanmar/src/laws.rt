@@ -8,7 +8,7 @@ pub fn law_khmer_permutes()
     ensures { KhmerPermutes }
 {}
 
-/// So does that of Myanmar.
+/// The reordering of Myanmar permutes each syllable by itself.
 #[tactic(auto, using(crate::proofs::Lemmas::MyanmarPermuted::myanmar_permutes))]
 pub fn law_myanmar_permutes()
     ensures { MyanmarPermutes }

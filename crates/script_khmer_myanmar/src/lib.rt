@@ -1,4 +1,4 @@
-// Khmer and Myanmar: how the glyphs of a syllable are put in order.
+//! Khmer and Myanmar: reorders the glyphs of a syllable.
 #![tactic(auto)]
 
 pub mod glyphs;

@@ -1,4 +1,4 @@
-//! Myanmar: the glyphs of a syllable go to their places around its base.
+//! Myanmar: sorts the glyphs of a syllable by their positions around its base (rustybuzz: hb/ot_shaper_myanmar.rs).
 ghost use Rattle.std.specs.Prelude.{◌≡◌, ◌≤◌, ◌++◌, ◌∷◌, [], false, ◌+◌, length, map, take, drop, reverse, slice_range, OnOk};
 ghost use Rattle.buffer_glyphs.specs.Items.{item_of, strip};
 ghost use Rattle.buffer_core.specs.Readings.{always};
@@ -25,13 +25,13 @@ use script_categories::ot_category_t::OT_VPre;
 use script_categories::ot_position_t::POS_PRE_M;
 use std::alloc::{AllocError, Global};
 
-/// Reorders each Myanmar syllable that is one: its glyphs get their places around its base, as their `auxiliary`, and go in
-/// stable order by them, with each smallest span that the order permutes merged. Two or more left matras, each with its
-/// selectors, are then reversed and merge.
+/// Reorders each Myanmar syllable of a kind that is reordered (`initial_reordering_consonant_syllable`): its glyphs get
+/// their positions around its base, as their `auxiliary`, and are sorted stably by them; each smallest range that the
+/// sort permutes is merged. Two or more left matras, each with its variation selectors, are then reversed and merged.
 ///
 /// # Errors
 ///
-/// Want of memory for the order of a syllable.
+/// Lack of memory for the order of a syllable.
 pub fn reorder_myanmar(alloc: Global, buffer: &mut hb_buffer_t) -> Result<(), AllocError>
     requires ready { IsReady buffer.old }
     ensures { OnOk result (IsFollowed (always (with_rule (by_syllable myanmar_syllable))) buffer.old buffer.new) }
@@ -159,7 +159,7 @@ fn reverse_matras(buffer: &mut hb_buffer_t, start: usize, end: usize)
     reverse_groups(buffer, start, start + matras);
 }
 
-/// How many glyphs in front are left matras with their selectors.
+/// The number of glyphs at the start that are left matras with their variation selectors.
 #[tactic(auto, using(crate::proofs::MyanmarSteps::matra_next, crate::proofs::MyanmarSteps::matra_last, crate::proofs::MyanmarSteps::all_matras))]
 fn matras_of(glyphs: &[hb_glyph_info_t]) -> usize
     ensures count { result ≡ matras_of (strip glyphs.now) }
@@ -217,7 +217,7 @@ fn turn_within(glyphs: &mut [hb_glyph_info_t], start: usize, end: usize)
     turn_groups(&mut glyphs[start..end]);
 }
 
-/// Groups that begin with left matras, the last in front: all glyphs are turned round, and then each group is. It takes linear
+/// Reverses the groups that begin with left matras: reverses all glyphs, then the glyphs of each group. It takes linear
 /// time.
 #[tactic(auto, using(crate::proofs::TurnedBack::none_turned_back, crate::proofs::TurnedBack::kept_back, crate::proofs::TurnedBack::group_back, crate::proofs::TurnedBack::all_back))]
 fn turn_groups(glyphs: &mut [hb_glyph_info_t])
@@ -235,7 +235,7 @@ fn turn_groups(glyphs: &mut [hb_glyph_info_t])
     turn_back(glyphs, begin, count);
 }
 
-/// The glyphs from `start` up to before `end` are turned round.
+/// Reverses the glyphs `start..end`.
 fn turn_back(glyphs: &mut [hb_glyph_info_t], start: usize, end: usize)
     requires ordered { start ≤ end }
     requires within { end ≤ length glyphs.old }

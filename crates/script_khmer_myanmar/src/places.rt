@@ -1,4 +1,5 @@
-//! The places of the glyphs of a Myanmar syllable around its base.
+//! The positions of the glyphs of a Myanmar syllable around its base, initial_reordering_consonant_syllable
+//! (rustybuzz: hb/ot_shaper_myanmar.rs).
 ghost use Rattle.std.specs.Prelude.{◌≡◌, ◌≤◌, length, map, replicate};
 ghost use Rattle.buffer_glyphs.specs.declared.info.hb_glyph_info_t.{hb_glyph_info_t as Glyph};
 ghost use Rattle.script_categories.specs.declared.ot_position_t.TheConstants as position;
@@ -15,8 +16,8 @@ use script_categories::ot_position_t::{
     Position,
 };
 
-/// The glyphs of a syllable get their places: a kinzi in front goes after the base, which is the first consonant, else
-/// the first glyph after it.
+/// Sets the positions of a syllable's glyphs: a kinzi at the start is positioned after the base, which is the first
+/// consonant, else the first glyph after the kinzi.
 pub(crate) fn set_places(glyphs: &mut [hb_glyph_info_t])
     ensures { glyphs.new ≡ glyphs_at (myanmar_places (map (λ g. g.category) glyphs.old)) glyphs.old }
 {
@@ -75,7 +76,7 @@ fn at_place(glyph: hb_glyph_info_t, place: Position) -> hb_glyph_info_t
     }
 }
 
-/// The place of a glyph after the base, by the place that the others have come to and that of the glyph before it.
+/// The position of a glyph after the base, by the position that the walk is in and that of the glyph before it.
 fn place_of(now: Position, before: Position, category: Category) -> Position
     ensures { result ≡ place_of now before category }
 {
@@ -87,7 +88,7 @@ fn place_of(now: Position, before: Position, category: Category) -> Position
     }
 }
 
-/// The place that the others have come to after a glyph.
+/// The position that the walk is in after a glyph.
 fn place_after(now: Position, category: Category) -> Position
     ensures { result ≡ place_after now category }
 {
@@ -122,7 +123,7 @@ fn place_below(category: Category) -> Position
     }
 }
 
-/// How many glyphs are a kinzi.
+/// The number of glyphs of a kinzi at the start.
 fn kinzi(glyphs: &[hb_glyph_info_t]) -> usize
     ensures count { result ≡ kinzi (map (λ g. g.category) glyphs.now) }
     ensures within { result ≤ length glyphs.now }

@@ -1,4 +1,4 @@
-//! Glyphs of a Khmer syllable that are walked at once: forms of a coeng with Ra, and left vowels.
+//! Runs of glyphs of a Khmer syllable that are handled at once: coeng forms with Ro, and left matras.
 ghost use Rattle.std.specs.Prelude.{◌≡◌, ◌≤◌, ◌<◌, ◌+◌, ◌++◌, Bool, true, false, drop, length, map, slice_get, slice_range, take, Some};
 ghost use Rattle.buffer_glyphs.specs.declared.info.hb_glyph_info_t.{hb_glyph_info_t as Glyph};
 ghost use Rattle.buffer_glyphs.specs.Items.{item_of, strip};
@@ -19,8 +19,8 @@ use buffer_stages::parts::{add_mask, mask_within};
 use buffer_stages::syllable_fronts::move_fronts;
 use script_categories::ot_category_t::{OT_H, OT_Ra, OT_VPre};
 
-/// Whether a form stands at an index of a syllable, no more than two coengs were met, and the glyph before it is neither a
-/// coeng nor a left vowel, so that nothing happens when it is met again.
+/// Whether a run begins at an index: a form is there, at most two coengs were counted, and the glyph before it is
+/// neither a coeng nor a left matra, so that nothing changes when the walk meets it again.
 pub(crate) fn opens_forms(
     buffer: &hb_buffer_t,
     start: usize,
@@ -46,7 +46,7 @@ pub(crate) fn opens_forms(
     is_form(&glyph, &next)
 }
 
-/// The i-th glyph of those from `start` up to before `end`.
+/// The i-th of the glyphs `start..end`.
 #[tactic(auto, using(crate::proofs::There::there))]
 fn glyph_at(buffer: &hb_buffer_t, start: usize, end: usize, i: usize) -> hb_glyph_info_t
     requires ready { IsReady buffer.now }
@@ -63,7 +63,7 @@ fn is_form(glyph: &hb_glyph_info_t, next: &hb_glyph_info_t) -> bool
     glyph.category == OT_H && next.category == OT_Ra
 }
 
-/// How many glyphs in front are walked at once: up to a coeng of no form, while few coengs were met.
+/// The length of the run at the start: up to a coeng of no form, while few coengs were counted.
 #[tactic(auto, using(crate::proofs::KhmerScan::run_next, crate::proofs::KhmerScan::run_last, crate::proofs::KhmerScan::run_all))]
 pub(crate) fn run_length(glyphs: &[hb_glyph_info_t], forms: bool, few: bool) -> usize
     ensures count { result ≡ run_length forms few (strip glyphs.now) }
@@ -90,8 +90,8 @@ fn ends_run(glyphs: &[hb_glyph_info_t], i: usize, forms: bool, few: bool) -> boo
     !(forms && is_form(&glyphs[i], &glyphs[i + 1]))
 }
 
-/// The forms of a run get their features, and all after the first form those of what stands there; then forms and left
-/// vowels go to the start of the syllable.
+/// Sets the masks of a run's forms and, after the first form, of all other glyphs; then moves forms and left matras to
+/// the start of the syllable.
 pub(crate) fn move_forms(
     masks: &KhmerMasks,
     buffer: &mut hb_buffer_t,
@@ -113,7 +113,7 @@ pub(crate) fn move_forms(
     move_run(buffer, start, start + to, place, true);
 }
 
-/// The forms from `start` up to before `end` get the features of a mask.
+/// Adds a mask to the forms among the glyphs `start..end`.
 fn mask_run(buffer: &mut hb_buffer_t, start: usize, end: usize, mask: hb_mask_t)
     requires ready { IsReady buffer.old }
     requires ordered { start ≤ end }
@@ -147,7 +147,7 @@ fn mask_forms(glyphs: &mut [hb_glyph_info_t], mask: hb_mask_t)
     }
 }
 
-/// Masks the form at an index, where one stands there; tells the index after what stands there.
+/// Adds a mask to the form at an index, if there is one; returns the index after what is there.
 fn mask_at(glyphs: &mut [hb_glyph_info_t], i: usize, mask: hb_mask_t) -> usize
     requires there { i + 2 ≤ length glyphs.old }
     ensures masked { take result glyphs.new
@@ -164,7 +164,8 @@ fn mask_at(glyphs: &mut [hb_glyph_info_t], i: usize, mask: hb_mask_t) -> usize
     i + 2
 }
 
-/// What comes to the front of the glyphs from `start` up to before `end`, from an index on, and merges with what it passes.
+/// Moves the forms and left matras among the glyphs `start..end`, from an index on, to the front, and merges each with
+/// the glyphs it passes.
 pub(crate) fn move_run(
     buffer: &mut hb_buffer_t,
     start: usize,
@@ -184,7 +185,7 @@ pub(crate) fn move_run(
     move_fronts(&Fronts { forms }, buffer, start, end, place, merged);
 }
 
-/// How many glyphs there are up to the last that comes to the front, or 1.
+/// The number of glyphs up to the last one that moves to the front, or 1.
 #[tactic(auto, using(crate::proofs::KhmerScan::all_seen))]
 fn merged_length(glyphs: &[hb_glyph_info_t], place: usize, forms: bool) -> usize
     requires some { 0 < place }
@@ -199,7 +200,7 @@ fn merged_length(glyphs: &[hb_glyph_info_t], place: usize, forms: bool) -> usize
     merged
 }
 
-/// How many glyphs there are up to the last that came to the front before an index or comes there at it.
+/// The number of glyphs up to the last one that moves to the front, at an index or before it.
 fn merged_at(glyphs: &[hb_glyph_info_t], i: usize, forms: bool, merged: usize) -> usize
     requires some { 0 < i }
     requires there { i < length glyphs.now }
@@ -215,7 +216,7 @@ fn merged_at(glyphs: &[hb_glyph_info_t], i: usize, forms: bool, merged: usize) -
     i + taken
 }
 
-/// How many glyphs come to the front at an index.
+/// The number of glyphs that move to the front from an index.
 fn taken(glyphs: &[hb_glyph_info_t], i: usize, forms: bool) -> usize
     requires there { i < length glyphs.now }
     ensures value { result ≡ taken forms (strip (drop i glyphs.now)) }
@@ -230,7 +231,7 @@ fn taken(glyphs: &[hb_glyph_info_t], i: usize, forms: bool) -> usize
     0
 }
 
-/// A form comes to the front where coengs form, and each left vowel.
+/// What moves to the front: a form where coengs make forms, and each left matra.
 #[derive(Clone, Copy)]
 struct Fronts {
     forms: bool,

@@ -1,4 +1,4 @@
--- What becomes of a run of marks by itself.
+-- The arrangement of a run of marks by itself.
 use Rattle.std.specs.Prelude.{ℕ, ◌+◌, ◌==◌, ◌≡◌, if◌then◌else◌, List, [], ◌∷◌, ◌++◌, Option, None, Some, drop, length, map, take}
 use Rattle.buffer_glyphs.specs.Items.{Item}
 use Rattle.buffer_glyphs.specs.Levels.{InList}
@@ -11,40 +11,45 @@ use Rattle.script_hebrew_thai.specs.Hebrew.{first_three}
 
 -- ---- Arabic (UTR 53)
 
--- so many modifier marks, after so many others, lead the run and take another class; all up to their end merge
+-- that many modifier marks, after that many others, are moved to the start of the run and have another class; all marks
+-- up to their end are merged
 abbrev pub led_by : ℕ → ℕ → ℕ → List Item → Arranged
 led_by class below leading run =
     if leading == 0 then kept run
     else record { items = changed_within (classed class) 0 leading (moved 0 below leading run); events = Move InList 0 (order_of_move below leading) ∷ [] }
 
--- the modifier marks that lead those of a class lead the run
+-- the modifier marks that lead those of a class are moved to the start of the run
 abbrev pub leading_first : ℕ → ℕ → List Item → Arranged
 leading_first class new run = led_by new (count_below class run) (count_leading class run) run
 
--- an arrangement of what stands after so many
+-- an arrangement of the items after a number of first ones
 abbrev pub rest_arranged : ℕ → (List Item → Arranged) → List Item → Arranged
 rest_arranged n order run = record { items = take n run ++ (order (drop n run)).items; events = map (shifted n) (order (drop n run)).events }
 
--- the class 220 of marks below comes first, and takes the class of CCC22; then 230 of those above, with the class of CCC26
+-- the Arabic order: class 220 first, with class CCC22 for its modifiers; then class 230, with class CCC26 (UTR 53)
 abbrev pub arabic_order : List Item → Arranged
 arabic_order run = and_arranged (leading_first 220 25 run) (rest_arranged (count_leading 220 run) (leading_first 230 26))
 
 -- ---- Hebrew
 
+-- the arrangement with the last two of three marks at an index swapped
 abbrev pub swapped_at : Option ℕ → List Item → Arranged
 swapped_at None run = kept run
 swapped_at (Some n) run = record { items = moved (n + 1) 1 1 run; events = Move InList (n + 1) (order_of_move 1 1) ∷ [] }
 
--- of the first three neighbours that are patah or qamats, sheva or hiriq, and meteg or another mark below, the last two change places
+-- the Hebrew order: of the first three neighbours that are patah or qamats, sheva or hiriq, and meteg or another mark
+-- below, the last two are swapped
 abbrev pub hebrew_order : List Item → Arranged
 hebrew_order run = swapped_at (first_three run) run
 
 -- ---- laws
 
+-- law: an order has as many marks as the run
 pub record OrdersKeepCount : Type 0 where
   pub arabic : (run : List Item) → length (arabic_order run).items ≡ length run
   pub hebrew : (run : List Item) → length (hebrew_order run).items ≡ length run
 
+-- law: an order moves no mark without a merge
 pub record OrdersArePlain : Type 0 where
   pub arabic : (run : List Item) → IsPlain (arabic_order run).events
   pub hebrew : (run : List Item) → IsPlain (hebrew_order run).events

@@ -1,13 +1,13 @@
-//! Laws of the orders of marks.
+//! Laws of the shapers' orders of marks.
 ghost use Rattle.script_mark_orders.specs.Orders.{OrdersArePlain, OrdersKeepCount};
 
-/// As many marks as before.
+/// The order of a run has as many marks as the run.
 #[tactic(auto, using(crate::specs::Lemmas::Counts::orders_keep_count))]
 pub fn law_orders_keep_count()
     ensures { OrdersKeepCount }
 {}
 
-/// No mark changes its place without a merge.
+/// The order of a run moves no mark without a merge.
 #[tactic(auto, using(crate::specs::Lemmas::Counts::orders_are_plain))]
 pub fn law_orders_are_plain()
     ensures { OrdersArePlain }

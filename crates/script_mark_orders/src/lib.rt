@@ -1,4 +1,4 @@
-// The orders that Arabic and Hebrew have of a run of marks, as the normaliser asks for them.
+//! The orders that the Arabic and Hebrew shapers give a run of marks, in the form that the normalizer requires.
 #![tactic(auto)]
 
 pub mod laws;

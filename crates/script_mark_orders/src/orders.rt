@@ -9,7 +9,7 @@ use buffer_core::buffer::hb_buffer_t;
 use script_hebrew_thai::hebrew;
 use script_joining::marks;
 
-/// Puts a run of marks in the order of Arabic. It takes linear time and no memory.
+/// Reorders a run of marks as the Arabic shaper does (`reorder_marks`). It takes linear time and no memory.
 pub fn reorder_arabic_marks(buffer: &mut hb_buffer_t, start: usize, end: usize)
     requires ready { IsReady buffer.old }
     requires ordered { start ≤ end }
@@ -19,7 +19,7 @@ pub fn reorder_arabic_marks(buffer: &mut hb_buffer_t, start: usize, end: usize)
     marks::reorder_marks(buffer, start, end);
 }
 
-/// Puts a run of marks in the order of Hebrew. It takes linear time and no memory.
+/// Reorders a run of marks as the Hebrew shaper does (`reorder_marks`). It takes linear time and no memory.
 pub fn reorder_hebrew_marks(buffer: &mut hb_buffer_t, start: usize, end: usize)
     requires ready { IsReady buffer.old }
     requires ordered { start ≤ end }

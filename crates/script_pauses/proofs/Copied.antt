@@ -1,4 +1,4 @@
--- Copies of the glyph at the cursor that go behind it.
+-- Copies of the current glyph that are appended to the output.
 use Rattle.std.proofs.Common.{ℕ, zero, suc, ◌≡◌, ◌<◌, ◌≤◌, ◌+◌, true, List, [], ◌∷◌, ◌++◌, Some, length, take, drop, refl, sym, ap, subst, ◌∙◌, append_assoc, arith}
 use Rattle.std.specs.Prelude.{slice_get, replicate, Result, Ok, Err, OnOk}
 use Rattle.std.proofs.lemmas.List.{append-nil, map-append, length-append, length-map, replicate-append-replicate}
@@ -48,7 +48,7 @@ events_more at zero = let e : at + 0 ≡ at = omega arith in ap (λ k. Replace k
 events_more at (suc n) = let e : at + suc n ≡ at + 1 + n = omega arith in
     ap (λ es. Replace at 0 1 ∷ es) (ap (λ k. copy_events (at + 1) n ++ Replace k 0 1 ∷ []) e ∙ events_more (at + 1) n)
 
--- so many copies of the glyph at the cursor went behind it
+-- that many copies of the current glyph were appended to the output
 pub record AreCopied (n : ℕ) (s t : Sides) : Type 0 where
   pub opened : t.is_open ≡ true
   pub there : 0 < length t.ahead
@@ -109,7 +109,7 @@ more_copied n s t u some h step = by_ahead s.ahead refl
               (subst (λ zs. Walked (strip t.behind ++ x ∷ []) zs (copy_events (length s.behind) n ++ Replace (length t.behind) 0 1 ∷ []) s u) same both));
         }
 
--- the glyph itself goes behind its copies
+-- the glyph itself is output after its copies
 pub passed_on_all : (n : ℕ) (x : Item) (xs : List Item) (s t u : Sides) → AreCopied n s t → Walked (strip t.behind ++ take 1 (strip t.ahead)) (drop 1 (strip t.ahead)) [] t u → strip s.ahead ≡ x ∷ xs
     → Walked (strip s.behind ++ replicate (n + 1) x) xs (copy_events (length s.behind) n) s u
 passed_on_all n x xs s t u h step seen =

@@ -87,7 +87,7 @@ laid_done ts ps s t new ready h e is =
       numbers = λ f. ap are_glyphs both.0 ∙ copied_glyphs (items_of s) ts f;
     })
 
--- there is a place for each position
+-- there is an index for each position
 pub room_for_places : (ts : List (Option Tile)) (ps : List Position) (s t : Sides) → IsReady s → IsFollowed (tiles_copied ts) s t → ps ≡ laid s.positions ts → length ps ≡ length t.positions
 room_for_places ts ps s t ready h e =
     let xs = copied (items_of s) ts in

@@ -22,7 +22,7 @@ copies_begin t x (suc n) w o e f =
     let h = copies_begin t x n w o e f in
     ap (λ y. copy_begin t x n -ℤ y +ℤ t.overlap) e ∙ ap (λ y. copy_begin t x n -ℤ pos w +ℤ y) f ∙ next_step x (copy_begin t x n) n w o h
 
--- what stands so far to the left, with so many tiles of a width more
+-- the begin of tiles to the left, with that many tiles of a width more
 pub grown : (b x : ℤ) (c n o w f r : ℕ) → x ≡ pos (c * n * o) -ℤ pos (f + (c + 1) * r) → b ≡ x +ℤ pos (c * o) -ℤ pos ((c + 1) * w) → b ≡ pos (c * (n + 1) * o) -ℤ pos (f + (c + 1) * (r + w))
 grown b x c n o w f r e g =
     let p : c * (n + 1) * o ≡ c * n * o + c * o = ap (λ m. m * o) (mul-add c n 1) ∙ add-mul (c * n) (c * 1) o ∙ ap (λ m. c * n * o + m * o) (let k : c * 1 ≡ c = omega arith in k) in

@@ -31,7 +31,7 @@ leftmost_is_there p ps t ts = first_placed p t (begin ts) t.copies (laid ps ts)
 
 -- ---- the tiles of one run
 
--- where tiles of a run begin, where what is behind them begins at 0
+-- where the tiles of a run begin, where the next glyph begins at 0
 abbrev begin_of : FaceParts → Run → List Item → ℤ
 begin_of font r [] = pos 0
 begin_of font r (x ∷ xs) = copy_begin (tile_in_run font x r) (begin_of font r xs) (copies_of x r)

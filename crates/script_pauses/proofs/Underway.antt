@@ -18,7 +18,7 @@ use Rattle.script_tiles.specs.declared.tile.Tile.{Tile}
 use Rattle.script_pauses.specs.Copying.{copied, copies_in, copy_events, events_from, tiles_copied}
 use Rattle.buffer_stages.proofs.Lemmas.Fitting.{limit_same, written_exceed, written_fit}
 
--- the glyphs before a place are behind with their copies
+-- the glyphs before an index are output with their copies
 pub record IsUnderway (ts : List (Option Tile)) (at : ℕ) (s t : Sides) : Type 0 where
   pub events : List Event
   pub walked : Walked (strip t.behind) (strip t.ahead) events s t

@@ -18,7 +18,7 @@ runs_next font before i (g ∷ gs) [] d lt e = absurd (omega (arith, e))
 runs_next font before zero (g ∷ gs) (p ∷ ps) d lt e = refl
 runs_next font before (suc i) (g ∷ gs) (p ∷ ps) d lt e = runs_next font before i gs ps d (omega arith) (omega (arith, e))
 
--- the runs of so many glyphs, and what stands behind them
+-- the runs of that many glyphs, and what is before the next one
 pub record AreRun (font : FaceParts) (gs : List hb_glyph_info_t) (ps : List Position) (i : ℕ) (before : Before) (rs : List (Option Run)) : Type 0 where
   pub done : rs ++ runs font before (strip (drop i gs)) (drop i ps) ≡ runs font (Word (pos 0)) (strip gs) ps
   pub near : IsNear (i * 2 ^ 31) (word_before before)
@@ -42,7 +42,7 @@ one_run font gs ps i before next rs d lt e r is near =
 abbrev after_if : FaceParts → Before → Item → List Item → Position → Bool → Before
 after_if font before x xs p t = if t then Tiles (run_here font before (x ∷ xs)) else Word (word_after before x p)
 
--- behind what is no tile stands a word
+-- after an item that is no tile there is a word
 pub after_is : (font : FaceParts) (before next : Before) (gs : List hb_glyph_info_t) (d : hb_glyph_info_t) (p : Position) (w v : ℤ) → 0 < length gs → is_tile (item_of (get_or gs 0 d)) ≡ false → w ≡ word_after before (item_of (get_or gs 0 d)) p → v ≡ w → next ≡ Word v
     → next ≡ next_before font before (strip gs) p
 after_is font before next [] d p w v lt e f same g = absurd (omega (arith, lt))

@@ -1,4 +1,4 @@
--- The categories that the shapers of syllables see characters in.
+-- The categories of characters for the shapers of syllables.
 use Rattle.std.specs.Prelude.{ℕ, Option, None, Some, if◌then◌else◌, unwrap_or}
 use lib.Utf8.{scalar}
 use Rattle.script_categories.specs.declared.category.TheConstants as category
@@ -8,24 +8,27 @@ use Rattle.buffer_glyphs.specs.Items.{Item}
 use Rattle.buffer_core.specs.Readings.{Stage, always}
 use Rattle.buffer_stages.specs.Stages.{mapped}
 
+-- the category of a row, OT_X where there is none
 abbrev pub category_or_none : Option (ℕ × ℕ) → ℕ
 category_or_none None = ot_category.OT_X
 category_or_none (Some p) = p.0
 
--- of a character of Khmer or Myanmar; one that is not listed is of none
+-- the category of a Khmer or Myanmar character, OT_X for one without a row
 abbrev pub listed_category : Tables → ℕ → ℕ
 listed_category t u = category_or_none (indic_of t u)
 
+-- the category of a character for the Khmer and Myanmar shapers
 abbrev pub ot_category_of : Tables → ℕ → ℕ
 ot_category_of t u = if scalar u then listed_category t u else ot_category.OT_X
 
--- of a character of the universal shaper; one that is not listed is other
+-- the category of a character for the universal shaper, `other` for one without a row
 abbrev pub universal_category_of : Tables → ℕ → ℕ
 universal_category_of t u = if scalar u then unwrap_or (universal_of t u) category.O else category.O
 
+-- an item with its character's category
 abbrev pub with_category : (ℕ → ℕ) → Item → Item
 with_category category_of x = record x { category = category_of x.number }
 
--- each item gets its character's category
+-- the stage that sets each item's category
 abbrev pub categories_set : (ℕ → ℕ) → Stage
 categories_set category_of = always (mapped (with_category category_of))

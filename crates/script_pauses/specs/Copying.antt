@@ -6,28 +6,28 @@ use Rattle.buffer_core.specs.Readings.{Stage, with_events}
 use Rattle.buffer_core.specs.Sides.{zero_positions}
 use Rattle.script_tiles.specs.declared.tile.Tile.{Tile}
 
--- what is no tile has no copies
+-- the number of copies of an item, 0 where it is no tile
 abbrev pub copies_in : Option Tile → ℕ
 copies_in None = 0
 copies_in (Some t) = t.copies
 
--- each element with copies beside it, as many as its tile has
+-- a list with the copies of each element beside it, as many as its tile has
 abbrev pub copied : {X : Type 0} → List X → List (Option Tile) → List X
 copied [] ts = []
 copied (x ∷ xs) [] = []
 copied (x ∷ xs) (t ∷ ts) = replicate (copies_in t + 1) x ++ copied xs ts
 
--- so many copies come in before the glyph at a place, each of its cluster and with its flags
+-- the insertion of that many copies before the glyph at an index, each with its cluster and flags
 abbrev pub copy_events : ℕ → ℕ → List Event
 copy_events at zero = []
 copy_events at (suc n) = Replace at 0 1 ∷ copy_events (at + 1) n
 
--- before each glyph from a place on come in as many as its tile has
+-- the insertions of all copies, from an index on
 abbrev pub events_from : ℕ → List (Option Tile) → List Event
 events_from at [] = []
 events_from at (t ∷ ts) = copy_events at (copies_in t) ++ events_from (at + (copies_in t + 1)) ts
 
--- the tiles with their copies, where the list does not grow past the limit; positions are yet to come
+-- the stage that inserts the tiles' copies, where the list is within the limit; it sets no positions
 abbrev pub tiles_copied : List (Option Tile) → Stage
 tiles_copied ts v =
     if nat_le (length (copied v.items ts)) v.max_len

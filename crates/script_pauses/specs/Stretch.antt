@@ -1,4 +1,4 @@
--- How tiles are laid over the word in front of them (OpenType specification, feature stch).
+-- The layout of tiles over the word before them (OpenType specification, feature stch).
 use Rattle.std.specs.Prelude.{pos, nat_le, if◌then◌else◌, List, Option, Ok, Err, length}
 use Rattle.std.specs.List.{list_all}
 use Rattle.buffer_glyphs.specs.declared.cause.ShapeCause.TheVariants.{StretchRange, TooLong}
@@ -12,18 +12,18 @@ use Rattle.script_pauses.specs.Laying.{is_in_range, tiles}
 use Rattle.script_pauses.specs.Copying.{copied, events_from}
 use Rattle.script_tiles.specs.Placing.{laid}
 
--- such tiles with their copies, where the list does not grow past the limit
+-- the stage that inserts the tiles' copies and sets the positions, where the list is within the limit
 abbrev pub laid_over : List (Option Tile) → Stage
 laid_over ts v =
     if nat_le (length (copied v.items ts)) v.max_len
     then Ok (with_events (events_from 0 ts) (record v { items = copied v.items ts; positions = laid v.positions ts }))
     else Err TooLong
 
--- the run of each glyph of a text
+-- the run of each glyph of a text that is a tile
 abbrev pub text_runs : FaceParts → View → List (Option Run)
 text_runs font v = runs font (Word (pos 0)) v.items v.positions
 
--- tiles are laid over their words, where each width is a number of 32 bits
+-- the stage that lays tiles over their words, where each width fits in 32 bits (HarfBuzz: apply_stch)
 abbrev pub tiles_laid : FaceParts → Stage
 tiles_laid font v =
     if list_all is_in_range (text_runs font v) then laid_over (tiles font v.items (text_runs font v)) v

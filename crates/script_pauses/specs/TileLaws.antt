@@ -1,4 +1,4 @@
--- Laws of laid tiles: how wide they are with their copies, and that no glyph changes its place.
+-- Laws of laid tiles: their width with their copies, and that no glyph is reordered.
 use Rattle.std.specs.Prelude.{ℕ, ℤ, pos, neg_ℤ, ◌≡◌, ◌<◌, ◌*◌, ◌≤ℤ◌, ◌<ℤ◌, ◌+ℤ◌, Bool, true, not, List, [], ◌∷◌, ◌++◌, Option, Some, Ok, length}
 use Rattle.std.specs.List.{list_all}
 use Rattle.buffer_glyphs.specs.declared.level.BufferClusterLevel.{BufferClusterLevel}
@@ -16,17 +16,18 @@ use Rattle.script_pauses.specs.Laying.{tiles}
 use Rattle.script_tiles.specs.Placing.{begin, laid, tile_at}
 use Rattle.script_pauses.specs.Stretch.{tiles_laid}
 
--- nothing, or what is no tile
+-- the list is empty, or its first item is no tile
 abbrev pub begins_otherwise : List Item → Bool
 begins_otherwise [] = true
 begins_otherwise (x ∷ xs) = not (is_tile x)
 
--- a width is at least that of a word, and exceeds it by less than one for each copy
+-- a width is at least that of a word, and exceeds it by less than one unit for each copy
 pub record Reaches (word width : ℤ) (copies : ℕ) : Type 0 where
   pub enough : word ≤ℤ width
   pub little : width <ℤ (word +ℤ pos copies)
 
--- where tiles after a word get copies, the leftmost begins so far to the left of the word's end that all together are as wide as the word, but for less than one unit for each copy
+-- law: where tiles after a word get copies, the leftmost begins so far to the left of the word's end that all together
+-- are as wide as the word, within one unit for each copy
 abbrev pub TilesReach : Type 0
 TilesReach = (font : FaceParts) (word : ℤ) (x : Item) (xs rest : List Item) (ps : List Position)
     → list_all is_tile (x ∷ xs) ≡ true → begins_otherwise rest ≡ true → length ps ≡ length ((x ∷ xs) ++ rest)
@@ -34,10 +35,10 @@ TilesReach = (font : FaceParts) (word : ℤ) (x : Item) (xs rest : List Item) (p
     → Reaches word (neg_ℤ (begin (tiles font ((x ∷ xs) ++ rest) (runs font (Word word) ((x ∷ xs) ++ rest) ps))))
     (copies (with_tiles font (run_begun word) (x ∷ xs)) * (with_tiles font (run_begun word) (x ∷ xs)).tiles)
 
--- and there its offset puts it, modulo 2^32
+-- law: the leftmost tile's offset puts it at that distance, modulo 2^32
 abbrev pub LeftmostIsThere : Type 0
 LeftmostIsThere = (p : Position) (ps : List Position) (t : Tile) (ts : List (Option Tile)) → first_of (laid (p ∷ ps) (Some t ∷ ts)) ≡ Some (tile_at p (begin (Some t ∷ ts)))
 
--- no event is a bare order
+-- law: laying tiles reorders no glyphs
 abbrev pub TilesLeavePlain : Type 0
 TilesLeavePlain = (font : FaceParts) (v : View) (r : Read) (level : BufferClusterLevel) → tiles_laid font v ≡ Ok r → IsPlain (r.events level)

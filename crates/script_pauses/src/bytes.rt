@@ -1,4 +1,4 @@
-//! Where the syllables of Khmer and Myanmar stand.
+//! The syllable bytes of a text in Khmer or Myanmar.
 ghost use Rattle.std.specs.Prelude.{◌≡◌, ◌≢◌, false, Ok, Err, IfErr, OnOk};
 ghost use Rattle.buffer_core.specs.Readings.{read_of};
 ghost use Rattle.buffer_core.specs.Sides.{items_of, run_of};
@@ -12,11 +12,12 @@ use script_categories::{SyllableSpans, hb_ot_script_shaper_t};
 use script_syllabic::syllables;
 use std::alloc::Global;
 
-/// Gives the glyphs of each syllable its byte and marks it as unsafe to break. Answers false: no glyph came in.
+/// Sets the syllable byte of each glyph, and flags each syllable as unsafe to break (`setup_syllables`). Returns false:
+/// no glyph is inserted.
 ///
 /// # Errors
 ///
-/// `UnknownSyllableKind` where the spans name a kind that the shaper does not have, or want of memory.
+/// `UnknownSyllableKind` where the spans name a kind that the shaper does not have, or lack of memory.
 pub fn setup_syllables<S: SyllableSpans>(
     alloc: Global,
     spans: &S,

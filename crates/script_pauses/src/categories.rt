@@ -13,7 +13,7 @@ use buffer_unicode_tables::UnicodeTables;
 use script_categories::category;
 use script_categories::ot_category_t::OT_X;
 
-/// Each character keeps its category for the universal shaper. It takes linear time and no memory.
+/// Stores in each glyph its character's category for the universal shaper. It takes linear time and no memory.
 pub fn set_universal_categories(tables: &UnicodeTables, buffer: &mut hb_buffer_t)
     requires ready { IsReady buffer.old }
     ensures { IsFollowed (categories_set (universal_category_of tables.now)) buffer.old buffer.new }
@@ -38,7 +38,7 @@ fn universal_category(tables: &UnicodeTables, u: u32) -> u8
     }
 }
 
-/// Each character keeps its category for the shapers of Khmer and Myanmar. It takes linear time and no memory.
+/// Stores in each glyph its character's category for the Khmer and Myanmar shapers. It takes linear time and no memory.
 pub fn set_ot_categories(tables: &UnicodeTables, buffer: &mut hb_buffer_t)
     requires ready { IsReady buffer.old }
     ensures { IsFollowed (categories_set (ot_category_of tables.now)) buffer.old buffer.new }

@@ -1,4 +1,4 @@
-//! What is forgotten once the syllables are in order.
+//! Clears syllable bytes and substitution flags once the syllables are in order (rustybuzz: hb/ot_layout.rs).
 ghost use Rattle.std.specs.Prelude.{◌≡◌};
 ghost use Rattle.buffer_glyphs.specs.Items.{item_of};
 ghost use Rattle.buffer_glyphs.specs.Origins.{origin_of};
@@ -13,7 +13,7 @@ use buffer_glyphs::flags::GlyphPropsFlags;
 use buffer_glyphs::info::hb_glyph_info_t;
 use buffer_stages::glyphs::map_glyphs;
 
-/// No glyph is of a syllable any more. It takes linear time and no memory.
+/// Sets the syllable byte of each glyph to 0. It takes linear time and no memory.
 pub fn clear_syllables(buffer: &mut hb_buffer_t)
     requires ready { IsReady buffer.old }
     ensures ok { IsDone syllables_cleared buffer.old buffer.new }
@@ -39,7 +39,7 @@ fn without_syllable(glyph: &hb_glyph_info_t) -> hb_glyph_info_t
     }
 }
 
-/// No glyph says any more that a substitution put it there. It takes linear time and no memory.
+/// Clears the substituted bit of each glyph. It takes linear time and no memory.
 pub fn _hb_clear_substitution_flags(buffer: &mut hb_buffer_t)
     requires ready { IsReady buffer.old }
     ensures ok { IsDone substitutions_forgotten buffer.old buffer.new }

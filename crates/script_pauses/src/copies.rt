@@ -1,10 +1,10 @@
-//! How often the tiles of a run repeat.
+//! The number of times that the tiles of a run repeat (rustybuzz: hb/ot_shaper_arabic.rs, apply_stch).
 ghost use Rattle.std.specs.Prelude.{◌≡◌};
 ghost use Rattle.script_pauses.specs.Copies.{copies, left_of_word, natural};
 
 use crate::runs::Run;
 
-/// What the fixed tiles leave of the word, 0 where they are as wide.
+/// The width of the word that the fixed tiles leave, 0 where they are at least as wide as the word.
 pub fn left_of_word(run: &Run) -> u128
     ensures { result ≡ left_of_word run.now }
 {
@@ -17,8 +17,8 @@ fn natural(width: i128) -> u128
     u128::try_from(width).unwrap_or(0)
 }
 
-/// How many copies each repeating tile gets, so that with them the tiles reach as far as the word: none where they do by
-/// themselves, or have no width.
+/// The number of copies of each repeating tile that make the tiles reach the word's width: none where they reach it
+/// without copies, or have no width.
 pub fn copies(run: &Run) -> u128
     ensures { result ≡ copies run.now }
 {

@@ -1,4 +1,4 @@
-//! The copies of tiles.
+//! The copies of tiles (rustybuzz: hb/ot_shaper_arabic.rs, apply_stch).
 ghost use Rattle.std.specs.Prelude.{◌≡◌, ◌≢◌, ◌<◌, ◌+◌, ◌++◌, ◌∷◌, [], List, Err, IfErr, OnOk, length, replicate, true};
 ghost use Rattle.buffer_glyphs.specs.Items.{Item, item_of, strip};
 ghost use Rattle.buffer_glyphs.specs.Events.{Replace};
@@ -14,11 +14,11 @@ use buffer_glyphs::cause::ShapeCause;
 use buffer_stages::walks::{advance, finish};
 use script_tiles::tile::Tile;
 
-/// Puts the copies of each tile beside it.
+/// Inserts the copies of each tile before it.
 ///
 /// # Errors
 ///
-/// `TooLong` where the text would have more glyphs than the buffer may hold, or want of memory.
+/// `TooLong` where the text would have more glyphs than the buffer may hold, or lack of memory.
 pub fn copy_tiles(tiles: &[Option<Tile>], buffer: &mut hb_buffer_t) -> Result<(), ShapeCause>
     requires ready { IsReady buffer.old }
     requires each { length tiles.now ≡ length (all_glyphs buffer.old) }
@@ -33,7 +33,7 @@ pub fn copy_tiles(tiles: &[Option<Tile>], buffer: &mut hb_buffer_t) -> Result<()
     finish(buffer)
 }
 
-/// The glyph at the cursor goes behind it, after its copies.
+/// Outputs the copies of the current glyph, and then the glyph.
 fn pass(tile: Option<Tile>, buffer: &mut hb_buffer_t) -> Result<(), ShapeCause>
     requires open { buffer.old.is_open ≡ true }
     requires there { 0 < length buffer.old.ahead }
@@ -57,7 +57,7 @@ fn copies_in(tile: Option<Tile>) -> u32
     }
 }
 
-/// A copy of the glyph at the cursor goes behind it.
+/// Outputs a copy of the current glyph.
 fn copy_current(buffer: &mut hb_buffer_t) -> Result<(), ShapeCause>
     requires open { buffer.old.is_open ≡ true }
     requires there { 0 < length buffer.old.ahead }

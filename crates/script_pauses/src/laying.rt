@@ -1,4 +1,4 @@
-//! How often each tile of a text repeats, and how wide it is.
+//! How often each tile of a text repeats, and how wide it is (rustybuzz: hb/ot_shaper_arabic.rs, apply_stch).
 ghost use Rattle.std.specs.Prelude.{◌≡◌, ◌≤◌, ◌<◌, ◌*◌, ◌/◌, ◌+◌, ◌-◌, pos, true, length, IfOk};
 ghost use Rattle.std.specs.List.{list_all};
 ghost use Rattle.buffer_glyphs.specs.Items.{item_of, strip};
@@ -15,7 +15,7 @@ use layout_face::Face;
 use script_tiles::tile::Tile;
 use std::alloc::{AllocFailed, Global};
 
-/// Whether the widths of each run are numbers of 32 bits.
+/// Whether the widths of each run fit in 32 bits.
 pub fn are_in_range(runs: &[Option<Run>]) -> bool
     ensures { result ≡ list_all is_in_range runs.now }
 {
@@ -43,11 +43,11 @@ fn fits(width: i128) -> bool
     -0x8000_0000 <= width && width <= 0x7FFF_FFFF
 }
 
-/// The tile that each glyph is. It takes linear time, and memory for them.
+/// The tile of each glyph that is one. It takes linear time, and memory for them.
 ///
 /// # Errors
 ///
-/// Want of memory.
+/// Lack of memory.
 #[tactic(auto, using(crate::proofs::Listed::none_listed, crate::proofs::Listed::one_listed, crate::proofs::Listed::all_listed, crate::proofs::Listed::run_there))]
 pub fn tiles_of(
     alloc: Global,
@@ -97,7 +97,7 @@ fn copies_of(glyph: &hb_glyph_info_t, run: &Run) -> u32
     copies_in_run(run)
 }
 
-/// How many copies each repeating tile gets.
+/// The number of copies of each repeating tile.
 #[tactic(auto, using(crate::proofs::Shared::few_copies))]
 fn copies_in_run(run: &Run) -> u32
     requires { run_in_range run.now ≡ true }
@@ -115,7 +115,7 @@ fn width(face: &Face, glyph: &hb_glyph_info_t) -> i32
     }
 }
 
-/// How far each copy lies over its neighbour.
+/// The overlap of each copy and its neighbour, in font units.
 #[tactic(auto, using(crate::proofs::Shared::none_over, crate::proofs::Shared::over_none))]
 fn overlap(run: &Run) -> i32
     requires { run_in_range run.now ≡ true }
@@ -128,7 +128,7 @@ fn overlap(run: &Run) -> i32
     shared(excess(run, copies), copies, run.tiles) as i32
 }
 
-/// What the repeating tiles are wider with so many copies than the word leaves for them.
+/// The width by which the repeating tiles, with that many copies, exceed what the word leaves for them.
 #[tactic(auto, using(crate::proofs::Shared::tiles_reach, crate::proofs::Shared::excess_small, crate::proofs::Shared::both_small))]
 fn excess(run: &Run, copies: u128) -> u128
     requires ranged { run_in_range run.now ≡ true }
@@ -140,7 +140,7 @@ fn excess(run: &Run, copies: u128) -> u128
     (copies + 1) * run.repeating - left_of_word(run)
 }
 
-/// An excess shared among the copies of each tile.
+/// The share of an excess for each copy of each tile.
 #[tactic(auto, using(crate::proofs::Shared::shared_twice, crate::proofs::Shared::shared_small))]
 fn shared(excess: u128, copies: u128, tiles: u128) -> u128
     requires small { excess ≤ 0x7FFF_FFFF }

@@ -1,5 +1,5 @@
-// What the shapers of scripts do between the stages of lookups, and the categories of their characters; the tiles that Arabic
-// words are stretched over, and how they are laid.
+//! The work of the scripts' shapers between two GSUB stages, and the categories of their characters; the tiles that
+//! Arabic words are stretched over, and how they are laid.
 #![tactic(auto)]
 
 pub mod bytes;

@@ -1,4 +1,4 @@
-//! The pauses of the Myanmar shaper.
+//! The pauses of the Myanmar shaper (rustybuzz: hb/ot_shaper_myanmar.rs).
 ghost use Rattle.std.specs.Prelude.{◌≡◌, ◌≢◌, true, false, Ok, Err, IfErr, OnOk};
 ghost use Rattle.buffer_core.specs.Readings.{read_of};
 ghost use Rattle.buffer_core.specs.Sides.{items_of, run_of};
@@ -17,11 +17,12 @@ use script_khmer_myanmar::myanmar;
 use script_syllabic::circles::insert_dotted_circles;
 use std::alloc::Global;
 
-/// Puts a circle into each broken syllable and its glyphs in order. Answers whether circles came in.
+/// Inserts a dotted circle into each broken syllable, and reorders each syllable (`reorder_myanmar`). Returns whether
+/// circles were inserted.
 ///
 /// # Errors
 ///
-/// `TooLong` where the text would have more glyphs than the buffer may hold, or want of memory.
+/// `TooLong` where the text would have more glyphs than the buffer may hold, or lack of memory.
 pub fn reorder_myanmar(
     alloc: Global,
     face: &Face,

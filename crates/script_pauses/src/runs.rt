@@ -1,4 +1,4 @@
-//! Runs of tiles, and the word in front of each.
+//! Runs of tiles, and the word before each (rustybuzz: hb/ot_shaper_arabic.rs, apply_stch).
 ghost use Rattle.std.specs.Prelude.{ℕ, ◌≡◌, ◌≤◌, ◌<◌, ◌+◌, ◌+ℤ◌, ◌^◌, pos, length, IfOk};
 ghost use Rattle.buffer_serialize.specs.Pen.{IsNear};
 ghost use Rattle.buffer_glyphs.specs.Items.{item_of, strip};
@@ -10,20 +10,20 @@ use buffer_glyphs::position::GlyphPosition;
 use layout_face::Face;
 use std::alloc::{AllocFailed, Global};
 
-/// What the tiles of a run are laid over, and how wide they are, in font units.
+/// The widths of a run of tiles and of the word they are laid over, in font units.
 #[derive(Clone, Copy)]
 pub struct Run {
-    /// The advances of the word in front.
+    /// The sum of the advances of the word before the run.
     pub word: i128,
-    /// The widths of the fixed tiles in the font.
+    /// The sum of the fixed tiles' widths in the font.
     pub fixed: u128,
-    /// The widths of the repeating tiles in the font.
+    /// The sum of the repeating tiles' widths in the font.
     pub repeating: u128,
-    /// How many tiles repeat.
+    /// The number of repeating tiles.
     pub tiles: u128,
 }
 
-/// What stands directly before a glyph.
+/// What is directly before a glyph.
 #[derive(Clone, Copy)]
 pub enum Before {
     /// A word of a width.
@@ -32,11 +32,11 @@ pub enum Before {
     Tiles(Run),
 }
 
-/// The run of each glyph that is a tile, by the word that stands in front of it. It takes linear time, and memory for them.
+/// The run of each glyph that is a tile, by the word before it. It takes linear time, and memory for them.
 ///
 /// # Errors
 ///
-/// Want of memory.
+/// Lack of memory.
 #[tactic(auto, using(crate::proofs::Walked::none_run, crate::proofs::Walked::one_run, crate::proofs::Walked::all_run))]
 pub fn runs_of(
     alloc: Global,
@@ -65,7 +65,7 @@ fn tile_run(before: Before) -> Option<Run>
     }
 }
 
-/// What stands after the first of some glyphs.
+/// What is before the glyph after the first of some glyphs.
 fn next_before(
     face: &Face,
     before: Before,
@@ -118,7 +118,7 @@ fn longer(word: i128, advance: i32) -> i128
     word + i128::from(advance)
 }
 
-/// The word that ends before a glyph.
+/// The width of the word that ends before a glyph.
 fn word_before(before: Before) -> i128
     ensures { result ≡ word_before before }
 {
@@ -128,7 +128,7 @@ fn word_before(before: Before) -> i128
     }
 }
 
-/// The run of the tiles in front, after a word of a width. It takes the time of these tiles.
+/// The run of the tiles at the start, after a word of a width. It takes time linear in these tiles.
 #[tactic(auto, using(crate::proofs::Measured::none_measured, crate::proofs::Measured::one_measured, crate::proofs::Measured::others_stay, crate::proofs::Measured::all_measured))]
 pub fn run_of(face: &Face, word: i128, glyphs: &[hb_glyph_info_t]) -> Run
     ensures { result ≡ with_tiles face.now (run_begun word) (strip glyphs.now) }
@@ -148,7 +148,7 @@ pub fn run_of(face: &Face, word: i128, glyphs: &[hb_glyph_info_t]) -> Run
     run
 }
 
-/// A run with a tile more.
+/// A run with one more tile.
 fn with_tile(face: &Face, run: Run, glyph: &hb_glyph_info_t) -> Run
     requires fixed { run.fixed < 2 ^ 127 }
     requires repeating { run.repeating < 2 ^ 127 }
@@ -172,7 +172,7 @@ fn with_tile(face: &Face, run: Run, glyph: &hb_glyph_info_t) -> Run
     }
 }
 
-/// The width of a glyph in the font; of what is no glyph 0.
+/// The advance of a glyph in the font; 0 where there is no such glyph.
 fn width(face: &Face, glyph: &hb_glyph_info_t) -> u32
     ensures { result ≡ width face.now (item_of glyph.now) }
 {

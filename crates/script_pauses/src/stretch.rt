@@ -1,4 +1,4 @@
-//! How tiles are laid over the word in front of them.
+//! Lays tiles over the word before them, apply_stch (rustybuzz: hb/ot_shaper_arabic.rs).
 ghost use Rattle.std.specs.Prelude.{◌≡◌, ◌≢◌, ◌≤◌, Err, IfErr, OnOk, false, length};
 ghost use Rattle.std.specs.List.{list_any};
 ghost use Rattle.buffer_glyphs.specs.Items.{item_of};
@@ -21,14 +21,14 @@ use script_tiles::placing::places_of;
 use script_tiles::tile::Tile;
 use std::alloc::Global;
 
-/// Lays the tiles of each run over the word in front of it: repeating tiles get copies until they reach as far as the word.
-/// Glyphs stand as they are drawn. It takes linear time in the glyphs that there are then, and memory for them; a text without
-/// tiles stays as it is, and takes none.
+/// Lays the tiles of each run over the word before it (`apply_stch`): repeating tiles get copies until all tiles reach
+/// the word's width. The glyphs are in visual order. It takes time and memory linear in the number of glyphs
+/// afterwards; a text without tiles stays unchanged and takes no memory.
 ///
 /// # Errors
 ///
-/// `StretchRange` where the word, the fixed or the repeating tiles of a run have a width outside 32 bits; else `TooLong` where
-/// the text would have more glyphs than the buffer may hold; or want of memory.
+/// `StretchRange` where the word, the fixed or the repeating tiles of a run have a width outside 32 bits; else
+/// `TooLong` where the text would have more glyphs than the buffer may hold; or lack of memory.
 #[tactic(auto, using(crate::proofs::Listed::runs_cover, crate::proofs::Listed::tiles_cover, crate::proofs::Untouched::untouched_done))]
 pub fn apply_stch(alloc: Global, face: &Face, buffer: &mut hb_buffer_t) -> Result<(), ShapeCause>
     requires ready { IsReady buffer.old }
@@ -82,7 +82,7 @@ fn lay_tiles(
     Ok(())
 }
 
-/// Other positions, as many as there are.
+/// Replaces the buffer's positions by as many others.
 #[tactic(auto, using(crate::proofs::Laid::places_back))]
 fn put_places(places: &[GlyphPosition], buffer: &mut hb_buffer_t)
     requires closed { buffer.old.is_open ≡ false }

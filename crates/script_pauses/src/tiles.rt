@@ -1,4 +1,4 @@
-//! The tiles that a word is stretched over.
+//! Records which glyphs are tiles, record_stch (rustybuzz: hb/ot_shaper_arabic.rs).
 ghost use Rattle.std.specs.Prelude.{◌≡◌};
 ghost use Rattle.buffer_glyphs.specs.Items.{item_of};
 ghost use Rattle.buffer_glyphs.specs.Origins.{origin_of};
@@ -16,8 +16,8 @@ use buffer_glyphs::ligature_words::{_hb_glyph_info_get_lig_comp, _hb_glyph_info_
 use buffer_stages::glyphs::map_glyphs;
 use script_categories::arabic_action_t::{STRETCHING_FIXED, STRETCHING_REPEATING};
 
-/// Where the font stretches words, each glyph that a multiple substitution made is a tile: its `auxiliary` tells whether it
-/// repeats. No glyph comes in. It takes linear time and no memory.
+/// Where the font has the feature stch, each glyph of a multiple substitution is a tile: its `auxiliary` says whether
+/// it repeats (`record_stch`). No glyph is inserted. It takes linear time and no memory.
 pub fn record_stch(has_stch: bool, buffer: &mut hb_buffer_t)
     requires ready { IsReady buffer.old }
     ensures ok { IsDone (tiles_recorded has_stch) buffer.old buffer.new }

@@ -1,4 +1,4 @@
-//! The pauses of the universal shaper.
+//! The pauses of the universal shaper (rustybuzz: hb/ot_shaper_use.rs).
 ghost use Rattle.std.specs.Prelude.{◌≡◌, ◌≢◌, true, false, Ok, Err, IfErr, OnOk};
 ghost use Rattle.buffer_core.specs.Readings.{read_of};
 ghost use Rattle.buffer_core.specs.Sides.{items_of, run_of};
@@ -25,12 +25,13 @@ use script_syllabic::spans::find_syllables;
 use script_universal::reorder;
 use std::alloc::Global;
 
-/// Gives the glyphs of each syllable its byte, marks it as unsafe to break, and gives its glyphs the features rphf and, where
-/// letters of the script don't join, of its form. Answers false: no glyph came in.
+/// Sets the syllable byte of each glyph, flags each syllable as unsafe to break, and adds the masks of rphf and, where
+/// the script's letters don't join, of the topographical forms (`setup_syllables`). Returns false: no glyph is
+/// inserted.
 ///
 /// # Errors
 ///
-/// `UnknownSyllableKind` where the spans name a kind that the shaper does not have, or want of memory.
+/// `UnknownSyllableKind` where the spans name a kind that the shaper does not have, or lack of memory.
 pub fn setup_syllables<S: SyllableSpans>(
     alloc: Global,
     spans: &S,
@@ -78,12 +79,12 @@ fn setup_forms(forms: Option<FormMasks>, buffer: &mut hb_buffer_t)
     }
 }
 
-/// The first glyph of each syllable that a substitution put there becomes a reph, if it and all before it have the feature
-/// rphf. Answers false.
+/// Sets category R on the first substituted glyph of each syllable, if it and all glyphs before it have the mask of
+/// rphf (`record_rphf`). Returns false.
 ///
 /// # Errors
 ///
-/// Want of memory.
+/// Lack of memory.
 pub fn record_rphf(mask: hb_mask_t, buffer: &mut hb_buffer_t) -> Result<bool, ShapeCause>
     requires ready { IsReady buffer.old }
     ensures ok { OnOk result (IsDone (syllables_by (rphf_recorded mask)) buffer.old buffer.new) }
@@ -94,11 +95,11 @@ pub fn record_rphf(mask: hb_mask_t, buffer: &mut hb_buffer_t) -> Result<bool, Sh
     Ok(false)
 }
 
-/// The first glyph of each syllable that a substitution put there becomes a left vowel. Answers false.
+/// Sets category VPre on the first substituted glyph of each syllable (`record_pref`). Returns false.
 ///
 /// # Errors
 ///
-/// Want of memory.
+/// Lack of memory.
 pub fn record_pref(buffer: &mut hb_buffer_t) -> Result<bool, ShapeCause>
     requires ready { IsReady buffer.old }
     ensures ok { OnOk result (IsDone (syllables_by pref_recorded) buffer.old buffer.new) }
@@ -109,11 +110,12 @@ pub fn record_pref(buffer: &mut hb_buffer_t) -> Result<bool, ShapeCause>
     Ok(false)
 }
 
-/// Puts a circle into each broken syllable and its glyphs in order. Answers whether circles came in.
+/// Inserts a dotted circle into each broken syllable, and reorders each syllable (`reorder`). Returns whether circles
+/// were inserted.
 ///
 /// # Errors
 ///
-/// `TooLong` where the text would have more glyphs than the buffer may hold, or want of memory.
+/// `TooLong` where the text would have more glyphs than the buffer may hold, or lack of memory.
 pub fn reorder_use(face: &Face, buffer: &mut hb_buffer_t) -> Result<bool, ShapeCause>
     requires ready { IsReady buffer.old }
     requires numbers { are_glyphs (items_of buffer.old) ≡ true }

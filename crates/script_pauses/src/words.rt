@@ -1,4 +1,4 @@
-//! Tiles, and the words that they are laid over.
+//! Tiles, and the Arabic words that they are laid over.
 ghost use Rattle.std.specs.Prelude.{◌≡◌};
 ghost use Rattle.buffer_glyphs.specs.Items.{item_of};
 ghost use Rattle.buffer_core.specs.Graphemes.{is_default_ignorable};
@@ -28,14 +28,14 @@ const WORD_CATEGORIES: [GeneralCategory; 14] = [
     GeneralCategory::OtherSymbol,
 ];
 
-/// Whether a glyph is a tile that does not repeat.
+/// Whether a glyph is a fixed tile.
 pub fn is_fixed(glyph: &hb_glyph_info_t) -> bool
     ensures { result ≡ is_fixed (item_of glyph.now) }
 {
     glyph.auxiliary == STRETCHING_FIXED
 }
 
-/// Whether a glyph is a tile that repeats.
+/// Whether a glyph is a repeating tile.
 pub fn is_repeating(glyph: &hb_glyph_info_t) -> bool
     ensures { result ≡ is_repeating (item_of glyph.now) }
 {
@@ -49,7 +49,8 @@ pub fn is_tile(glyph: &hb_glyph_info_t) -> bool
     is_fixed(glyph) || is_repeating(glyph)
 }
 
-/// Whether a glyph belongs to a word that tiles are laid over: what is ignorable, letters, marks, numbers and symbols.
+/// Whether a glyph belongs to a word that tiles are laid over: default ignorables, letters without case, marks, numbers
+/// and symbols.
 pub fn is_of_word(glyph: &hb_glyph_info_t) -> bool
     ensures { result ≡ is_of_word (item_of glyph.now) }
 {

@@ -1,4 +1,4 @@
--- What is asked of a builder of maps.
+-- The requests to a map builder.
 use Rattle.std.specs.Prelude.{ℕ, List, Some, None}
 use Rattle.std.specs.Int.RustNames.{bit_or}
 use Rattle.buffer_common.specs.Tag.{tag_of}
@@ -9,27 +9,27 @@ use Rattle.script_plan.specs.declared.ask.Ask.TheVariants.{Feature, Pause}
 use Rattle.script_plan.specs.declared.pause.hb_script_pause_t.{hb_script_pause_t}
 use Rattle.script_plan.specs.Pauses.{number_of_pause}
 
--- a builder that was asked for one thing more
+-- the requests with one more
 abbrev pub with_ask : MapRequests → Ask → MapRequests
 with_ask b (Feature tag flags value) = with_request tag flags value b
 with_ask b (Pause pause) = with_gsub_pause (number_of_pause pause) b
 
--- the feature is on for every glyph
+-- the request of a feature for every glyph (HarfBuzz: enable_feature)
 abbrev pub on : List ℕ → ℕ → Ask
 on name flags = Feature (tag_of name) (bit_or F_GLOBAL flags) 1
 
--- the feature is on where a mask is set
+-- the request of a feature where a mask is set (HarfBuzz: add_feature)
 abbrev pub added : List ℕ → ℕ → Ask
 added name flags = Feature (tag_of name) flags 1
 
--- the feature is off for every glyph
+-- the request that a feature is off for every glyph (HarfBuzz: disable_feature)
 abbrev pub off : List ℕ → Ask
 off name = Feature (tag_of name) F_GLOBAL 0
 
--- a stage ends, and then the shaper does something
+-- the end of a GSUB stage with a pause (HarfBuzz: add_gsub_pause)
 abbrev pub then_pause : hb_script_pause_t → Ask
 then_pause p = Pause (Some p)
 
--- a stage ends
+-- the end of a GSUB stage without a pause
 abbrev pub stage_end : Ask
 stage_end = Pause None

@@ -1,4 +1,4 @@
--- What every text asks of a font's features, and what the user asks.
+-- The feature requests of every text, and those of the user.
 use Rattle.std.specs.Prelude.{List, [], ◌∷◌, ◌++◌, codes, if◌then◌else◌}
 use Rattle.std.specs.Int.RustNames.{bit_or}
 use Rattle.buffer_common.specs.Tag.{tag_of}
@@ -12,14 +12,15 @@ use Rattle.script_plan.specs.declared.ask.Ask.{Ask}
 use Rattle.script_plan.specs.declared.ask.Ask.TheVariants.{Feature}
 use Rattle.script_plan.specs.Asks.{on, added, stage_end}
 
--- alternates and mirrored forms of lines that run to one side
+-- the requests for alternates and mirrored forms by direction: ltra, ltrm, rtla, rtlm
 abbrev pub of_side : Direction → List Ask
 of_side LeftToRight = on (codes "ltra") F_NONE ∷ on (codes "ltrm") F_NONE ∷ []
 of_side RightToLeft = on (codes "rtla") F_NONE ∷ added (codes "rtlm") F_NONE ∷ []
 of_side _ = []
 
--- required variations in a stage of their own, then the side, fractions where a mask is set, and an alternate at random;
--- tracking is the shaper's own work where no table has it
+-- the requests before the shaper's: required variations in a GSUB stage of their own, then those by direction,
+-- fractions where a mask is set, and random alternates; then tracking, and the custom features of HarfBuzz (HarfBuzz:
+-- hb_ot_shape_collect_features)
 abbrev pub asked_first : Direction → List Ask
 asked_first direction =
     on (codes "rvrn") F_NONE ∷ stage_end ∷
@@ -30,14 +31,15 @@ asked_first direction =
     on (codes "Harf") F_NONE ∷ on (codes "HARF") F_NONE ∷
     []
 
--- ligatures, contexts, joins and kerning of lines; vertical forms of columns, wherever the font lists them
+-- the requests of horizontal lines for ligatures, contexts, joins and kerning; of vertical lines for vertical forms, in
+-- whichever language system the font lists them
 abbrev pub of_line : Direction → List Ask
 of_line direction =
     if is_horizontal direction then
     on (codes "calt") F_NONE ∷ on (codes "clig") F_NONE ∷ on (codes "curs") F_NONE ∷ on (codes "dist") F_NONE ∷ on (codes "kern") F_HAS_FALLBACK ∷ on (codes "liga") F_NONE ∷ on (codes "rclt") F_NONE ∷ []
     else on (codes "vert") F_GLOBAL_SEARCH ∷ []
 
--- marks, composition and localised forms
+-- the requests after the shaper's: marks, composition and localised forms
 abbrev pub asked_after : Direction → List Ask
 asked_after direction =
     on (codes "Buzz") F_NONE ∷ on (codes "BUZZ") F_NONE ∷
@@ -45,6 +47,6 @@ asked_after direction =
     on (codes "mark") F_MANUAL_JOINERS ∷ on (codes "mkmk") F_MANUAL_JOINERS ∷ on (codes "rlig") F_NONE ∷
     of_line direction
 
--- a feature that the user asks for, for every glyph or for a range
+-- the request of a user's feature, for every glyph or for a range
 abbrev pub ask_of : text.Feature → Ask
 ask_of f = Feature f.tag (if is_global f then F_GLOBAL else F_NONE) f.value

@@ -1,4 +1,4 @@
--- Which texts a plan is for.
+-- Which texts a plan is made for.
 use Rattle.std.specs.Prelude.{◌≡◌, Option, unwrap_or}
 use Rattle.buffer_common.specs.declared.script.Script.{Script}
 use Rattle.buffer_common.specs.declared.script.TheConstants.{UNKNOWN}
@@ -6,11 +6,11 @@ use Rattle.buffer_core.specs.Segment.{guessed}
 use Rattle.buffer_core.specs.Sides.{Sides}
 use Rattle.script_plan.specs.declared.plan.hb_ot_shape_plan_t.{hb_ot_shape_plan_t}
 
--- no script counts as one that is not known
+-- the script, `UNKNOWN` where there is none
 abbrev pub script_or_unknown : Option Script → Script
 script_or_unknown script = unwrap_or script UNKNOWN
 
--- a plan is for texts of its direction and script, be they told or guessed
+-- a plan is made for the direction and the script of a text, set or guessed
 pub record Fits {S D : Type 0} (plan : hb_ot_shape_plan_t S D) (text : Sides) : Type 0 where
   pub direction : (guessed text).direction ≡ plan.script_plan.direction
   pub script : script_or_unknown (guessed text).script ≡ script_or_unknown plan.script_plan.script

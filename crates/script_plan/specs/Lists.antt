@@ -1,4 +1,4 @@
--- What each shaper asks of a font's features, in order.
+-- The feature requests of each shaper, in order.
 use Rattle.std.specs.Prelude.{ℕ, Bool, false, ◌==◌, List, [], ◌∷◌, ◌++◌, Option, Some, None, codes, if◌then◌else◌}
 use Rattle.std.specs.Int.RustNames.{bit_or}
 use Rattle.buffer_common.specs.declared.script.Script.{Script}
@@ -12,11 +12,11 @@ use Rattle.script_plan.specs.Asks.{on, added, off, then_pause, stage_end}
 
 -- ---- Arabic and Syriac
 
--- the shaper's own forms stand in for those of the font, for Arabic alone
+-- the flag F_HAS_FALLBACK, for the Arabic script only
 abbrev pub with_fallback : Bool → ℕ
 with_fallback is_arabic = if is_arabic then bit_or F_MANUAL_ZWJ F_HAS_FALLBACK else F_MANUAL_ZWJ
 
--- stretching marks, composition and localised forms, then each form in a stage of its own
+-- the Arabic requests for stch, composition and localised forms, then for each form in a GSUB stage of its own
 abbrev pub arabic_forms : Bool → List Ask
 arabic_forms is_arabic =
     on (codes "stch") F_NONE ∷ then_pause RecordStch ∷
@@ -31,35 +31,42 @@ arabic_forms is_arabic =
     on (codes "rlig") (bit_or F_MANUAL_ZWJ F_HAS_FALLBACK) ∷
     []
 
+-- the end of a GSUB stage, if a condition holds
 abbrev pub stage_end_if : Bool → List Ask
 stage_end_if ends = if ends then stage_end ∷ [] else []
 
--- a font that does not have the feature gets a stage for it all the same
+-- the requests for rclt, with a GSUB stage of its own also in a font without the feature
 abbrev pub required_contexts : Bool → List Ask
 required_contexts has_rclt = if has_rclt then [] else stage_end ∷ on (codes "rclt") F_MANUAL_ZWJ ∷ []
 
+-- the Arabic requests for ligatures
 abbrev pub arabic_ligatures : List Ask
 arabic_ligatures = on (codes "liga") F_MANUAL_ZWJ ∷ on (codes "clig") F_MANUAL_ZWJ ∷ on (codes "mset") F_MANUAL_ZWJ ∷ []
 
+-- the requests of the Arabic shaper (HarfBuzz: collect_features_arabic)
 abbrev pub arabic_features : Bool → Bool → List Ask
 arabic_features is_arabic has_rclt =
     arabic_forms is_arabic ++ stage_end_if is_arabic ++ on (codes "calt") F_MANUAL_ZWJ ∷ required_contexts has_rclt ++ arabic_ligatures
 
 -- ---- Hangul
 
+-- the requests of the Hangul shaper (HarfBuzz: collect_features_hangul)
 abbrev pub hangul_features : List Ask
 hangul_features = added (codes "ljmo") F_NONE ∷ added (codes "vjmo") F_NONE ∷ added (codes "tjmo") F_NONE ∷ []
 
 -- ---- the shapers of syllables
 
--- within a syllable, and both joiners are met as glyphs
+-- the flags of features within a syllable, with both joiners matched by hand (HarfBuzz: F_MANUAL_JOINERS |
+-- F_PER_SYLLABLE)
 abbrev pub joiners_in_syllable : ℕ
 joiners_in_syllable = bit_or F_MANUAL_JOINERS F_PER_SYLLABLE
 
--- within a syllable, and the zero width joiner is met as a glyph
+-- the flags of features within a syllable, with the zero width joiner matched by hand (HarfBuzz: F_MANUAL_ZWJ |
+-- F_PER_SYLLABLE)
 abbrev pub zwj_in_syllable : ℕ
 zwj_in_syllable = bit_or F_MANUAL_ZWJ F_PER_SYLLABLE
 
+-- the requests of the Khmer shaper (HarfBuzz: collect_features_khmer)
 abbrev pub khmer_features : List Ask
 khmer_features =
     then_pause SetupSyllables ∷ then_pause ReorderKhmer ∷
@@ -76,6 +83,7 @@ khmer_features =
     on (codes "psts") F_MANUAL_JOINERS ∷
     []
 
+-- the requests of the Myanmar shaper (HarfBuzz: collect_features_myanmar)
 abbrev pub myanmar_features : List Ask
 myanmar_features =
     then_pause SetupSyllables ∷
@@ -90,6 +98,7 @@ myanmar_features =
     on (codes "psts") F_MANUAL_ZWJ ∷
     []
 
+-- the requests of the universal shaper (HarfBuzz: collect_features_use)
 abbrev pub universal_features : List Ask
 universal_features =
     then_pause SetupSyllables ∷
@@ -120,6 +129,7 @@ universal_features =
     on (codes "psts") F_MANUAL_ZWJ ∷
     []
 
+-- the requests of the Indic shaper (HarfBuzz: collect_features_indic)
 abbrev pub indic_features : List Ask
 indic_features =
     then_pause SetupSyllables ∷
@@ -147,12 +157,12 @@ indic_features =
 
 -- ---- by shaper
 
--- whether a text is of the Arabic script
+-- a text's script is Arabic
 abbrev pub is_arabic : Option Script → Bool
 is_arabic None = false
 is_arabic (Some s) = s.0.0 == script.ARABIC.0.0
 
--- what a shaper asks beside what every text asks
+-- the requests of a shaper, between the common ones
 abbrev pub features_of : hb_ot_script_shaper_t → Option Script → Bool → List Ask
 features_of ARABIC_SHAPER script has_rclt = arabic_features (is_arabic script) has_rclt
 features_of HANGUL_SHAPER script has_rclt = hangul_features
@@ -162,7 +172,7 @@ features_of MYANMAR_SHAPER script has_rclt = myanmar_features
 features_of UNIVERSAL_SHAPER script has_rclt = universal_features
 features_of _ script has_rclt = []
 
--- what it asks after what the user asked
+-- the requests of a shaper after the user's (HarfBuzz: override_features)
 abbrev pub overrides_of : hb_ot_script_shaper_t → List Ask
 overrides_of HANGUL_SHAPER = off (codes "calt") ∷ []
 overrides_of INDIC_SHAPER = off (codes "liga") ∷ then_pause ClearSyllables ∷ []

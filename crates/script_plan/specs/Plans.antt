@@ -17,39 +17,41 @@ use Rattle.script_plan.specs.declared.plan.hb_script_plan_t.{hb_script_plan_t}
 use Rattle.script_plan.specs.Requests.{Asking, with_requests}
 use Rattle.script_plan.specs.Traits.{ShaperKind, ShaperTraits}
 
--- nothing is asked yet: the scripts and language systems of the font's tables are chosen
+-- the requests of a new builder: the scripts and language systems of the font's tables are chosen
 abbrev pub nothing_asked : FaceParts → Option Script → List Tag → MapRequests
 nothing_asked font script languages = no_requests (wanted_tags script) languages font.gsub font.gpos
 
--- the script of GSUB that serves the text
+-- the GSUB script that is chosen for the text
 abbrev pub gsub_script : FaceParts → Option Script → List Tag → Option Tag
 gsub_script font script languages = script_tag (nothing_asked font script languages).tables.gsub
 
--- the mask of a feature at the value 1, 0 where the map lacks it
+-- the mask of a feature with value 1, 0 where the map lacks it
 abbrev pub mask_at_one : List ℕ → OtMapValue → ℕ
 mask_at_one name m = option_map_or (λ f. f.one_mask) (feature_at (tag_of name) m) 0
 
+-- the map has a mask for the feature
 abbrev pub has_mask : List ℕ → OtMapValue → Bool
 has_mask name m = not (mask_at_one name m == 0)
 
--- a fraction is one feature, or two for its numerator and its denominator
+-- the map has the feature frac, or both numr and dnom
 abbrev pub has_fractions : OtMapValue → Bool
 has_fractions m = has_mask (codes "frac") m || has_mask (codes "numr") m && has_mask (codes "dnom") m
 
+-- the chosen script is the given one
 abbrev pub is_chosen : Tag → Option Tag → Bool
 is_chosen wanted None = false
 is_chosen wanted (Some chosen) = wanted.0 == chosen.0
 
--- a shaper that is made for one script of GPOS does not use the table under another
+-- a shaper that is made for one GPOS script gets another, so GPOS is not applied
 abbrev pub disables_gpos : Option Tag → Option Tag → Bool
 disables_gpos None chosen = false
 disables_gpos (Some wanted) chosen = not (is_chosen wanted chosen)
 
--- whether the font's own positioning is used
+-- GPOS is applied
 abbrev pub uses_gpos : ShaperTraits → FaceParts → OtMapValue → Bool
 uses_gpos traits font m = is_some font.gpos && not (disables_gpos traits.gpos_tag m.tables.gpos.chosen_script)
 
--- what a plan decides, beside its map
+-- the choices of a plan, beside its map (HarfBuzz: hb_ot_shape_planner_t::compile)
 abbrev pub choices : ShaperTraits → FaceParts → OtMapValue → PlanChoices
 choices traits font m = record {
   has_frac = has_fractions m;
@@ -63,14 +65,14 @@ choices traits font m = record {
   apply_fallback_kern = not (uses_gpos traits font m);
 }
 
--- the map of a text's plan
+-- the compiled map of a text's requests
 abbrev pub planned_map : Asking → FaceParts → List Tag → Direction → Option Script → List Feature → OtMapValue
 planned_map asking font languages direction script features =
     compiled (with_requests asking direction script features (nothing_asked font script languages))
 
--- ---- plans of shapers of a kind
+-- ---- plans of a family of shapers
 
--- the shaper of a text, by its script
+-- the shaper of a text, chosen by its script
 unfoldable pub planned_shaper : {S D : Type 0} → ShaperKind S D → FaceParts → List Tag → Direction → Option Script → S
 planned_shaper kind font languages direction script = kind.shaper_of script direction (gsub_script font script languages)
 
@@ -89,7 +91,7 @@ text_plan kind font languages direction script features = record {
   plan_data = kind.data_of (planned_shaper kind font languages direction script) (text_map kind font languages direction script features) script;
 }
 
--- the plan of a text: its shaper, what that reads of it, and what was asked for
+-- a plan is that of a text: its shaper, what the shaper reads of it, and the user's features
 pub record IsPlanned {S D : Type 0} (kind : ShaperKind S D) (font : FaceParts) (languages : List Tag) (d : Direction) (s : Option Script) (asked : List Feature) (plan : hb_ot_shape_plan_t S D) : Type 0 where
   pub shaper : plan.shaper ≡ planned_shaper kind font languages d s
   pub script_plan : plan.script_plan ≡ text_plan kind font languages d s asked

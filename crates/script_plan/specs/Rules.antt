@@ -1,4 +1,4 @@
--- What a shaper does to a text, as rules.
+-- A shaper's hooks, as rules.
 use Rattle.std.specs.Prelude.{ℕ, ◌≡◌, List, Ok, Option}
 use Rattle.buffer_glyphs.specs.declared.level.BufferClusterLevel.{BufferClusterLevel}
 use Rattle.script_categories.specs.declared.shaper.hb_ot_script_shaper_t.{hb_ot_script_shaper_t}
@@ -12,26 +12,28 @@ use Rattle.buffer_stages.specs.Settings.{TextSettings}
 use Rattle.buffer_stages.specs.Pauses.{Pauses}
 use Rattle.buffer_glyphs.specs.Arranged.{Arranged, kept}
 
--- where the syllable that begins at an index ends, and its kind, by the categories of all glyphs
+-- the end and the kind of the syllable that begins at an index, by the categories of all glyphs
 abbrev pub Spans : Type 0
 Spans = hb_ot_script_shaper_t → List ℕ → ℕ → ℕ × ℕ
 
--- the rules of a shaper for the texts of a plan; none of them knows a cluster, a cluster level or a request for glyph flags
+-- the rules of a shaper for the texts of a plan; none depends on clusters, the cluster level or requests for glyph
+-- flags
 pub record ShaperRules : Type 0 where
-  -- what becomes of a text that stands in the order of its writing
+  -- the stage on a text in its script's direction, before it is normalized
   pub preprocesses : FaceParts → Tables → TextSettings → Stage
-  -- the parts of a character, what two characters compose to, and what becomes of a run of marks in the order of their classes
+  -- the halves of a character, the composition of two characters, and the shaper's order of a run of marks sorted by
+  -- class
   pub splits : Tables → Splits
   pub composes : Tables → ℕ → ℕ → Option ℕ
   pub reorders : List Item → Arranged
-  -- masks of features that act on some characters alone
+  -- the stage that sets masks of features that apply to some characters only
   pub sets_masks : FaceParts → Tables → TextSettings → Stage
-  -- what is done between stages of lookups, by the number of the pause
+  -- the stage of each pause, by its number
   pub pauses : FaceParts → Tables → Spans → TextSettings → Pauses
-  -- what becomes of glyphs that stand as they are drawn
+  -- the stage on glyphs in visual order
   pub postprocesses : FaceParts → TextSettings → Stage
 
--- the rules of a shaper that leaves the text as it is: characters split and compose as Unicode says
+-- the rules of a shaper without hooks: characters decompose and compose as Unicode says
 abbrev pub plain_rules : ShaperRules
 plain_rules = record {
   preprocesses = λ font t settings. as_it_is;
@@ -45,11 +47,11 @@ plain_rules = record {
 
 -- ---- clusters
 
--- no event of a stage puts clusters that are in order out of it, at the levels that keep them in order
+-- no event of a stage breaks the order of clusters at the monotone levels
 abbrev pub StaysPlain : Stage → Type 0
 StaysPlain stage = (v : View) (r : Read) (level : BufferClusterLevel) → IsMonotone level → stage v ≡ Ok r → IsPlain (r.events level)
 
--- so it is for all rules
+-- no rule of the shaper breaks the order of clusters at the monotone levels
 pub record KeepsOrder (rules : ShaperRules) : Type 0 where
   pub preprocesses : (font : FaceParts) (t : Tables) (settings : TextSettings) → StaysPlain (rules.preprocesses font t settings)
   pub reorders : (run : List Item) → IsPlain (rules.reorders run).events

@@ -1,4 +1,4 @@
--- What a shaper decides once for all texts.
+-- A shaper's choices for all texts.
 use Rattle.std.specs.Prelude.{ℕ, Bool, Option}
 use Rattle.buffer_common.specs.declared.tag.Tag.{Tag}
 use Rattle.buffer_common.specs.declared.script.Script.{Script}
@@ -7,22 +7,22 @@ use Rattle.buffer_properties.specs.declared.normal_mode.NormalizationMode.{Norma
 use Rattle.layout_map.specs.Compiled.{OtMapValue}
 use Rattle.script_plan.specs.Requests.{Asking}
 
--- what a shaper decides once for all texts
+-- a shaper's choices for all texts
 pub record ShaperTraits : Type 0 where
-  -- how far characters are split and composed
+  -- the preferred form of characters: composed, decomposed, or automatic
   pub normalization : NormalizationMode
-  -- the script of GPOS that the shaper is made for: under another the table is not used
+  -- the GPOS script that the shaper is made for; with another one GPOS is not applied
   pub gpos_tag : Option Tag
-  -- when marks lose their advances
+  -- when the advances of marks are zeroed
   pub zero_width_marks : ℕ
-  -- whether marks that the font does not place are placed by their boxes
+  -- marks are positioned by glyph extents where the font has no rules for them
   pub fallback_position : Bool
 
--- what a plan takes of shapers of a kind, each of which keeps data for the texts of its plans
+-- a family of shapers, each with its own data of a plan
 pub record ShaperKind (S D : Type 0) : Type 0 where
-  -- the shaper of a text, by its script, its direction and the script of GSUB that serves it
+  -- the shaper of a text, by its script, its direction and the chosen GSUB script
   pub shaper_of : Option Script → Direction → Option Tag → S
   pub traits : S → ShaperTraits
   pub asking : S → Asking
-  -- what a shaper keeps for texts of a script that are shaped by a map
+  -- a shaper's own data for texts of a script, by a compiled map
   pub data_of : S → OtMapValue → Option Script → D

@@ -1,4 +1,4 @@
-//! What Arabic and Syriac ask.
+//! The feature requests of the Arabic shaper (rustybuzz: hb/ot_shaper_arabic.rs).
 ghost use Rattle.std.specs.Prelude.{◌≡◌, fold, OnOk};
 ghost use Rattle.script_plan.specs.Asks.{with_ask};
 ghost use Rattle.script_plan.specs.Lists.{arabic_features, arabic_forms, arabic_ligatures, required_contexts, stage_end_if};
@@ -66,7 +66,7 @@ const LIGATURES: [Ask; 3] = [
     on!(b"mset", F_MANUAL_ZWJ),
 ];
 
-/// Asks for the forms of letters, each in a stage of its own.
+/// Requests the features of the letters' forms, each in a GSUB stage of its own.
 fn ask_forms(builder: &mut hb_ot_map_builder_t, is_arabic: bool) -> Result<(), AllocError>
     ensures { OnOk result (builder.new ≡ fold with_ask builder.old (arabic_forms is_arabic)) }
 {

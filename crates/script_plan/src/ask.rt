@@ -1,4 +1,4 @@
-//! One thing that is asked of a font's features.
+//! One request to the map builder: a feature, or a pause.
 ghost use Rattle.std.specs.Prelude.{◌≡◌, fold, OnOk};
 ghost use Rattle.script_plan.specs.Asks.{with_ask};
 
@@ -8,7 +8,7 @@ use layout_map::builder::hb_ot_map_builder_t;
 use layout_map_features::flags::hb_ot_map_feature_flags_t;
 use std::alloc::AllocError;
 
-/// A feature with the flags and the value that it is asked for with, or the end of a stage with what is then done.
+/// A feature with its flags and value, or the end of a GSUB stage with its pause.
 #[derive(Clone, Copy)]
 pub enum Ask {
     Feature {
@@ -19,7 +19,7 @@ pub enum Ask {
     Pause(Option<hb_script_pause_t>),
 }
 
-/// Asks for a feature, or ends the stage of substitution.
+/// Adds a feature to the builder, or ends the GSUB stage.
 pub fn make(builder: &mut hb_ot_map_builder_t, ask: Ask) -> Result<(), AllocError>
     ensures { OnOk result (builder.new ≡ with_ask builder.old ask) }
 {
@@ -29,7 +29,7 @@ pub fn make(builder: &mut hb_ot_map_builder_t, ask: Ask) -> Result<(), AllocErro
     }
 }
 
-/// Asks for one thing after another.
+/// Adds several requests in order.
 pub fn ask_all(builder: &mut hb_ot_map_builder_t, asks: &[Ask]) -> Result<(), AllocError>
     ensures { OnOk result (builder.new ≡ fold with_ask builder.old asks.now) }
 {
@@ -50,7 +50,7 @@ macro_rules! tag {
     };
 }
 
-/// A feature that is on for every glyph, at the value 1.
+/// A feature with value 1 for every glyph (`enable_feature`).
 macro_rules! on {
     ($tag:expr, $flags:expr) => {
         $crate::ask::Ask::Feature {
@@ -61,7 +61,7 @@ macro_rules! on {
     };
 }
 
-/// A feature that is on only where a mask is set, at the value 1.
+/// A feature with value 1 only where a mask is set (`add_feature`).
 macro_rules! added {
     ($tag:expr, $flags:expr) => {
         $crate::ask::Ask::Feature {
@@ -72,7 +72,7 @@ macro_rules! added {
     };
 }
 
-/// A feature that is off for every glyph.
+/// A feature that is off for every glyph (`disable_feature`).
 macro_rules! off {
     ($tag:expr) => {
         $crate::ask::Ask::Feature {

@@ -1,4 +1,4 @@
-//! What each shaper asks of a font's features.
+//! The feature requests of each shaper, its collect_features and override_features.
 ghost use Rattle.std.specs.Prelude.{◌≡◌, fold, OnOk};
 ghost use Rattle.layout_map.specs.Features.{in_any, system_features};
 ghost use Rattle.buffer_common.specs.Tag.{tag_of};
@@ -15,7 +15,7 @@ use layout_map::builder::hb_ot_map_builder_t;
 use script_categories::hb_ot_script_shaper_t;
 use std::alloc::AllocError;
 
-/// Asks for what a shaper wants of the font for a script, between what every text asks and what the user asks.
+/// Requests a shaper's features for a script (`collect_features`), between the common requests of every text.
 pub fn collect_features(
     shaper: hb_ot_script_shaper_t,
     builder: &mut hb_ot_map_builder_t,
@@ -39,7 +39,7 @@ pub fn collect_features(
     }
 }
 
-/// Asks for what a shaper wants whatever the user asked.
+/// Requests the features that a shaper sets after the user's (`override_features`).
 pub fn override_features(
     shaper: hb_ot_script_shaper_t,
     builder: &mut hb_ot_map_builder_t,

@@ -1,4 +1,4 @@
-//! What every text asks.
+//! The feature requests of every text (rustybuzz: hb/ot_shape.rs).
 ghost use Rattle.std.specs.Prelude.{◌≡◌, fold, OnOk};
 ghost use Rattle.script_plan.specs.Asks.{with_ask};
 ghost use Rattle.script_plan.specs.Common.{asked_after, asked_first, of_line, of_side};
@@ -11,7 +11,7 @@ use layout_map_features::flags::{
 };
 use std::alloc::AllocError;
 
-/// The greatest value of a feature, which asks for an alternate at random.
+/// The greatest value of a feature, which requests a random alternate (`HB_OT_MAP_MAX_VALUE`).
 pub const MAX_VALUE: u32 = 255;
 
 const VARIATIONS: [Ask; 2] = [on!(b"rvrn", F_NONE), Ask::Pause(None)];
@@ -58,7 +58,7 @@ const HORIZONTAL: [Ask; 7] = [
 
 const VERTICAL: [Ask; 1] = [on!(b"vert", F_GLOBAL_SEARCH)];
 
-/// Asks for what lines that run to one side have.
+/// Requests the features of horizontal lines in one direction: ltra and ltrm, or rtla and rtlm.
 fn ask_of_side(builder: &mut hb_ot_map_builder_t, direction: Direction) -> Result<(), AllocError>
     ensures { OnOk result (builder.new ≡ fold with_ask builder.old (of_side direction)) }
 {
@@ -69,7 +69,7 @@ fn ask_of_side(builder: &mut hb_ot_map_builder_t, direction: Direction) -> Resul
     }
 }
 
-/// Asks for what lines or columns have.
+/// Requests the features of horizontal or of vertical lines.
 fn ask_of_line(builder: &mut hb_ot_map_builder_t, direction: Direction) -> Result<(), AllocError>
     ensures { OnOk result (builder.new ≡ fold with_ask builder.old (of_line direction)) }
 {
@@ -80,7 +80,7 @@ fn ask_of_line(builder: &mut hb_ot_map_builder_t, direction: Direction) -> Resul
     }
 }
 
-/// Asks for what every text has before what its shaper asks for.
+/// Requests the features of every text that precede its shaper's.
 pub fn ask_first(builder: &mut hb_ot_map_builder_t, direction: Direction) -> Result<(), AllocError>
     ensures { OnOk result (builder.new ≡ fold with_ask builder.old (asked_first direction)) }
 {
@@ -89,7 +89,7 @@ pub fn ask_first(builder: &mut hb_ot_map_builder_t, direction: Direction) -> Res
     ask_all(builder, &FIRST)
 }
 
-/// Asks for what every text has after what its shaper asks for.
+/// Requests the features of every text that follow its shaper's.
 pub fn ask_after(builder: &mut hb_ot_map_builder_t, direction: Direction) -> Result<(), AllocError>
     ensures { OnOk result (builder.new ≡ fold with_ask builder.old (asked_after direction)) }
 {

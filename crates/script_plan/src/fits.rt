@@ -1,4 +1,4 @@
-//! Which texts a plan is for.
+//! Which texts a plan is made for.
 ghost use Rattle.std.specs.Prelude.{◌≡◌, ◌↔◌, IsTrue};
 ghost use Rattle.script_plan.specs.Fits.{Fits, script_or_unknown};
 
@@ -8,8 +8,8 @@ use buffer_common::script::{Script, UNKNOWN};
 use buffer_wrappers::unicode_buffer::UnicodeBuffer;
 
 impl<S: PlannedShaper> hb_ot_shape_plan_t<S> {
-    /// Whether the plan was made for the direction and the script of a text, where guessing fills in what was not told.
-    /// No script counts as `UNKNOWN`.
+    /// Whether the plan was made for the direction and the script of a text, guessed where they are not set. No script
+    /// counts as `UNKNOWN`.
     pub fn fits(&self, buffer: &UnicodeBuffer) -> bool
         ensures { IsTrue result ↔ Fits self.now buffer.now }
     {

@@ -1,4 +1,4 @@
-//! What Hangul asks.
+//! The feature requests of the Hangul shaper (rustybuzz: hb/ot_shaper_hangul.rs).
 
 use crate::ask::{Ask, added, off, tag};
 use layout_map_features::flags::F_NONE;
@@ -9,5 +9,5 @@ pub(crate) const FEATURES: [Ask; 3] = [
     added!(b"tjmo", F_NONE),
 ];
 
-/// After what the user asked.
+/// The requests after the user's.
 pub(crate) const OVERRIDES: [Ask; 1] = [off!(b"calt")];

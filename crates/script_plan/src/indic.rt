@@ -1,4 +1,4 @@
-//! What the Indic scripts ask.
+//! The feature requests of the Indic shaper (rustybuzz: hb/ot_shaper_indic.rs).
 
 use crate::ask::{Ask, added, off, on, tag};
 use crate::pause::hb_script_pause_t;
@@ -42,7 +42,7 @@ pub(crate) const FEATURES: [Ask; 33] = [
     on!(b"haln", JOINERS_IN_SYLLABLE),
 ];
 
-/// After what the user asked.
+/// The requests after the user's.
 pub(crate) const OVERRIDES: [Ask; 2] = [
     off!(b"liga"),
     Ask::Pause(Some(hb_script_pause_t::ClearSyllables)),

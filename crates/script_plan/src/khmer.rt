@@ -1,4 +1,4 @@
-//! What Khmer asks.
+//! The feature requests of the Khmer shaper (rustybuzz: hb/ot_shaper_khmer.rs).
 
 use crate::ask::{Ask, added, off, on, tag};
 use crate::pause::hb_script_pause_t;
@@ -23,5 +23,5 @@ pub(crate) const FEATURES: [Ask; 14] = [
     on!(b"psts", F_MANUAL_JOINERS),
 ];
 
-/// After what the user asked.
+/// The requests after the user's.
 pub(crate) const OVERRIDES: [Ask; 2] = [on!(b"clig", F_NONE), off!(b"liga")];

@@ -1,5 +1,5 @@
-// What is asked of the font's features for a text by a shaper, the plan that comes of it, and what a shaper does to a text
-// beside what every text has.
+//! The feature requests of a text and its shaper, the plan that is compiled from them, and the traits of a shaper's own
+//! work.
 #![tactic(auto)]
 
 mod arabic;

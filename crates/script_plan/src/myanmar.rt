@@ -1,4 +1,4 @@
-//! What Myanmar asks.
+//! The feature requests of the Myanmar shaper (rustybuzz: hb/ot_shaper_myanmar.rs).
 
 use crate::ask::{Ask, on, tag};
 use crate::pause::hb_script_pause_t;

@@ -1,8 +1,8 @@
-//! What a shaper does between two stages of substitution.
+//! The pauses: a shaper's work between two GSUB stages.
 ghost use Rattle.std.specs.Prelude.{◌≡◌};
 ghost use Rattle.script_plan.specs.Pauses.{number_of_pause, pause_number, pause_of_number, NumbersLeadBack};
 
-/// A pause with a body of its own.
+/// The pauses of this stack's shapers.
 #[derive(Clone, Copy)]
 pub enum hb_script_pause_t {
     RecordStch,
@@ -21,7 +21,7 @@ pub enum hb_script_pause_t {
 use hb_script_pause_t::*;
 
 impl hb_script_pause_t {
-    /// The number that stands for the pause in a map: 1 to 11.
+    /// The pause's number in a map: 1 to 11.
     pub fn number(self) -> u8
         ensures { result ≡ pause_number self }
     {
@@ -40,7 +40,7 @@ impl hb_script_pause_t {
         }
     }
 
-    /// The pause that a number of a map stands for, if it has a body.
+    /// The pause of a map's number, if there is one.
     pub fn from_number(number: u8) -> Option<hb_script_pause_t>
         ensures { result ≡ pause_of_number number }
     {
@@ -61,14 +61,14 @@ impl hb_script_pause_t {
     }
 }
 
-/// The number that stands in a map for what is done where a stage ends: 0 where nothing is.
+/// The number in a map of a stage's end: 0 where it has no pause.
 pub fn number_of_pause(pause: Option<hb_script_pause_t>) -> u8
     ensures { result ≡ number_of_pause pause }
 {
     pause.map_or(0, hb_script_pause_t::number)
 }
 
-/// The number of each pause leads back to it.
+/// `from_number` of a pause's number is that pause.
 pub fn law_numbers_lead_back()
     ensures { NumbersLeadBack }
 {}

@@ -1,4 +1,4 @@
-//! The plan for texts of one direction, script and language, and one font.
+//! The shape plan for one direction, script, language and font (rustybuzz: hb/ot_shape_plan.rs).
 ghost use Rattle.std.specs.Prelude.{◌≡◌, codes};
 ghost use Rattle.std.specs.Int.RustNames.{bit_and};
 ghost use Rattle.script_plan.specs.Plans.{mask_at_one};
@@ -11,42 +11,42 @@ use buffer_common::tag::Tag;
 use buffer_features::feature::Feature;
 use layout_map::map::hb_ot_map_t;
 
-/// What a plan decides, beside its map.
+/// The choices of a plan, beside its map.
 #[derive(Clone, Copy)]
 pub struct PlanChoices {
-    /// The font has a feature for fractions, or for numerators and denominators.
+    /// Whether the font has the feature frac, or numr and dnom.
     pub has_frac: bool,
-    /// The font has a feature for vertical forms.
+    /// Whether the font has the feature vert.
     pub has_vert: bool,
-    /// The font has a feature that places marks.
+    /// Whether the font has the GPOS feature mark.
     pub has_gpos_mark: bool,
-    /// Marks lose their advances.
+    /// Whether the advances of marks are zeroed.
     pub zero_marks: bool,
-    /// Classes of glyphs are made from their characters.
+    /// Whether glyph classes are synthesized from the characters.
     pub fallback_glyph_classes: bool,
-    /// Marks are placed by their boxes.
+    /// Whether marks are positioned by glyph extents.
     pub fallback_mark_positioning: bool,
-    /// A mark that loses its advance moves back by it.
+    /// Whether a mark whose advance is zeroed is shifted back by it.
     pub adjust_mark_positioning_when_zeroing: bool,
-    /// The font's GPOS is used.
+    /// Whether GPOS is applied.
     pub apply_gpos: bool,
-    /// Kerning is the shaper's own work.
+    /// Whether the fallback kerning is applied.
     pub apply_fallback_kern: bool,
 }
 
-/// What a shaper reads of a plan.
+/// What a shaper's hooks read of a plan.
 #[derive(Drop)]
 pub struct hb_script_plan_t<D> {
-    /// The direction of the lines that the plan is for.
+    /// The direction of the plan's texts.
     pub direction: Direction,
     pub script: Option<Script>,
     pub map: hb_ot_map_t,
     pub choices: PlanChoices,
-    /// What the shaper keeps for the texts of the plan.
+    /// The shaper's own data of the plan (`data_create`).
     pub plan_data: D,
 }
 
-/// A plan, which shapes any text of its direction and script.
+/// A plan: it shapes any text of its direction, script and language with its font.
 #[derive(Drop)]
 pub struct hb_ot_shape_plan_t<S: PlannedShaper> {
     pub shaper: S,
@@ -55,7 +55,7 @@ pub struct hb_ot_shape_plan_t<S: PlannedShaper> {
 }
 
 impl<D> hb_script_plan_t<D> {
-    /// The mask of glyphs in a fraction, without a glyph flag.
+    /// The mask of the feature frac, without glyph flags.
     pub fn frac_mask(&self) -> u32
         ensures value { result ≡ mask_at_one (codes "frac") self.now.map }
         ensures flagless { bit_and result DEFINED ≡ 0 }
@@ -63,7 +63,7 @@ impl<D> hb_script_plan_t<D> {
         self.map.get_1_mask(Tag::from_bytes(b"frac"))
     }
 
-    /// The mask of glyphs in a numerator, without a glyph flag.
+    /// The mask of the feature numr, without glyph flags.
     pub fn numr_mask(&self) -> u32
         ensures value { result ≡ mask_at_one (codes "numr") self.now.map }
         ensures flagless { bit_and result DEFINED ≡ 0 }
@@ -71,7 +71,7 @@ impl<D> hb_script_plan_t<D> {
         self.map.get_1_mask(Tag::from_bytes(b"numr"))
     }
 
-    /// The mask of glyphs in a denominator, without a glyph flag.
+    /// The mask of the feature dnom, without glyph flags.
     pub fn dnom_mask(&self) -> u32
         ensures value { result ≡ mask_at_one (codes "dnom") self.now.map }
         ensures flagless { bit_and result DEFINED ≡ 0 }
@@ -79,7 +79,7 @@ impl<D> hb_script_plan_t<D> {
         self.map.get_1_mask(Tag::from_bytes(b"dnom"))
     }
 
-    /// The mask of characters that a backward line mirrors by a feature, without a glyph flag.
+    /// The mask of the feature rtlm, without glyph flags.
     pub fn rtlm_mask(&self) -> u32
         ensures value { result ≡ mask_at_one (codes "rtlm") self.now.map }
         ensures flagless { bit_and result DEFINED ≡ 0 }

@@ -1,4 +1,4 @@
-//! What the planner asks of a shaper.
+//! The planner's hooks of a shaper.
 
 use buffer_common::direction::Direction;
 use buffer_common::script::Script;
@@ -8,9 +8,10 @@ use layout_map::builder::hb_ot_map_builder_t;
 use layout_map::map::hb_ot_map_t;
 use std::alloc::{AllocError, Global};
 
-/// When marks lose their advances: one of the constants below.
+/// When the advances of marks are zeroed: one of the constants below.
 pub type hb_ot_shape_zero_width_marks_type_t = u32;
 
+/// Never.
 pub const HB_OT_SHAPE_ZERO_WIDTH_MARKS_NONE: u32 = 0;
 
 /// Before positioning.
@@ -19,14 +20,14 @@ pub const HB_OT_SHAPE_ZERO_WIDTH_MARKS_BY_GDEF_EARLY: u32 = 1;
 /// After positioning.
 pub const HB_OT_SHAPE_ZERO_WIDTH_MARKS_BY_GDEF_LATE: u32 = 2;
 
-/// What a shaper decides once for all texts, and what it asks of a font's features.
+/// What a shaper chooses once for all texts, and its feature requests.
 pub trait PlannedShaper: Drop {
     ghost use Rattle.std.specs.Prelude.{◌≡◌, IfOk, OnOk, Option};
     ghost use Rattle.layout_map.specs.Compiled.{MapRequests, OtMapValue};
     ghost use Rattle.buffer_common.specs.declared.script.Script.{Script};
     ghost use Rattle.script_plan.specs.Traits.{ShaperTraits};
 
-    /// What the shaper keeps for the texts of a plan.
+    /// The shaper's own data of a plan.
     type PlanData: Drop;
 
     ghost traits: { Self → ShaperTraits };
@@ -37,23 +38,23 @@ pub trait PlannedShaper: Drop {
 
     ghost data_of: { Self → OtMapValue → Option Script → Self.PlanData };
 
-    /// How far characters are split and composed.
+    /// The form in which the shaper prefers characters: composed, decomposed, or automatic.
     fn normalization_preference(&self) -> NormalizationMode
         ensures { result ≡ (traits self.now).normalization };
 
-    /// The script of GPOS that the shaper is made for. Under another script the table is not used.
+    /// The GPOS script that the shaper is made for; with another script GPOS is not applied.
     fn gpos_tag(&self) -> Option<Tag>
         ensures { result ≡ (traits self.now).gpos_tag };
 
-    /// When marks lose their advances.
+    /// When the advances of marks are zeroed.
     fn zero_width_marks(&self) -> hb_ot_shape_zero_width_marks_type_t
         ensures { result ≡ (traits self.now).zero_width_marks };
 
-    /// Whether marks that the font does not place are placed by their boxes.
+    /// Whether marks are positioned by glyph extents where the font has no rules for them.
     fn fallback_position(&self) -> bool
         ensures { result ≡ (traits self.now).fallback_position };
 
-    /// Asks for what the shaper wants for a script, between what every text asks and what the user asks.
+    /// Requests the shaper's features for a script, between the common requests of every text.
     fn collect_features(
         &self,
         builder: &mut hb_ot_map_builder_t,
@@ -61,7 +62,7 @@ pub trait PlannedShaper: Drop {
     ) -> Result<(), AllocError>
         ensures { OnOk result (builder.new ≡ collects self.now script builder.old) };
 
-    /// Asks for what the shaper wants whatever the user asked.
+    /// Requests the features that the shaper sets after the user's.
     fn override_features(
         &self,
         builder: &mut hb_ot_map_builder_t,
@@ -69,7 +70,7 @@ pub trait PlannedShaper: Drop {
     ) -> Result<(), AllocError>
         ensures { OnOk result (builder.new ≡ overrides self.now script builder.old) };
 
-    /// What the shaper keeps for texts of a script that are shaped by a map.
+    /// Makes the shaper's own data for texts of a script, by a compiled map.
     fn create_data(
         &self,
         alloc: Global,
@@ -79,7 +80,7 @@ pub trait PlannedShaper: Drop {
         ensures { IfOk result (λ kept. kept ≡ data_of self.now map.now script) };
 }
 
-/// Shapers of a kind, of which each text has one by its script.
+/// A family of shapers, one of which is chosen for a text by its script.
 pub trait CategorizedShaper: PlannedShaper {
     ghost use Rattle.std.specs.Prelude.{◌≡◌, Option};
     ghost use Rattle.buffer_common.specs.declared.direction.Direction.{Direction};
@@ -88,7 +89,7 @@ pub trait CategorizedShaper: PlannedShaper {
 
     ghost shaper_of: { Option Script → Direction → Option Tag → Self };
 
-    /// The shaper of a text by its script, its direction, and the script of GSUB that serves it.
+    /// The shaper of a text by its script, its direction, and the chosen GSUB script.
     fn categorize(script: Option<Script>, direction: Direction, gsub_script: Option<Tag>) -> Self
         ensures { result ≡ shaper_of script direction gsub_script };
 }

@@ -1,4 +1,4 @@
-//! Makes plans.
+//! The planner, hb_ot_shape_planner_t (rustybuzz: hb/ot_shape.rs).
 ghost use Rattle.std.specs.Prelude.{◌≡◌, ◌&&◌, not, codes, IfOk, is_some};
 ghost use Rattle.std.specs.Option.{option_copied};
 ghost use Rattle.buffer_common.specs.ScriptTags.{wanted_language_tags};
@@ -23,7 +23,7 @@ use layout_map::map::hb_ot_map_t;
 use layout_map_features::per_table::TableIndex;
 use std::alloc::{AllocError, Global};
 
-/// Collects what is asked of a font, and compiles a plan.
+/// Collects feature requests for a font, and compiles them into a plan.
 #[derive(Drop)]
 pub struct hb_ot_shape_planner_t<'a, S: PlannedShaper> {
     pub face: &'a Face,
@@ -33,7 +33,7 @@ pub struct hb_ot_shape_planner_t<'a, S: PlannedShaper> {
     pub shaper: S,
 }
 
-/// A builder for a font's tables that nothing was asked of yet.
+/// A builder for a font's tables, without requests.
 fn new_builder<'a, L: LanguageTags>(
     alloc: Global,
     face: &'a Face,
@@ -56,7 +56,7 @@ fn new_builder<'a, L: LanguageTags>(
 }
 
 impl<'a, S: CategorizedShaper> hb_ot_shape_planner_t<'a, S> {
-    /// A planner with the shaper that the script has for the font.
+    /// A planner with the shaper that is chosen for the script and the font.
     pub fn new<L: LanguageTags>(
         alloc: Global,
         face: &'a Face,
@@ -88,7 +88,7 @@ impl<'a, S: CategorizedShaper> hb_ot_shape_planner_t<'a, S> {
 }
 
 impl<'a, S: PlannedShaper> hb_ot_shape_planner_t<'a, S> {
-    /// A planner with a shaper that is handed in.
+    /// A planner with the given shaper.
     pub fn with_shaper<L: LanguageTags>(
         alloc: Global,
         face: &'a Face,
@@ -116,7 +116,8 @@ impl<'a, S: PlannedShaper> hb_ot_shape_planner_t<'a, S> {
         }
     }
 
-    /// Asks for what every text, the shaper and the user want. A planner that was refused memory is only dropped.
+    /// Requests the features of every text, of the shaper and of the user. After an error the planner can only be
+    /// dropped.
     pub fn collect_features(&mut self, features: &[Feature]) -> Result<(), AllocError>
         ensures { OnOk result (self.new ≡ record self.old {
           ot_map = with_requests (record {
@@ -134,7 +135,7 @@ impl<'a, S: PlannedShaper> hb_ot_shape_planner_t<'a, S> {
         self.shaper.override_features(&mut self.ot_map, self.script)
     }
 
-    /// The plan of what was asked, with what the shaper keeps for its texts; it keeps the user's features.
+    /// Compiles the requests into a plan, with the shaper's own data; the plan keeps the user's features.
     pub fn compile(
         self,
         alloc: Global,
@@ -170,9 +171,9 @@ impl<'a, S: PlannedShaper> hb_ot_shape_planner_t<'a, S> {
 }
 
 impl<S: CategorizedShaper> hb_ot_shape_plan_t<S> {
-    /// The plan for texts of a direction, a script and a language in a font, with the shaper that the script has for the
-    /// font and with the features that the user asks for. One plan serves all such texts. It takes memory for the map of
-    /// features and for the stages of lookups.
+    /// The plan for texts of a direction, a script and a language in a font, with the shaper chosen for the script and
+    /// the font, and with the user's features. One plan serves all such texts. It takes memory for the map's features
+    /// and the lookups of each stage.
     pub fn new<L: LanguageTags>(
         alloc: Global,
         face: &Face,
@@ -211,7 +212,7 @@ fn has_fractions(map: &hb_ot_map_t) -> bool
     has_mask(map, b"frac") || has_mask(map, b"numr") && has_mask(map, b"dnom")
 }
 
-/// Whether a shaper that is made for one script of GPOS is faced with another.
+/// Whether a shaper that is made for one GPOS script gets another.
 fn disables_gpos(wanted: Option<Tag>, chosen: Option<Tag>) -> bool
     ensures { result ≡ disables_gpos wanted chosen }
 {

@@ -1,4 +1,4 @@
-//! A shaper.
+//! The trait of a shaper (rustybuzz: hb/ot_shaper.rs).
 
 use crate::plan::hb_script_plan_t;
 use crate::planned::PlannedShaper;
@@ -9,9 +9,9 @@ use layout_face::Face;
 use script_categories::SyllableSpans;
 use std::alloc::Global;
 
-/// What a shaper does to a text, at its places between the stages that every text has. Each hook's rule is a function of
-/// what the stages see, of the font, the tables, the plan and what is set for the text; it knows no cluster, no cluster level
-/// and no request for glyph flags.
+/// What a shaper does to a text at the hooks of the pipeline. Each hook's rule is a function of the items and
+/// positions, the font, the tables, the plan and the text's settings; it doesn't depend on clusters, the cluster level
+/// or requests for glyph flags.
 pub trait hb_ot_shaper_t: PlannedShaper {
     ghost use Rattle.std.specs.Prelude.{◌≡◌, ◌≢◌, ◌≤◌, Bool, true, false, List, Ok, Err, IfErr, OnOk, length};
     ghost use Rattle.buffer_unicode_tables.specs.Expansion.{EndWithin};
@@ -32,7 +32,7 @@ pub trait hb_ot_shaper_t: PlannedShaper {
 
     ghost keeps_order: { Self → Bool };
 
-    /// Changes the text's characters, which are in the order of their writing.
+    /// Changes the text's characters before they are normalized; they are in their script's direction.
     fn preprocess_text(
         &self,
         plan: &hb_script_plan_t<Self::PlanData>,
@@ -48,7 +48,7 @@ pub trait hb_ot_shaper_t: PlannedShaper {
             ((rules self.now plan.now).preprocesses face.now tables.now (text_settings buffer.old)) (run_of buffer.old)
             ≡ Err e) };
 
-    /// The two parts of a character; the second is U+0000 where it is absent.
+    /// The two halves of a character's decomposition; the second is U+0000 where there is only one.
     fn decompose(
         &self,
         plan: &hb_script_plan_t<Self::PlanData>,
@@ -57,7 +57,7 @@ pub trait hb_ot_shaper_t: PlannedShaper {
     ) -> Option<(char, char)>
         ensures { result ≡ (rules self.now plan.now).splits tables.now ab };
 
-    /// What two characters compose to.
+    /// The composition of two characters.
     fn compose(
         &self,
         plan: &hb_script_plan_t<Self::PlanData>,
@@ -67,7 +67,7 @@ pub trait hb_ot_shaper_t: PlannedShaper {
     ) -> Option<char>
         ensures { result ≡ (rules self.now plan.now).composes tables.now a b };
 
-    /// Puts a run of marks, from `start` up to before `end` and in the order of their classes, in the shaper's own order.
+    /// Reorders the run of marks `start..end`, which is sorted by combining class, in the shaper's own order.
     fn reorder_marks(
         &self,
         plan: &hb_script_plan_t<Self::PlanData>,
@@ -80,7 +80,7 @@ pub trait hb_ot_shaper_t: PlannedShaper {
         requires within { end ≤ length (all_glyphs buffer.old) }
         ensures { Rearranges (rules self.now plan.now).reorders start end buffer.old buffer.new };
 
-    /// Sets the masks of features that act on some characters alone. It changes no character.
+    /// Sets the masks of features that apply to some characters only. It changes no character.
     fn setup_masks(
         &self,
         plan: &hb_script_plan_t<Self::PlanData>,
@@ -96,7 +96,7 @@ pub trait hb_ot_shaper_t: PlannedShaper {
             ((rules self.now plan.now).sets_masks face.now tables.now (text_settings buffer.old)) (run_of buffer.old)
             ≡ Err e) };
 
-    /// Does what the pause of a number does between two stages of lookups, and answers true whenever a glyph number came in.
+    /// Performs the pause of a number between two GSUB stages, and returns true whenever a glyph number was inserted.
     fn run_pause<P: SyllableSpans>(
         &self,
         alloc: Global,
@@ -119,7 +119,7 @@ pub trait hb_ot_shaper_t: PlannedShaper {
             pause)
             (run_of buffer.old) ≡ Err e) };
 
-    /// Changes the glyphs, which stand as they are drawn, and their positions.
+    /// Changes the glyphs, which are in visual order, and their positions.
     fn postprocess_glyphs(
         &self,
         alloc: Global,
@@ -134,7 +134,7 @@ pub trait hb_ot_shaper_t: PlannedShaper {
             ((rules self.now plan.now).postprocesses face.now (text_settings buffer.old))
             (run_of buffer.old) ≡ Err e) };
 
-    /// Whether clusters that are in order stay so at the levels that keep them in order.
+    /// Whether the order of clusters is kept at the monotone levels.
     fn keeps_cluster_order(&self) -> bool
         ensures { result ≡ keeps_order self.now };
 

@@ -1,4 +1,4 @@
-//! What the universal shaper asks.
+//! The feature requests of the universal shaper (rustybuzz: hb/ot_shaper_use.rs).
 
 use crate::ask::{Ask, added, on, tag};
 use crate::pause::hb_script_pause_t;

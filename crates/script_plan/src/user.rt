@@ -1,4 +1,4 @@
-//! What the user asks.
+//! The feature requests of the caller.
 ghost use Rattle.std.specs.Prelude.{◌≡◌, fold, map, OnOk};
 ghost use Rattle.script_plan.specs.Asks.{with_ask};
 ghost use Rattle.script_plan.specs.Common.{ask_of};
@@ -23,7 +23,7 @@ fn ask_of(feature: &Feature) -> Ask
     }
 }
 
-/// Asks for the user's features in order, for every glyph or for a range.
+/// Requests the user's features in order, each for all glyphs or for a range.
 pub fn ask_features(
     builder: &mut hb_ot_map_builder_t,
     features: &[Feature],

@@ -59,7 +59,7 @@ all_counted i gs cs ps le c =
 
 -- ---- places
 
--- where an item stands, counted or not, or the end
+-- the index of an item, counted or not, or the list's end
 abbrev place_if : Bool → ℕ → List Item → ℕ → ℕ → ℕ
 place_if t at xs end i = place_in ((if t then at ∷ [] else []) ++ places_from (at + 1) xs) end i
 

@@ -42,7 +42,7 @@ origins_with byte (g ∷ gs) = ap (λ os. origin_of g ∷ os) (origins_with byte
 range_stripped : (from to : ℕ) (gs : List hb_glyph_info_t) → strip (slice_range gs from to) ≡ slice_range (strip gs) from to
 range_stripped from to gs = sym (take-map item_of (to - from) (drop from gs)) ∙ ap (take (to - from)) (sym (drop-map item_of from gs))
 
--- a stretch got a byte, and then became unsafe to break
+-- a range got a byte, and then was flagged as unsafe to break
 pub syllable_marked : (from to byte : ℕ) (gs : List hb_glyph_info_t) (a b : Sides) → IsReady a → from ≤ to → to ≤ length (all_glyphs a)
     → gs ≡ take from (all_glyphs a) ++ map (glyph_with_byte byte) (slice_range (all_glyphs a) from to) ++ drop to (all_glyphs a) → Happens (Break from to ∷ []) (with_refilled gs a) b
     → IsRewritten (one_syllable byte (slice_range (items_of a) from to)) from to a b
@@ -158,7 +158,7 @@ all_marked next at shaper count index start old now u past =
 
 -- ---- the calls of the walk
 
--- a stretch that was written, and then marked
+-- a range that was written, and then flagged
 pub syllable_done : (from to byte : ℕ) (gs : List hb_glyph_info_t) (a b : Sides) → IsReady a → from ≤ to → to ≤ length (all_glyphs a)
     → gs ≡ take from (all_glyphs a) ++ map (glyph_with_byte byte) (slice_range (all_glyphs a) from to) ++ drop to (all_glyphs a)
     → b ≡ marked_range 3 (Some from) (Some to) (with_refilled gs a) → items_of b ≡ items_of (with_refilled gs a)
@@ -174,7 +174,7 @@ Goes next at shaper count index start old now after p =
     start < p.0 → at start ≤ at p.0 → at p.0 ≤ length (all_glyphs old) → nat_lt p.1 (length (kinds_of shaper)) ≡ true
     → IsRewritten (one_syllable (syllable_byte index p.1) (slice_range (items_of now) (at start) (at p.0))) (at start) (at p.0) now after → IsMarking next at shaper count (index + 1) p.0 old after
 
--- the same by what the spans answer, and where in the buffer it stands
+-- a range by the spans' answer, and its index in the buffer
 pub marked_by : (next : ℕ → ℕ × ℕ) (at : ℕ → ℕ) (shaper : hb_ot_script_shaper_t) (count index start : ℕ) (old now after : Sides) (p : ℕ × ℕ) (i j b : ℕ) → IsMarking next at shaper count index start old now → start < count
     → p ≡ next start → i ≡ at start → j ≡ at p.0 → b ≡ syllable_byte index p.1
     → start < p.0 → at start ≤ at p.0 → at p.0 ≤ length (all_glyphs old) → nat_lt p.1 (length (kinds_of shaper)) ≡ true

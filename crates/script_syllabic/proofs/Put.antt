@@ -1,4 +1,4 @@
--- A circle that is put behind the output.
+-- A circle that is appended to the output.
 use Rattle.std.proofs.Common.{ℕ, zero, suc, ◌≡◌, ◌≤◌, ◌<◌, ◌+◌, ◌-◌, ◌||◌, Bool, List, [], ◌∷◌, ◌++◌, length, take, drop, true, false, Some, slice_get, sym, ap, ◌∙◌, arith, append_assoc}
 use Rattle.std.proofs.Math.Seq.{take-append_seam, drop-append_seam}
 use Rattle.std.proofs.lemmas.List.{map-append, length-map, drop_all, drop-map, take-append-drop, take-append-le, drop-append-le}

@@ -1,4 +1,4 @@
--- Circles that come in before what is ahead of the cursor.
+-- Circles that are inserted before the input.
 use Rattle.std.proofs.Common.{ℕ, zero, suc, ◌≡◌, ◌≢◌, ◌≤◌, ◌<◌, ◌+◌, ◌*◌, ◌-◌, ◌==◌, ◌&&◌, Bool, true, false, nat_le, not, if◌then◌else◌, List, [], ◌∷◌, ◌++◌, length, map, take, drop, Option, Some, None, Ok, Err, slice_get, refl, sym, ap, subst, ◌∙◌, arith, append_assoc}
 use Rattle.std.specs.List.{prefix_len}
 use Rattle.std.proofs.lemmas.Bool.Decides.{nat_tests}
@@ -73,7 +73,7 @@ events_there : (at : ℕ) (xs : List Item) (ys : List Circled) → circle_events
 events_there at [] ys = let e : at + 0 ≡ at = omega arith in rw e refl
 events_there at (x ∷ xs) ys = let e : at + 1 + length xs ≡ at + length (x ∷ xs) = omega arith in events_there (at + 1) xs ys ∙ ap (λ n. circle_events n ys) e
 
--- no item goes
+-- no item is deleted
 pub at_least : (r : CircleRule) (xs : List Item) (last : ℕ) (d : Option Due) → length xs ≤ length (circled_items (circled r xs last d))
 at_least r [] last d = omega arith
 at_least r (x ∷ xs) last None = at_least_begun r last x xs (circled r xs) (at_least r xs)
@@ -104,7 +104,7 @@ at_least r (x ∷ xs) last (Some d) = by_test (is_repha r last x) (at_least r xs
 abbrev pub frame_of : Sides → Sides
 frame_of s = record s { behind = []; ahead = []; read = 0 }
 
--- circles came in before what is ahead: what they make of the rest is what they make of all
+-- circles were inserted before the input: the result for the rest is the result for the whole list
 pub record IsUnderway (r : CircleRule) (last : ℕ) (old now : Sides) : Type 0 where
   pub opened : now.is_open ≡ true
   pub frame : frame_of now ≡ frame_of (with_output old)
@@ -114,7 +114,7 @@ pub record IsUnderway (r : CircleRule) (last : ℕ) (old now : Sides) : Type 0 w
 pub underway : (r : CircleRule) (old : Sides) → IsUnderway r 0 old (with_output old)
 underway r old = record { opened = refl; frame = refl; items = refl; origins = refl }
 
--- events go by what is asked and by the level, which a frame has
+-- events depend on requests for flags and on the level, which a frame has
 by_frame : (es : List Event) (a b : Sides) → frame_of b ≡ frame_of a → origins_by es b ≡ origins_after (asks_of a) a.level es (origins_of b)
 by_frame es a b e = ap (λ (s : Sides). origins_after (asks_of s) s.level es (origins_of b)) e
 
@@ -442,7 +442,7 @@ circle_refused r last n g old now moved e u at begun_is count_is m le h = too_lo
         let more = why.1 in
         (why.0, omega (arith, whole, many, at_circle, limit, limit_moved, more))
 
--- ---- what the calls of the walk ask
+-- ---- what the calls of the walk require
 
 pub rephas_within : (r : CircleRule) (byte n : ℕ) (s moved : Sides) → n ≡ prefix_len (is_repha r byte) (strip s.ahead) → moved ≡ moved_on n s → (n ≤ length s.ahead) × (n ≤ length moved.behind)
 rephas_within r byte n s moved e m =
@@ -450,7 +450,7 @@ rephas_within r byte n s moved e m =
     let count : length moved.behind ≡ length s.behind + n = ap (λ (t : Sides). length t.behind) m ∙ length-append s.behind (take n s.ahead) ∙ ap (λ q. length s.behind + q) (length-take-le n s.ahead le) in
     (le, omega (arith, count))
 
--- the first glyph of the syllable stands where the rephas begin
+-- the first glyph of the syllable is where the rephas begin
 pub first_stands : (n : ℕ) (g : hb_glyph_info_t) (s moved : Sides) → slice_get s.ahead 0 ≡ Some g → moved ≡ moved_on n s → n ≤ length s.ahead → slice_get (all_glyphs moved) (length moved.behind - n) ≡ Some g
 first_stands n g s moved at m le =
     let all : all_glyphs moved ≡ all_glyphs s = ap all_glyphs m ∙ append_assoc s.behind (take n s.ahead) (drop n s.ahead) ∙ ap (λ ks. s.behind ++ ks) (take-append-drop n s.ahead) in

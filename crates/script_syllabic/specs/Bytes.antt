@@ -12,34 +12,36 @@ use Rattle.buffer_stages.specs.Bytes.{syllable_byte}
 use Rattle.buffer_stages.specs.Rewriting.{Rewritten, kept, then_rule, within}
 use Rattle.buffer_stages.specs.SyllableBuffers.{with_rule}
 
+-- an item with a syllable byte
 abbrev pub with_byte : ℕ → Item → Item
 with_byte byte x = record x { syllable = byte }
 
--- the items of a syllable get its byte, and it is unsafe to break
+-- the items of one syllable with its byte, flagged as unsafe to break
 abbrev pub one_syllable : ℕ → List Item → Rewritten
 one_syllable byte xs = record { items = map (with_byte byte) xs; events = Break 0 (length xs) ∷ [] }
 
--- syllables, the first of which has an index among all, get their bytes; `at` tells at which index of the list an index that syllables count stands
+-- the items with the bytes of their syllables, the first of which has the given index among all; `at` maps a counted
+-- index to the list's
 abbrev pub bytes_set : (ℕ → ℕ) → ℕ → List Syllable → List Item → Rewritten
 bytes_set at index [] xs = kept xs
 bytes_set at index (s ∷ ss) xs = then_rule (within (at s.start) (at s.end) (one_syllable (syllable_byte index s.kind)) xs) (bytes_set at (index + 1) ss)
 
--- the shaper has kinds of syllables up to a number
+-- the kind of the syllable is one of the shaper's
 abbrev pub is_known : hb_ot_script_shaper_t → Syllable → Bool
 is_known shaper s = nat_lt s.kind (length (kinds_of shaper))
 
--- syllables get their bytes, where the shaper has the kind of each
+-- the items with their syllables' bytes, where the shaper has the kind of each
 abbrev pub bytes_of : hb_ot_script_shaper_t → (ℕ → ℕ) → List Syllable → Stage
 bytes_of shaper at ss v = if list_all (is_known shaper) ss then always (with_rule (bytes_set at 0 ss)) v else Err UnknownSyllableKind
 
--- the syllables of a text, by the categories of its items
+-- the syllables that the machine finds by the categories of a text's items
 abbrev pub text_syllables : (hb_ot_script_shaper_t → List ℕ → ℕ → ℕ × ℕ) → hb_ot_script_shaper_t → List Item → List Syllable
 text_syllables span_of shaper xs = syllables (span_of shaper (map (λ (x : Item). x.category) xs)) (length xs)
 
--- each item counts
+-- the map of counted indices where every item counts
 abbrev pub itself : ℕ → ℕ
 itself i = i
 
--- the syllables of a text get their bytes
+-- the items of a text with the bytes of its syllables
 abbrev pub syllables_set : (hb_ot_script_shaper_t → List ℕ → ℕ → ℕ × ℕ) → hb_ot_script_shaper_t → Stage
 syllables_set span_of shaper v = bytes_of shaper itself (text_syllables span_of shaper v.items) v

@@ -1,4 +1,4 @@
--- Circles for broken syllables to stand on.
+-- Dotted circles, the bases of broken syllables.
 use Rattle.std.specs.Prelude.{ℕ, zero, suc, ◌+◌, ◌-◌, ◌==◌, ◌&&◌, not, Bool, true, false, nat_le, if◌then◌else◌, List, [], ◌∷◌, length, Option, None, Some, Ok, Err, ◌≡◌}
 use Rattle.std.specs.Int.RustNames.{bit_and}
 use Rattle.std.specs.List.{list_any}
@@ -16,27 +16,28 @@ use Rattle.script_syllabic.specs.declared.circles.CircleRule.{CircleRule}
 abbrev pub DOTTED_CIRCLE : ℕ
 DOTTED_CIRCLE = 0x25CC
 
--- the font's glyph of the circle, where circles are not switched off
+-- the font's glyph of the circle, unless DO_NOT_INSERT_DOTTED_CIRCLE is set
 abbrev pub circle_glyph : BufferFlags → FaceParts → Option ℕ
 circle_glyph flags font = if bit_and flags.0 16 == 16 then None else nominal_glyph DOTTED_CIRCLE font
 
--- a syllable is broken by the kind in its byte
+-- the byte of the item's syllable has the kind of broken syllables
 abbrev pub is_broken : CircleRule → Item → Bool
 is_broken r x = bit_and x.syllable 15 == r.kind
 
--- an item of a broken syllable begins one, but where the last broken one has the same byte
+-- an item begins a broken syllable, unless its byte is that of the previous broken one
 abbrev pub begins : CircleRule → ℕ → Item → Bool
 begins r last x = not (x.syllable == last) && is_broken r x
 
+-- an item has the category, if there is one
 abbrev pub is_of_category : Option ℕ → Item → Bool
 is_of_category None x = false
 is_of_category (Some category) x = x.category == category
 
--- a repha of the syllable with a byte
+-- a repha of the syllable with the byte
 abbrev pub is_repha : CircleRule → ℕ → Item → Bool
 is_repha r byte x = x.syllable == byte && is_of_category r.repha x
 
--- the circle of the syllable that an item begins: it has its mask and its byte
+-- the circle of the syllable that begins with the item: it has its mask and its syllable byte
 abbrev pub circle_item : CircleRule → Item → Item
 circle_item r x = record {
   number = r.glyph;
@@ -51,17 +52,17 @@ circle_item r x = record {
   mask = x.mask;
 }
 
--- an item that was there, or a circle that came in after so many rephas of its syllable
+-- an item of the list before, or a circle that is inserted after that many rephas of its syllable
 pub data Circled : Type 0 where
   There : Item → Circled
   Inserted : (rephas : ℕ) → Item → Circled
 
--- a circle that is still to come, and how many rephas stand before it
+-- a circle that is not inserted yet, and the number of rephas before it
 pub record Due : Type 0 where
   pub rephas : ℕ
   pub circle : Item
 
--- an item where no circle is due: whether a broken syllable begins with it, and then whether it is a repha
+-- the next item where no circle is due: it may begin a broken syllable, and then be a repha
 abbrev pub begun : CircleRule → ℕ → Item → (ℕ → Option Due → List Circled) → List Circled
 begun r last x rest =
     if begins r last x then
@@ -69,7 +70,8 @@ begun r last x rest =
     else Inserted 0 (circle_item r x) ∷ There x ∷ rest x.syllable None)
     else There x ∷ rest last None
 
--- what becomes of items, by the byte of the last broken syllable and the circle that is due: it comes in once the rephas are over
+-- the list with its circles, by the byte of the last broken syllable and the circle that is due, which is inserted
+-- after the rephas
 abbrev pub circled : CircleRule → List Item → ℕ → Option Due → List Circled
 circled r [] last None = []
 circled r [] last (Some d) = Inserted d.rephas d.circle ∷ []
@@ -78,50 +80,54 @@ circled r (x ∷ xs) last (Some d) =
     if is_repha r last x then There x ∷ circled r xs last (Some (record { rephas = suc d.rephas; circle = d.circle }))
     else Inserted d.rephas d.circle ∷ begun r last x (circled r xs)
 
+-- a list with the circles of its broken syllables (HarfBuzz: hb_syllabic_insert_dotted_circles)
 abbrev pub with_circles : CircleRule → List Item → List Circled
 with_circles r xs = circled r xs 0 None
 
+-- the items of a list with circles
 abbrev pub circled_items : List Circled → List Item
 circled_items [] = []
 circled_items (There x ∷ ys) = x ∷ circled_items ys
 circled_items (Inserted n c ∷ ys) = c ∷ circled_items ys
 
--- the list without the circles
+-- the list without its circles
 abbrev pub erased : List Circled → List Item
 erased [] = []
 erased (There x ∷ ys) = x ∷ erased ys
 erased (Inserted n c ∷ ys) = erased ys
 
--- a circle comes in after the last repha, in its cluster, else before the syllable's first item; its flags are that item's
+-- the insertion of a circle: after the last repha and in its cluster, else before the syllable's first item, with that
+-- item's flags
 abbrev pub circle_event : ℕ → ℕ → Event
 circle_event at zero = Circle false at at
 circle_event at (suc n) = Circle true (at - 1) (at - suc n)
 
--- the events, by indices of the list that grows from the left
+-- the events of a list with circles, by indices of the list that grows from the left
 abbrev pub circle_events : ℕ → List Circled → List Event
 circle_events at [] = []
 circle_events at (There x ∷ ys) = circle_events (at + 1) ys
 circle_events at (Inserted n c ∷ ys) = circle_event at n ∷ circle_events (at + 1) ys
 
--- circles come in, where the list may have so many items
+-- the stage that inserts the circles, where the list may have that many items
 abbrev pub circles_put : List Circled → Stage
 circles_put ys v = if nat_le (length (circled_items ys)) v.max_len
     then Ok (with_events (circle_events 0 ys) (record v { items = circled_items ys; positions = zero_positions (length (circled_items ys)) }))
     else Err TooLong
 
--- whether a rule is told and a syllable is broken
+-- there is a rule, and a syllable is broken
 abbrev pub puts_circles : Option CircleRule → List Item → Bool
 puts_circles None xs = false
 puts_circles (Some r) xs = list_any (is_broken r) xs
 
+-- the stage of dotted circles by a rule; without a rule nothing changes
 abbrev pub circles_by : Option CircleRule → Stage
 circles_by None v = as_it_is v
 circles_by (Some r) v = if list_any (is_broken r) v.items then circles_put (with_circles r v.items) v else as_it_is v
 
--- without the circles there are the items that were there, in order
+-- law: without its circles, the list is the one before the insertion, in the same order
 abbrev pub ErasingCircles : Type 0
 ErasingCircles = (r : CircleRule) (xs : List Item) → erased (with_circles r xs) ≡ xs
 
--- where no circle comes in, nothing is put
+-- law: where the stage returns false, no circle is inserted
 abbrev pub IsTold : Type 0
 IsTold = (r : Option CircleRule) (v : View) → puts_circles r v.items ≡ false → circles_by r v ≡ as_it_is v

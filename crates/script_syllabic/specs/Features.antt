@@ -1,4 +1,5 @@
--- The features that glyphs of a syllable get, and what a feature's glyphs are recorded as (OpenType specification, Universal Shaping Engine).
+-- The features that glyphs of a syllable get, and what a feature's glyphs are recorded as (OpenType specification,
+-- Universal Shaping Engine).
 use Rattle.std.specs.Prelude.{ℕ, ◌+◌, ◌-◌, ◌==◌, ◌||◌, not, Bool, true, false, min, if◌then◌else◌, List, [], ◌∷◌, ◌++◌, Option, Some, None, map, length, bit_and}
 use Rattle.std.specs.Int.RustNames.{bit_or}
 use Rattle.script_categories.specs.declared.category.TheConstants as category
@@ -11,26 +12,27 @@ use Rattle.script_syllabic.specs.declared.forms.FormMasks.{FormMasks}
 
 -- ---- rphf
 
--- how many items of a syllable may become a reph: a reph in front, else up to three
+-- the number of items of a syllable that get the mask of rphf: one where the first is a reph, else up to three
 abbrev pub reph_size : List Item → ℕ
 reph_size [] = 0
 reph_size (x ∷ xs) = if x.category == category.R then 1 else min 3 (1 + length xs)
 
--- they get the feature
+-- a syllable whose first items have the mask of rphf (HarfBuzz: setup_rphf_mask)
 abbrev pub rphf_masked : ℕ → List Item → Rewritten
 rphf_masked mask xs = within 0 (reph_size xs) (masked_all mask) xs
 
--- ---- recording
+-- ---- records of substituted glyphs
 
+-- an item with a category
 abbrev pub with_category : ℕ → Item → Item
 with_category c x = record x { category = c }
 
--- an item has the feature of a mask; each does where none is asked for
+-- an item has a feature's mask; with no mask, each item has
 abbrev pub has_feature : Option ℕ → Item → Bool
 has_feature None x = true
 has_feature (Some mask) x = not (bit_and x.mask mask == 0)
 
--- from the first item on, as long as a test holds: the first that a substitution put there gets a category
+-- the list where the first substituted item, among the first ones that pass a test, has the category
 abbrev pub recorded : (Item → Bool) → ℕ → List Item → List Item
 recorded test c [] = []
 recorded test c (x ∷ xs) =
@@ -38,54 +40,58 @@ recorded test c (x ∷ xs) =
     else if is_substituted x then with_category c x ∷ xs
     else x ∷ recorded test c xs
 
--- what the feature rphf made is a reph
+-- a syllable whose substituted reph has category R (HarfBuzz: record_rphf_use)
 abbrev pub rphf_recorded : ℕ → List Item → Rewritten
 rphf_recorded mask xs = kept (recorded (has_feature (Some mask)) category.R xs)
 
--- what the feature pref made is a left vowel
+-- a syllable whose substituted pref glyph has category VPre (HarfBuzz: record_pref_use)
 abbrev pub pref_recorded : List Item → Rewritten
 pref_recorded xs = kept (recorded (has_feature None) category.VPre xs)
 
 -- ---- forms of syllables
 
+-- a kind of syllable joins its neighbours: neither hieroglyphs nor non-clusters do
 abbrev pub joins_by : ℕ → Bool
 joins_by kind = not (kind == universal.HIEROGLYPH_CLUSTER || kind == universal.NON_CLUSTER)
 
--- a syllable joins its neighbours, unless it is of hieroglyphs or none
+-- a syllable joins its neighbours, by the kind in its first item's byte
 abbrev pub joins : List Item → Bool
 joins [] = false
 joins (x ∷ xs) = joins_by (bit_and x.syllable 15)
 
+-- the first syllable of a list of them joins
 abbrev pub first_joins : List (List Item) → Bool
 first_joins [] = false
 first_joins (s ∷ ss) = joins s
 
--- the form of a syllable that joins, by whether those before and after it do
+-- the mask of the form of a joining syllable, by whether the previous and the next one join
 abbrev pub form_of : FormMasks → Bool → Bool → ℕ
 form_of masks true true = masks.medi
 form_of masks true false = masks.fina
 form_of masks false true = masks.init
 form_of masks false false = masks.isol
 
+-- the bits of all four forms
 abbrev pub all_forms : FormMasks → ℕ
 all_forms masks = bit_or (bit_or masks.isol masks.init) (bit_or masks.medi masks.fina)
 
--- the bits of all forms, but the one that every glyph has, and no glyph flag
+-- the bits of all forms without the global bit and the glyph flags
 abbrev pub form_bits : FormMasks → ℕ
 form_bits masks = all_forms masks - bit_and (all_forms masks) 0x8000_0007
 
--- an item with one form, and without the others
+-- an item with the mask of one form, and without the others
 abbrev pub with_form : FormMasks → ℕ → Item → Item
 with_form masks form x = record x { mask = bit_or (x.mask - bit_and x.mask (form_bits masks)) (without_flags form) }
 
--- a syllable after one that joins, if it does, and before others
+-- a syllable with its form, by whether the previous and the next one join
 abbrev pub formed : FormMasks → Bool → List Item → Bool → List Item
 formed masks before s behind = if joins s then map (with_form masks (form_of masks before behind)) s else s
 
--- each syllable that joins takes its form: alone among those that don't isol, first init, last fina, else medi
+-- the syllables with their forms: isol between syllables that don't join, then init, fina or medi
 abbrev pub each_formed : FormMasks → Bool → List (List Item) → List Item
 each_formed masks before [] = []
 each_formed masks before (s ∷ ss) = formed masks before s (first_joins ss) ++ each_formed masks (joins s) ss
 
+-- the stage that sets the masks of topographical forms (HarfBuzz: setup_topographical_masks)
 abbrev pub topography : FormMasks → List Item → Rewritten
 topography masks xs = kept (each_formed masks false (in_syllables xs))

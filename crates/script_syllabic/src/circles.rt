@@ -1,4 +1,4 @@
-//! Circles for broken syllables to stand on.
+//! Inserts a dotted circle into each broken syllable, insert_dotted_circles (rustybuzz: hb/ot_shaper_syllabic.rs).
 ghost use Rattle.std.specs.Prelude.{◌≡◌, ◌≢◌, ◌<◌, ◌≤◌, ◌+◌, ◌-◌, Err, Some, true, length, slice_get, IfOk, IfErr, OnOk};
 ghost use Rattle.std.specs.List.{list_any, prefix_len};
 ghost use Rattle.buffer_glyphs.specs.Items.{glyph_flags, item_of, strip};
@@ -21,7 +21,7 @@ use layout_face::Face;
 /// U+25CC DOTTED CIRCLE.
 pub const DOTTED_CIRCLE: char = '\u{25CC}';
 
-/// Which syllables get a circle, and what it is.
+/// Which syllables get a dotted circle, and the circle's glyph, category and position.
 #[derive(Clone, Copy)]
 pub struct CircleRule {
     /// The font's glyph of U+25CC.
@@ -30,20 +30,21 @@ pub struct CircleRule {
     pub kind: u8,
     /// The circle's category.
     pub category: u8,
-    /// The category of a repha, which stands before the circle.
+    /// The category of a repha, after which the circle is inserted.
     pub repha: Option<u8>,
     /// The circle's position in a syllable.
     pub position: u8,
 }
 
-/// Puts a dotted circle into each syllable of the kind `kind`: after the rephas that it begins with and in the last one's
-/// cluster, else before its first glyph and in that one's. The circle has the mask and the byte of the syllable's first
-/// glyph. A syllable with the byte of the last broken one before it gets none. Answers whether circles came in: none do
-/// where the buffer switches them off, where the font has none, and where no syllable is broken. It takes linear time.
+/// Inserts a dotted circle into each syllable of kind `kind` (`insert_dotted_circles`): after the rephas that begin the
+/// syllable, in the last one's cluster, else before its first glyph and in that one's cluster. The circle has the mask
+/// and the syllable byte of the syllable's first glyph. A syllable with the byte of the previous broken one gets none.
+/// Returns whether circles were inserted: none are where the buffer has DO_NOT_INSERT_DOTTED_CIRCLE, where the font has
+/// no such glyph, and where no syllable is broken. It takes linear time.
 ///
 /// # Errors
 ///
-/// `TooLong` where the text would have more glyphs than the buffer may hold, or want of memory.
+/// `TooLong` where the text would have more glyphs than the buffer may hold, or lack of memory.
 pub fn insert_dotted_circles(
     face: &Face,
     buffer: &mut hb_buffer_t,
@@ -161,7 +162,7 @@ fn put_circles(rule: &CircleRule, buffer: &mut hb_buffer_t) -> Result<(), ShapeC
     Ok(())
 }
 
-/// Moves the cursor over a glyph.
+/// Outputs the current glyph.
 fn pass_glyph(buffer: &mut hb_buffer_t) -> Result<(), ShapeCause>
     requires open { buffer.old.is_open ≡ true }
     requires there { 0 < length buffer.old.ahead }
@@ -174,7 +175,7 @@ fn pass_glyph(buffer: &mut hb_buffer_t) -> Result<(), ShapeCause>
     Ok(())
 }
 
-/// Moves the cursor over the rephas that stand from it on, and tells how many they are.
+/// Outputs the rephas from the cursor on, and returns their number.
 #[tactic(auto, using(crate::proofs::Underway::none_passed))]
 fn pass_rephas(rule: &CircleRule, byte: u8, buffer: &mut hb_buffer_t) -> Result<usize, ShapeCause>
     requires open { buffer.old.is_open ≡ true }
@@ -192,7 +193,8 @@ fn pass_rephas(rule: &CircleRule, byte: u8, buffer: &mut hb_buffer_t) -> Result<
     Ok(rephas)
 }
 
-/// Puts the circle of the syllable that `first` begins behind the output, whose last glyphs are so many rephas of it.
+/// Inserts the circle of the syllable that `first` begins, after the output's last glyphs, which are that many rephas
+/// of it.
 fn put_circle(
     rule: &CircleRule,
     first: &hb_glyph_info_t,
@@ -213,7 +215,7 @@ fn put_circle(
     put_behind(circle, rephas, buffer)
 }
 
-/// The circle of the syllable that a glyph begins, in its cluster.
+/// The circle of the syllable that begins with `first`, in that glyph's cluster.
 fn circle_info(rule: &CircleRule, first: &hb_glyph_info_t) -> hb_glyph_info_t
     ensures item { item_of result ≡ circle_item rule.now (item_of first.now) }
     ensures origin { origin_of result ≡ origin_of first.now }
@@ -229,7 +231,7 @@ fn circle_info(rule: &CircleRule, first: &hb_glyph_info_t) -> hb_glyph_info_t
     }
 }
 
-/// Puts a circle before the glyph at the cursor, of which it has the cluster and the glyph flags.
+/// Inserts a circle before the current glyph, with its cluster and glyph flags.
 fn put_before(circle: hb_glyph_info_t, buffer: &mut hb_buffer_t) -> Result<(), ShapeCause>
     requires open { buffer.old.is_open ≡ true }
     requires first { slice_get (origins_of buffer.old) (length buffer.old.behind) ≡ Some (origin_of circle) }
@@ -242,7 +244,8 @@ fn put_before(circle: hb_glyph_info_t, buffer: &mut hb_buffer_t) -> Result<(), S
     Ok(())
 }
 
-/// Puts a circle behind the last glyph of the output, in its cluster, with the glyph flags of the first of so many rephas.
+/// Appends a circle to the output, with the last output glyph's cluster and the glyph flags of the first of that many
+/// rephas.
 fn put_behind(
     circle: hb_glyph_info_t,
     rephas: usize,

@@ -1,4 +1,5 @@
-//! The forms of syllables by their neighbours.
+//! The topographical forms of syllables by their neighbours, setup_topographical_masks (rustybuzz:
+//! hb/ot_shaper_use.rs).
 ghost use Rattle.std.specs.Prelude.{◌≡◌, ◌≤◌, ◌<◌, ◌++◌, length, map, take, drop, slice_range};
 ghost use Rattle.buffer_glyphs.specs.Items.{strip};
 ghost use Rattle.buffer_core.specs.Readings.{always};
@@ -14,10 +15,10 @@ use buffer_core::buffer::hb_buffer_t;
 use buffer_glyphs::info::{DEFINED, hb_glyph_info_t, hb_mask_t};
 use script_categories::syllable_kinds::universal::{HIEROGLYPH_CLUSTER, NON_CLUSTER};
 
-/// The bit of a mask that every glyph has.
+/// The mask bit that every glyph has.
 const GLOBAL_BIT: hb_mask_t = 0x8000_0000;
 
-/// The masks of the forms of syllables, 0 where the font has none.
+/// The masks of the topographical forms, 0 where the font has none.
 #[derive(Clone, Copy)]
 pub struct FormMasks {
     pub isol: hb_mask_t,
@@ -27,7 +28,7 @@ pub struct FormMasks {
 }
 
 impl FormMasks {
-    /// The form of a syllable, by whether those before and after it join.
+    /// The form of a syllable, by whether the previous and the next one join.
     fn form(&self, before: bool, behind: bool) -> hb_mask_t
         ensures { result ≡ form_of self.now before behind }
     {
@@ -45,7 +46,7 @@ impl FormMasks {
         (self.isol | self.init) | (self.medi | self.fina)
     }
 
-    /// The bits that a syllable loses before it gets its form.
+    /// The bits that are cleared before a syllable gets its form.
     fn bits(&self) -> hb_mask_t
         ensures { result ≡ form_bits self.now }
     {
@@ -54,8 +55,9 @@ impl FormMasks {
     }
 }
 
-/// Gives each syllable that is neither of hieroglyphs nor none the feature of its form: isol where neither neighbour is such a
-/// one, init where the next is, fina where the one before is, else medi. It takes linear time and no memory.
+/// Gives each joining syllable the mask of its form (`setup_topographical_masks`): isol where neither neighbour joins,
+/// init where only the next does, fina where only the previous does, else medi. Syllables of kind hieroglyph or
+/// non-cluster don't join. It takes linear time and no memory.
 pub fn setup_topographical_masks(masks: &FormMasks, buffer: &mut hb_buffer_t)
     requires ready { IsReady buffer.old }
     ensures { IsFollowed (always (with_rule (topography masks.now))) buffer.old buffer.new }
@@ -70,7 +72,7 @@ pub fn setup_topographical_masks(masks: &FormMasks, buffer: &mut hb_buffer_t)
     }
 }
 
-/// Gives the syllable from `start` up to before `end` its form, and answers whether it joins.
+/// Gives the syllable `start..end` its form, and returns whether it joins.
 fn form_syllable(
     masks: &FormMasks,
     buffer: &mut hb_buffer_t,
@@ -93,7 +95,7 @@ fn form_syllable(
     true
 }
 
-/// Whether the syllable from an index on joins its neighbours.
+/// Whether the syllable that begins at an index joins its neighbours.
 fn joins_at(buffer: &hb_buffer_t, at: usize) -> bool
     requires ready { IsReady buffer.now }
     requires within { at ≤ length (all_glyphs buffer.now) }
@@ -102,7 +104,7 @@ fn joins_at(buffer: &hb_buffer_t, at: usize) -> bool
     joins(&buffer.info_slice()[at..])
 }
 
-/// Whether the syllable in front joins its neighbours.
+/// Whether the first syllable of these glyphs joins its neighbours.
 fn joins(glyphs: &[hb_glyph_info_t]) -> bool
     ensures { result ≡ joins (strip glyphs.now) }
 {

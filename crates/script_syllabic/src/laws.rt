@@ -1,13 +1,13 @@
-//! Laws of circles.
+//! Laws of dotted circles.
 ghost use Rattle.script_syllabic.specs.Circles.{ErasingCircles, IsTold};
 
-/// Without the circles there are the items that were there, in order.
+/// Without its circles, the list is the one before the insertion, in the same order.
 #[tactic(auto, using(crate::proofs::Erased::erasing_circles))]
 pub fn law_erasing_circles()
     ensures { ErasingCircles }
 {}
 
-/// Where the answer is that no circle came in, nothing is put.
+/// Where false is returned, no circle is inserted.
 #[tactic(auto, using(crate::proofs::Erased::is_told))]
 pub fn law_is_told()
     ensures { IsTold }

@@ -1,5 +1,5 @@
-// What stages do to syllables: their bytes, circles for broken ones, and where the universal shaper's stand, with the features
-// of their glyphs.
+//! The stages on syllables: their bytes, dotted circles for broken ones, and the universal shaper's syllables with the
+//! masks of their glyphs.
 #![tactic(auto)]
 
 pub mod circles;

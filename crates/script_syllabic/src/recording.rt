@@ -1,4 +1,5 @@
-//! What the glyphs that the features rphf and pref made are recorded as.
+//! Records which glyphs the features rphf and pref formed, record_rphf and record_pref (rustybuzz:
+//! hb/ot_shaper_use.rs).
 ghost use Rattle.std.specs.Prelude.{◌≡◌, ◌≤◌, ◌++◌, length, take, drop, slice_range, OnOk};
 ghost use Rattle.buffer_glyphs.specs.Items.{item_of, strip};
 ghost use Rattle.buffer_core.specs.Readings.{always};
@@ -16,8 +17,8 @@ use buffer_stages::walk::{SyllableRule, each_syllable};
 use script_categories::category::{Category, R, VPre};
 use std::alloc::AllocError;
 
-/// The first glyph of each syllable that a substitution put there becomes a reph, if it and all before it have the feature
-/// rphf. It takes linear time.
+/// Sets category R on the first substituted glyph of each syllable, if it and all glyphs before it have the mask of
+/// rphf (`record_rphf`). It takes linear time.
 pub fn record_rphf(mask: hb_mask_t, buffer: &mut hb_buffer_t) -> Result<(), AllocError>
     requires ready { IsReady buffer.old }
     ensures { OnOk result (IsFollowed (always (with_rule (by_syllable (rphf_recorded mask)))) buffer.old buffer.new) }
@@ -25,7 +26,7 @@ pub fn record_rphf(mask: hb_mask_t, buffer: &mut hb_buffer_t) -> Result<(), Allo
     each_syllable(&Rphf { mask }, buffer)
 }
 
-/// The first glyph of each syllable that a substitution put there becomes a left vowel. It takes linear time.
+/// Sets category VPre on the first substituted glyph of each syllable (`record_pref`). It takes linear time.
 pub fn record_pref(buffer: &mut hb_buffer_t) -> Result<(), AllocError>
     requires ready { IsReady buffer.old }
     ensures { OnOk result (IsFollowed (always (with_rule (by_syllable pref_recorded))) buffer.old buffer.new) }
@@ -94,8 +95,8 @@ fn record_within(
     record_first(&mut glyphs[start..end], mask, category);
 }
 
-/// Of the glyphs in front that have the feature, all where none is asked for, the first that a substitution put there gets a
-/// category.
+/// Sets a category on the first substituted glyph among the first ones that have the feature; with no mask, every glyph
+/// has it.
 #[tactic(auto, using(crate::proofs::Recorded::none_passed, crate::proofs::Recorded::goes_on, crate::proofs::Recorded::is_found, crate::proofs::Recorded::is_over, crate::proofs::Recorded::all_passed))]
 fn record_first(glyphs: &mut [hb_glyph_info_t], mask: Option<hb_mask_t>, category: Category)
     ensures { glyphs.new ≡ glyphs_recorded (has_feature mask) category glyphs.old }

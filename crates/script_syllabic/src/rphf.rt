@@ -1,4 +1,4 @@
-//! Which glyphs of a syllable may become a reph.
+//! The rphf mask of a syllable's first glyphs, setup_rphf_mask (rustybuzz: hb/ot_shaper_use.rs).
 ghost use Rattle.std.specs.Prelude.{◌≡◌, ◌≤◌, length, OnOk};
 ghost use Rattle.buffer_glyphs.specs.Items.{strip};
 ghost use Rattle.buffer_core.specs.Readings.{always};
@@ -15,8 +15,8 @@ use buffer_stages::walk::{SyllableRule, each_syllable};
 use script_categories::category::R;
 use std::alloc::AllocError;
 
-/// Gives the first glyph of each syllable the feature rphf where it is a reph, else the first three; glyph flags of the mask
-/// are left out. It takes linear time.
+/// Gives the first glyph of each syllable the mask of rphf where it is of category R, else the first three
+/// (`setup_rphf_mask`); glyph flags of the mask are left out. It takes linear time.
 pub fn setup_rphf_mask(mask: hb_mask_t, buffer: &mut hb_buffer_t) -> Result<(), AllocError>
     requires ready { IsReady buffer.old }
     ensures { OnOk result (IsFollowed (always (with_rule (by_syllable (rphf_masked mask)))) buffer.old buffer.new) }

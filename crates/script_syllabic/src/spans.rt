@@ -1,4 +1,5 @@
-//! Syllables that skip glyphs.
+//! The universal shaper's syllables, which the machine finds in a text without some of its glyphs
+//! (rustybuzz: hb/ot_shaper_use.rs).
 ghost use Rattle.std.specs.Prelude.{◌≡◌, ◌≢◌, ◌≤◌, ◌++◌, Err, find, length, map, not, slice_get, unwrap_or, IfErr, IfOk, OnOk};
 ghost use Rattle.buffer_glyphs.specs.Items.{item_of, strip};
 ghost use Rattle.buffer_core.specs.Readings.{read_of};
@@ -17,14 +18,14 @@ use script_categories::category::{CGJ, ZWNJ};
 use script_categories::hb_ot_script_shaper_t::UNIVERSAL_SHAPER;
 use std::alloc::Global;
 
-/// The glyphs of a text that syllables count.
+/// The categories of the glyphs that count for syllables, and their indices.
 #[derive(Drop)]
 pub(crate) struct Counted {
     categories: Vec<u8>,
     places: Places,
 }
 
-/// Where they stand.
+/// The indices of the counted glyphs.
 #[derive(Drop)]
 pub(crate) struct Places {
     indices: Vec<usize>,
@@ -41,13 +42,13 @@ impl SyllablePlaces for Places {
     }
 }
 
-/// Gives the glyphs of each syllable its byte, and marks it as unsafe to break. Syllables skip each grapheme joiner, and each
-/// non-joiner before a mark; what is skipped gets the byte of the syllable before it, and keeps its own where there is none.
-/// It takes the time of the spans and memory for the glyphs that they count.
+/// Sets the syllable byte of each glyph, and flags each syllable as unsafe to break. The machine skips grapheme
+/// joiners, and each zero-width non-joiner before a mark; a skipped glyph gets the byte of the syllable before it, and
+/// keeps its own where there is none. It takes the time of the spans, and memory for the counted glyphs.
 ///
 /// # Errors
 ///
-/// `UnknownSyllableKind` where the spans name a kind that the shaper does not have, or want of memory.
+/// `UnknownSyllableKind` where the spans name a kind that the shaper does not have, or lack of memory.
 pub fn find_syllables<S: SyllableSpans>(
     alloc: Global,
     spans: &S,
@@ -92,7 +93,7 @@ fn count_glyphs(alloc: Global, glyphs: &[hb_glyph_info_t]) -> Result<Counted, Sh
     Ok(Counted { categories, places })
 }
 
-/// Counts a glyph that stands at an index before others, if syllables do.
+/// Adds the glyph at an index to the counted ones, if it counts.
 fn count_glyph(
     glyph: &hb_glyph_info_t,
     behind: &[hb_glyph_info_t],
@@ -114,7 +115,7 @@ fn count_glyph(
     Ok(())
 }
 
-/// Whether syllables count a glyph that stands before others.
+/// Whether a glyph counts for syllables, by the glyphs after it.
 fn is_counted(glyph: &hb_glyph_info_t, behind: &[hb_glyph_info_t]) -> bool
     ensures { result ≡ is_counted (item_of glyph.now) (strip behind.now) }
 {

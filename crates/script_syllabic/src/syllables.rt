@@ -1,4 +1,4 @@
-//! The bytes of syllables.
+//! Syllable bytes: a serial number in the high four bits, a kind in the low four (rustybuzz: hb/ot_shaper_syllabic.rs).
 ghost use Rattle.std.specs.Prelude.{◌≡◌, ◌≢◌, ◌≤◌, ◌<◌, ◌++◌, ℕ, Err, List, length, map, take, drop, slice_range, IfErr, IfOk, OnOk};
 ghost use Rattle.buffer_glyphs.specs.Items.{Item};
 ghost use Rattle.buffer_core.specs.Readings.{read_of};
@@ -18,16 +18,16 @@ use buffer_glyphs::info::hb_glyph_info_t;
 use script_categories::{SyllableSpans, hb_ot_script_shaper_t};
 use std::alloc::{AllocFailed, Global};
 
-/// At which index of a buffer the i-th glyph stands that syllables count.
+/// The index in the buffer of the i-th glyph that counts for syllables.
 pub trait SyllablePlaces {
     ghost place_of: { Self → ℕ → ℕ };
 
-    /// The index in the buffer; past the last such glyph that of the buffer's end.
+    /// The index in the buffer; after the last counted glyph, the buffer's length.
     fn place(&self, index: usize) -> usize
         ensures { result ≡ place_of self.now index };
 }
 
-/// Each glyph counts.
+/// Every glyph counts.
 #[derive(Clone, Copy)]
 pub struct Each;
 
@@ -41,12 +41,13 @@ impl SyllablePlaces for Each {
     }
 }
 
-/// Gives the glyphs of each syllable its byte, its serial number and kind, and marks it as unsafe to break. The spans tell
-/// from the glyphs' categories where syllables end. It takes the time of the spans and memory for the categories.
+/// Sets the syllable byte of each glyph, a serial number and a kind, and flags each syllable as unsafe to break. The
+/// spans find the ends of syllables by the glyphs' categories. It takes the time of the spans, and memory for the
+/// categories.
 ///
 /// # Errors
 ///
-/// `UnknownSyllableKind` where the spans name a kind that the shaper does not have, or want of memory.
+/// `UnknownSyllableKind` where the spans name a kind that the shaper does not have, or lack of memory.
 pub fn setup_syllables<S: SyllableSpans>(
     alloc: Global,
     spans: &S,
@@ -72,7 +73,7 @@ fn categories_of(alloc: Global, glyphs: &[hb_glyph_info_t]) -> Result<Vec<u8>, A
     Ok(categories)
 }
 
-/// Gives each syllable of a list of categories its byte, at the places in the buffer where they stand.
+/// Sets the bytes of the syllables of a list of categories, whose indices in the buffer `P` gives.
 ///
 /// # Errors
 ///
@@ -109,7 +110,8 @@ pub fn set_bytes<S: SyllableSpans, P: SyllablePlaces>(
     Ok(())
 }
 
-/// The byte of the syllable with an index among all, from which its serial number and its kind are read.
+/// The syllable byte of the syllable with an index in the text: its serial number in the high four bits, its kind in
+/// the low four.
 fn byte_of(shaper: hb_ot_script_shaper_t, index: usize, kind: u8) -> u8
     requires { kind < length (kinds_of shaper) }
     ensures { result ≡ syllable_byte index kind }
@@ -118,7 +120,7 @@ fn byte_of(shaper: hb_ot_script_shaper_t, index: usize, kind: u8) -> u8
     serial * 16 + kind
 }
 
-/// The glyphs from `start` up to before `end` get a byte, and are unsafe to break.
+/// Sets the syllable byte of the glyphs `start..end`, and flags them as unsafe to break.
 fn set_byte(buffer: &mut hb_buffer_t, start: usize, end: usize, byte: u8)
     requires ready { IsReady buffer.old }
     requires ordered { start ≤ end }

@@ -20,7 +20,7 @@ next_place p q t at n out before new h e f =
     ∙ ap (λ qs. out ++ qs) (sym (reverse-append (now ∷ []) (copies_placed p t at n)))
     ∙ ap (λ m. out ++ reverse (copies_placed p t at m)) (sym one)
 
--- the positions of the glyphs from a place on, from the last to the first, and where they begin
+-- the positions of the glyphs from an index on, from the last to the first, and where they begin
 pub record ArePlaced (ps : List Position) (ts : List (Option Tile)) (at : ℕ) (x : ℤ) (places : List Position) : Type 0 where
   pub places_are : places ≡ reverse (laid (drop at ps) (drop at ts))
   pub begins : x ≡ int_wrap w32 (begin (drop at ts))

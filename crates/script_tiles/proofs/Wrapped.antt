@@ -1,4 +1,4 @@
--- Places that wrap to 32 bits.
+-- Offsets that wrap to 32 bits.
 use Rattle.std.proofs.Common.{ℕ, ℤ, suc, ◌≡◌, ◌+◌, ◌-ℤ◌, sym, ap, ◌∙◌, SFits, arith, to_z, of_z, ◌%◌, ◌-◌}
 use Rattle.std.specs.Prelude.{neg_ℤ}
 use Rattle.std.specs.Int.{int_wrap, int_wrapping_add, int_wrapping_sub, w32}

@@ -1,4 +1,4 @@
-// Where the tiles of a stretched word stand, with their copies.
+//! The offsets of a stretched word's tiles and of their copies.
 #![tactic(auto)]
 
 pub mod placing;

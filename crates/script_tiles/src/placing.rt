@@ -1,4 +1,4 @@
-//! Where tiles stand.
+//! The offsets of tiles (rustybuzz: hb/ot_shaper_arabic.rs, apply_stch).
 ghost use Rattle.std.specs.Prelude.{ℕ, ℤ, ◌≡◌, ◌++◌, ◌+◌, IfOk, length, reverse};
 ghost use Rattle.std.specs.Int.{int_wrap, w32};
 ghost use Rattle.script_tiles.specs.Placing.{begins_at, copies_placed, copy_begin, laid, placed, tile_at};
@@ -11,7 +11,7 @@ use std::alloc::{AllocFailed, Global};
 ///
 /// # Errors
 ///
-/// Want of memory.
+/// Lack of memory.
 pub fn places_of(
     alloc: Global,
     tiles: &[Option<Tile>],
@@ -44,8 +44,8 @@ fn places_leftward(
     Ok(places)
 }
 
-/// The positions of a glyph and of its copies from right to left, where what is to their right begins at x modulo 2^32; gives
-/// where they begin.
+/// Adds the positions of a glyph and of its copies from right to left, where the glyph to their right begins at x
+/// modulo 2^32; returns where they begin.
 fn place(
     tile: Option<Tile>,
     position: GlyphPosition,
@@ -84,7 +84,7 @@ fn place_tile(
     Ok(begin)
 }
 
-/// Where a tile begins, to the left of what begins at x.
+/// Where a tile begins that ends at x.
 fn first_begin(tile: Tile, x: i32) -> i32
     ensures { (at : ℤ) → x ≡ int_wrap w32 at → result ≡ int_wrap w32 (copy_begin tile at 0) }
 {

@@ -1,10 +1,12 @@
+//! A tile of a stretched word.
+
 /// A tile as it is laid, in font units.
 #[derive(Clone, Copy)]
 pub struct Tile {
-    /// How many copies of it stand beside it.
+    /// The number of its copies.
     pub copies: u32,
-    /// Its width in the font.
+    /// Its advance in the font.
     pub width: i32,
-    /// How far each copy lies over its neighbour.
+    /// The overlap of each copy and its neighbour.
     pub overlap: i32,
 }

@@ -55,7 +55,7 @@ all_passed gs i n le ge f =
     let more : passed (strip (drop i gs)) ≡ 0 = ap (λ hs. passed (strip hs)) (drop_all i gs le) in
     omega (arith, more, f, le, ge)
 
--- ---- what stands before a halant
+-- ---- the items before a halant
 
 abbrev pub before_halant : List Item → ℕ
 before_halant xs = prefix_len (λ (y : Item). not (is_halant y)) xs

@@ -46,14 +46,14 @@ got_at pre front x rest i e = ap (slice_get (pre ++ (front ++ x ∷ rest))) e �
     got_after [] = let none : 0 + length front ≡ length front = omega arith in ap (slice_get (front ++ x ∷ rest)) none ∙ got_front front
     got_after (y ∷ ys) = let more : suc (length ys) + length front ≡ suc (length ys + length front) = omega arith in ap (slice_get (y ∷ (ys ++ (front ++ x ∷ rest)))) more ∙ got_after ys
 
--- what happens at an index where no halant stands
+-- the step at an index without a halant
 abbrev step_if : Bool → ℕ → ℕ → List Item → Step
 step_if t i b xs = if t then record { rewritten = within b (i + 1) (first_to_back (i - b)) xs; after_halant = b } else record { rewritten = kept xs; after_halant = b }
 
 at_index : (i b : ℕ) (xs : List Item) (x : Item) → slice_get xs i ≡ Some x → is_halant x ≡ false → left_at i b xs ≡ step_if (is_left x && nat_lt b i) i b xs
 at_index i b xs x e h = rw e (ap (λ t. if t then record { rewritten = kept xs; after_halant = i + 1 } else step_if (is_left x && nat_lt b i) i b xs) h)
 
--- a move is that of a part of a list
+-- a move within a sublist
 move_within : (b n : ℕ) (xs : List Item) → b + (n + 1) ≤ length xs → within b (b + n + 1) (first_to_back (b + n - b)) xs ≡ record { items = moved b n 1 xs; events = Move InList b (order_of_move n 1) ∷ [] }
 move_within b n xs fits =
     let part = slice_range xs b (b + n + 1) in
@@ -161,7 +161,7 @@ part_from start end i gs le =
     range_seen item_of (start + i) end gs
     ∙ sym (ap (λ m. drop i (take m (drop start (strip gs)))) n ∙ drop-take i (end - (start + i)) (drop start (strip gs)) ∙ ap (take (end - (start + i))) (drop-drop i start (strip gs)))
 
--- ---- a stretch that was rewritten
+-- ---- a range that was rewritten
 
 abbrev stretch_done : ℕ → ℕ → List Item → Rewritten
 stretch_done i to xs = record { items = all_moved i (front_moves together is_left 0 (slice_range xs i to)) xs; events = move_events i (front_moves together is_left 0 (slice_range xs i to)) }
@@ -208,7 +208,7 @@ stretch_part start end i count a b s =
     subst (λ r. IsRewritten r start end a b) (part_is i (i + count) xs (omega arith) (omega (arith, size, le)))
     (rewritten_part (fronts_moved together is_left 0) start end i (i + count) (start + i) (start + i + count) a b refl (omega arith) (omega arith) (omega (arith, le)) (omega (arith, counted a, fits)) s.rewrites)
 
--- whatever the walk from the end of the stretch on leaves, all leaves
+-- what the walk from the end of the range on yields is what the whole walk yields
 stretch_does : (start end i count : ℕ) (a b new : Sides) → IsStretch start end i count a b
     → IsRewritten (left_walk (end - start - (i + count)) (i + count) i (slice_range (items_of b) start end)) start end b new
     → IsRewritten (left_walk (end - start - i) i i (slice_range (items_of a) start end)) start end a new
@@ -234,7 +234,7 @@ stretch_count start end i count a b s =
     let size : length xs ≡ end - start = range_size start end (items_of a) (omega (arith, le)) there in
     rewritten_count (stretch_done i (i + count) xs) start end a b (omega (arith, le)) there (part_size i (i + count) xs (omega arith) (omega (arith, size, le)) ∙ size) (stretch_part start end i count a b s)
 
--- the stretch ends the syllable
+-- the range ends the syllable
 pub last_walked : (start end i count : ℕ) (a b : Sides) → IsStretch start end i count a b → start + i + count ≡ end → IsWalked start end i (end - start) a b
 last_walked start end i count a b s at =
     let r = s.rewrites in
@@ -285,7 +285,7 @@ halant_walked start end i count a b s lt =
     met_halant : (n b : ℕ) (zs : List Item) (x : Item) → slice_get zs n ≡ Some x → is_halant x ≡ true → left_at n b zs ≡ record { rewritten = kept zs; after_halant = n + 1 }
     met_halant n b zs x e h = rw e (ap (λ t. if t then record { rewritten = kept zs; after_halant = n + 1 } else step_if (is_left x && nat_lt b n) n b zs) h)
 
--- ---- one stretch after another
+-- ---- one range after another
 
 pub none_walked : (start end : ℕ) (s : Sides) → IsReady s → IsWalked start end 0 0 s s
 none_walked start end s ready = record { ready = ready; size = refl; does = λ new f. f }
@@ -301,7 +301,7 @@ all_walked start end j a b le past f =
     subst (λ n. IsRewritten (left_walk n 0 0 (slice_range (items_of a) start end)) start end a b) all
     (f.does b (subst (λ n. IsRewritten (left_walk n j j ys) start end b b) (sym none) (rewritten_same start end b le f.ready)))
 
--- ---- the last left vowel of a stretch
+-- ---- the last left vowel of a range
 
 abbrev pub left_reach : ℕ → ℕ → List hb_glyph_info_t → ℕ
 left_reach n i gs = reach n (front_moves together is_left i (strip (drop i gs)))

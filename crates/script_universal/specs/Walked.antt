@@ -1,4 +1,4 @@
--- A syllable whose indices up to one were walked.
+-- A syllable that was walked up to an index.
 use Rattle.std.specs.Prelude.{ℕ, ◌≡◌, ◌-◌, Bool, false, length, slice_range}
 use Rattle.buffer_glyphs.specs.Items.{Item}
 use Rattle.buffer_core.specs.Sides.{Sides, all_glyphs, items_of}
@@ -7,14 +7,15 @@ use Rattle.buffer_stages.specs.Fronts.{StandApart}
 use Rattle.buffer_stages.specs.SyllableBuffers.{IsRewritten}
 use Rattle.script_universal.specs.Reordering.{left_walk}
 
--- two items never come to the front together
+-- two items that move to the front together: none do
 abbrev pub together : Item → Item → Bool
 together x y = false
 
 pub never_together : StandApart together
 never_together x y z e = λ i. false
 
--- the stretches from one index up to another were walked: whatever the walk of the others leaves then, the walk from the first index on leaves
+-- the ranges between two indices were walked: whatever the rest of the walk yields then is what the walk from the first
+-- index yields
 pub record IsWalked (start end i j : ℕ) (old now : Sides) : Type 0 where
   pub ready : IsReady now
   pub size : length (all_glyphs now) ≡ length (all_glyphs old)

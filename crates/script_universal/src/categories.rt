@@ -1,4 +1,4 @@
-//! What the order of a syllable asks of its glyphs.
+//! What the reordering of a syllable tests of its glyphs (rustybuzz: hb/ot_shaper_use.rs).
 ghost use Rattle.std.specs.Prelude.{◌≡◌};
 ghost use Rattle.buffer_glyphs.specs.Items.{item_of};
 ghost use Rattle.script_universal.specs.Reordering.{halant_categories, is_among, is_halant, is_left, left_categories, post_base_categories, stops_reph};
@@ -10,7 +10,7 @@ use script_categories::category::{
     VMBlw, VMPre, VMPst, VPre, VPst,
 };
 
-/// A halant that no ligature took.
+/// Whether a glyph is a halant that is no ligature.
 pub(crate) fn is_halant(glyph: &hb_glyph_info_t) -> bool
     ensures { result ≡ is_halant (item_of glyph.now) }
 {
@@ -23,7 +23,7 @@ fn is_halant_category(glyph: &hb_glyph_info_t) -> bool
     matches!(glyph.category, H | HVM | IS)
 }
 
-/// Whether a reph stays before it.
+/// Whether a reph moves no further than before this glyph.
 pub(crate) fn stops_reph(glyph: &hb_glyph_info_t) -> bool
     ensures { result ≡ stops_reph (item_of glyph.now) }
 {
@@ -55,7 +55,7 @@ fn is_post_base(glyph: &hb_glyph_info_t) -> bool
     )
 }
 
-/// A left vowel or modifier; of several glyphs that one was made into only the first.
+/// Whether a glyph is a left vowel or modifier; of the components of a multiple substitution only the first is.
 pub(crate) fn is_left(glyph: &hb_glyph_info_t) -> bool
     ensures { result ≡ is_left (item_of glyph.now) }
 {

@@ -1,4 +1,4 @@
-// The universal shaper: how the glyphs of a syllable are put in order.
+//! The universal shaper: reorders the glyphs of a syllable.
 #![tactic(auto)]
 
 mod categories;

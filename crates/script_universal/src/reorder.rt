@@ -1,4 +1,4 @@
-//! A reph and left vowels of a syllable, which change places with the glyphs between.
+//! Moves a syllable's reph and its left vowels, reorder_syllable (rustybuzz: hb/ot_shaper_use.rs).
 ghost use Rattle.std.specs.Prelude.{◌≡◌, ◌≤◌, ◌<◌, ◌+◌, ◌-◌, length, nat_lt, not, ◌&&◌, slice_get, slice_range, false, true, OnOk, Some};
 ghost use Rattle.std.specs.List.{prefix_len};
 ghost use Rattle.buffer_glyphs.specs.Items.{item_of, strip};
@@ -25,9 +25,9 @@ use script_categories::category::R;
 use script_categories::hb_ot_script_shaper_t::UNIVERSAL_SHAPER;
 use std::alloc::AllocError;
 
-/// Reorders each syllable of a kind that is: a reph in front goes before the first glyph after the base or halant that no
-/// ligature took, else to the end; a left vowel goes after the last such halant before it, else to the start. What moves
-/// merges with what it passes.
+/// Reorders each syllable of a kind that is reordered (`reorder_syllable`): a reph at the start moves before the first
+/// post-base glyph or unligated halant, else to the end; a left vowel moves after the last such halant before it, else
+/// to the start. What moves merges with what it passes.
 pub fn reorder_use(buffer: &mut hb_buffer_t) -> Result<(), AllocError>
     requires ready { IsReady buffer.old }
     ensures { OnOk result (IsFollowed (always (with_rule (by_syllable universal_syllable))) buffer.old buffer.new) }
@@ -61,7 +61,7 @@ impl SyllableRule for UniversalOrder {
     ghost keeps_length = { λ _. universal_keeps };
 }
 
-/// The i-th glyph of those from `start` up to before `end`.
+/// The i-th of the glyphs `start..end`.
 fn glyph_at(buffer: &hb_buffer_t, start: usize, end: usize, i: usize) -> hb_glyph_info_t
     requires ready { IsReady buffer.now }
     requires there { start + i < end }
@@ -96,7 +96,7 @@ fn move_reph(buffer: &mut hb_buffer_t, start: usize, end: usize)
     first_to_back(buffer, start, start + count, 1);
 }
 
-/// How many glyphs stand up to where a reph in front goes, 0 where there is none.
+/// The number of glyphs from a reph at the start up to its new index, itself included; 0 where there is no reph.
 fn reph_end(glyphs: &[hb_glyph_info_t]) -> usize
     ensures none { result ≡ 0 → begins_with_reph (strip glyphs.now) ≡ false }
     ensures some { 0 < result → begins_with_reph (strip glyphs.now) ≡ true }
@@ -112,7 +112,7 @@ fn reph_end(glyphs: &[hb_glyph_info_t]) -> usize
     1 + passed_by_reph(&glyphs[1..])
 }
 
-/// How many glyphs in front stop no reph.
+/// The number of glyphs at the start that don't stop a reph.
 #[tactic(auto, using(crate::proofs::Steps::passed_next, crate::proofs::Steps::passed_last, crate::proofs::Steps::all_passed))]
 fn passed_by_reph(glyphs: &[hb_glyph_info_t]) -> usize
     ensures count { result ≡ prefix_len (λ y. not (stops_reph y)) (strip glyphs.now) }
@@ -126,7 +126,7 @@ fn passed_by_reph(glyphs: &[hb_glyph_info_t]) -> usize
     glyphs.len()
 }
 
-/// Each left vowel goes after the last halant before it, else to the start.
+/// Moves each left vowel after the last halant before it, else to the start.
 #[tactic(auto, using(crate::proofs::Stretches::none_walked))]
 fn move_left(buffer: &mut hb_buffer_t, start: usize, end: usize)
     requires ready { IsReady buffer.old }
@@ -142,7 +142,7 @@ fn move_left(buffer: &mut hb_buffer_t, start: usize, end: usize)
     }
 }
 
-/// Moves the left vowels from an index up to the next halant; tells the index after that, or the end.
+/// Moves the left vowels from an index up to the next halant; returns the index after that, or the end.
 fn move_left_from(buffer: &mut hb_buffer_t, start: usize, end: usize, i: usize) -> usize
     requires ready { IsReady buffer.old }
     requires there { start + i < end }
@@ -160,7 +160,7 @@ fn move_left_from(buffer: &mut hb_buffer_t, start: usize, end: usize, i: usize) 
     i + count + 1
 }
 
-/// How many glyphs in front are no halants.
+/// The number of glyphs at the start that are no halants.
 #[tactic(auto, using(crate::proofs::Steps::halant_next, crate::proofs::Steps::halant_last, crate::proofs::Steps::no_halant))]
 fn before_halant(glyphs: &[hb_glyph_info_t]) -> usize
     ensures count { result ≡ prefix_len (λ y. not (is_halant y)) (strip glyphs.now) }
@@ -174,7 +174,7 @@ fn before_halant(glyphs: &[hb_glyph_info_t]) -> usize
     glyphs.len()
 }
 
-/// The left vowels of a stretch without halants go to its start, and merge with what they pass.
+/// Moves the left vowels of a range without halants to its start, and merges each with what it passes.
 fn move_stretch(buffer: &mut hb_buffer_t, start: usize, end: usize)
     requires ready { IsReady buffer.old }
     requires ordered { start ≤ end }
@@ -190,7 +190,7 @@ fn move_stretch(buffer: &mut hb_buffer_t, start: usize, end: usize)
     move_fronts(&LeftVowels, buffer, start, end, 0, merged);
 }
 
-/// How many glyphs there are up to the last left vowel that moves, or 1.
+/// The number of glyphs up to the last left vowel that moves, or 1.
 #[tactic(auto, using(crate::proofs::Stretches::left_next, crate::proofs::Stretches::other_next, crate::proofs::Stretches::left_all, crate::proofs::Stretches::left_fits))]
 fn end_of_left(glyphs: &[hb_glyph_info_t]) -> usize
     ensures reach { result ≡ reach 1 (front_moves together is_left 0 (strip glyphs.now)) }
@@ -205,14 +205,14 @@ fn end_of_left(glyphs: &[hb_glyph_info_t]) -> usize
     end
 }
 
-/// Whether a glyph at an index of a stretch moves: what stands in front stays there.
+/// Whether the glyph at an index of the range moves: the first one stays.
 fn moves(glyph: &hb_glyph_info_t, i: usize) -> bool
     ensures { result ≡ (is_left (item_of glyph.now) && nat_lt 0 i) }
 {
     is_left(glyph) && 0 < i
 }
 
-/// Left vowels come to the front one by one.
+/// Moves left vowels to the front one by one.
 struct LeftVowels;
 
 impl FrontRule for LeftVowels {

@@ -1,4 +1,4 @@
--- How many marks stand behind a place.
+-- The number of marks after an index.
 use Rattle.std.proofs.Common.{ℕ, ◌≡◌, ◌≤◌, ◌<◌, ◌+◌, ◌-◌, Bool, true, false, if◌then◌else◌, List, ◌∷◌, length, drop, get_or, arith, refl, ap, ◌∙◌}
 use Rattle.std.proofs.lemmas.List.{drop_all, drop_more, length-map}
 use Rattle.buffer_glyphs.specs.declared.info.hb_glyph_info_t.{hb_glyph_info_t}
@@ -21,7 +21,7 @@ within gs i lt = let same = length-map gs item_of in omega (arith, lt, same)
 pub first_left : (gs : List hb_glyph_info_t) (i : ℕ) (d : hb_glyph_info_t) → i < length gs → drop i (strip gs) ≡ item_of (get_or gs i d) ∷ drop (i + 1) (strip gs)
 first_left gs i d lt = drop_more (strip gs) i (item_of d) (within gs i lt) ∙ ap (λ x. x ∷ drop (i + 1) (strip gs)) (seen_at item_of gs i d)
 
--- the marks from a place on, of which so many were passed
+-- the marks from an index on, of which that many were passed
 pub record Passed (gs : List hb_glyph_info_t) (at end : ℕ) : Type 0 where
   pub count : marks (drop (at + 1) (strip gs)) ≡ (end - (at + 1)) + marks (drop end (strip gs))
   pub from : at + 1 ≤ end

@@ -15,7 +15,7 @@ use Rattle.buffer_stages.specs.Stages.{Happens}
 use Rattle.shape_fallback.specs.Marks.{base_events, first_event, marks}
 use Rattle.shape_fallback.proofs.Counted.{first_left}
 
--- ---- one place
+-- ---- one index
 
 abbrev event_of : ℕ → ℕ → Bool → List Event
 event_of at n b = if b || n == 0 then [] else Break at (at + 1 + n) ∷ []
@@ -58,7 +58,7 @@ base_marked at n d s new lt isnt is more h =
     (ap (λ m. Break at (at + 1 + m) ∷ []) is
     ∙ sym (event_there at d s lt ∙ some_after at (marks (drop (at + 1) (items_of s))) (is_mark (item_of (get_or (all_glyphs s) at d))) isnt zero_not)) h
 
--- ---- one place after another
+-- ---- one index after another
 
 pub record AreMarked (start : Sides) (at : ℕ) (now : Sides) : Type 0 where
   pub events : List Event

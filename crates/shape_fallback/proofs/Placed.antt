@@ -41,7 +41,7 @@ still_there [] (p ∷ ps) i d q rest lt e = cc (e, drop_all {X = Position} i [] 
 still_there (w ∷ whole) (p ∷ ps) zero d q rest lt e = refl
 still_there (w ∷ whole) (p ∷ ps) (suc i) d q rest lt e = still_there whole ps i d q rest (omega (arith, lt)) e
 
--- the walk at a place
+-- the walk at an index
 walk_there : (font : FaceParts) (by : Placing) (before : Before) (xs : List Item) (ps : List Position) (i : ℕ) (x : Item) (p : Position) → i < length xs → i < length ps
     → placed_marks font by before (drop i xs) (drop i ps)
     ≡ (step font by (get_or xs i x) (get_or ps i p) before).position ∷ placed_marks font by (step font by (get_or xs i x) (get_or ps i p) before).before (drop (suc i) xs) (drop (suc i) ps)

@@ -1,4 +1,4 @@
--- The widths of spaces that a font need not have (The Unicode Standard, section 6.2, space characters).
+-- The widths of spaces that a font may lack (The Unicode Standard, section 6.2, space characters).
 use Rattle.std.specs.Prelude.{ℕ, ℤ, pos, neg_ℤ, ◌+◌, ◌*◌, ◌/◌, ◌==◌, ◌&&◌, Bool, if◌then◌else◌, List, [], ◌∷◌, Option, Some, None, bit_and}
 use Rattle.std.specs.Option.{option_or}
 use Rattle.std.specs.List.{list_any}
@@ -13,43 +13,46 @@ use Rattle.buffer_core.specs.Readings.{View, Read}
 use Rattle.buffer_properties.specs.Characters.{is_space}
 use Rattle.buffer_stages.specs.Places.{placed}
 
--- another advance along the line: a vertical line goes down
+-- a position with another advance along the line, negative in a vertical text
 abbrev pub advanced : Direction → ℤ → Position → Position
 advanced d a p = if is_horizontal d then record p { x_advance = a } else record p { y_advance = a }
 
--- a length as an advance
+-- a position whose advance is a length
 abbrev pub of_length : Direction → ℕ → Position → Position
 of_length d n p = advanced d (if is_horizontal d then pos n else neg_ℤ (pos n)) p
 
--- the advance of a glyph
+-- a position whose advance is a glyph's
 abbrev pub of_glyph : Direction → FaceParts → ℕ → Position → Position
 of_glyph d font glyph p = of_length d (if is_horizontal d then width_of glyph font else height_of glyph font) p
 
--- the glyph of the first of some characters that the font has
+-- the glyph of the first character of a list that the font has
 abbrev pub first_glyph : List ℕ → FaceParts → Option ℕ
 first_glyph [] font = None
 first_glyph (c ∷ cs) font = option_or (nominal_glyph c font) (first_glyph cs font)
 
+-- a position whose advance is that of a glyph, if there is one
 abbrev pub of_found : Direction → FaceParts → Option ℕ → Position → Position
 of_found d font None p = p
 of_found d font (Some glyph) p = of_glyph d font glyph p
 
--- digits from zero to nine, and the full stop before the comma
+-- the digits 0 to 9, for the figure space
 abbrev pub digits : List ℕ
 digits = 0x30 ∷ 0x31 ∷ 0x32 ∷ 0x33 ∷ 0x34 ∷ 0x35 ∷ 0x36 ∷ 0x37 ∷ 0x38 ∷ 0x39 ∷ []
 
+-- the full stop and the comma, for the punctuation space
 abbrev pub stops : List ℕ
 stops = 0x2E ∷ 0x2C ∷ []
 
--- types that are parts of an em are numbered by the part
+-- a space type that is a fraction of an em: its number is the denominator
 abbrev pub is_part_of_em : ℕ → Bool
 is_part_of_em type = list_any (λ t. type == t) (SPACE_EM ∷ SPACE_EM_2 ∷ SPACE_EM_3 ∷ SPACE_EM_4 ∷ SPACE_EM_5 ∷ SPACE_EM_6 ∷ SPACE_EM_16 ∷ [])
 
--- half of the advance along the line, rounded toward 0
+-- a position with half the advance, rounded toward 0
 abbrev pub half : Direction → Position → Position
 half d p = advanced d (int_div (if is_horizontal d then p.x_advance else p.y_advance) (pos 2)) p
 
--- a space of a type: a part of an em, rounded; four eighteenths; as wide as a digit, or as a full stop; half its own width; others stay
+-- the position of a space of a type: a fraction of an em, rounded; four eighteenths of an em; a digit's or a full
+-- stop's advance; half its own advance; others are unchanged
 abbrev pub spaced : Direction → FaceParts → ℕ → Position → Position
 spaced d font type p =
     if is_part_of_em type then of_length d ((font.upem + type / 2) / type) p
@@ -59,12 +62,14 @@ spaced d font type p =
     else if type == SPACE_NARROW then half d p
     else p
 
--- a space, unless it became part of a ligature; its class keeps its type
+-- a space that is not part of a ligature; its type is in its combining class field
 abbrev pub is_own_space : Item → Bool
 is_own_space x = is_space x && bit_and x.glyph_props 32 == 0
 
+-- the position of an item, adjusted if it is a space
 abbrev pub space_position : Direction → FaceParts → Item → Position → Position
 space_position d font x p = if is_own_space x then spaced d font x.class p else p
 
+-- the view with adjusted spaces (HarfBuzz: _hb_ot_shape_fallback_spaces)
 abbrev pub with_spaces : FaceParts → View → Read
 with_spaces font v = placed (space_position v.direction font) v

@@ -1,4 +1,4 @@
--- Marks whose own width the line does not go on by.
+-- Marks whose advances are zeroed.
 use Rattle.std.specs.Prelude.{Bool, if◌then◌else◌}
 use Rattle.buffer_glyphs.specs.Items.{Item, Position}
 use Rattle.buffer_core.specs.Readings.{View, Read}
@@ -6,9 +6,10 @@ use Rattle.buffer_glyphs.specs.LigatureWords.{is_mark}
 pub use Rattle.layout_offsets.specs.Zeroing.{zeroed}
 use Rattle.buffer_stages.specs.Places.{placed}
 
--- glyphs of the class of marks
+-- the position of an item, zeroed if its glyph is of class MARK
 abbrev pub mark_zeroed : Bool → Item → Position → Position
 mark_zeroed adjust x p = if is_mark x then zeroed adjust p else p
 
+-- the view with the advances of marks zeroed (HarfBuzz: zero_mark_widths_by_gdef)
 abbrev pub with_marks_zeroed : Bool → View → Read
 with_marks_zeroed adjust v = placed (mark_zeroed adjust) v

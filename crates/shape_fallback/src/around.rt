@@ -1,4 +1,4 @@
-//! Marks around a base, one after another.
+//! Positions the marks of one base, one after another, position_around_base (rustybuzz: hb/ot_shape_fallback.rs).
 ghost use Rattle.std.specs.Prelude.{◌≡◌, ◌≤◌};
 ghost use Rattle.buffer_glyphs.specs.Items.{item_of};
 ghost use Rattle.layout_common.specs.Rows.{value_of};
@@ -15,32 +15,32 @@ use layout_face::Face;
 use layout_offsets::sums::{minus, plus};
 use layout_offsets::zeroing::without_advances;
 
-/// What the marks of a text are placed by, beside the font.
+/// The parameters of positioning a text's marks, beside the font.
 #[derive(Clone, Copy)]
 pub(crate) struct Placing {
     pub direction: Direction,
-    /// Whether the components of a ligature stand from left to right.
+    /// Whether the components of a ligature run from left to right.
     pub left_to_right: bool,
-    /// Whether a mark that loses its advance goes back by it.
+    /// Whether a mark whose advance is zeroed is shifted back by it.
     pub adjust_offsets: bool,
 }
 
-/// What stands around a base on the way over its marks.
+/// The state of positioning the marks of one base.
 #[derive(Clone, Copy)]
 pub(crate) struct Around {
     pub base: Base,
-    /// The box of the component that the last mark belongs to.
+    /// The box of the ligature component that the last mark belongs to.
     pub component: hb_glyph_extents_t,
-    /// The box as the last mark left it.
+    /// The component's box, extended by the marks so far.
     pub extents: hb_glyph_extents_t,
     pub last_component: u32,
     pub last_class: Option<u8>,
-    /// How far back, or on, the base is from the pen.
+    /// The pen's horizontal distance from the base.
     pub x_offset: i32,
     pub y_offset: i32,
 }
 
-/// A mark where it stands, and what stands around its base then.
+/// A mark's position, and the state after it.
 #[derive(Clone, Copy)]
 pub(crate) struct Placed {
     pub position: GlyphPosition,
@@ -57,7 +57,7 @@ fn pen_back(direction: Direction, advance: i32) -> i32
     }
 }
 
-/// A base around which nothing stands yet.
+/// The state of a base without marks.
 pub(crate) fn begun(direction: Direction, position: GlyphPosition, base: Base) -> Around
     ensures { result ≡ begun direction position base }
 {
@@ -143,7 +143,7 @@ fn set_around(around: Around, marked: Marked) -> Placed
     }
 }
 
-/// The box of a glyph's ink, none where the font gives none.
+/// The glyph extents of the font, if there are any.
 pub(crate) fn extents_of(face: &Face, glyph: &hb_glyph_info_t) -> Option<hb_glyph_extents_t>
     requires { glyph.now.glyph_id ≤ 65535 }
     ensures { result ≡ value_of glyph.now.glyph_id face.now.extents }
@@ -197,7 +197,7 @@ fn passed(direction: Direction, position: GlyphPosition, around: Around) -> Plac
     }
 }
 
-/// Puts a mark around its base.
+/// Positions a mark around its base.
 pub(crate) fn mark_around(
     face: &Face,
     by: Placing,

@@ -1,4 +1,4 @@
-//! Bases with marks after them, and the components of ligatures among them.
+//! Bases with the marks after them, and the ligature components among them (rustybuzz: hb/ot_shape_fallback.rs).
 ghost use Rattle.std.specs.Prelude.{◌≡◌, ◌<◌, ◌≤◌, pos};
 ghost use Rattle.std.specs.Int.RustNames.{int_div};
 ghost use Rattle.buffer_glyphs.specs.Items.{item_of};
@@ -14,10 +14,10 @@ use buffer_glyphs::position::GlyphPosition;
 use layout_face::Face;
 use layout_offsets::sums::plus;
 
-/// A base, as marks are put around it.
+/// A base with marks.
 #[derive(Clone, Copy)]
 pub(crate) struct Base {
-    /// Its box, from the pen on and as wide as its advance.
+    /// Its box: from the pen on, as wide as its advance.
     pub extents: hb_glyph_extents_t,
     pub lig_id: u8,
     pub components: u32,
@@ -45,7 +45,7 @@ pub(crate) fn base_of(
     }
 }
 
-/// The component of a base that a mark belongs to, counted from 1.
+/// The ligature component of a base that a mark belongs to, counted from 1.
 pub(crate) fn component_of(base: &Base, glyph: &hb_glyph_info_t) -> u32
     requires { base.now.components ≤ component_bound }
     ensures value { result ≡ component_of base.now (item_of glyph.now) }
@@ -81,7 +81,7 @@ fn times(a: i32, b: i32) -> i32
     a.wrapping_mul(b)
 }
 
-/// One of so many equal parts of a width.
+/// A width divided by a count.
 fn part_of(width: i32, count: u32) -> i32
     requires some { 1 < count }
     requires bound { count ≤ component_bound }
@@ -90,7 +90,7 @@ fn part_of(width: i32, count: u32) -> i32
     width / count as i32
 }
 
-/// The box of a component of a ligature.
+/// The box of a ligature component.
 pub(crate) fn component_box(left_to_right: bool, base: &Base, component: u32) -> hb_glyph_extents_t
     requires base { base.now.components ≤ component_bound }
     requires some { 1 < base.now.components }

@@ -1,4 +1,5 @@
-//! Where a mark stands at a box, by the place that its class is.
+//! The position of a mark at its base's box, by its combining class, position_mark (rustybuzz:
+//! hb/ot_shape_fallback.rs).
 ghost use Rattle.std.specs.Prelude.{◌≡◌};
 ghost use Rattle.shape_fallback.specs.Boxes.{above, below, double_x, half_up, held_above, held_below, is_above, is_at_left, is_at_right, is_attached, is_below, is_double, is_same_side, left_x, lower, mark_x, marked, middle_x, next_at, raised, right_x, stacked, stacked_by, with_above, with_below};
 
@@ -7,22 +8,22 @@ use buffer_glyphs::names::hb_glyph_extents_t;
 use buffer_glyphs::position::GlyphPosition;
 use layout_offsets::sums::{minus, plus};
 
-/// How far up a mark is moved, in font units, and the box that it leaves for the next one.
+/// The vertical offset of a mark in font units, and the box for the next mark.
 #[derive(Clone, Copy)]
 pub struct Stacked {
     pub y: i32,
     pub extents: hb_glyph_extents_t,
 }
 
-/// A mark where it stands, and the box that it leaves for the next one.
+/// A mark's position, and the box for the next mark.
 #[derive(Clone, Copy)]
 pub struct Marked {
     pub position: GlyphPosition,
     pub extents: hb_glyph_extents_t,
 }
 
-/// Puts a mark of a class at a box, from which it keeps a gap, in font units, unless it is attached; a mark without a box of
-/// its own stays where it is.
+/// Positions a mark of a combining class at a box, at a distance of `gap` font units unless the class is an attached
+/// one; a mark without extents is unchanged.
 pub fn position_mark(
     gap: i32,
     direction: Direction,
@@ -116,7 +117,7 @@ fn double_x(forward: bool, base: hb_glyph_extents_t, mark: hb_glyph_extents_t) -
     )
 }
 
-/// Where the next letter begins, from the left edge of a box.
+/// The x coordinate where the next letter begins, relative to the left edge of a box.
 fn next_at(forward: bool, base: hb_glyph_extents_t) -> i32
     ensures { result ≡ next_at forward base }
 {

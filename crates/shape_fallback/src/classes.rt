@@ -1,4 +1,5 @@
-//! The combining classes by which marks are placed.
+//! The combining classes by which fallback positions marks, recategorize_combining_class
+//! (rustybuzz: hb/ot_shape_fallback.rs).
 ghost use Rattle.std.specs.Prelude.{◌≡◌};
 ghost use Rattle.buffer_glyphs.specs.Items.{item_of};
 ghost use Rattle.buffer_glyphs.specs.Origins.{origin_of};
@@ -29,8 +30,8 @@ const ABOVE: u8 = 230;
 
 const ABOVE_RIGHT: u8 = 232;
 
-/// Gives each nonspacing mark the combining class of the place where its script puts it, for a font that does not place
-/// marks. It is done while records hold characters, takes linear time and no memory.
+/// Sets the combining class of each nonspacing mark to the one by which it is positioned, for a font without mark
+/// positioning. The glyph records hold characters. It takes linear time and no memory.
 pub fn _hb_ot_shape_fallback_mark_position_recategorize_marks(buffer: &mut hb_buffer_t)
     requires { IsReady buffer.old }
     ensures { IsFollowed (always with_places) buffer.old buffer.new }
@@ -55,7 +56,7 @@ fn recategorized(glyph: &hb_glyph_info_t) -> hb_glyph_info_t
     }
 }
 
-/// The class of the place of a mark.
+/// The combining class by which a mark is positioned.
 fn recategorize_combining_class(u: u32, class: u8) -> u8
     ensures { result ≡ fallback_class u class }
 {

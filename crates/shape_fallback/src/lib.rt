@@ -1,4 +1,4 @@
-// What a shaper does for a font that has no rules for marks and for spaces: marks stand around their bases by boxes.
+//! Fallbacks for a font without rules for marks and spaces: marks are positioned around their bases by glyph extents.
 #![tactic(auto)]
 
 mod around;

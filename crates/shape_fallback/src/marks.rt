@@ -1,4 +1,4 @@
-//! The marks of a text, each around the base before it.
+//! Positions each mark of a text around the base before it (rustybuzz: hb/ot_shape_fallback.rs).
 ghost use Rattle.std.specs.Prelude.{◌≡◌, ◌≤◌, ◌<◌, ◌+◌, true, length, drop, [], ◌∷◌};
 ghost use Rattle.buffer_glyphs.specs.Events.{Break};
 ghost use Rattle.buffer_glyphs.specs.Items.{item_of, strip};
@@ -22,7 +22,7 @@ use buffer_properties::categories::{is_mark, is_nonspacing_mark};
 use layout_face::Face;
 use layout_offsets::zeroing::zeroed;
 
-/// What marks stand at.
+/// What is before a mark: nothing, or a base with its state.
 #[derive(Clone, Copy)]
 pub(crate) enum Before {
     Nothing,
@@ -30,14 +30,14 @@ pub(crate) enum Before {
     Boxed(Around),
 }
 
-/// A glyph where it stands, and what the next one stands at.
+/// A glyph's position, and what is before the next glyph.
 #[derive(Clone, Copy)]
 pub(crate) struct Step {
     pub position: GlyphPosition,
     pub before: Before,
 }
 
-/// The direction in which the components of a ligature stand, where a line has a direction and a text a script.
+/// The direction of a ligature's components, by the text's direction and script.
 pub fn components_direction(direction: Direction, script: Option<Script>) -> Direction
     ensures { result ≡ components_direction direction script }
 {
@@ -57,9 +57,9 @@ fn script_direction(script: Option<Script>) -> Direction
     }
 }
 
-/// Puts each mark around the base before it, by the place that its class is; a break between them is unsafe. Where
-/// `adjust_offsets`, a mark at a base without a box goes back by the advance that it loses. It takes linear time and no
-/// memory.
+/// Positions each mark around the base before it, by its combining class (HarfBuzz:
+/// _hb_ot_shape_fallback_mark_position); base and marks are flagged as unsafe to break. With `adjust_offsets`, a mark
+/// at a base without extents is shifted back by the advance that it loses. It takes linear time and no memory.
 #[tactic(auto, using(crate::proofs::Placed::marks_done, crate::proofs::Placed::same_numbers))]
 pub fn position_marks(
     face: &Face,
@@ -86,7 +86,7 @@ fn is_left_to_right(direction: Direction) -> bool
     matches!(direction, Direction::LeftToRight)
 }
 
-/// How many marks stand after a place.
+/// The number of marks after an index.
 #[tactic(auto, using(crate::proofs::Counted::none_passed, crate::proofs::Counted::next_passed, crate::proofs::Counted::all_passed, crate::proofs::Counted::last_passed))]
 fn marks_after(glyphs: &[hb_glyph_info_t], at: usize) -> usize
     requires { at < length glyphs.now }

@@ -1,4 +1,4 @@
-//! The widths of spaces that the font need not have.
+//! The widths of spaces that the font lacks (rustybuzz: hb/ot_shape_fallback.rs).
 ghost use Rattle.std.specs.Prelude.{◌≡◌, ◌<◌, ◌+◌, ◌*◌, ◌/◌, ◌^◌, true};
 ghost use Rattle.buffer_glyphs.specs.Items.{item_of};
 ghost use Rattle.buffer_core.specs.Readings.{always};
@@ -18,8 +18,8 @@ use buffer_unicode::space::{
 };
 use layout_face::Face;
 
-/// Gives each space that stands for one of a fixed width the advance of that width, in font units along the line. It takes
-/// linear time and no memory.
+/// Sets the advance of each space of a fixed width, in font units along the line, for which the font has no glyph of
+/// its own. It takes linear time and no memory.
 pub fn _hb_ot_shape_fallback_spaces(face: &Face, buffer: &mut hb_buffer_t)
     requires { IsReady buffer.old }
     ensures { IsDone (always (with_spaces face.now)) buffer.old buffer.new }
@@ -81,7 +81,7 @@ fn is_part_of_em(space: space_t) -> bool
     )
 }
 
-/// A part of an em, rounded.
+/// A fraction of an em, rounded.
 #[tactic(auto, using(crate::proofs::Parts::part_positive, crate::proofs::Parts::part_small))]
 fn part_of_em(face: &Face, part: space_t) -> u32
     requires { is_part_of_em part ≡ true }
@@ -104,7 +104,7 @@ const DIGITS: [char; 10] = ['0', '1', '2', '3', '4', '5', '6', '7', '8', '9'];
 
 const STOPS: [char; 2] = ['.', ','];
 
-/// The glyph of the first of some characters that the font has.
+/// The glyph of the first character of a list that the font has.
 fn first_glyph(characters: &[char], face: &Face) -> Option<u16>
     ensures { result ≡ first_glyph characters.now face.now }
 {

@@ -1,4 +1,4 @@
-//! Marks whose own width the line does not go on by.
+//! Zeroes the advances of marks (rustybuzz: hb/ot_shape.rs, zero_mark_widths_by_gdef; hb/ot_shape_fallback.rs).
 ghost use Rattle.std.specs.Prelude.{◌≡◌};
 ghost use Rattle.buffer_glyphs.specs.Items.{item_of};
 ghost use Rattle.buffer_core.specs.Readings.{always};
@@ -12,8 +12,8 @@ use buffer_glyphs::position::GlyphPosition;
 use buffer_stages::positions::map_positions;
 use layout_offsets::zeroing::zeroed;
 
-/// Takes their advances from the glyphs of the class of marks. Where offsets are adjusted, which serves forward text that the
-/// font does not place, each goes back by the advance that it had. It takes linear time and no memory.
+/// Zeroes the advances of glyphs of GDEF class MARK. With `adjust_offsets`, which is for forward text in a font without
+/// mark positioning, each is shifted back by the advance that it had. It takes linear time and no memory.
 pub fn zero_mark_widths_by_gdef(buffer: &mut hb_buffer_t, adjust_offsets: bool)
     requires { IsReady buffer.old }
     ensures { IsDone (always (with_marks_zeroed adjust_offsets)) buffer.old buffer.new }

@@ -66,7 +66,7 @@ hidden_glyphs g (x ∷ xs) h k =
 pub hidden_numbers : (g : ℕ) (old new : Sides) → IsFollowed (always (mapped (hidden_item g))) old new → nat_le g 65535 ≡ true → are_glyphs (items_of old) ≡ true → are_glyphs (items_of new) ≡ true
 hidden_numbers g old new f h are = ap are_glyphs (mapped_items (hidden_item g) old new f) ∙ hidden_glyphs g (items_of old) h are
 
--- glyphs of which some go
+-- glyphs, some of which are deleted
 kept_each : (b : Bool) (x : Item) (xs : List Item) → nat_le x.number 65535 ≡ true → are_glyphs xs ≡ true → are_glyphs (if not b then x ∷ xs else xs) ≡ true
 kept_each true x xs h k = k
 kept_each false x xs h k = rw (h, k) refl

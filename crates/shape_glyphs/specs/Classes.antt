@@ -6,13 +6,14 @@ use Rattle.buffer_glyphs.specs.Items.{Item}
 use Rattle.buffer_core.specs.Readings.{View, Read}
 use Rattle.buffer_stages.specs.Stages.{mapped}
 
--- a number that no glyph can have has no class
+-- the glyph properties of a number by GDEF, 0 where it is above 65,535
 abbrev pub first_props : FaceParts → ℕ → ℕ
 first_props font n = if nat_le n 65535 then glyph_props_of font.gdef n else 0
 
--- the class that the font gives the glyph, which is of no ligature yet
+-- an item with its GDEF class and no ligature word
 abbrev pub begun : FaceParts → Item → Item
 begun font x = record x { glyph_props = first_props font x.number; lig_props = 0 }
 
+-- the view with GDEF classes (HarfBuzz: hb_ot_layout_substitute_start)
 abbrev pub with_font_classes : FaceParts → View → Read
 with_font_classes font v = mapped (begun font) v

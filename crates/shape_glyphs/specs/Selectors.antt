@@ -1,4 +1,4 @@
--- Variation selectors that the font doesn't join with the character before them.
+-- Variation selectors that the font doesn't combine with the character before them.
 use Rattle.std.specs.Prelude.{ℕ, ◌==◌, not, Bool, if◌then◌else◌, [], map, Option, Some, None}
 use Rattle.std.specs.Int.RustNames.{bit_and}
 use Rattle.ucd_category.specs.declared.GeneralCategory.TheVariants.{NonspacingMark}
@@ -10,22 +10,24 @@ use Rattle.buffer_properties.specs.Characters.{with_category}
 use Rattle.buffer_stages.specs.Places.{placed_by}
 use Rattle.shape_glyphs.specs.Widths.{widthless}
 
--- a selector that normalising marked, since the font has no glyph for it and the character before it
+-- a selector that normalizing recorded: the font has no glyph for it and the character before it
 abbrev pub is_marked_selector : Item → Bool
 is_marked_selector x = not (bit_and x.unicode_props 0x400 == 0)
 
--- such a selector as another glyph, and a nonspacing mark again
+-- the selector with the set glyph, as a nonspacing mark
 abbrev pub shown_selector : ℕ → Item → Item
 shown_selector glyph x = if is_marked_selector x then record x { number = glyph; unicode_props = without_bits 0x400 (with_category (category_number NonspacingMark) x.unicode_props) } else x
 
+-- the position of such a selector: zero
 abbrev pub selector_position : Item → Position → Position
 selector_position x p = if is_marked_selector x then widthless p else p
 
--- marked selectors become a glyph that takes no room
+-- the view where recorded selectors have the set glyph and zero positions
 abbrev pub with_selectors_shown : ℕ → View → Read
 with_selectors_shown glyph v = with_events [] (record v { items = map (shown_selector glyph) v.items; positions = placed_by selector_position v.items v.positions })
 
--- they stay where no glyph is set for them
+-- the view where recorded selectors have the set glyph, unchanged where none is set (HarfBuzz:
+-- hb_ot_deal_with_variation_selectors)
 abbrev pub with_selectors : Option ℕ → View → Read
 with_selectors None v = with_events [] v
 with_selectors (Some glyph) v = with_selectors_shown glyph v

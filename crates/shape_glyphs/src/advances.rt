@@ -1,4 +1,4 @@
-//! How far a line moves on at each glyph.
+//! The default advances and origins of glyphs, position_default (rustybuzz: hb/ot_shape.rs).
 ghost use Rattle.std.specs.Prelude.{◌≡◌};
 ghost use Rattle.shape_glyphs.specs.Advances.{default_position, on_horizontal_line, on_line, on_vertical_line, with_default_positions};
 ghost use Rattle.buffer_glyphs.specs.Items.{item_of};
@@ -13,8 +13,8 @@ use buffer_stages::positions::map_positions;
 use layout_face::Face;
 use layout_offsets::sums::minus;
 
-/// Gives each glyph the font's advance along the line, in font units; on a vertical line the font's vertical origin is
-/// subtracted from its offsets. It takes linear time and no memory.
+/// Sets each glyph's advance to the font's, in font units along the line (`position_default`); in a vertical text the
+/// font's vertical origin is subtracted from its offsets. It takes linear time and no memory.
 pub fn position_default(face: &Face, buffer: &mut hb_buffer_t)
     requires { IsReady buffer.old }
     ensures { IsDone (always (with_default_positions face.now)) buffer.old buffer.new }

@@ -1,4 +1,4 @@
-//! What layout keeps of glyphs, as it stands before the first lookup.
+//! The glyph properties before the first lookup (rustybuzz: hb/ot_shape.rs, hb/ot_layout.rs).
 ghost use Rattle.std.specs.Prelude.{◌≡◌};
 ghost use Rattle.buffer_core.specs.Readings.{always};
 ghost use Rattle.buffer_stages.specs.Ready.{IsDone, IsReady};
@@ -11,8 +11,8 @@ use buffer_stages::glyphs::map_glyphs;
 use layout_face::Face;
 use layout_gsub::replacement::glyph_props;
 
-/// Begins substitution: each glyph has the class that the font's GDEF table gives it, and is of no ligature. It takes no
-/// memory, and time linear in the glyphs, each with a search in the font's classes.
+/// Sets each glyph's properties to its GDEF class, and clears its ligature word (`hb_ot_layout_substitute_start`). It
+/// takes no memory; each glyph takes one search in the font's classes.
 pub fn hb_ot_layout_substitute_start(face: &Face, buffer: &mut hb_buffer_t)
     requires { IsReady buffer.old }
     ensures { IsDone (always (with_font_classes face.now)) buffer.old buffer.new }
@@ -20,7 +20,7 @@ pub fn hb_ot_layout_substitute_start(face: &Face, buffer: &mut hb_buffer_t)
     _hb_ot_layout_set_glyph_props(face, buffer);
 }
 
-/// Gives each glyph its class by the font's GDEF table.
+/// Sets each glyph's properties to its GDEF class.
 pub fn _hb_ot_layout_set_glyph_props(face: &Face, buffer: &mut hb_buffer_t)
     requires { IsReady buffer.old }
     ensures { IsDone (always (with_font_classes face.now)) buffer.old buffer.new }

@@ -1,12 +1,12 @@
-//! Glyph flags at the end of shaping.
+//! The glyph flags at the end of shaping, propagate_flags (rustybuzz: hb/ot_shape.rs).
 ghost use Rattle.buffer_core.specs.Readings.{always};
 ghost use Rattle.buffer_stages.specs.Ready.{IsDone, IsReady};
 ghost use Rattle.shape_glyphs.specs.Flags.{with_flags_spread};
 
 use buffer_core::buffer::hb_buffer_t;
 
-/// Gives the glyphs of each cluster the flags that one of them has; the mask of a glyph of a result has no other bit. It
-/// takes linear time and no memory.
+/// Gives each glyph of a cluster all glyph flags of that cluster's glyphs; other mask bits are cleared
+/// (`propagate_flags`). It takes linear time and no memory.
 #[tactic(auto, using(crate::proofs::Ended::spread_done))]
 pub fn propagate_flags(buffer: &mut hb_buffer_t)
     requires { IsReady buffer.old }

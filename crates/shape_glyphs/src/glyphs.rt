@@ -1,4 +1,4 @@
-//! Characters as glyphs.
+//! Maps characters to glyphs, map_glyphs_fast (rustybuzz: hb/ot_shape.rs).
 ghost use Rattle.std.specs.Prelude.{◌≡◌, true};
 ghost use Rattle.buffer_glyphs.specs.Items.{item_of};
 ghost use Rattle.buffer_core.specs.Readings.{always};
@@ -15,8 +15,8 @@ use buffer_glyphs::info::hb_glyph_info_t;
 use buffer_properties::categories::is_nonspacing_mark;
 use buffer_stages::glyphs::map_glyphs;
 
-/// Puts the glyph that was chosen for each character in its place, and the missing glyph for a number that no glyph can have.
-/// It takes linear time and no memory.
+/// Replaces each character by the glyph chosen for it, and by glyph 0 where the number is above 65,535
+/// (`map_glyphs_fast`). It takes linear time and no memory.
 pub fn map_glyphs_fast(buffer: &mut hb_buffer_t)
     requires { IsReady buffer.old }
     ensures stage { IsFollowed (always with_glyphs) buffer.old buffer.new }
@@ -37,8 +37,8 @@ fn glyph_or_missing(number: u32) -> u32
     if number <= 65535 { number } else { 0 }
 }
 
-/// Gives glyphs classes by their characters, for a font that doesn't classify them: nonspacing marks that are not ignored
-/// are marks, and all else is a base. It takes linear time and no memory.
+/// Sets glyph classes by the characters, for a font without GDEF classes: nonspacing marks that are no default
+/// ignorables are marks, all others base glyphs. It takes linear time and no memory.
 pub fn hb_synthesize_glyph_classes(buffer: &mut hb_buffer_t)
     requires { IsReady buffer.old }
     ensures { IsDone (always with_synthesized_classes) buffer.old buffer.new }
@@ -62,7 +62,7 @@ fn synthesized_class(glyph: &hb_glyph_info_t) -> GlyphPropsFlags
     }
 }
 
-/// Whether it is to leave no glyph: it is a default ignorable, and no substitution made it into a glyph.
+/// Whether a glyph is a default ignorable that no substitution made.
 pub(crate) fn is_default_ignorable(glyph: &hb_glyph_info_t) -> bool
     ensures { result ≡ is_default_ignorable (item_of glyph.now) }
 {

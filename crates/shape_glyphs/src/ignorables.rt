@@ -1,4 +1,4 @@
-//! Default ignorable characters, which show no glyph.
+//! Hides or deletes default ignorables, hide_default_ignorables (rustybuzz: hb/ot_shape.rs).
 ghost use Rattle.std.specs.Prelude.{◌≡◌, nat_le, true};
 ghost use Rattle.layout_face.specs.Glyphs.{nominal_glyph};
 ghost use Rattle.buffer_core.specs.Sides.{items_of};
@@ -18,9 +18,9 @@ use buffer_glyphs::info::hb_glyph_info_t;
 use buffer_stages::glyphs::map_glyphs;
 use layout_face::Face;
 
-/// Hides default ignorables, unless they are to be preserved: each becomes the invisible glyph that was set, else the font's
-/// space; where they are to be removed, or there is no such glyph, they go, and their clusters stay with a neighbour. It
-/// takes linear time and no memory.
+/// Hides default ignorables, unless PRESERVE_DEFAULT_IGNORABLES is set: each is replaced by the invisible glyph that is
+/// set, else by the font's space; where REMOVE_DEFAULT_IGNORABLES is set, or neither glyph exists, it is deleted, and
+/// its cluster is merged with a neighbour's. It takes linear time and no memory.
 pub fn hide_default_ignorables(face: &Face, buffer: &mut hb_buffer_t)
     requires { IsReady buffer.old }
     ensures stage { IsFollowed (always (hidden buffer.old.flags buffer.old.invisible face.now)) buffer.old buffer.new }

@@ -1,4 +1,5 @@
-// Characters as glyphs before the lookups, their advances by the font's metrics, and what becomes of glyphs after the lookups.
+//! Characters as glyphs before the lookups, their advances by the font's metrics, and the clean-up of glyphs after the
+//! lookups.
 #![tactic(auto)]
 
 pub mod advances;

@@ -1,4 +1,4 @@
-//! Variation selectors that the font doesn't join with the character before them.
+//! Variation selectors that the font doesn't combine with the character before them (rustybuzz: hb/ot_shape.rs).
 ghost use Rattle.std.specs.Prelude.{◌≡◌};
 ghost use Rattle.buffer_glyphs.specs.Items.{item_of};
 ghost use Rattle.buffer_glyphs.specs.Origins.{origin_of};
@@ -17,8 +17,8 @@ use buffer_stages::glyphs::map_glyphs;
 use buffer_stages::positions::map_positions;
 use buffer_unicode::category::RB_UNICODE_GENERAL_CATEGORY_NON_SPACING_MARK;
 
-/// Shows variation selectors that the font doesn't join as the glyph that is set for them, without a width, and as nonspacing
-/// marks; they stay where none is set. It takes linear time and no memory.
+/// Replaces variation selectors that the font doesn't combine by the glyph that is set for them, as nonspacing marks
+/// with zero advances; where none is set, they are unchanged. It takes linear time and no memory.
 pub fn deal_with_variation_selectors(buffer: &mut hb_buffer_t)
     requires { IsReady buffer.old }
     ensures { IsFollowed (always (with_selectors buffer.old.not_found_variation_selector)) buffer.old buffer.new }

@@ -1,4 +1,4 @@
-//! Positions of glyphs that are not to be seen.
+//! Zeroes the positions of default ignorables, zero_width_default_ignorables (rustybuzz: hb/ot_shape.rs).
 ghost use Rattle.std.specs.Prelude.{◌≡◌};
 ghost use Rattle.buffer_glyphs.specs.Items.{item_of};
 ghost use Rattle.buffer_core.specs.Readings.{always};
@@ -15,8 +15,8 @@ use buffer_glyphs::info::hb_glyph_info_t;
 use buffer_glyphs::position::GlyphPosition;
 use buffer_stages::positions::map_positions;
 
-/// Takes their advances and offsets from default ignorables, unless they are to be preserved or taken out. It takes linear
-/// time and no memory.
+/// Zeroes the positions of default ignorables, unless PRESERVE_DEFAULT_IGNORABLES or REMOVE_DEFAULT_IGNORABLES is set.
+/// It takes linear time and no memory.
 pub fn zero_width_default_ignorables(buffer: &mut hb_buffer_t)
     requires { IsReady buffer.old }
     ensures { IsFollowed (always (zero_widths buffer.old.flags)) buffer.old buffer.new }

@@ -1,4 +1,4 @@
--- Numbers before a place and after it.
+-- Numbers before an index and after it.
 use Rattle.std.proofs.Common.{ℕ, ◌≡◌, ◌≤◌, ◌<◌, ◌+◌, ◌-◌, Bool, true, false, if◌then◌else◌, List, [], ◌∷◌, ◌++◌, length, reverse, take, drop, get_or, arith, refl, sym, ap, ◌∙◌}
 use Rattle.std.proofs.lemmas.List.{drop_all, drop_more, length-map, reverse-append}
 use Rattle.buffer_glyphs.specs.declared.info.hb_glyph_info_t.{hb_glyph_info_t}
@@ -15,7 +15,7 @@ no_more : (n : ℕ) (b : Bool) → b ≡ false → (if b then n + 1 else 0) ≡ 
 no_more n true e = cc e
 no_more n false e = refl
 
--- the item before a place, in front of those before it
+-- the item before an index, in front of those before it
 last_before : (xs : List Item) (i : ℕ) (d : Item) → i < length xs → reverse (take (i + 1) xs) ≡ get_or xs i d ∷ reverse (take i xs)
 last_before xs i d lt =
     ap (λ ys. reverse ys) (take_next xs i ∙ ap (λ ys. take i xs ++ ys) (take_one xs i d lt))

@@ -17,7 +17,7 @@ use Rattle.shape_masks.specs.Ranges.{with_all_ranges, with_range, with_ranges}
 abbrev seen_with : List Item → Sides → View
 seen_with xs n = record { items = xs; positions = n.positions; lig_id = n.lig_id; max_ops = n.max_ops; random = 1; max_len = n.max_len; direction = n.direction; told = told_of n.scratch_flags }
 
--- where glyphs come from tells their clusters
+-- the origins of glyphs determine their clusters
 clusters_told : (gs : List hb_glyph_info_t) → clusters gs ≡ map (λ (o : Origin). o.cluster) (origins gs)
 clusters_told [] = refl
 clusters_told (g ∷ gs) = ap (λ ns. g.cluster ∷ ns) (clusters_told gs)

@@ -124,7 +124,7 @@ slash_between m start at end s mid new le lt e h b =
     (subst (λ i. Becomes (fraction_items mid.direction m i at end (items_of mid)) mid.positions mid new) first b) in
     between_followed m at (at - start) (end - (at + 1)) s mid new e h' b'
 
--- ---- a place
+-- ---- an index
 
 slash_there : (gs : List hb_glyph_info_t) (at : ℕ) (d : hb_glyph_info_t) → at < length gs → is_slash_at at (strip gs) ≡ is_slash (item_of (get_or gs at d))
 slash_there gs at d lt =
@@ -149,7 +149,7 @@ place_of_none m at d s lt e ready =
     let there = slash_there (all_glyphs s) at d lt ∙ e in
     happens_followed [] s s (always (at_place m at)) (nothing_happens s ready) (ap (λ (r : Read). Ok r) (between_cases (is_slash_at at (items_of s)) _ _ (with_events [] (view_of s)) there refl))
 
--- ---- one place after another
+-- ---- one index after another
 
 pub record DoneTo (m : FractionMasks) (n : ℕ) (s now : Sides) : Type 0 where
   pub followed : IsFollowed (always (fractions_to m n)) s now

@@ -1,4 +1,4 @@
--- Stretches of glyphs on which features act.
+-- Ranges of glyphs to which features apply.
 use Rattle.std.proofs.Common.{ℕ, ◌≡◌, ◌≤◌, ◌-◌, List, [], ◌∷◌, ◌++◌, length, map, take, drop, refl, sym, ap, ◌∙◌}
 use Rattle.std.specs.Prelude.{bit_and, slice_range}
 use Rattle.std.proofs.lemmas.List.{drop-map, length-map, map-append, map-id, take-map}

@@ -1,4 +1,4 @@
-//! Numbers around a fraction slash.
+//! The masks of numbers around a fraction slash, setup_masks_fraction (rustybuzz: hb/ot_shape.rs).
 ghost use Rattle.std.specs.Prelude.{◌≡◌, ◌<◌, ◌≤◌, ◌+◌, ◌-◌, ◌==◌, ◌||◌, length};
 ghost use Rattle.std.specs.Int.RustNames.{bit_and};
 ghost use Rattle.buffer_glyphs.specs.declared.info.TheConstants.{DEFINED};
@@ -17,7 +17,7 @@ use buffer_properties::categories::is_decimal_number;
 
 const FRACTION_SLASH: u32 = 0x2044;
 
-/// The masks of the features that make a fraction, of its numerator and of its denominator.
+/// The masks of the features frac, numr and dnom.
 #[derive(Clone, Copy)]
 pub struct FractionMasks {
     pub frac: hb_mask_t,
@@ -49,9 +49,9 @@ impl FractionMasks {
     }
 }
 
-/// Gives the decimal numbers around each U+2044 between such numbers, and the slash, the masks of fractions; a break among
-/// them is unsafe, and a slash without a number on one side is unsafe to concat. No mask may have a glyph flag. It takes
-/// linear time and no memory.
+/// Adds the masks of fractions to each U+2044 between decimal numbers and to those numbers, and flags them as unsafe to
+/// break (`setup_masks_fraction`); a slash without a number on one side is flagged as unsafe to concat. No mask may
+/// have a glyph flag. It takes linear time and no memory.
 #[tactic(auto, using(crate::proofs::Slashes::none_done, crate::proofs::Slashes::next_done, crate::proofs::Slashes::all_done))]
 pub fn setup_masks_fraction(masks: FractionMasks, buffer: &mut hb_buffer_t)
     requires ready { IsReady buffer.old }
@@ -90,7 +90,7 @@ fn is_slash(glyph: &hb_glyph_info_t) -> bool
 }
 
 #[tactic(auto, using(crate::proofs::Digits::back_begins, crate::proofs::Digits::back_goes_on, crate::proofs::Digits::back_is_all, crate::proofs::Digits::back_stops))]
-/// Where the numbers before a place begin.
+/// The start of the decimal numbers before an index.
 fn numbers_start(glyphs: &[hb_glyph_info_t], at: usize) -> usize
     requires { at ≤ length glyphs.now }
     ensures value { at - result ≡ digits_before at (strip glyphs.now) }
@@ -104,7 +104,7 @@ fn numbers_start(glyphs: &[hb_glyph_info_t], at: usize) -> usize
 }
 
 #[tactic(auto, using(crate::proofs::Digits::after_begins, crate::proofs::Digits::after_goes_on, crate::proofs::Digits::after_is_all, crate::proofs::Digits::after_stops))]
-/// Where the numbers after a place end.
+/// The end of the decimal numbers after an index.
 fn numbers_end(glyphs: &[hb_glyph_info_t], at: usize) -> usize
     requires { at < length glyphs.now }
     ensures value { result - (at + 1) ≡ digits_after at (strip glyphs.now) }
@@ -118,7 +118,7 @@ fn numbers_end(glyphs: &[hb_glyph_info_t], at: usize) -> usize
     end
 }
 
-/// Whether a slash lacks a number on one side.
+/// Whether a slash has no number on one side.
 fn is_alone(start: usize, at: usize, end: usize) -> bool
     requires start { start ≤ at }
     requires end { at < end }

@@ -1,4 +1,4 @@
-// The masks of a text's glyphs: which features act on each, in ranges and in fractions.
+//! The masks of a text's glyphs: which features apply to each, in ranges and in fractions.
 #![tactic(auto)]
 
 pub mod fractions;

@@ -1,4 +1,4 @@
-//! Features that are asked for on a part of a text.
+//! Features that the caller requests for a range of a text (rustybuzz: hb/ot_shape.rs).
 ghost use Rattle.std.specs.Prelude.{◌≡◌};
 ghost use Rattle.buffer_glyphs.specs.Items.{clusters};
 ghost use Rattle.buffer_core.specs.Readings.{always};
@@ -11,8 +11,8 @@ use buffer_core::buffer::hb_buffer_t;
 use buffer_features::feature::Feature;
 use layout_map::map::hb_ot_map_t;
 
-/// Gives each glyph whose cluster is in the range of a feature the value of that feature, one feature after another; those
-/// for all glyphs are left out. It takes time linear in the glyphs for each feature, and no memory.
+/// Sets the value of each feature in the masks of glyphs whose cluster is in its range, feature by feature; features
+/// for all glyphs are skipped. It takes time linear in the glyphs for each feature, and no memory.
 #[tactic(auto, using(crate::proofs::Ranged::begins, crate::proofs::Ranged::goes_on_at, crate::proofs::Ranged::ends))]
 pub fn set_ranged_masks(map: &hb_ot_map_t, features: &[Feature], buffer: &mut hb_buffer_t)
     requires ready { IsReady buffer.old }

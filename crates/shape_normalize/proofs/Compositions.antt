@@ -40,7 +40,7 @@ mark_left s a b d some kept items back =
     let rest = ap (λ (t : Sides). length t.ahead) back ∙ length-drop (length s.behind) (all_glyphs b) in
     omega (arith, rest, same, sides, some)
 
--- the events of the calls that take a mark out once it and its starter are one stretch
+-- the events of the calls that delete a mark once it and its starter are one range
 pub mark_gone : (from to : ℕ) (s a b d e : Sides) → 0 < length s.ahead → a ≡ moved_on 1 s → all_glyphs a ≡ all_glyphs s → to ≡ length a.behind → b ≡ with_output_merged from to a → items_of b ≡ items_of a
     → origins_of b ≡ origins_by (Merge InOutput from to ∷ []) a → d ≡ moved_to (length s.behind) b → all_glyphs d ≡ all_glyphs b → e ≡ with_skipped d → origins_of e ≡ origins_by (Replace (length d.behind) 1 0 ∷ []) d
     → origins_of e ≡ origins_by (composition_events from (length s.behind)) s

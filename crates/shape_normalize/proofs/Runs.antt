@@ -1,4 +1,4 @@
--- Runs of marks on a buffer, arranged where they stand.
+-- Runs of marks on a buffer, arranged in place.
 use Rattle.std.proofs.Common.{ℕ, ◌≡◌, ◌≢◌, ◌≤◌, ◌<◌, ◌+◌, ◌-◌, ◌==◌, Bool, true, false, List, [], ◌∷◌, ◌++◌, length, map, take, drop, refl, sym, ap, ap₂, subst, ◌∙◌, append_assoc, arith, le-leb}
 use Rattle.std.specs.Prelude.{slice_get, slice_range, option_map, Some}
 use Rattle.std.proofs.lemmas.Bool.{cond-true, cond-false, lt-leb}
@@ -249,7 +249,7 @@ ordering_upto r count at start s now w =
 pub ordering_there : (r : List Item → Arranged) (count at start : ℕ) (s now : Sides) → at < count → IsOrdering r count at start s now → at < length (all_glyphs now)
 ordering_there r count at start s now lt w = let upto = ordering_upto r count at start s now w in omega (arith, lt, upto)
 
--- what was arranged, and then a run and the starter behind it
+-- what was arranged, and then a run and the starter after it
 turned : (ps : List Arranged) (a : Arranged) (y : Item) → (in_turn (ps ++ a ∷ kept (y ∷ []) ∷ [])).items ≡ (in_turn ps).items ++ (a.items ++ y ∷ [])
 turned ps a y = items_both ps (a ∷ kept (y ∷ []) ∷ [])
 

@@ -29,7 +29,7 @@ before es a = record { items = a.items; events = es ++ a.events }
 before_both : (es fs : List Event) (a : Arranged) → before es (before fs a) ≡ before (es ++ fs) a
 before_both es fs a = ap (λ gs. record { items = a.items; events = gs }) (sym (append_assoc es fs a.events))
 
--- so many items were walked over since the first; the last starter stands there
+-- that many items were walked over since the first; the last starter is there
 pub record IsComposing (c : Normalizer) (count at n : ℕ) (start now : Sides) : Type 0 where
   pub done : List Item
   pub x : Item

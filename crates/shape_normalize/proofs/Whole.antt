@@ -58,7 +58,7 @@ pub zero_after : (a : Arranged) (s t : Sides) → IsArranged a s t → t.positio
 zero_after a s t f =
     ap (λ (v : View). v.positions) f.view ∙ ap zero_positions (sym (ap (λ (xs : List Item). length xs) (items_after a s t f)) ∙ length-map (all_glyphs t) item_of)
 
--- what was arranged where it stands, at positions of nothing
+-- what was arranged in place, with all positions zero
 placed_arranged : (a : Arranged) (s t : Sides) → s.positions ≡ zero_positions (length (all_glyphs s)) → IsRearranged [] a [] s t → IsArranged a s t
 placed_arranged a s t zero is =
     let items : items_of t ≡ a.items = is.items ∙ append-nil a.items in
@@ -80,7 +80,7 @@ placed_arranged a s t zero is =
 shown_arranged : (xs : List Item) (s t : Sides) → s.positions ≡ zero_positions (length (all_glyphs s)) → HasItems xs s t → IsArranged (kept xs) s t
 shown_arranged xs s t zero h = placed_arranged (kept xs) s t zero (record { items = h.items ∙ sym (append-nil xs); happened = h.origins; frame = h.frame; ready = h.ready })
 
--- no mark stands past the first item of the text
+-- no mark follows the first item of the text
 pub marks_alone : (c : Normalizer) (b : Bool) (s t : Sides) → b ≡ false → s.positions ≡ zero_positions (length (all_glyphs s)) → HasItems (joiners_shown (items_of s)) s t → IsArranged (arranged_marks b c (items_of s)) s t
 unfolding arranged_marks
 marks_alone c b s t none zero h = subst (λ (b : Bool). IsArranged (arranged_marks b c (items_of s)) s t) (sym none) (shown_arranged (joiners_shown (items_of s)) s t zero h)

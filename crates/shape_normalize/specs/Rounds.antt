@@ -1,4 +1,4 @@
--- The normal form of a text as a stage of shaping, and what its rounds leave.
+-- Normalizing as a stage of the pipeline, and what its rounds leave.
 use Rattle.std.specs.Prelude.{◌≡◌, length}
 use Rattle.buffer_core.specs.Readings.{Stage}
 use Rattle.buffer_core.specs.Sides.{Sides, origins_by, origins_of, settings_of, view_of}
@@ -9,12 +9,12 @@ use Rattle.buffer_properties.specs.NormalizedList.{normalized}
 use Rattle.buffer_properties.specs.Normalizer.{Normalizer}
 use Rattle.buffer_stages.specs.Brought.{with_arranged, within_limit}
 
--- the normalised list with its events, at positions of nothing; it gives up where the list that the characters expand to has
--- more than `max_len` items
+-- the stage that normalizes the list and resets all positions to zero; it fails where the decomposed list would have
+-- more than `max_len` items (HarfBuzz: hb_ot_shape_normalize)
 abbrev pub normalization : Normalizer → Stage
 normalization c v = within_limit (length (expanded_list c v.items).items) v (with_arranged (normalized c v.items) v)
 
--- an arrangement is all of a buffer, at positions of nothing
+-- the arrangement is the whole state of a buffer, with all positions zero
 pub record IsArranged (a : Arranged) (old new : Sides) : Type 0 where
   pub view : view_of new ≡ (with_arranged a (view_of old)).view
   pub origins : origins_of new ≡ origins_by a.events old

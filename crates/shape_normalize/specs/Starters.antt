@@ -1,4 +1,4 @@
--- A walk from starter to starter, in an open output.
+-- The walk from starter to starter in an open output.
 use Rattle.std.specs.Prelude.{ℕ, ◌≡◌, ◌==◌, ◌++◌, if◌then◌else◌, List, ◌∷◌, length, Option, Some, None, option_map}
 use Rattle.buffer_glyphs.specs.Items.{Item, strip}
 use Rattle.buffer_core.specs.Sides.{Sides, all_glyphs, moved_on}
@@ -7,33 +7,36 @@ use Rattle.buffer_properties.specs.Composing.{composite}
 use Rattle.buffer_properties.specs.Normalizer.{Normalizer}
 use Rattle.shape_normalize.specs.Composed.{IsComposed}
 
--- an item that comes to stand for a character, with the font's glyph for it
+-- an item with another character and the font's glyph of it
 abbrev pub become : Normalizer → Item → Option (ℕ × ℕ) → Option Item
 become c x found = option_map (λ p. with_glyph p.1 (standing_for c.tables p.0 x)) found
 
--- so much stands in an open output up to the last starter, it, what is behind it, the item at the cursor and the items ahead
+-- the state of the walk: the length of the output up to the last starter, the starter, the items between it and the
+-- cursor, the current item, and the input after it
 pub record IsAt (n : ℕ) (done : List Item) (x : Item) (between : List Item) (y : Item) (ys : List Item) (s : Sides) : Type 0 where
   pub behind : strip s.behind ≡ done ++ x ∷ between
   pub starts : length done ≡ n
   pub ahead : strip s.ahead ≡ y ∷ ys
 
--- what the item at the cursor and the last starter become, where they become one
+-- the composite of the current item and the last starter, where there is one
 abbrev pub Composites : Normalizer → ℕ → Option (ℕ × ℕ) → Sides → Type 0
 Composites c n found s = (done : List Item) (x : Item) (between : List Item) (y : Item) (ys : List Item) → IsAt n done x between y ys s → become c x found ≡ composite c x between y
 
--- the item at the cursor went behind it, and is the last starter where its class is 0
+-- the current item was output, and is the last starter where its class is 0
 pub record IsPassed (n m : ℕ) (y : Item) (old new : Sides) : Type 0 where
   pub starter : m ≡ (if mark_class y == 0 then length old.behind else n)
   pub moved : new ≡ moved_on 1 old
   pub kept : all_glyphs new ≡ all_glyphs old
 
+-- the current item was output, and a call returns the index of the last starter
 abbrev pub Passes : ℕ → ℕ → Sides → Sides → Type 0
 Passes n m old new = (y : Item) (ys : List Item) → strip old.ahead ≡ y ∷ ys → IsPassed n m y old new
 
--- the item at the cursor is one with the last starter, or went behind it
+-- the current item was composed with the last starter, or was output
 abbrev pub Joins : Option Item → ℕ → ℕ → Item → Sides → Sides → Type 0
 Joins (Some z) n m y old new = (m ≡ n) × IsComposed n z old new
 Joins None n m y old new = IsPassed n m y old new
 
+-- one step of the walk: the current item is composed with the last starter, or output
 abbrev pub Composes : Normalizer → ℕ → ℕ → Sides → Sides → Type 0
 Composes c n m old new = (done : List Item) (x : Item) (between : List Item) (y : Item) (ys : List Item) → IsAt n done x between y ys old → Joins (composite c x between y) n m y old new

@@ -1,4 +1,4 @@
-//! The third round: marks are composed with their base.
+//! The third round: composes marks with their base (rustybuzz: hb/ot_shape_normalize.rs).
 ghost use Rattle.std.specs.Prelude.{◌≡◌, ◌<◌, ◌≤◌, length, drop, slice_get, Some, IfErr, OnOk};
 ghost use Rattle.buffer_glyphs.specs.Items.{Item, strip};
 ghost use Rattle.buffer_core.specs.Sides.{all_glyphs, moved_on, origins_by, origins_of};
@@ -14,7 +14,7 @@ use buffer_glyphs::info::hb_glyph_info_t;
 use shape_rounds::characters::becoming;
 use shape_rounds::normalizing::Normalizing;
 
-/// Takes the cursor past a glyph of a list that the output may hold.
+/// Outputs the current glyph; the output has room for it.
 #[tactic(auto, using(crate::proofs::Room::fits_next_glyph))]
 pub(crate) fn pass_glyph(buffer: &mut hb_buffer_t) -> Result<(), ShapeCause>
     requires room { HasRoom buffer.old }
@@ -29,7 +29,7 @@ pub(crate) fn pass_glyph(buffer: &mut hb_buffer_t) -> Result<(), ShapeCause>
     Ok(())
 }
 
-/// Takes the cursor to a place of a list that either side may hold.
+/// Moves the cursor to an index of the list; both sides have room for the whole list.
 #[tactic(auto, using(crate::proofs::Room::fits_going))]
 fn go_to(at: usize, buffer: &mut hb_buffer_t) -> Result<(), ShapeCause>
     requires room { HasRoom buffer.old }
@@ -44,7 +44,7 @@ fn go_to(at: usize, buffer: &mut hb_buffer_t) -> Result<(), ShapeCause>
     Ok(())
 }
 
-/// The output merges from a starter to the mark at the cursor, and the mark goes.
+/// Merges the output's clusters from a starter to the current mark, and deletes the mark.
 fn take_mark(starter: usize, buffer: &mut hb_buffer_t) -> Result<(), ShapeCause>
     requires room { HasRoom buffer.old }
     requires there { 0 < length buffer.old.ahead }
@@ -65,7 +65,7 @@ fn take_mark(starter: usize, buffer: &mut hb_buffer_t) -> Result<(), ShapeCause>
     Ok(())
 }
 
-/// Writes the i-th glyph from the cursor on.
+/// Sets the i-th glyph from the cursor on.
 pub(crate) fn write_ahead(i: usize, info: hb_glyph_info_t, buffer: &mut hb_buffer_t)
     requires { i < length buffer.old.ahead }
     ensures { buffer.new ≡ with_glyph_ahead i info buffer.old }
@@ -73,7 +73,8 @@ pub(crate) fn write_ahead(i: usize, info: hb_glyph_info_t, buffer: &mut hb_buffe
     *buffer.cur_mut(i) = info;
 }
 
-/// Writes a glyph of the output. The cursor goes there and back, so that what is known of the clusters' order stays known.
+/// Sets a glyph of the output. The cursor moves there and back, so that what is known of the clusters' order stays
+/// known.
 fn write_out(at: usize, info: hb_glyph_info_t, buffer: &mut hb_buffer_t) -> Result<(), ShapeCause>
     requires room { HasRoom buffer.old }
     requires there { at < length buffer.old.behind }
@@ -87,7 +88,7 @@ fn write_out(at: usize, info: hb_glyph_info_t, buffer: &mut hb_buffer_t) -> Resu
     Ok(())
 }
 
-/// A glyph of the output.
+/// The glyph of the output at an index.
 pub(crate) fn out_at(at: usize, buffer: &hb_buffer_t) -> hb_glyph_info_t
     requires { at < length buffer.now.behind }
     ensures { slice_get buffer.now.behind at ≡ Some result }
@@ -95,8 +96,7 @@ pub(crate) fn out_at(at: usize, buffer: &hb_buffer_t) -> hb_glyph_info_t
     buffer.out_info()[at]
 }
 
-/// The mark at the cursor and a glyph of the output become a character, where the glyph stands. It takes the time of a walk
-/// over what stands between the two.
+/// Composes the current mark with a glyph of the output. It takes time linear in the number of glyphs between them.
 pub(crate) fn compose_mark<N: Normalizing>(
     by: &N,
     starter: usize,

@@ -1,4 +1,4 @@
-//! Grapheme joiners that keep nothing apart are shown.
+//! Unhides grapheme joiners that keep nothing apart (rustybuzz: hb/ot_shape_normalize.rs).
 ghost use Rattle.std.specs.Prelude.{◌≡◌, ◌<◌, ◌≤◌, ◌+◌, ◌==◌, ◌||◌, nat_le, length};
 ghost use Rattle.buffer_glyphs.specs.Items.{item_of};
 ghost use Rattle.buffer_glyphs.specs.Origins.{origin_of};
@@ -17,14 +17,14 @@ use shape_rounds::characters::mark_class;
 /// COMBINING GRAPHEME JOINER.
 const JOINER: u32 = 0x034F;
 
-/// Whether a joiner between items of two classes keeps nothing apart.
+/// Whether a joiner between items of two combining classes keeps nothing apart.
 fn keeps_nothing_apart(before: u8, after: u8) -> bool
     ensures { result ≡ (after == 0 || nat_le before after) }
 {
     after == 0 || before <= after
 }
 
-/// A character that is no longer hidden.
+/// A character that is not hidden any more.
 fn shown(info: &hb_glyph_info_t) -> hb_glyph_info_t
     ensures item { item_of result ≡ shown (item_of info.now) }
     ensures origin { origin_of result ≡ origin_of info.now }
@@ -36,7 +36,8 @@ fn shown(info: &hb_glyph_info_t) -> hb_glyph_info_t
     }
 }
 
-/// Shows the item at an index, after one of a class, where it is a joiner that keeps nothing apart; answers the item's class.
+/// Unhides the item at an index, after one of class `before`, if it is a joiner that keeps nothing apart; returns the
+/// item's class.
 fn show_joiner(before: u8, i: usize, buffer: &mut hb_buffer_t) -> u8
     requires ready { IsReady buffer.old }
     requires there { i + 1 < length buffer.old.ahead }
@@ -56,7 +57,7 @@ fn show_joiner(before: u8, i: usize, buffer: &mut hb_buffer_t) -> u8
     class
 }
 
-/// Shows each joiner between two of so many items that keeps nothing apart.
+/// Unhides each joiner among that many items that keeps nothing apart.
 fn show_between(count: usize, buffer: &mut hb_buffer_t)
     requires ready { IsReady buffer.old }
     requires counted { count ≡ length buffer.old.ahead }
@@ -69,7 +70,7 @@ fn show_between(count: usize, buffer: &mut hb_buffer_t)
     }
 }
 
-/// Shows each grapheme joiner between two items where the class after it is 0, or not less than the one before it. It takes
+/// Unhides each grapheme joiner between two items where the next class is 0, or at least the previous one. It takes
 /// linear time.
 pub(crate) fn show_joiners(buffer: &mut hb_buffer_t)
     requires ready { IsReady buffer.old }

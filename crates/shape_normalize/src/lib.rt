@@ -1,4 +1,4 @@
-// The normal form that a text gets for a font, round by round on the buffer.
+//! The normal form of a text for a font, round by round on the buffer.
 #![tactic(auto)]
 
 pub mod composing;

@@ -1,4 +1,4 @@
-//! The normal form that a text gets for a font.
+//! All three rounds of normalizing, _hb_ot_shape_normalize (rustybuzz: hb/ot_shape_normalize.rs).
 ghost use Rattle.std.specs.Prelude.{◌≡◌, ◌≢◌, length, IfErr, OnOk, Err};
 ghost use Rattle.std.specs.List.{list_any};
 ghost use Rattle.buffer_glyphs.specs.Items.{item_of, strip};
@@ -22,7 +22,7 @@ use buffer_properties::categories::is_mark;
 use shape_rounds::normalizing::Normalizing;
 use std::alloc::Global;
 
-/// Whether marks are composed with their base.
+/// Whether the mode composes marks with their base.
 fn is_composing(mode: NormalizationMode) -> bool
     ensures { result ≡ is_composing mode }
 {
@@ -40,7 +40,7 @@ fn has_mark(glyphs: &[hb_glyph_info_t]) -> bool
     glyphs.iter().any(|glyph| is_mark(glyph))
 }
 
-/// Whether a mark stands past the first item.
+/// Whether there is a mark after the first item.
 #[tactic(auto, using(crate::proofs::Whole::later_mark_seen))]
 fn has_later_mark(glyphs: &[hb_glyph_info_t]) -> bool
     ensures { result ≡ has_later_mark (strip glyphs.now) }
@@ -51,7 +51,7 @@ fn has_later_mark(glyphs: &[hb_glyph_info_t]) -> bool
     has_mark(rest)
 }
 
-/// Puts marks in order and composes them where one stands past the text's first item, and shows joiners.
+/// Sorts and composes marks where there is one after the text's first item, and unhides joiners.
 #[tactic(auto, using(crate::proofs::Whole::marks_alone, crate::proofs::Whole::marks_ordered, crate::proofs::Whole::marks_composed))]
 fn arrange_marks<N: Normalizing>(
     by: &N,
@@ -78,17 +78,17 @@ fn arrange_marks<N: Normalizing>(
     Ok(())
 }
 
-/// Puts a text in the normal form that a font and a shaper want. Characters are split as far as they want it, and each gets
-/// the font's glyph; a selector joins the character before it where the font has the pair. Where a mark stands past the
-/// text's first character, runs of at most 32 marks are put in the order of their classes and marks are composed with their
-/// base as far as the font has what they compose to. Grapheme joiners that keep no two marks apart are shown. Positions are
-/// nothing then.
+/// Normalizes a text as a font and a shaper require (`_hb_ot_shape_normalize`). Characters are decomposed as far as
+/// they require, and each gets the font's glyph; a variation selector is combined with the character before it where
+/// the font has the pair. Where there is a mark after the text's first character, runs of at most 32 marks are sorted
+/// by combining class (UAX 15 D109), and marks are composed with their base where the font has the result (D117).
+/// Grapheme joiners that keep no two marks apart are unhidden. All positions are reset to zero.
 ///
-/// It takes linear time, but for the walk from each mark that is composed back to its base.
+/// It takes linear time, but for the walk from each composed mark back to its base.
 ///
 /// # Errors
 ///
-/// `TooLong` where the text would split into more characters than the buffer may hold, or want of memory.
+/// `TooLong` where the text would decompose into more characters than the buffer may hold, or lack of memory.
 pub fn _hb_ot_shape_normalize<N: Normalizing>(
     by: &N,
     alloc: Global,

@@ -1,4 +1,5 @@
-//! The second round: each run of marks is put in the order of its classes, and the shaper has its say.
+//! The second round: sorts each run of marks by combining class, and calls the shaper's reorder_marks
+//! (rustybuzz: hb/ot_shape_normalize.rs).
 ghost use Rattle.std.specs.Prelude.{◌≡◌, ◌<◌, ◌≤◌, ◌++◌, ◌∷◌, [], false, length, map, take, drop, slice_get, slice_range, Some, IfErr, IfOk, OnOk};
 ghost use Rattle.buffer_glyphs.specs.Events.{Sort};
 ghost use Rattle.buffer_glyphs.specs.Items.{item_of};
@@ -20,8 +21,7 @@ use shape_rounds::characters::mark_class;
 use shape_rounds::normalizing::Normalizing;
 use std::alloc::{AllocError, Global};
 
-/// Puts what stands from `start` up to before `end` in the order of its classes, items of one class in the order that they
-/// have; each smallest span that this permutes merges.
+/// Sorts the items `start..end` by combining class, stably; each smallest range that this permutes is merged.
 fn sort_marks(
     alloc: Global,
     start: usize,
@@ -44,7 +44,7 @@ fn sort_marks(
     buffer.sort(alloc, start, end, |glyph| u32::from(mark_class(glyph)))
 }
 
-/// Puts a run of marks in the order of its classes.
+/// Sorts a run of marks by combining class.
 fn sort_run(
     alloc: Global,
     start: usize,
@@ -63,7 +63,7 @@ fn sort_run(
     Ok(())
 }
 
-/// Puts a run in order, and has the shaper rewrite it; a run of more than 32 stays.
+/// Sorts a run of marks, and calls the shaper's `reorder_marks`; a run of more than 32 marks is unchanged.
 fn arrange_run<N: Normalizing>(
     by: &N,
     alloc: Global,
@@ -99,7 +99,7 @@ fn item_at(i: usize, buffer: &hb_buffer_t) -> hb_glyph_info_t
     buffer.info_slice()[i]
 }
 
-/// Goes on by one item after the run from `start` on, and answers where the next run begins.
+/// Extends the run that begins at `start` by one item, or ends it; returns where the next run begins.
 fn arrange_next<N: Normalizing>(
     by: &N,
     alloc: Global,
@@ -122,12 +122,12 @@ fn arrange_next<N: Normalizing>(
     Ok(i + 1)
 }
 
-/// Puts each run of marks in the order of its classes, where it stands, and has the shaper rewrite it; runs of more than 32
-/// stay. It takes linear time.
+/// Sorts each run of marks by combining class in place, and calls the shaper's `reorder_marks` on it; runs of more than
+/// 32 marks are unchanged. It takes linear time.
 ///
 /// # Errors
 ///
-/// Want of memory.
+/// Lack of memory.
 pub(crate) fn arrange_runs<N: Normalizing>(
     by: &N,
     alloc: Global,

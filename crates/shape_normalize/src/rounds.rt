@@ -1,4 +1,4 @@
-//! The first and the third round, each over an output of its own.
+//! The first and the third round, each over its own output (rustybuzz: hb/ot_shape_normalize.rs).
 ghost use Rattle.std.specs.Prelude.{◌≡◌, ◌≢◌, ◌≤◌, ◌<◌, length, IfErr, OnOk};
 ghost use Rattle.buffer_core.specs.Sides.{items_of, synced};
 ghost use Rattle.buffer_stages.specs.Ready.{IsReady};
@@ -13,12 +13,13 @@ use buffer_glyphs::cause::ShapeCause;
 use shape_rounds::expanding::expand_list;
 use shape_rounds::normalizing::Normalizing;
 
-/// The first round: each character is split as far as the shaper and the font want it, a selector joins the character
-/// before it where the font has the pair, and each gets the font's glyph. It takes linear time.
+/// The first round: each character is decomposed as far as the shaper and the font require, a variation selector is
+/// combined with the character before it where the font has the pair, and each character gets the font's glyph. It
+/// takes linear time.
 ///
 /// # Errors
 ///
-/// `TooLong` where the list would have more characters than the buffer may hold, or want of memory.
+/// `TooLong` where the list would have more characters than the buffer may hold, or lack of memory.
 #[tactic(auto, using(crate::proofs::Joined::list_overfills))]
 pub(crate) fn expand_characters<N: Normalizing>(
     by: &N,
@@ -41,7 +42,7 @@ pub(crate) fn expand_characters<N: Normalizing>(
     Ok(())
 }
 
-/// Puts an output that has room for the whole list in the list's place.
+/// Makes the output, which has room for the whole list, the list (`sync`).
 #[tactic(auto, using(crate::proofs::Room::fits_whole))]
 fn join_output(buffer: &mut hb_buffer_t) -> Result<(), ShapeCause>
     requires room { HasRoom buffer.old }
@@ -54,12 +55,12 @@ fn join_output(buffer: &mut hb_buffer_t) -> Result<(), ShapeCause>
     Ok(())
 }
 
-/// The third round: marks are composed with their base, as far as the font has what they compose to. It takes linear time,
-/// and for each mark that is composed that of a walk over what stands between it and its base.
+/// The third round: marks are composed with their base where the font has the result. It takes linear time, plus, for
+/// each composed mark, time linear in the number of items between it and its base.
 ///
 /// # Errors
 ///
-/// Want of memory.
+/// Lack of memory.
 pub(crate) fn compose_characters<N: Normalizing>(
     by: &N,
     buffer: &mut hb_buffer_t,

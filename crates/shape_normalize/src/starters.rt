@@ -1,4 +1,5 @@
-//! The third round's walk: each mark joins the last starter, where it reaches it and the font has what they compose to.
+//! The walk of the third round: each mark is composed with the last starter where nothing blocks it and the font has
+//! the result (rustybuzz: hb/ot_shape_normalize.rs).
 ghost use Rattle.std.specs.Prelude.{◌≡◌, ◌<◌, List, [], length, IfErr, IfOk, OnOk};
 ghost use Rattle.std.specs.Option.{option_and_then};
 ghost use Rattle.buffer_glyphs.specs.Items.{Item, item_of, strip};
@@ -16,7 +17,8 @@ use buffer_properties::categories::is_mark;
 use shape_rounds::characters::mark_class;
 use shape_rounds::normalizing::Normalizing;
 
-/// Whether no item of the class of the item at the cursor, or of a greater one, stands between it and the last starter.
+/// Whether nothing between the last starter and the current item blocks it: no item there has its combining class or a
+/// greater one (UAX 15 D115).
 fn is_reaching(starter: usize, buffer: &hb_buffer_t) -> bool
     requires there { 0 < length buffer.now.ahead }
     requires behind { starter < length buffer.now.behind }
@@ -29,7 +31,7 @@ fn is_reaching(starter: usize, buffer: &hb_buffer_t) -> bool
     mark_class(buffer.prev()) < mark_class(buffer.cur(0))
 }
 
-/// What a starter and a mark become, with the font's glyph for it.
+/// The composite of a starter and a mark, with the font's glyph.
 fn composite_of<N: Normalizing>(
     by: &N,
     first: &hb_glyph_info_t,
@@ -44,7 +46,7 @@ fn composite_of<N: Normalizing>(
     Some((u, glyph))
 }
 
-/// What the last starter and the item at the cursor become, where that is a mark that reaches it.
+/// The composite of the last starter and the current item, if that is a mark that isn't blocked.
 fn find_composite<N: Normalizing>(
     by: &N,
     starter: usize,
@@ -65,7 +67,7 @@ fn find_composite<N: Normalizing>(
     composite_of(by, &first, mark)
 }
 
-/// Takes the cursor past the item at it, and answers where the last starter stands then.
+/// Outputs the current item, and returns the index of the last starter then.
 fn pass_by(starter: usize, buffer: &mut hb_buffer_t) -> Result<usize, ShapeCause>
     requires room { HasRoom buffer.old }
     requires there { 0 < length buffer.old.ahead }
@@ -81,7 +83,7 @@ fn pass_by(starter: usize, buffer: &mut hb_buffer_t) -> Result<usize, ShapeCause
     Ok(starter)
 }
 
-/// Goes on by one item, and answers where the last starter stands then.
+/// Handles one item, and returns the index of the last starter then.
 fn compose_next<N: Normalizing>(
     by: &N,
     starter: usize,
@@ -102,7 +104,7 @@ fn compose_next<N: Normalizing>(
     }
 }
 
-/// Walks over so many items, of which the first is the starter until an item of class 0 follows.
+/// Handles that many items, the first of which is the starter until an item of class 0 follows.
 fn compose_all<N: Normalizing>(
     by: &N,
     count: usize,
@@ -125,12 +127,12 @@ fn compose_all<N: Normalizing>(
     Ok(())
 }
 
-/// The third round, from the front of an open output that has room for the list: marks are composed with their base, as far
-/// as the font has what they compose to. All of it comes to stand behind the cursor.
+/// The third round, from the start of an open output with room for the list: marks are composed with their base where
+/// the font has the result. Afterwards the whole list is output.
 ///
 /// # Errors
 ///
-/// Want of memory.
+/// Lack of memory.
 pub(crate) fn compose_list<N: Normalizing>(
     by: &N,
     count: usize,

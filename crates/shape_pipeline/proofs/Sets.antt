@@ -64,7 +64,7 @@ kept_8 n = and_assoc 8 n 0x3F
 circle_asked : (flags : BufferFlags) → asks_circle (text_flags flags) ≡ asks_circle flags
 circle_asked flags = rw (kept_1 flags.0, kept_16 flags.0) refl
 
--- a circle where it is asked for
+-- a circle where it is required
 abbrev circle_if : Bool → Tables → FaceParts → List ℕ → Stage
 circle_if b t font context v = if b && length context == 0 && begins_with_mark v.items && is_some (nominal_glyph DOTTED_CIRCLE font) then with_circle t v else as_it_is v
 

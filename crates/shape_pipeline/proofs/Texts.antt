@@ -59,7 +59,8 @@ by_count P p text result empty read f false some =
     let R : Reading → Type 0 = λ r. Follows r (run_of text) result in
     read (subst R (read_if p (run_of text) false some) f)
 
--- where all readings have something of their results, and the text itself has it where it has no glyph, all texts have it
+-- where all readings have something of their results, and the text itself has it where it has no glyph, all texts have
+-- it
 of_texts : (P : List Origin → Type 0) (p : Shaping) (text : Sides) (result : Run) → ((gs : List hb_glyph_info_t) → gs ≡ [] → P (origins gs)) → (Follows (reading p (run_of text)) (run_of text) result → P result.origins)
     → Follows (text_reading p (run_of text)) (run_of text) result → P result.origins
 of_texts P p text result empty read f = by_count P p text result empty read f (length (items_of text) == 0) refl
@@ -91,7 +92,7 @@ texts_have_no_concat law p text result unasked f = of_texts HaveNoConcat p text 
 
 -- ---- texts that are alike
 
--- what is read hangs on what is seen alone
+-- what is read depends only on what is seen
 seen_alike : RunsReadAlike → (p : Shaping) (a b : Run) → have_no_ranges p.features ≡ true → a.view ≡ b.view → text_reading p a ≡ text_reading p b
 unfolding text_reading
 seen_alike law p a b unranged same =

@@ -1,4 +1,4 @@
--- A text's characters, until they are as the font and the shaper want them.
+-- The pipeline stages on characters, up to normalizing.
 use Rattle.std.specs.Prelude.{◌&&◌, if◌then◌else◌, [], ◌∷◌, None, codes}
 use lib.Utf8.{scalar}
 use Rattle.layout_face.specs.Glyphs.{nominal_glyph, variation_glyph}
@@ -16,7 +16,8 @@ use Rattle.shape_pipeline.specs.Chains.{in_order}
 use Rattle.shape_pipeline.specs.Limits.{begun}
 use Rattle.shape_pipeline.specs.Shaping.{Shaping, preprocessed}
 
--- limits go by the length; each character has the mask of the features that are on for all, and its properties; a circle stands before a mark; graphemes are made clusters; the text is put in the order of its writing
+-- the first pipeline stage: limits by the length, masks of the features for all glyphs, properties, a dotted circle
+-- before a mark, clusters of graphemes, and the script's direction
 unfoldable pub text_begun : Shaping → Stage
 text_begun p = in_order (
     always begun ∷
@@ -27,7 +28,8 @@ text_begun p = in_order (
     always (native_order p.settings.script) ∷
     [])
 
--- what normalising reads: what is no character has no glyph and no parts, and composes with nothing
+-- the normalizer's requests, answered by the font, the tables and the shaper; a number that is no character has no
+-- glyph and no decomposition, and composes with nothing
 abbrev pub normalizer : Shaping → Normalizer
 normalizer p = record {
   tables = p.tables;
@@ -41,11 +43,11 @@ normalizer p = record {
   reorders = p.rules.reorders;
 }
 
--- characters are mirrored, or stand upright, as the line is to run
+-- the view with characters mirrored or in vertical forms, by the text's direction
 abbrev pub turned_to_line : Shaping → View → Read
 turned_to_line p v = rotated p.tables p.font p.direction (mask_at_one (codes "rtlm") p.map) p.choices.has_vert v
 
--- the shaper changes the text; characters are mirrored or stand upright as the line is to run; they are split, put in order and composed, and each has its glyph
+-- the pipeline stage that chooses glyphs: the shaper's preprocessing, mirrored and vertical characters, and normalizing
 unfoldable pub characters_chosen : Shaping → Stage
 characters_chosen p = in_order (
     preprocessed p ∷

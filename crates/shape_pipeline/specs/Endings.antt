@@ -9,7 +9,8 @@ use Rattle.shape_pipeline.specs.Chains.{in_order}
 use Rattle.shape_pipeline.specs.Limits.{ended}
 use Rattle.shape_pipeline.specs.Shaping.{Shaping, postprocessed}
 
--- selectors that the font does not join are shown, ignorables are hidden or go; the shaper changes the glyphs; those of a cluster get one set of flags; the limits are as at first
+-- the last pipeline stage: selectors that the font doesn't combine are shown, default ignorables hidden or deleted, the
+-- shaper's postprocessing done, glyph flags shared within clusters, and the limits reset
 unfoldable pub text_ended : Shaping → Stage
 text_ended p = in_order (
     always (with_selectors p.settings.not_found_variation_selector) ∷
@@ -19,6 +20,6 @@ text_ended p = in_order (
     always (ended p.direction) ∷
     [])
 
--- the glyphs that are set for what is not to be seen, and for a selector that the font does not know, are numbers that a glyph can have
+-- the glyphs that are set for invisible characters and for uncombined selectors are at most 65,535
 abbrev pub sets_glyphs : TextSettings → Bool
 sets_glyphs settings = is_glyph_if_set settings.invisible && is_glyph_if_set settings.not_found_variation_selector

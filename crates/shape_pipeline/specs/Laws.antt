@@ -1,4 +1,4 @@
--- What holds of all texts that are shaped, with a plan or without one.
+-- Laws of all shaped texts, with or without a plan.
 use Rattle.std.specs.Prelude.{ℕ, ⊤, ◌≡◌, true, false, List, []}
 use Rattle.buffer_common.specs.declared.tag.Tag.{Tag}
 use Rattle.buffer_features.specs.declared.feature.Feature.{Feature}
@@ -21,41 +21,43 @@ use Rattle.shape_pipeline.specs.ReadingLaws.{have_no_ranges}
 use Rattle.shape_pipeline.specs.Shaping.{Shaping}
 use Rattle.shape_pipeline.specs.Shaped.{by_plan, by_text, language_tags, text_reading}
 
--- a plan for a text's language, direction and script, made of the same font and features, shapes the text by what no plan shapes it by
+-- law: a plan for a text's language, direction and script, made with the same font and features, gives the same
+-- `Shaping` as `shape` without a plan
 abbrev pub PlansShapeAlike : Type 0
 PlansShapeAlike = (font : FaceParts) (tables : Tables) (tags : List ℕ → List Tag) (spans : Spans) (features : List Feature) (text : Sides) (plan : hb_ot_shape_plan_t hb_ot_any_shaper_t ⊤)
     → IsPlanned any_kind font (language_tags tags text) text.direction text.script features plan
     → by_plan (traits_of plan.shaper) (rules_of plan.shaper plan.script_plan) plan font tables spans (text_settings text) ≡ by_text font tables tags spans features text
 
--- a text has one result, whatever was shaped before it
+-- law: a text has one result, whatever was shaped before
 abbrev pub ResultsAreOne : Type 0
 ResultsAreOne = (p : Shaping) (text a b : Run) → Follows (text_reading p text) text a → Follows (text_reading p text) text b → a ≡ b
 
--- a text without characters is not refused, and stays as it is
+-- law: a text without characters is not refused, and stays unchanged
 abbrev pub EmptyTextsStay : Type 0
 EmptyTextsStay = (p : Shaping) (text : Run) → text.view.items ≡ [] → text_reading p text ≡ as_it_is text.view
 
--- ---- clusters, and requests for flags of glyphs
+-- ---- clusters, and requests for glyph flags
 
--- two texts that differ in their clusters, their level and their requests for flags of glyphs alone
+-- two texts differ only in their clusters, their cluster level and their requests for glyph flags
 pub record AreAlike (a b : Sides) : Type 0 where
   pub views : view_of a ≡ view_of b
   pub settings : text_settings a ≡ text_settings b
   pub languages : a.language ≡ b.language
 
--- they are refused for one cause or have the same glyphs at the same places, where no feature is asked for on a part of the text
+-- law: such texts fail for the same cause, or have the same glyphs with the same positions, where no feature is
+-- requested for a range of the text
 abbrev pub TextsReadAlike : Type 0
 TextsReadAlike = (font : FaceParts) (tables : Tables) (tags : List ℕ → List Tag) (spans : Spans) (features : List Feature) (a b : Sides) → have_no_ranges features ≡ true → AreAlike a b
     → text_reading (by_text font tables tags spans features a) (run_of a) ≡ text_reading (by_text font tables tags spans features b) (run_of b)
 
--- each cluster number of a result is one of the text's
+-- law: each cluster number of a result is one of the text's
 abbrev pub TextsKeepNumbers : Type 0
 TextsKeepNumbers = (p : Shaping) (text : Sides) (result : Run) → Follows (text_reading p (run_of text)) (run_of text) result → BringsNone (numbers (origins_of text)) (numbers result.origins)
 
--- neighbouring glyphs of a result that are of one cluster have the same flags
+-- law: neighbouring glyphs of one cluster of a result have the same flags
 abbrev pub TextsAreEven : Type 0
 TextsAreEven = (p : Shaping) (text : Sides) (result : Run) → Follows (text_reading p (run_of text)) (run_of text) result → AreEvenRuns result.origins
 
--- and none tells where texts may not be put together, but where that was asked for
+-- law: UNSAFE_TO_CONCAT is set in a result only where it was requested
 abbrev pub TextsHaveNoConcat : Type 0
 TextsHaveNoConcat = (p : Shaping) (text : Sides) (result : Run) → (asks_of text).concat ≡ false → Follows (text_reading p (run_of text)) (run_of text) result → HaveNoConcat result.origins

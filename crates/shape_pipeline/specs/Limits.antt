@@ -1,13 +1,14 @@
--- How much a text may grow while it is shaped.
+-- The limits of a text's growth during shaping.
 use Rattle.std.specs.Prelude.{pos, max, length, []}
 use Rattle.buffer_common.specs.declared.direction.Direction.{Direction}
 use Rattle.buffer_core.specs.Readings.{View, Read, with_events}
 use Rattle.buffer_core.specs.Settings.{length_limit, steps_limit}
 
--- shaping begins: how many glyphs there may be, and how many nested lookups, goes by the characters; no ligature has a number, and nothing is told of the glyphs
+-- the view at the start of shaping: the limits of glyphs and of nested lookups are set by the number of characters; no
+-- ligature has a number, and no scratch flag is set
 abbrev pub begun : View → Read
 begun v = with_events [] (record v { max_len = length_limit (length v.items) v.max_len; max_ops = steps_limit (length v.items) v.max_ops; lig_id = 0; told = 0 })
 
--- shaping ends: the direction is again that of the line, and the limits are as at first
+-- the view at the end of shaping: the direction is the text's, and the limits are reset
 abbrev pub ended : Direction → View → Read
 ended direction v = with_events [] (record v { max_len = max 0x3FFF_FFFF (length v.items); max_ops = pos 0x1FFF_FFFF; lig_id = 0; direction = direction })

@@ -1,4 +1,4 @@
--- Where glyphs stand.
+-- The pipeline stages that position glyphs.
 use Rattle.std.specs.Prelude.{ℕ, ◌==◌, ◌&&◌, Bool, if◌then◌else◌, [], ◌∷◌, length, reverse}
 use Rattle.buffer_common.specs.Direction.{is_backward, is_forward}
 use Rattle.buffer_common.specs.declared.direction.Direction.{Direction}
@@ -17,11 +17,11 @@ use Rattle.script_plan.specs.declared.planned.TheConstants.{HB_OT_SHAPE_ZERO_WID
 use Rattle.shape_pipeline.specs.Chains.{in_order, only_if}
 use Rattle.shape_pipeline.specs.Shaping.{Shaping, pauses_of}
 
--- each position is nothing
+-- the view with all positions zero
 abbrev pub with_nothing : View → Read
 with_nothing v = with_events [] (record v { positions = zero_positions (length v.positions) })
 
--- each glyph gets its advance; spaces that the font lacks are as wide as their characters want; no glyph hangs on another
+-- the pipeline stage of advances: each glyph's, and those of spaces that the font lacks; no glyph is attached
 unfoldable pub positions_begun : Shaping → Stage
 positions_begun p = in_order (
     always with_nothing ∷
@@ -30,20 +30,22 @@ positions_begun p = in_order (
     always links_cleared ∷
     [])
 
--- ---- the font's positioning, and marks, which take no room
+-- ---- GPOS, and the advances of marks
 
--- a mark that loses its advance moves back by it where the font has no positioning of its own and the line runs forward
+-- a mark whose advance is zeroed is shifted back by it: where the font has no positioning of its own and the text runs
+-- forward
 abbrev pub adjusts_marks : Shaping → Direction → Bool
 adjusts_marks p d = p.choices.adjust_mark_positioning_when_zeroing && is_forward d
 
+-- the view with the advances of marks zeroed
 abbrev pub marks_zeroed : Shaping → View → Read
 marks_zeroed p v = with_marks_zeroed (adjusts_marks p v.direction) v
 
--- whether marks lose their advances at a time
+-- the advances of marks are zeroed at a time
 abbrev pub zeroes_marks : ℕ → Shaping → Bool
 zeroes_marks time p = p.choices.zero_marks && p.traits.zero_width_marks == time
 
--- marks lose their advances before the font's positioning or after it, as the shaper wants
+-- the pipeline stage of GPOS: the advances of marks are zeroed before or after it, as the shaper says
 unfoldable pub positions_adjusted : Shaping → Stage
 positions_adjusted p = in_order (
     only_if (zeroes_marks HB_OT_SHAPE_ZERO_WIDTH_MARKS_BY_GDEF_EARLY p) (always (marks_zeroed p)) ∷
@@ -53,14 +55,16 @@ positions_adjusted p = in_order (
 
 -- ---- the line
 
+-- the view with marks positioned by fallback
 abbrev pub marks_placed : Shaping → View → Read
 marks_placed p v = with_placed_marks p.font (components_direction p.direction p.script) (adjusts_marks p v.direction) v
 
--- glyphs stand as they are drawn, from left to right
+-- the view with its glyphs in visual order, from left to right
 abbrev pub drawn_order : View → Read
 drawn_order v = if is_backward v.direction then with_events (Reverse ∷ []) (record v { items = reverse v.items; positions = reverse v.positions }) else with_events [] v
 
--- ignorables take no room; attached glyphs are drawn where they hang; marks that the font does not place stand at the boxes of their bases; the line is put in the order in which it is drawn
+-- the last stage of positions: default ignorables are zeroed, the offsets of attached glyphs added, marks positioned by
+-- fallback, and the glyphs put in visual order
 unfoldable pub positions_ended : Shaping → Stage
 positions_ended p = in_order (
     always (zero_widths p.settings.flags) ∷

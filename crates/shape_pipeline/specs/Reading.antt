@@ -11,7 +11,7 @@ use Rattle.shape_pipeline.specs.Masks.{masks_set, ranges_set}
 use Rattle.shape_pipeline.specs.Places.{positions_adjusted, positions_begun, positions_ended}
 use Rattle.shape_pipeline.specs.Shaping.{Shaping}
 
--- all that comes before the masks of ranges
+-- the pipeline stages before the masks of ranges
 unfoldable pub before_ranges : Shaping → Stage
 before_ranges p = in_order (
     text_begun p ∷
@@ -19,7 +19,7 @@ before_ranges p = in_order (
     masks_set p ∷
     [])
 
--- glyphs, where they stand
+-- the pipeline stages that position glyphs
 unfoldable pub positioned : Shaping → Stage
 positioned p = in_order (
     positions_begun p ∷
@@ -27,7 +27,7 @@ positioned p = in_order (
     positions_ended p ∷
     [])
 
--- all that comes after them: glyphs, substitution, positions, the end
+-- the pipeline stages after the masks of ranges: glyphs, substitution, positions, the end
 unfoldable pub after_ranges : Shaping → Stage
 after_ranges p = in_order (
     glyphs_taken p ∷
@@ -36,7 +36,7 @@ after_ranges p = in_order (
     text_ended p ∷
     [])
 
--- the reading of a text whose clusters have such numbers where the masks of ranges are set, which nothing else reads
+-- the reading of a text by the cluster numbers at the masks of ranges; nothing else depends on them
 unfoldable pub shaped : Shaping → List ℕ → Stage
 shaped p clusters = in_order (
     before_ranges p ∷
@@ -44,7 +44,7 @@ shaped p clusters = in_order (
     after_ranges p ∷
     [])
 
--- the numbers of a run's clusters once a reading was followed
+-- the cluster numbers of a run after a reading
 abbrev pub clusters_after : Reading → Run → List ℕ
 clusters_after (Ok r) run = numbers (origins_after run.asks run.level (r.events run.level) run.origins)
 clusters_after (Err e) run = []

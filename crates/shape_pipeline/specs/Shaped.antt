@@ -1,4 +1,4 @@
--- What a text is shaped by, and how it is read.
+-- The `Shaping` of a text, and its reading.
 use Rattle.std.specs.Prelude.{ℕ, ⊤, ◌==◌, if◌then◌else◌, List, [], length, Ok}
 use Rattle.buffer_common.specs.declared.tag.Tag.{Tag}
 use Rattle.buffer_common.specs.ScriptTags.{wanted_language_tags}
@@ -20,7 +20,7 @@ use Rattle.script_dispatch.specs.Shapers.{traits_of}
 use Rattle.shape_pipeline.specs.Reading.{reading}
 use Rattle.shape_pipeline.specs.Shaping.{Shaping}
 
--- what a text is shaped by where its plan is of such parts, and its shaper has these traits and rules
+-- the `Shaping` by a plan's fields and a shaper's choices and rules
 abbrev pub by_script_plan : {D : Type 0} → ShaperTraits → ShaperRules → hb_script_plan_t D → List Feature → FaceParts → Tables → Spans → TextSettings → Shaping
 by_script_plan traits rules plan features font tables spans settings = record {
   font = font;
@@ -36,11 +36,11 @@ by_script_plan traits rules plan features font tables spans settings = record {
   spans = spans;
 }
 
--- what it is shaped by where there is a plan
+-- the `Shaping` by a plan
 abbrev pub by_plan : {S D : Type 0} → ShaperTraits → ShaperRules → hb_ot_shape_plan_t S D → FaceParts → Tables → Spans → TextSettings → Shaping
 by_plan traits rules plan = by_script_plan traits rules plan.script_plan plan.user_features.items
 
--- and by a shaper of the stack
+-- the `Shaping` by a plan of one of this stack's shapers
 abbrev pub by_shaper : hb_ot_any_shaper_t → hb_script_plan_t ⊤ → List Feature → FaceParts → Tables → Spans → TextSettings → Shaping
 by_shaper shaper plan = by_script_plan (traits_of shaper) (rules_of shaper plan) plan
 
@@ -48,15 +48,16 @@ by_shaper shaper plan = by_script_plan (traits_of shaper) (rules_of shaper plan)
 abbrev pub language_tags : (List ℕ → List Tag) → Sides → List Tag
 language_tags tags s = wanted_language_tags tags s.language
 
--- what a text is shaped by where its language has such tags: by the plan for its direction, script, language and features
+-- the `Shaping` of a text whose language has the given tags: by the plan for its direction, script, language and
+-- features
 abbrev pub by_tags : FaceParts → Tables → List Tag → Spans → List Feature → Sides → Shaping
 by_tags font tables tags spans features s =
     by_shaper (planned_shaper any_kind font tags s.direction s.script) (text_plan any_kind font tags s.direction s.script features) features font tables spans (text_settings s)
 
--- what a text is shaped by where there is no plan
+-- the `Shaping` of a text without a plan
 abbrev pub by_text : FaceParts → Tables → (List ℕ → List Tag) → Spans → List Feature → Sides → Shaping
 by_text font tables tags spans features s = by_tags font tables (language_tags tags s) spans features s
 
--- a text without characters stays as it is; another is read as it is shaped
+-- the reading of a text; one without characters stays unchanged
 unfoldable pub text_reading : Shaping → Run → Reading
 text_reading p run = if length run.view.items == 0 then Ok (with_events [] run.view) else reading p run

@@ -13,33 +13,36 @@ use Rattle.script_plan.specs.declared.plan.PlanChoices.{PlanChoices}
 use Rattle.script_plan.specs.Traits.{ShaperTraits}
 use Rattle.script_plan.specs.Rules.{ShaperRules, Spans}
 
--- all that a text is shaped by: no cluster, no level and no request for flags of glyphs is in it
+-- all that a text is shaped by; clusters, cluster level and requests for glyph flags are not among it
 pub record Shaping : Type 0 where
   pub font : FaceParts
   pub tables : Tables
-  -- what is set for the text
+  -- the settings of the text
   pub settings : TextSettings
-  -- the plan: the direction and the script that it is for, which features act on what, and what it decided
+  -- the plan: its direction and script, its map, and its choices
   pub direction : Direction
   pub script : Option Script
   pub map : OtMapValue
   pub choices : PlanChoices
-  -- the features that were asked for
+  -- the requested features
   pub features : List Feature
-  -- the shaper: what it decided for all texts, and its rules; where syllables end
+  -- the shaper: its choices and its rules; and the machines that find syllables
   pub traits : ShaperTraits
   pub rules : ShaperRules
   pub spans : Spans
 
--- the shaper's own stages, for the text
+-- the stages of the shaper's pauses
 abbrev pub pauses_of : Shaping → Pauses
 pauses_of p = p.rules.pauses p.font p.tables p.spans p.settings
 
+-- the stage before normalizing
 abbrev pub preprocessed : Shaping → Stage
 preprocessed p = p.rules.preprocesses p.font p.tables p.settings
 
+-- the stage of the shaper's masks
 abbrev pub shaper_masks_set : Shaping → Stage
 shaper_masks_set p = p.rules.sets_masks p.font p.tables p.settings
 
+-- the stage after positioning
 abbrev pub postprocessed : Shaping → Stage
 postprocessed p = p.rules.postprocesses p.font p.settings

@@ -1,4 +1,4 @@
-//! A text's characters, until they are as the font and the shaper want them.
+//! The pipeline stages on characters, up to normalizing (rustybuzz: hb/ot_shape.rs).
 ghost use Rattle.std.specs.Prelude.{◌≡◌, ◌≢◌, Err, IfErr, OnOk, true};
 ghost use Rattle.buffer_core.specs.Readings.{always, read_of};
 ghost use Rattle.buffer_core.specs.Sides.{items_of, run_of};
@@ -25,8 +25,8 @@ use shape_text::properties::set_unicode_props;
 use shape_text::rotation::{self, Rotation};
 
 impl<S: hb_ot_shaper_t, P: SyllableSpans> hb_ot_shape_context_t<'_, S, P> {
-    /// Begins with a text: limits, the mask of all glyphs, the characters' properties, a circle before a mark, graphemes, and
-    /// the order of the writing.
+    /// Begins shaping: sets limits, masks and the characters' properties, inserts a dotted circle before a mark, forms
+    /// clusters, and puts the text in its script's direction.
     pub(crate) fn begin_text(&self, buffer: &mut hb_buffer_t) -> Result<(), ShapeCause>
         requires ready { IsReady buffer.old }
         requires characters { are_characters (items_of buffer.old) ≡ true }
@@ -44,7 +44,7 @@ impl<S: hb_ot_shaper_t, P: SyllableSpans> hb_ot_shape_context_t<'_, S, P> {
         Ok(())
     }
 
-    /// Mirrors characters, or puts them upright, as the line is to run.
+    /// Mirrors characters, or replaces them by vertical forms, by the text's direction.
     fn rotate_chars(&self, buffer: &mut hb_buffer_t)
         requires { IsReady buffer.old }
         ensures { IsFollowed
@@ -60,7 +60,7 @@ impl<S: hb_ot_shaper_t, P: SyllableSpans> hb_ot_shape_context_t<'_, S, P> {
         rotation::rotate_chars(rotation, self.face, self.tables, buffer);
     }
 
-    /// Puts the text in the normal form that the font and the shaper want.
+    /// Normalizes the text as the font and the shaper require.
     fn normalize(&self, buffer: &mut hb_buffer_t) -> Result<(), ShapeCause>
         requires { IsReady buffer.old }
         ensures ok { OnOk result (IsFollowed
@@ -94,8 +94,8 @@ impl<S: hb_ot_shaper_t, P: SyllableSpans> hb_ot_shape_context_t<'_, S, P> {
             .preprocess_text(&plan.script_plan, self.face, self.tables, buffer)
     }
 
-    /// Gives each character its glyph: the shaper changes the text, its characters are mirrored or stand upright, and they are
-    /// put in the normal form that the font wants.
+    /// Chooses each character's glyph: the shaper preprocesses the text, characters are mirrored or get vertical forms,
+    /// and the text is normalized.
     pub(crate) fn choose_characters(&self, buffer: &mut hb_buffer_t) -> Result<(), ShapeCause>
         requires { IsReady buffer.old }
         ensures ok { OnOk result (IsFollowed

@@ -1,4 +1,4 @@
-//! What a text is shaped by.
+//! The parameters of shaping one text, hb_ot_shape_context_t (rustybuzz: hb/ot_shape.rs).
 
 use buffer_unicode_tables::UnicodeTables;
 use layout_face::Face;
@@ -7,7 +7,7 @@ use script_plan::hb_ot_shaper_t;
 use script_plan::plan::hb_ot_shape_plan_t;
 use std::alloc::Global;
 
-/// A plan with its shaper, a font, tables of characters, and what tells where syllables end.
+/// A plan with its shaper, a font, tables of characters, and the machines that find syllables.
 #[derive(Drop)]
 pub struct hb_ot_shape_context_t<'a, S: hb_ot_shaper_t, P: SyllableSpans> {
     pub plan: &'a hb_ot_shape_plan_t<S>,
@@ -17,7 +17,7 @@ pub struct hb_ot_shape_context_t<'a, S: hb_ot_shaper_t, P: SyllableSpans> {
     pub alloc: Global,
 }
 
-/// What a text is shaped by, as its reading knows it.
+/// What a text is shaped by, as its reading has it.
 pub trait Shaped {
     ghost use Rattle.buffer_stages.specs.Settings.{TextSettings};
     ghost use Rattle.shape_pipeline.specs.Shaping.{Shaping};

@@ -1,4 +1,4 @@
-//! The end of shaping.
+//! The last pipeline stages (rustybuzz: hb/ot_shape.rs).
 ghost use Rattle.std.specs.Prelude.{◌≡◌, ◌≢◌, Err, IfErr, OnOk, true};
 ghost use Rattle.buffer_core.specs.Readings.{always, read_of};
 ghost use Rattle.buffer_core.specs.Sides.{items_of, run_of};
@@ -34,7 +34,7 @@ fn hide_ignorables(face: &Face, buffer: &mut hb_buffer_t)
     hide_default_ignorables(face, buffer);
 }
 
-/// Gives the buffer the direction of its line, and sets the limits as they were at first.
+/// Sets the buffer's direction to the text's, and resets the limits.
 #[tactic(auto, using(crate::proofs::Ended::left_followed))]
 fn leave(direction: Direction, buffer: &mut hb_buffer_t)
     requires { IsReady buffer.old }
@@ -58,7 +58,8 @@ impl<S: hb_ot_shaper_t, P: SyllableSpans> hb_ot_shape_context_t<'_, S, P> {
             .postprocess_glyphs(self.alloc, &plan.script_plan, self.face, buffer)
     }
 
-    /// Ends with a text: selectors and ignorables, the shaper's own work, and one set of flags for a cluster.
+    /// Ends shaping: variation selectors, default ignorables, the shaper's `postprocess_glyphs`, and the glyph flags of
+    /// clusters.
     pub(crate) fn end_text(&self, buffer: &mut hb_buffer_t) -> Result<(), ShapeCause>
         requires { IsReady buffer.old }
         ensures ok { OnOk result (IsFollowed

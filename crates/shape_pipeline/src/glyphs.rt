@@ -1,4 +1,4 @@
-//! Characters become glyphs, and the font substitutes them.
+//! The pipeline stages that map characters to glyphs and substitute them, substitute_pre (rustybuzz: hb/ot_shape.rs).
 ghost use Rattle.std.specs.Prelude.{◌≡◌, ◌≢◌, Err, IfErr, OnOk, true};
 ghost use Rattle.buffer_core.specs.Readings.{always, read_of};
 ghost use Rattle.buffer_core.specs.Sides.{items_of, run_of};
@@ -24,7 +24,7 @@ use shape_fallback::classes::_hb_ot_shape_fallback_mark_position_recategorize_ma
 use shape_glyphs::classes::hb_ot_layout_substitute_start;
 use shape_glyphs::glyphs::{hb_synthesize_glyph_classes, map_glyphs_fast};
 
-/// Gives marks the classes of their places, where they will be placed by their boxes.
+/// Sets the marks' classes by which they are positioned, if fallback will position them.
 #[tactic(auto, using(crate::proofs::Lemmas::Chains::acts_followed, crate::proofs::Lemmas::Chains::rests_followed))]
 fn recategorize_marks(choices: PlanChoices, buffer: &mut hb_buffer_t)
     requires { IsReady buffer.old }
@@ -35,7 +35,7 @@ fn recategorize_marks(choices: PlanChoices, buffer: &mut hb_buffer_t)
     }
 }
 
-/// Gives glyphs classes by their characters, for a font that gives none.
+/// Synthesizes glyph classes from the characters, for a font that has none.
 #[tactic(auto, using(crate::proofs::Lemmas::Chains::acts_done, crate::proofs::Lemmas::Chains::rests_done))]
 fn synthesize_classes(choices: PlanChoices, buffer: &mut hb_buffer_t)
     requires { IsReady buffer.old }
@@ -47,7 +47,7 @@ fn synthesize_classes(choices: PlanChoices, buffer: &mut hb_buffer_t)
 }
 
 impl<S: hb_ot_shaper_t, P: SyllableSpans> hb_ot_shape_context_t<'_, S, P> {
-    /// Puts the glyph that was chosen for each character in its place.
+    /// Replaces each character by the glyph chosen for it.
     #[tactic(auto, unfolding(crate::specs::Glyphs::glyphs_taken), using(crate::proofs::Lemmas::Chains::two_followed))]
     pub(crate) fn take_glyphs(&self, buffer: &mut hb_buffer_t)
         requires { IsReady buffer.old }
@@ -71,7 +71,7 @@ impl<S: hb_ot_shaper_t, P: SyllableSpans> hb_ot_shape_context_t<'_, S, P> {
         substitute(&self.plan.script_plan.map, self.face, buffer, self)
     }
 
-    /// Gives glyphs their classes and does the font's lookups of substitution, with the shaper's pauses.
+    /// Sets glyph classes, and applies the GSUB lookups with the shaper's pauses.
     pub(crate) fn substitute_glyphs(&self, buffer: &mut hb_buffer_t) -> Result<(), ShapeCause>
         requires ready { IsReady buffer.old }
         requires numbers { are_glyphs (items_of buffer.old) ≡ true }

@@ -1,4 +1,4 @@
-//! Laws of all texts that are shaped.
+//! Laws of every shaped text.
 ghost use Rattle.shape_pipeline.specs.Laws.{EmptyTextsStay, PlansShapeAlike, ResultsAreOne, TextsAreEven, TextsHaveNoConcat, TextsKeepNumbers, TextsReadAlike};
 
 use crate::reading_laws::{
@@ -6,8 +6,9 @@ use crate::reading_laws::{
     law_runs_read_alike,
 };
 
-/// A plan that was made for a text's language, direction and script, of the same font and features, shapes the text by just
-/// what `shape` goes by. So `shape_with_plan` gives what `shape` gives, clusters and flags of glyphs included.
+/// A plan that was made for a text's language, direction and script, with the same font and features, shapes the text
+/// with the same `Shaping` as `shape` does. So `shape_with_plan` has the same result as `shape`, clusters and glyph
+/// flags included.
 #[tactic(auto, using(crate::proofs::Shaped::planned_for))]
 pub fn law_plans_shape_alike()
     ensures { PlansShapeAlike }
@@ -19,14 +20,14 @@ pub fn law_results_are_one()
     ensures { ResultsAreOne }
 {}
 
-/// A text without characters is not refused, and stays as it is.
+/// A text without characters is not refused, and stays unchanged.
 #[tactic(auto, using(crate::proofs::Texts::empty_texts_stay))]
 pub fn law_empty_texts_stay()
     ensures { EmptyTextsStay }
 {}
 
-/// Where no feature is asked for on a part of the text, two texts that differ in their clusters, their level and their
-/// requests for glyph flags alone are refused for one cause, or have the same glyphs at the same places.
+/// Where no feature is requested for a range of the text, two texts that differ only in their clusters, their cluster
+/// level and their requests for glyph flags fail for the same cause, or have the same glyphs with the same positions.
 #[tactic(auto, using(crate::proofs::Texts::texts_read_alike))]
 pub fn law_texts_read_alike()
     ensures { TextsReadAlike }
@@ -42,7 +43,7 @@ pub fn law_texts_keep_numbers()
     law_reading_keeps_numbers();
 }
 
-/// In a result neighbouring glyphs of one cluster have the same flags.
+/// In a result all glyphs of a cluster that are neighbours have the same flags.
 #[tactic(auto, using(crate::proofs::Texts::texts_are_even))]
 pub fn law_texts_are_even()
     ensures { TextsAreEven }
@@ -50,7 +51,7 @@ pub fn law_texts_are_even()
     law_results_are_even();
 }
 
-/// In a result none tells where texts may not be put together, but where that was asked for.
+/// UNSAFE_TO_CONCAT is set only where it was requested.
 #[tactic(auto, using(crate::proofs::Texts::texts_have_no_concat))]
 pub fn law_texts_have_no_concat()
     ensures { TextsHaveNoConcat }

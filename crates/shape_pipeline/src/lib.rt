@@ -1,5 +1,5 @@
-// Shaping: a text and a font become placed glyphs. The whole reading of a text; a text shaped by a plan, its stages in order
-// with those of the plan's shaper; and `shape`, with the shapers of the stack.
+//! Shaping: a text and a font become positioned glyphs. The reading of a whole text; a text shaped by a plan, its
+//! pipeline stages in order with those of the plan's shaper; and `shape` with the shapers of this stack.
 #![tactic(auto)]
 
 mod characters;

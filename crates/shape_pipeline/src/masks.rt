@@ -1,4 +1,4 @@
-//! Which features act on which characters.
+//! The pipeline stage that sets the characters' masks (rustybuzz: hb/ot_shape.rs).
 ghost use Rattle.std.specs.Prelude.{◌≡◌, ◌≢◌, Err, IfErr, OnOk};
 ghost use Rattle.buffer_glyphs.specs.Items.{clusters};
 ghost use Rattle.buffer_core.specs.Readings.{always, read_of};
@@ -20,7 +20,7 @@ use script_plan::plan::hb_script_plan_t;
 use shape_masks::fractions::{self, FractionMasks};
 use shape_masks::ranges::set_ranged_masks;
 
-/// Gives numbers around a fraction slash the masks of fractions, where the font has them.
+/// Sets the masks of numbers around a fraction slash, where the font has the features.
 #[tactic(auto, using(crate::proofs::Lemmas::Chains::acts_followed, crate::proofs::Lemmas::Chains::rests_followed))]
 fn setup_masks_fraction<D>(plan: &hb_script_plan_t<D>, buffer: &mut hb_buffer_t)
     requires { IsReady buffer.old }
@@ -52,7 +52,7 @@ impl<S: hb_ot_shaper_t, P: SyllableSpans> hb_ot_shape_context_t<'_, S, P> {
             .setup_masks(&plan.script_plan, self.face, self.tables, buffer)
     }
 
-    /// Sets the masks of fractions and those that the shaper sets.
+    /// Sets the masks of fractions, and those of the shaper's `setup_masks`.
     pub(crate) fn setup_masks(&self, buffer: &mut hb_buffer_t) -> Result<(), ShapeCause>
         requires { IsReady buffer.old }
         ensures ok { OnOk result (IsFollowed
@@ -65,7 +65,7 @@ impl<S: hb_ot_shaper_t, P: SyllableSpans> hb_ot_shape_context_t<'_, S, P> {
         Ok(())
     }
 
-    /// Sets the masks of features that were asked for on a part of the text.
+    /// Sets the masks of features that are requested for a range of the text.
     pub(crate) fn setup_ranges(&self, buffer: &mut hb_buffer_t)
         requires { IsReady buffer.old }
         ensures { IsFollowed (ranges_set (⟦<Self as Shaped>⟧.shaping self.now (text_settings buffer.old))

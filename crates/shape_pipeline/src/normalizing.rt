@@ -1,4 +1,4 @@
-//! What normalising asks, answered by a shaper, a font and tables.
+//! The normalizer's requests, answered by a shaper, a font and tables.
 ghost use Rattle.std.specs.Prelude.{◌≡◌, ◌&&◌, None, if◌then◌else◌};
 
 use buffer_core::buffer::hb_buffer_t;
@@ -9,7 +9,7 @@ use script_plan::hb_ot_shaper_t;
 use script_plan::plan::hb_script_plan_t;
 use shape_rounds::normalizing::Normalizing;
 
-/// A shaper with its plan, a font, tables, and the glyphs that a text has for what the font lacks.
+/// A shaper with its plan, a font, tables, and the glyphs of characters that the font lacks.
 #[derive(Drop)]
 pub struct hb_ot_shape_normalize_context_t<'a, S: hb_ot_shaper_t> {
     pub shaper: &'a S,

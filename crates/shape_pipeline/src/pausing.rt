@@ -1,4 +1,4 @@
-//! A shaper's pauses, between the stages of lookups.
+//! A shaper's pauses between two GSUB stages.
 
 use crate::context::hb_ot_shape_context_t;
 use buffer_core::buffer::hb_buffer_t;

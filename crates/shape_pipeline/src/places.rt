@@ -1,4 +1,4 @@
-//! Where glyphs stand.
+//! The pipeline stages that position glyphs, position (rustybuzz: hb/ot_shape.rs).
 ghost use Rattle.std.specs.Prelude.{◌≡◌, ◌≢◌, ◌==◌, ◌&&◌, Err, IfErr, OnOk, true};
 ghost use Rattle.buffer_common.specs.Direction.{is_forward};
 ghost use Rattle.buffer_core.specs.Readings.{always, read_of};
@@ -48,7 +48,7 @@ fn zero_ignorables(buffer: &mut hb_buffer_t)
     zero_width_default_ignorables(buffer);
 }
 
-/// Puts glyphs in the order in which they are drawn.
+/// Reverses a backward text, so that the glyphs are in visual order.
 #[tactic(auto, using(crate::proofs::Placed::turned_drawn, crate::proofs::Placed::stays_drawn))]
 fn draw(buffer: &mut hb_buffer_t)
     requires { IsReady buffer.old }
@@ -60,7 +60,7 @@ fn draw(buffer: &mut hb_buffer_t)
 }
 
 impl<S: hb_ot_shaper_t, P: SyllableSpans> hb_ot_shape_context_t<'_, S, P> {
-    /// Gives glyphs the font's advances, and spaces their own.
+    /// Sets the font's advances, and those of spaces that the font lacks.
     #[tactic(auto, unfolding(crate::specs::Places::positions_begun), using(crate::proofs::Lemmas::Chains::four_done))]
     fn begin_positions(&self, buffer: &mut hb_buffer_t)
         requires { IsReady buffer.old }
@@ -101,7 +101,7 @@ impl<S: hb_ot_shaper_t, P: SyllableSpans> hb_ot_shape_context_t<'_, S, P> {
         zero_mark_widths_by_gdef(buffer, adjusts);
     }
 
-    /// Takes their advances from marks, if now is the time.
+    /// Zeroes the advances of marks, if now is the time.
     #[tactic(auto, using(crate::proofs::Lemmas::Chains::acts_done, crate::proofs::Lemmas::Chains::rests_done))]
     fn zero_marks(&self, time: hb_ot_shape_zero_width_marks_type_t, buffer: &mut hb_buffer_t)
         requires { IsReady buffer.old }
@@ -115,7 +115,7 @@ impl<S: hb_ot_shaper_t, P: SyllableSpans> hb_ot_shape_context_t<'_, S, P> {
         }
     }
 
-    /// Does the font's lookups of positioning, if the plan uses them.
+    /// Applies the GPOS lookups, if the plan uses them.
     #[tactic(auto, using(crate::proofs::Lemmas::Chains::acts_done, crate::proofs::Lemmas::Chains::rests_done, crate::proofs::Lemmas::Chains::acts_refused))]
     fn position_by_lookups(&self, buffer: &mut hb_buffer_t) -> Result<(), ShapeCause>
         requires ready { IsReady buffer.old }
@@ -135,7 +135,7 @@ impl<S: hb_ot_shaper_t, P: SyllableSpans> hb_ot_shape_context_t<'_, S, P> {
         position::position(&self.plan.script_plan.map, self.face, buffer, self)
     }
 
-    /// Kerns as the shaper would by itself, if the plan wants it.
+    /// Applies fallback kerning, if the plan uses it.
     fn kern(&self, buffer: &mut hb_buffer_t)
         ensures { buffer.new ≡ buffer.old }
     {
@@ -144,7 +144,7 @@ impl<S: hb_ot_shaper_t, P: SyllableSpans> hb_ot_shape_context_t<'_, S, P> {
         }
     }
 
-    /// Moves glyphs by the font's lookups, and kerns without them, as the plan wants it.
+    /// Applies GPOS and fallback kerning, as the plan says.
     fn position_by_plan(&self, buffer: &mut hb_buffer_t) -> Result<(), ShapeCause>
         requires ready { IsReady buffer.old }
         requires numbers { are_glyphs (items_of buffer.old) ≡ true }
@@ -162,7 +162,7 @@ impl<S: hb_ot_shaper_t, P: SyllableSpans> hb_ot_shape_context_t<'_, S, P> {
         Ok(())
     }
 
-    /// Moves glyphs by the font's lookups; marks lose their advances before or after them.
+    /// Applies GPOS, and zeroes the advances of marks before or after it.
     fn adjust_positions(&self, buffer: &mut hb_buffer_t) -> Result<(), ShapeCause>
         requires ready { IsReady buffer.old }
         requires numbers { are_glyphs (items_of buffer.old) ≡ true }
@@ -192,7 +192,7 @@ impl<S: hb_ot_shaper_t, P: SyllableSpans> hb_ot_shape_context_t<'_, S, P> {
         position_marks(self.face, components, adjusts, buffer);
     }
 
-    /// Places marks by the boxes of their bases, if the plan wants it.
+    /// Positions marks by the extents of their bases, if the plan says so.
     #[tactic(auto, using(crate::proofs::Lemmas::Chains::acts_done, crate::proofs::Lemmas::Chains::rests_done))]
     fn place_marks(&self, buffer: &mut hb_buffer_t)
         requires ready { IsReady buffer.old }
@@ -206,8 +206,7 @@ impl<S: hb_ot_shaper_t, P: SyllableSpans> hb_ot_shape_context_t<'_, S, P> {
         }
     }
 
-    /// Draws what was attached, places marks that the font does not place, and puts glyphs in the order in which they are
-    /// drawn.
+    /// Adds the offsets of attached glyphs, positions marks by fallback, and puts the glyphs in visual order.
     fn end_positions(&self, buffer: &mut hb_buffer_t)
         requires ready { IsReady buffer.old }
         requires numbers { are_glyphs (items_of buffer.old) ≡ true }
@@ -220,7 +219,7 @@ impl<S: hb_ot_shaper_t, P: SyllableSpans> hb_ot_shape_context_t<'_, S, P> {
         draw(buffer);
     }
 
-    /// Gives glyphs their places on the line.
+    /// Positions the glyphs.
     pub(crate) fn position(&self, buffer: &mut hb_buffer_t) -> Result<(), ShapeCause>
         requires ready { IsReady buffer.old }
         requires numbers { are_glyphs (items_of buffer.old) ≡ true }

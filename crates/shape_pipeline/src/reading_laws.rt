@@ -1,14 +1,15 @@
-//! Laws of all readings.
+//! Laws of every reading of a text.
 ghost use Rattle.shape_pipeline.specs.ReadingLaws.{ReadingKeepsNumbers, ResultsAreEven, ResultsHaveNoConcat, RunsReadAlike, SettingsReadAlike};
 
-/// Where no feature is asked for on a part of the text, two runs that differ in their clusters, their level and their requests
-/// for glyph flags alone are refused for one cause, or have the same glyphs at the same places.
+/// Where no feature is requested for a range of the text, two runs that differ only in their clusters, their cluster
+/// level and their requests for glyph flags fail for the same cause, or have the same glyphs with the same positions.
 #[tactic(auto, using(crate::proofs::Alike::runs_read_alike))]
 pub fn law_runs_read_alike()
     ensures { RunsReadAlike }
 {}
 
-/// What a reading knows of a text's settings is the same, whatever their level and their requests for glyph flags are.
+/// The settings that a reading depends on are the same, whatever the cluster level and the requests for glyph flags
+/// are.
 #[tactic(auto, using(crate::proofs::Alike::settings_read_alike))]
 pub fn law_settings_read_alike()
     ensures { SettingsReadAlike }
@@ -20,13 +21,13 @@ pub fn law_reading_keeps_numbers()
     ensures { ReadingKeepsNumbers }
 {}
 
-/// In a result neighbouring glyphs of one cluster have the same flags.
+/// In a result all glyphs of a cluster that are neighbours have the same flags.
 #[tactic(auto, using(crate::proofs::Spread::results_are_even))]
 pub fn law_results_are_even()
     ensures { ResultsAreEven }
 {}
 
-/// In a result none tells where texts may not be put together, but where that was asked for.
+/// UNSAFE_TO_CONCAT is set only where it was requested.
 #[tactic(auto, using(crate::proofs::Spread::results_have_no_concat))]
 pub fn law_results_have_no_concat()
     ensures { ResultsHaveNoConcat }

@@ -1,4 +1,4 @@
-//! Shaping of a text, with a plan or without one.
+//! Shapes a text, with a plan or without one (rustybuzz: hb/shape.rs).
 ghost use Rattle.std.specs.Prelude.{◌≡◌, ◌≢◌, Err, IfErr, IfOk, true, false};
 ghost use Rattle.buffer_core.specs.Readings.{Follows};
 ghost use Rattle.buffer_core.specs.Segment.{guessed};
@@ -22,7 +22,7 @@ use script_plan::hb_ot_shaper_t;
 use script_plan::plan::hb_ot_shape_plan_t;
 use std::alloc::Global;
 
-/// Why a text was not shaped, and the buffer for another text.
+/// Why a text was not shaped, and the buffer, cleared for another text.
 #[derive(Drop)]
 pub struct ShapeFault {
     pub cause: ShapeCause,
@@ -40,7 +40,7 @@ fn fault(cause: ShapeCause, mut buffer: hb_buffer_t) -> ShapeFault
     }
 }
 
-/// Shapes a text whose direction and script are known. A text without characters stays as it is.
+/// Shapes a text whose direction and script are set. A text without characters stays unchanged.
 fn shape_guessed<'a, S: hb_ot_shaper_t, P: SyllableSpans>(
     context: &hb_ot_shape_context_t<'a, S, P>,
     mut buffer: hb_buffer_t,
@@ -66,9 +66,12 @@ fn shape_guessed<'a, S: hb_ot_shaper_t, P: SyllableSpans>(
     }
 }
 
-/// Shapes a text by a plan for this font, for the text's direction and script, which are guessed where they are not set. The
-/// glyphs, where they stand, and the clusters and flags that they come from are those of the text's reading. It refuses by
-/// the reading's own cause, or for want of memory, and then hands back the buffer, cleared.
+/// Shapes a text by a plan for this font and for the text's direction and script, which are guessed where they are not
+/// set. The glyphs, their positions, clusters and flags are those of the text's reading.
+///
+/// # Errors
+///
+/// The reading's own cause, or lack of memory; the buffer is returned, cleared.
 pub fn shape_with_plan<S: hb_ot_shaper_t, P: SyllableSpans, L: LanguageTags>(
     alloc: Global,
     face: &Face,
@@ -99,7 +102,7 @@ pub fn shape_with_plan<S: hb_ot_shaper_t, P: SyllableSpans, L: LanguageTags>(
     shape_guessed(&context, buffer.into_buffer())
 }
 
-/// Shapes a text in a font, with the features that are asked for: by a plan that serves this text alone.
+/// Shapes a text in a font with the requested features, by a plan that serves this text only.
 pub fn shape<P: SyllableSpans, L: LanguageTags>(
     alloc: Global,
     face: &Face,

@@ -1,4 +1,4 @@
-//! All stages of shaping, in order.
+//! All pipeline stages in order, shape_internal (rustybuzz: hb/ot_shape.rs).
 ghost use Rattle.std.specs.Prelude.{◌≡◌, ◌≢◌, Err, IfErr, OnOk, true, false};
 ghost use Rattle.buffer_core.specs.Readings.{Follows, read_of};
 ghost use Rattle.buffer_core.specs.Sides.{items_of, run_of, settings_of};
@@ -16,7 +16,7 @@ use buffer_glyphs::cause::ShapeCause;
 use script_categories::SyllableSpans;
 use script_plan::hb_ot_shaper_t;
 
-/// Puts the cursor in front of the text.
+/// Moves the cursor to the start of the text.
 #[tactic(auto, using(crate::proofs::Whole::rewound_ready, crate::proofs::Whole::rewound_run))]
 fn rewind(buffer: &mut hb_buffer_t)
     requires closed { buffer.old.is_open ≡ false }
@@ -31,7 +31,7 @@ fn rewind(buffer: &mut hb_buffer_t)
 }
 
 impl<S: hb_ot_shaper_t, P: SyllableSpans> hb_ot_shape_context_t<'_, S, P> {
-    /// Does all that comes before the masks of ranges.
+    /// Performs the pipeline stages before the masks of ranges.
     fn prepare_text(&self, buffer: &mut hb_buffer_t) -> Result<(), ShapeCause>
         requires ready { IsReady buffer.old }
         requires characters { are_characters (items_of buffer.old) ≡ true }
@@ -47,7 +47,7 @@ impl<S: hb_ot_shaper_t, P: SyllableSpans> hb_ot_shape_context_t<'_, S, P> {
         Ok(())
     }
 
-    /// Does all that comes after them.
+    /// Performs the pipeline stages after the masks of ranges.
     fn lay_out(&self, buffer: &mut hb_buffer_t) -> Result<(), ShapeCause>
         requires { IsReady buffer.old }
         ensures ok { OnOk result (IsFollowed
@@ -65,7 +65,7 @@ impl<S: hb_ot_shaper_t, P: SyllableSpans> hb_ot_shape_context_t<'_, S, P> {
         Ok(())
     }
 
-    /// Does all stages on a buffer that stands ready.
+    /// Performs all pipeline stages on a prepared buffer.
     fn shape_ready(&self, buffer: &mut hb_buffer_t) -> Result<(), ShapeCause>
         requires ready { IsReady buffer.old }
         requires characters { are_characters (items_of buffer.old) ≡ true }
@@ -84,9 +84,9 @@ impl<S: hb_ot_shaper_t, P: SyllableSpans> hb_ot_shape_context_t<'_, S, P> {
         Ok(())
     }
 
-    /// Shapes a text by the plan: all that the stages see of the buffer, and where its glyphs come from, follow the text's
-    /// reading. The result has numbers of glyphs, if those that are set for it are such. It refuses by the reading's own cause,
-    /// or for want of memory.
+    /// Shapes a text by the plan (`shape_internal`): the buffer's state, and the origins of its glyphs, are those of
+    /// the text's reading. All glyph numbers of the result are at most 65,535 if those that are set for the text are.
+    /// It fails for the reading's own cause, or for lack of memory.
     pub fn shape_internal(&self, buffer: &mut hb_buffer_t) -> Result<(), ShapeCause>
         requires closed { buffer.old.is_open ≡ false }
         requires unrefused { buffer.old.has_refused ≡ false }

@@ -96,7 +96,7 @@ no_attachment false true false = refl
 no_attachment false false true = refl
 no_attachment false false false = refl
 
--- characters do not tell of attachments
+-- characters do not determine attachments
 told_clear : (xs : List Item) (told : ℕ) → bit_and told 8 ≡ 0 → bit_and (told_by xs told) 8 ≡ 0
 told_clear [] told h = h
 told_clear (x ∷ xs) told h =

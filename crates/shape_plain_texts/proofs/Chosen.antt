@@ -1,4 +1,4 @@
--- The characters of a plain text as the font wants them.
+-- The characters of a plain text as the font requires them.
 use Rattle.std.proofs.Common.{ℕ, ◌≡◌, ◌≤◌, ◌++◌, ◌&&◌, ◌==◌, Bool, true, false, if◌then◌else◌, nat_le, List, [], ◌∷◌, Ok, map, length, refl, sym, ap, subst, ◌∙◌, arith}
 use Rattle.std.specs.Prelude.{bit_and, Option, Some, None, is_some}
 use Rattle.std.specs.List.{list_any}

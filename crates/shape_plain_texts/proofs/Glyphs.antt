@@ -72,7 +72,7 @@ as_number g e = rw e refl
 as_shown : (font : FaceParts) (u : ℕ) (x : Item) → Chosen font u x → Shown font u (as_glyph x)
 as_shown font u x g = record { number = ap glyph_or_missing g.index ∙ as_number (glyph_of font u) (its_number font u g.plain); plain = g.plain; word = g.word }
 
--- items that are mapped where they stand
+-- items that are mapped in place
 pub mapped_stand : (P Q : ℕ → Item → Type 0) (ps : List Position) (k : Item → Item) → ((u : ℕ) (x : Item) → P u x → Q u (k x)) → (us : List ℕ) (v : View) → Placed P ps us v → Placed Q ps us (record v { items = map k v.items })
 mapped_stand P Q ps k h us v a =
     let s = a.stands in

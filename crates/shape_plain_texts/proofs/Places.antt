@@ -1,4 +1,4 @@
--- The places of a plain text's glyphs.
+-- The positions of a plain text's glyphs.
 use Rattle.std.proofs.Common.{ℕ, ◌≡◌, ◌&&◌, ◌==◌, Bool, true, false, not, if◌then◌else◌, nat_le, List, [], ◌∷◌, map, length, reverse, refl, sym, ap, subst, ◌∙◌}
 use Rattle.std.specs.Prelude.{bit_and}
 use Rattle.std.proofs.lemmas.List.{length-map, length-replicate}
@@ -99,7 +99,7 @@ none_marked font (u ∷ us) (x ∷ xs) a = rw (not_mark font u x a.0, none_marke
 
 -- ---- the stages
 
--- glyphs at their places
+-- glyphs with their positions
 abbrev pub AtPlaces : FaceParts → List ℕ → View → Type 0
 AtPlaces font us v = Placed (Based font) (map (place_of font) us) us v
 

@@ -1,4 +1,4 @@
--- Stages on texts whose items stand beside characters.
+-- Stages on texts whose items are paired with characters.
 use Rattle.std.proofs.Common.{ℕ, ◌≡◌, ◌≤◌, Bool, true, false, not, List, [], ◌∷◌, Ok, map, length, refl, sym, ap, subst, ◌∙◌}
 use Rattle.std.specs.Prelude.{bit_and, nat_le, Option, Some, None, unwrap_or}
 use Rattle.std.specs.Option.{option_map_or}

@@ -102,7 +102,7 @@ hidden_stand font false o us v a = hidden_by_stand font o us v a
 postprocessed_same : (p : Shaping) → IsPlainShaping p → (v : View) → postprocessed p v ≡ as_it_is v
 postprocessed_same p plain v = ap (λ (r : ShaperRules). r.postprocesses p.font p.settings v) plain.rules
 
--- the glyphs and their places, of whatever flags and limits
+-- the glyphs and their positions, whatever flags and limits are
 record Printed (font : FaceParts) (us : List ℕ) (v : View) : Type 0 where
   pub glyphs : map (λ (x : Item). x.number) v.items ≡ map (glyph_of font) us
   pub places : v.positions ≡ map (place_of font) us

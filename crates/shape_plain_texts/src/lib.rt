@@ -1,4 +1,4 @@
-// Texts that show each character as the font's own glyph.
+//! Plain texts: those that show each character as the font's glyph of it.
 #![tactic(auto)]
 
 pub mod laws;

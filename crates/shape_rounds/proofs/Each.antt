@@ -10,7 +10,7 @@ use Rattle.buffer_glyphs.specs.Arranged.{Arranged, in_turn}
 use Rattle.buffer_stages.specs.Brought.{Brought, Overfills}
 use Rattle.shape_rounds.proofs.Lemmas.Chain.{none_behind, brought_none, brought_more, overfills_after}
 
--- so many of n items ahead are behind the cursor, each as f has it
+-- that many of n input items are output, each as f maps it
 pub record IsUnderway (f : Item → Arranged) (n at : ℕ) (start now : Sides) : Type 0 where
   pub is_open : now.is_open ≡ true
   pub left : length start.ahead ≡ length now.ahead + at

@@ -1,4 +1,4 @@
--- A search for a selector ahead.
+-- A search for a selector in the input.
 use Rattle.std.proofs.Common.{ℕ, zero, suc, ◌≡◌, ◌<◌, ◌≤◌, ◌+◌, ◌||◌, true, false, Bool, List, [], ◌∷◌, Some, length, take, drop, sym, ap, ◌∙◌, arith, add-one}
 use Rattle.std.specs.Prelude.{slice_get}
 use Rattle.std.specs.List.{list_any}

@@ -1,4 +1,4 @@
--- Glyphs put behind the output in the place of the one at the cursor.
+-- Glyphs appended to the output in place of the current one.
 use Rattle.std.proofs.Common.{ℕ, ◌≡◌, ◌≤◌, ◌+◌, ◌==◌, Bool, true, false, List, [], ◌∷◌, ◌++◌, Option, Some, None, length, map, drop, refl, sym, ap, subst, ◌∙◌, append_assoc, arith, if◌then◌else◌}
 use Rattle.std.specs.Prelude.{slice_get, replicate}
 use Rattle.std.proofs.lemmas.List.{map-append, length-map}
@@ -41,7 +41,7 @@ one_replaced asks level xs front back o = by_test (length xs) (length xs == 1) r
     by_test n true e = let one : n ≡ 1 = grind (arith, e) in rw one (sym (append_assoc front (o ∷ []) back))
     by_test n false e = rw (nothing (length front)) (ap (replaced_among (length front) 1 n) (merged_alone (manner InList level) (length front) (front ++ o ∷ back)) ∙ origins_same o front back n)
 
--- glyphs of one origin in the place of the one at the cursor
+-- glyphs of one origin in place of the current one
 pub put_skipped : (gs : List hb_glyph_info_t) (g : hb_glyph_info_t) (rest : List hb_glyph_info_t) (s new : Sides) → s.ahead ≡ g ∷ rest → origins gs ≡ replicate (length gs) (origin_of g)
     → new ≡ with_skipped (record s { behind = s.behind ++ gs }) → Brought (replaced_by 1 (strip gs)) (strip rest) s new
 put_skipped gs g rest s new at same is = subst (λ (t : Sides). Brought (replaced_by 1 (strip gs)) (strip rest) s t) (sym is) (record {
@@ -80,7 +80,7 @@ item_ahead g gs x xs is seen = let e : x ∷ xs ≡ item_of g ∷ strip (drop 1 
 rest_ahead : (g : hb_glyph_info_t) (gs : List hb_glyph_info_t) (x : Item) (xs : List Item) → gs ≡ g ∷ drop 1 gs → strip gs ≡ x ∷ xs → strip (drop 1 gs) ≡ xs
 rest_ahead g gs x xs is seen = let e : x ∷ xs ≡ item_of g ∷ strip (drop 1 gs) = sym seen ∙ ap strip is in cc
 
--- an item split into the characters that were put behind the output
+-- an item that was decomposed into the characters that were appended to the output
 pub parts_brought : (c : Normalizer) (reach : Reach) (b : Bool) (g : hb_glyph_info_t) (old mid new : Sides) (x : Item) (xs : List Item) → slice_get old.ahead 0 ≡ Some g → strip old.ahead ≡ x ∷ xs
     → Puts c (expansion reach (has_character c) c.splits g.glyph_id) b old mid → b ≡ true → new ≡ with_skipped mid → Brought (expanded c reach x) xs old new
 unfolding expanded_item
@@ -98,7 +98,7 @@ parts_brought c reach b g old mid new x xs at seen put went is =
         (subst (λ zs. Brought (replaced_by 1 (strip gs)) zs old new) (rest_ahead g old.ahead x xs first seen)
         (put_skipped gs g (drop 1 old.ahead) old new first (parts_origins c g us) (is ∙ ap with_skipped mid_is)))
 
--- an item in whose place one glyph was put
+-- an item that was replaced by one glyph
 pub placed_brought : (g info : hb_glyph_info_t) (y : Item) (old mid new : Sides) (x : Item) (xs : List Item) → slice_get old.ahead 0 ≡ Some g → strip old.ahead ≡ x ∷ xs
     → item_of info ≡ y → origin_of info ≡ origin_of g → mid ≡ old → new ≡ with_skipped (with_put info mid) → Brought (kept (y ∷ [])) xs old new
 placed_brought g info y old mid new x xs at seen whole same stays is =

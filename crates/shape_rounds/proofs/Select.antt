@@ -1,4 +1,4 @@
--- A character and the selector behind it.
+-- A character and the selector after it.
 use Rattle.std.proofs.Common.{ℕ, ◌≡◌, ◌<◌, ◌+◌, Bool, true, false, List, [], ◌∷◌, ◌++◌, Option, Some, None, length, drop, refl, sym, ap, ap₂, subst, ◌∙◌, arith}
 use Rattle.std.specs.Prelude.{slice_get, is_some, if◌then◌else◌}
 use Rattle.std.proofs.lemmas.List.{drop-map, map-append}
@@ -133,7 +133,7 @@ both_brought c b s mid new one two x sel xs seen =
     brought_then (unexpanded c x) (in_turn (unexpanded c (unjoined_selector b sel) ∷ [])) (sel ∷ xs) xs s mid new first
     (subst (λ a. Brought a xs mid new) (sym (none_behind (unexpanded c (unjoined_selector b sel)))) (two sel xs first.ahead))
 
--- as many as there are ahead
+-- as many as the input has
 pub one_left : (c : Normalizer) (s mid : Sides) → 1 < length s.ahead → ((x : Item) (xs : List Item) → strip s.ahead ≡ x ∷ xs → Brought (unexpanded c x) xs s mid) → (mid.is_open ≡ s.is_open) × (0 < length mid.ahead)
 one_left c s mid lt one = by_case s.ahead refl
   where

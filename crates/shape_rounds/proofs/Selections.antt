@@ -15,7 +15,7 @@ use Rattle.buffer_stages.specs.Brought.{Brought, Overfills}
 use Rattle.shape_rounds.specs.Walking.{one_or_none, waits_after, brought_by, PutsWaiting, Selects, SelectsTooMany, SelectsAll, SelectsAllTooMany}
 use Rattle.shape_rounds.proofs.Lemmas.Chain.{brought_none, brought_both, overfills_after}
 
--- so many of k items behind the first were met
+-- that many of k items after the first were handled
 pub record IsSelecting (c : Normalizer) (k at : ℕ) (waits : Bool) (start now : Sides) : Type 0 where
   pub x : Item
   pub xs : List Item
@@ -71,7 +71,7 @@ selected_case : (c : Normalizer) (before : Option Item) (y : Item) (zs : List It
 selected_case c before y zs true = refl
 selected_case c before y zs false = refl
 
--- what an item brings, and what those behind it do
+-- the output of an item, and of those after it
 selected_step : (c : Normalizer) (before : Option Item) (y : Item) (zs : List Item) → brought_by c before y ++ selected_after c (waits_after y) zs ≡ selected_after c before (y ∷ zs)
 selected_step c before y zs = selected_case c before y zs (is_selector y)
 

@@ -144,7 +144,7 @@ walk_done c count at k start now next le w goes x xs seen = by_case w.ys refl
         let last = goes w.x w.marks [] (w.brought.ahead ∙ ap (λ zs. w.x ∷ (w.marks ++ zs)) e) w.met in
         subst (λ ps. Brought (in_turn ps) [] start next) whole (brought_both w.done (expanded_group c w.x w.marks) (w.x ∷ (w.marks ++ w.ys)) [] start now next w.brought last)
 
--- the item at a place
+-- the item at an index
 item_there : (gs : List hb_glyph_info_t) (front : List Item) (y : Item) (ys : List Item) (g : hb_glyph_info_t) → strip gs ≡ front ++ y ∷ ys → slice_get gs (length front) ≡ Some g → item_of g ≡ y
 item_there [] [] y ys g seen at = absurd (let bad = seen in cc)
 item_there [] (x ∷ front) y ys g seen at = absurd (let bad = seen in cc)

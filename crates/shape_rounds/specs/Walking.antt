@@ -1,4 +1,4 @@
--- Groups of a character and its marks, on their way behind the cursor.
+-- The walk over groups of a character and its marks.
 use Rattle.std.specs.Prelude.{ℕ, ◌≡◌, ◌+◌, ◌++◌, Bool, true, false, List, [], ◌∷◌, length, Option, Some, None, is_some, if◌then◌else◌, take, drop}
 use Rattle.buffer_glyphs.specs.declared.cause.ShapeCause.{ShapeCause}
 use Rattle.buffer_glyphs.specs.Items.{Item, strip}
@@ -11,62 +11,69 @@ use Rattle.buffer_stages.specs.Brought.{Brought, Overfills}
 
 -- ---- items with selectors among them
 
+-- the list of an optional item
 abbrev pub one_or_none : Option Item → List Item
 one_or_none None = []
 one_or_none (Some x) = x ∷ []
 
--- the item that waits once another was met: a selector never does
+-- the pending item after another one: a selector is never pending
 abbrev pub waits_after : Item → Option Item
 waits_after y = if is_selector y then None else Some y
 
--- what an item brings behind the cursor as it is met
+-- the items that are output as an item is handled, by the pending one
 abbrev pub brought_by : Normalizer → Option Item → Item → List Arranged
 brought_by c before y = if is_selector y then meets_selector c before y else waiting c before
 
--- the next item was met, and a call tells whether it waits
+-- the next item was handled, and the call returns whether it is pending
 abbrev pub Selects : Normalizer → Bool → Bool → Sides → Sides → Type 0
 Selects c waits b old new = (before : Option Item) (y : Item) (ys : List Item) → is_some before ≡ waits → strip old.ahead ≡ one_or_none before ++ y ∷ ys
     → (is_some (waits_after y) ≡ b) × Brought (in_turn (brought_by c before y)) (one_or_none (waits_after y) ++ ys) old new
 
+-- the next item was not handled: its output would be too long
 abbrev pub SelectsTooMany : Normalizer → Bool → ShapeCause → Sides → Type 0
 SelectsTooMany c waits e old = (before : Option Item) (y : Item) (ys : List Item) → is_some before ≡ waits → strip old.ahead ≡ one_or_none before ++ y ∷ ys
     → Overfills (length (in_turn (brought_by c before y)).items) e old
 
--- the item that waits was brought behind the cursor
+-- the pending item was output
 abbrev pub PutsWaiting : Normalizer → Bool → Sides → Sides → Type 0
 PutsWaiting c waits old new = (before : Option Item) (ys : List Item) → is_some before ≡ waits → strip old.ahead ≡ one_or_none before ++ ys → Brought (in_turn (waiting c before)) ys old new
 
--- so many items after the first were met
+-- that many items after the first were handled
 abbrev pub SelectsAll : Normalizer → ℕ → Sides → Sides → Type 0
 SelectsAll c k old new = (x : Item) (xs : List Item) → strip old.ahead ≡ x ∷ xs → Brought (in_turn (selected_after c (Some x) (take k xs))) (drop k xs) old new
 
+-- that many items were not handled: their output would be too long
 abbrev pub SelectsAllTooMany : Normalizer → ℕ → ShapeCause → Sides → Type 0
 SelectsAllTooMany c k e old = (x : Item) (xs : List Item) → strip old.ahead ≡ x ∷ xs → Overfills (length (in_turn (selected_after c (Some x) (take k xs))).items) e old
 
 -- ---- groups
 
--- a character with so many marks was brought behind the cursor
+-- a character and that many marks were output
 abbrev pub Groups : Normalizer → ℕ → Sides → Sides → Type 0
 Groups c k old new = (x : Item) (marks ys : List Item) → strip old.ahead ≡ x ∷ (marks ++ ys) → length marks ≡ k → Brought (in_turn (expanded_group c x marks)) ys old new
 
+-- a character and that many marks were not output: the output would be too long
 abbrev pub GroupsTooMany : Normalizer → ℕ → ShapeCause → Sides → Type 0
 GroupsTooMany c k e old = (x : Item) (marks ys : List Item) → strip old.ahead ≡ x ∷ (marks ++ ys) → length marks ≡ k → Overfills (length (in_turn (expanded_group c x marks)).items) e old
 
--- a group went on by one item, or ended
+-- the group was extended by one item, or ended
 abbrev pub GoesOn : Normalizer → Bool → Item → List Item → List Item → ℕ → Sides → Sides → Type 0
 GoesOn c true x marks ys n old new = (n ≡ length marks + 1) × (new ≡ old)
 GoesOn c false x marks ys n old new = (n ≡ 0) × Brought (in_turn (expanded_group c x marks)) ys old new
 
+-- the walk handled that many items
 abbrev pub Walks : Normalizer → ℕ → ℕ → Sides → Sides → Type 0
 Walks c k n old new = (x : Item) (marks : List Item) (y : Item) (ys : List Item) → strip old.ahead ≡ x ∷ (marks ++ y ∷ ys) → length marks ≡ k → GoesOn c (is_mark y) x marks (y ∷ ys) n old new
 
+-- the walk failed: its output would be too long
 abbrev pub WalksTooMany : Normalizer → ℕ → ShapeCause → Sides → Type 0
 WalksTooMany c k e old = (x : Item) (marks : List Item) (y : Item) (ys : List Item) → strip old.ahead ≡ x ∷ (marks ++ y ∷ ys) → length marks ≡ k
     → (is_mark y ≡ false) × Overfills (length (in_turn (expanded_group c x marks)).items) e old
 
--- all that was ahead was brought behind the cursor
+-- the whole input was output
 abbrev pub IsExpanded : Normalizer → Sides → Sides → Type 0
 IsExpanded c old new = (x : Item) (xs : List Item) → strip old.ahead ≡ x ∷ xs → Brought (in_turn (expanded_groups c x [] xs)) [] old new
 
+-- the round failed: its output would be too long
 abbrev pub ExpandsTooMany : Normalizer → ShapeCause → Sides → Type 0
 ExpandsTooMany c e old = (x : Item) (xs : List Item) → strip old.ahead ≡ x ∷ xs → Overfills (length (in_turn (expanded_groups c x [] xs)).items) e old

@@ -1,4 +1,4 @@
-//! Characters of a buffer, with what normalising reads and writes of them.
+//! The characters of a buffer, with what normalizing reads and sets of them (rustybuzz: hb/ot_shape_normalize.rs).
 ghost use Rattle.std.specs.Prelude.{◌≡◌, ◌<◌, if◌then◌else◌, unwrap_or};
 ghost use Rattle.buffer_properties.specs.Characters.{is_space, is_selector, mark_class, unjoined_selector, with_glyph, standing_for};
 ghost use Rattle.buffer_properties.specs.Normalizer.{has_character};
@@ -22,7 +22,7 @@ use buffer_unicode::space::NOT_SPACE;
 
 const CATEGORY: u16 = 0x1F;
 
-/// Marks a variation selector that the font doesn't join with the character before it.
+/// The property bit of a variation selector that the font doesn't combine with the character before it.
 const UNJOINED_SELECTOR: u16 = 0x400;
 
 fn is_space(info: &hb_glyph_info_t) -> bool
@@ -31,14 +31,14 @@ fn is_space(info: &hb_glyph_info_t) -> bool
     u32::from(info.unicode_props.0 & CATEGORY) == RB_UNICODE_GENERAL_CATEGORY_SPACE_SEPARATOR
 }
 
-/// Whether it is a variation selector.
+/// Whether a character is a variation selector.
 pub(crate) fn is_selector(info: &hb_glyph_info_t) -> bool
     ensures { result ≡ is_selector (item_of info.now) }
 {
     matches!(info.glyph_id, 0xFE00..=0xFE0F | 0xE0100..=0xE01EF)
 }
 
-/// The combining class, 0 for what is no mark.
+/// The combining class of a mark, 0 for any other character.
 pub fn mark_class(info: &hb_glyph_info_t) -> u8
     ensures { result ≡ mark_class (item_of info.now) }
 {
@@ -66,7 +66,7 @@ pub(crate) fn has<N: Normalizing>(by: &N, u: u32) -> bool
     by.glyph(u).is_some()
 }
 
-/// The glyph of a part of a character.
+/// A glyph record of a half of a character's decomposition, with the font's glyph.
 pub(crate) fn part_of<N: Normalizing>(by: &N, info: &hb_glyph_info_t, u: char) -> hb_glyph_info_t
     ensures { result ≡ part_glyph (N.normalizer by.now) info.now u }
 {
@@ -79,7 +79,7 @@ pub(crate) fn part_of<N: Normalizing>(by: &N, info: &hb_glyph_info_t, u: char) -
     }
 }
 
-/// A glyph with the font's glyph index, or 0.
+/// A glyph record with the font's glyph of its character, or glyph 0.
 pub(crate) fn with_own_glyph<N: Normalizing>(by: &N, info: &hb_glyph_info_t) -> hb_glyph_info_t
     ensures item { item_of result ≡ with_own_glyph (N.normalizer by.now) (item_of info.now) }
     ensures origin { origin_of result ≡ origin_of info.now }
@@ -111,7 +111,7 @@ fn hyphen_glyph<N: Normalizing>(by: &N, info: &hb_glyph_info_t) -> Option<u32>
     }
 }
 
-/// A character that stays whole.
+/// A character that isn't decomposed, with its glyph.
 pub(crate) fn whole_of<N: Normalizing>(by: &N, info: &hb_glyph_info_t) -> hb_glyph_info_t
     ensures item { item_of result ≡ whole_item (N.normalizer by.now) (item_of info.now) }
     ensures origin { origin_of result ≡ origin_of info.now }
@@ -136,7 +136,7 @@ pub(crate) fn whole_of<N: Normalizing>(by: &N, info: &hb_glyph_info_t) -> hb_gly
     }
 }
 
-/// A selector that the font doesn't join with the character before it.
+/// A selector that the font doesn't combine with the character before it.
 pub(crate) fn unjoined(info: &hb_glyph_info_t, has_glyph: bool) -> hb_glyph_info_t
     ensures item { item_of result ≡ unjoined_selector has_glyph (item_of info.now) }
     ensures origin { origin_of result ≡ origin_of info.now }
@@ -160,7 +160,7 @@ fn without_ignorable_if(b: bool, props: u16) -> u16
     }
 }
 
-/// A glyph that becomes another character, with the font's glyph for it.
+/// A glyph record with another character, and the font's glyph of it.
 pub fn becoming<N: Normalizing>(
     by: &N,
     info: &hb_glyph_info_t,

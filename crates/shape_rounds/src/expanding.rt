@@ -1,4 +1,5 @@
-//! The first round: characters are split, and selectors join what they select.
+//! The first round: decomposes characters, and combines variation selectors with the character before them
+//! (rustybuzz: hb/ot_shape_normalize.rs).
 ghost use Rattle.std.specs.Prelude.{◌≡◌, ◌<◌, ◌≤◌, ◌+◌, ◌++◌, ◌∷◌, [], List, false, length, map, take, true, IfOk, IfErr, OnOk};
 ghost use Rattle.std.specs.List.{list_any};
 ghost use Rattle.buffer_glyphs.specs.Items.{Item, strip};
@@ -20,7 +21,7 @@ use buffer_glyphs::cause::ShapeCause;
 use buffer_properties::categories::is_mark;
 use buffer_properties::{NormalizationMode, Reach};
 
-/// Puts a character of the font behind the output.
+/// Appends a character of the font to the output.
 fn put_part<N: Normalizing>(by: &N, u: char, buffer: &mut hb_buffer_t) -> Result<(), ShapeCause>
     requires open { buffer.old.is_open ≡ true }
     requires there { 0 < length buffer.old.ahead }
@@ -34,7 +35,7 @@ fn put_part<N: Normalizing>(by: &N, u: char, buffer: &mut hb_buffer_t) -> Result
     Ok(())
 }
 
-/// Puts a character behind the output, where the font has it.
+/// Appends a character to the output, if the font has it.
 fn put_alone<N: Normalizing>(by: &N, u: char, buffer: &mut hb_buffer_t) -> Result<bool, ShapeCause>
     requires open { buffer.old.is_open ≡ true }
     requires there { 0 < length buffer.old.ahead }
@@ -50,7 +51,7 @@ fn put_alone<N: Normalizing>(by: &N, u: char, buffer: &mut hb_buffer_t) -> Resul
     Ok(true)
 }
 
-/// Puts the characters of the font that stand for a character behind the output, with at most `depth` splits.
+/// Appends the characters of the font that a character decomposes to, with at most `depth` decompositions.
 #[cycle(expand)]
 #[tactic(auto, using(crate::proofs::Supported::supported_zero, crate::proofs::Supported::supported_step))]
 fn put_supported<N: Normalizing>(
@@ -87,7 +88,7 @@ fn put_supported<N: Normalizing>(
     }
 }
 
-/// Puts the characters of a split that the font supports behind the output, its first part with at most `depth` splits.
+/// Appends the two halves of a decomposition, if the font has them; the first is decomposed at most `depth` times.
 #[cycle(expand)]
 #[tactic(auto, using(crate::proofs::Parts::two_parts, crate::proofs::Parts::no_second))]
 fn put_in_parts<N: Normalizing>(
@@ -123,7 +124,7 @@ fn put_in_parts<N: Normalizing>(
     Ok(true)
 }
 
-/// Puts what takes the place of a character behind the output, where it doesn't stay whole.
+/// Appends the decomposition of a character, where it has one that the font supports.
 #[tactic(auto, unfolding(buffer_properties::specs::SupportedExpansion::in_parts))]
 fn put_expansion<N: Normalizing>(
     by: &N,
@@ -150,7 +151,7 @@ fn put_expansion<N: Normalizing>(
     }
 }
 
-/// Puts what takes the place of the character at the cursor behind it.
+/// Replaces the current character in the output by its decomposition.
 fn expand_current<N: Normalizing>(
     by: &N,
     reach: Reach,
@@ -172,7 +173,7 @@ fn expand_current<N: Normalizing>(
     Ok(())
 }
 
-/// Puts what takes the place of so many characters behind the cursor.
+/// Replaces that many characters by their decompositions.
 fn expand_each<N: Normalizing>(
     by: &N,
     reach: Reach,
@@ -192,7 +193,7 @@ fn expand_each<N: Normalizing>(
     Ok(())
 }
 
-/// How far a character without marks is split.
+/// How far a character without marks is decomposed.
 fn reach_alone(mode: NormalizationMode) -> Reach
     ensures { result ≡ reach_alone mode }
 {
@@ -205,7 +206,7 @@ fn reach_alone(mode: NormalizationMode) -> Reach
     }
 }
 
-/// How far a character with marks, and each of its marks, is split.
+/// How far a character with marks, and each of its marks, is decomposed.
 fn reach_with_marks(mode: NormalizationMode) -> Reach
     ensures { result ≡ reach_with_marks mode }
 {
@@ -215,7 +216,7 @@ fn reach_with_marks(mode: NormalizationMode) -> Reach
     }
 }
 
-/// Puts what takes the place of a character and the marks behind it behind the cursor.
+/// Replaces a character and the marks after it by their decompositions.
 fn expand_group<N: Normalizing>(
     by: &N,
     marks: usize,
@@ -240,7 +241,7 @@ fn expand_group<N: Normalizing>(
     Ok(())
 }
 
-/// Whether a variation selector is among so many characters ahead.
+/// Whether a variation selector is among the next `count` characters.
 #[tactic(auto, using(crate::proofs::Found::found_here, crate::proofs::Found::found_later, crate::proofs::Found::found_none))]
 fn has_selector(count: usize, buffer: &hb_buffer_t) -> bool
     requires { count ≤ length buffer.now.ahead }
@@ -254,7 +255,8 @@ fn has_selector(count: usize, buffer: &hb_buffer_t) -> bool
     false
 }
 
-/// Goes on by one character: a mark joins the group at the cursor, of so many marks; another ends it.
+/// Handles the next character: a mark extends the group at the cursor, which has that many marks; any other character
+/// ends it.
 fn expand_next<N: Normalizing>(
     by: &N,
     marks: usize,
@@ -273,7 +275,7 @@ fn expand_next<N: Normalizing>(
     Ok(0)
 }
 
-/// Puts what takes the place of all characters ahead behind the cursor.
+/// Replaces all input characters by their decompositions.
 fn expand_all<N: Normalizing>(
     by: &N,
     count: usize,
@@ -293,13 +295,13 @@ fn expand_all<N: Normalizing>(
     Ok(())
 }
 
-/// The first round, from the front of an open output: each character is split as far as the shaper and the font want it,
-/// a selector joins the character before it where the font has the pair, and each gets the font's glyph. All of it comes to
-/// stand behind the cursor. It takes linear time, and no memory but the output's.
+/// The first round, from the start of an open output: each character is decomposed as far as the shaper and the font
+/// require, a variation selector is combined with the character before it where the font has the pair, and each gets
+/// the font's glyph. Afterwards the whole list is output. It takes linear time, and no memory but the output's.
 ///
 /// # Errors
 ///
-/// `TooLong` where the output would have more glyphs than the buffer may hold, or want of memory.
+/// `TooLong` where the output would have more glyphs than the buffer may hold, or lack of memory.
 pub fn expand_list<N: Normalizing>(by: &N, buffer: &mut hb_buffer_t) -> Result<(), ShapeCause>
     requires open { buffer.old.is_open ≡ true }
     requires unread { buffer.old.read ≡ 0 }

@@ -1,4 +1,4 @@
-// The rounds that put a text into normal form on a buffer: what they ask of a shaper, and the first of them.
+//! The rounds that normalize a text on a buffer: their requests to a shaper, and the first of them.
 #![tactic(auto)]
 
 pub mod characters;

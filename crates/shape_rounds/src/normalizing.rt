@@ -1,4 +1,4 @@
-//! What normalising asks of a font, of tables and of a shaper.
+//! The normalizer's requests to a font, to tables and to a shaper.
 ghost use Rattle.std.specs.Prelude.{◌≡◌, ◌≤◌, List, length};
 ghost use Rattle.buffer_glyphs.specs.Items.{Item};
 ghost use Rattle.buffer_core.specs.Sides.{all_glyphs};
@@ -10,11 +10,12 @@ use buffer_core::buffer::hb_buffer_t;
 use buffer_properties::NormalizationMode;
 use buffer_unicode_tables::UnicodeTables;
 
-/// A font, tables and a shaper's preference and hooks. What is no character has no glyph, no parts and composes to nothing.
+/// The normalizer's requests to a font, tables and a shaper. A number that is no character has no glyph and no
+/// decomposition, and composes with nothing.
 pub trait Normalizing {
     ghost normalizer: { Self → Normalizer };
 
-    /// What the shaper prefers to see of a text.
+    /// The form in which the shaper prefers characters.
     fn mode(&self) -> NormalizationMode
         ensures { result ≡ (normalizer self.now).mode };
 
@@ -26,27 +27,27 @@ pub trait Normalizing {
     fn glyph(&self, u: u32) -> Option<u32>
         ensures { result ≡ (normalizer self.now).glyph_of u };
 
-    /// The font's glyph for a character with a variation selector.
+    /// The font's glyph for a character and a variation selector.
     fn variant(&self, u: u32, selector: u32) -> Option<u32>
         ensures { result ≡ (normalizer self.now).variant_of u selector };
 
-    /// The glyph of what is to be invisible.
+    /// The glyph of invisible characters.
     fn invisible(&self) -> Option<u32>
         ensures { result ≡ (normalizer self.now).invisible };
 
-    /// The glyph of a selector that the font doesn't join.
+    /// The glyph of a selector that the font doesn't combine with the character before it.
     fn unjoined_glyph(&self) -> Option<u32>
         ensures { result ≡ (normalizer self.now).unjoined_glyph };
 
-    /// The parts of a character; the second is U+0000 where it is absent.
+    /// The two halves of a character's decomposition; the second is U+0000 where there is only one.
     fn decompose(&self, ab: u32) -> Option<(char, char)>
         ensures { result ≡ (normalizer self.now).splits ab };
 
-    /// What two characters compose to.
+    /// The composition of two characters.
     fn compose(&self, a: u32, b: u32) -> Option<char>
         ensures { result ≡ (normalizer self.now).composes a b };
 
-    /// Does what the shaper does to a run of marks from `start` up to before `end`, which is in the order of its classes.
+    /// Performs the shaper's `reorder_marks` on the run `start..end`, which is sorted by combining class.
     fn reorder_marks(&self, buffer: &mut hb_buffer_t, start: usize, end: usize)
         requires ready { IsReady buffer.old }
         requires ordered { start ≤ end }

@@ -1,4 +1,4 @@
-//! A glyph in the place of the one at the cursor.
+//! Replaces the character at the cursor by another one with its glyph (rustybuzz: hb/ot_shape_normalize.rs).
 ghost use Rattle.std.specs.Prelude.{◌≡◌, ◌<◌, true, length, IfErr, OnOk};
 ghost use Rattle.buffer_core.specs.Merging.{with_put, with_skipped};
 ghost use Rattle.buffer_stages.specs.Brought.{Overfills};
@@ -7,7 +7,7 @@ use buffer_core::buffer::hb_buffer_t;
 use buffer_glyphs::cause::ShapeCause;
 use buffer_glyphs::info::hb_glyph_info_t;
 
-/// Puts a glyph in the place of the one at the cursor, behind it.
+/// Replaces the current glyph by another one, and outputs that.
 pub(crate) fn put_in_place(
     info: hb_glyph_info_t,
     buffer: &mut hb_buffer_t,

@@ -1,4 +1,4 @@
-//! Characters with variation selectors after them: a selector joins the character before it where the font has the pair.
+//! Characters followed by variation selectors, handle_variation_selector_cluster (rustybuzz: hb/ot_shape_normalize.rs).
 ghost use Rattle.std.specs.Prelude.{◌≡◌, ◌<◌, ◌++◌, ◌∷◌, [], List, true, false, if◌then◌else◌, length, is_some, Some, None, IfOk, IfErr, OnOk};
 ghost use Rattle.buffer_core.specs.Lending.{with_glyph_ahead};
 ghost use Rattle.buffer_glyphs.specs.Items.{Item, strip};
@@ -15,7 +15,7 @@ use buffer_core::buffer::hb_buffer_t;
 use buffer_glyphs::cause::ShapeCause;
 use buffer_glyphs::info::hb_glyph_info_t;
 
-/// Puts the character at the cursor behind it, with the font's glyph or glyph 0.
+/// Outputs the current character, with the font's glyph or glyph 0.
 #[tactic(auto, using(crate::proofs::Put::placed_brought))]
 fn put_unexpanded<N: Normalizing>(by: &N, buffer: &mut hb_buffer_t) -> Result<(), ShapeCause>
     requires open { buffer.old.is_open ≡ true }
@@ -29,7 +29,7 @@ fn put_unexpanded<N: Normalizing>(by: &N, buffer: &mut hb_buffer_t) -> Result<()
     Ok(())
 }
 
-/// Puts the selector at the cursor behind it, where the font doesn't join it with the character before it.
+/// Outputs the current selector, which the font doesn't combine with the character before it.
 fn put_unjoined<N: Normalizing>(by: &N, buffer: &mut hb_buffer_t) -> Result<(), ShapeCause>
     requires open { buffer.old.is_open ≡ true }
     requires there { 0 < length buffer.old.ahead }
@@ -51,7 +51,7 @@ fn write_current(info: hb_glyph_info_t, buffer: &mut hb_buffer_t)
     *buffer.cur_mut(0) = info;
 }
 
-/// Puts one glyph in the place of the character at the cursor and the selector behind it, behind the cursor.
+/// Replaces the current character and the selector after it by one glyph, and outputs that.
 fn join_selector(glyph: u32, buffer: &mut hb_buffer_t) -> Result<(), ShapeCause>
     requires open { buffer.old.is_open ≡ true }
     requires there { 1 < length buffer.old.ahead }
@@ -70,7 +70,7 @@ fn join_selector(glyph: u32, buffer: &mut hb_buffer_t) -> Result<(), ShapeCause>
     Ok(())
 }
 
-/// Puts a character and the selector behind it behind the cursor, each for itself.
+/// Outputs a character and the variation selector after it as two glyphs.
 fn put_both<N: Normalizing>(by: &N, buffer: &mut hb_buffer_t) -> Result<(), ShapeCause>
     requires open { buffer.old.is_open ≡ true }
     requires there { 1 < length buffer.old.ahead }
@@ -84,7 +84,7 @@ fn put_both<N: Normalizing>(by: &N, buffer: &mut hb_buffer_t) -> Result<(), Shap
     Ok(())
 }
 
-/// Puts a character and the selector behind it behind the cursor, joined where the font has the pair.
+/// Outputs a character and the selector after it, as one glyph where the font has the pair.
 fn put_selected<N: Normalizing>(by: &N, buffer: &mut hb_buffer_t) -> Result<(), ShapeCause>
     requires open { buffer.old.is_open ≡ true }
     requires there { 1 < length buffer.old.ahead }
@@ -109,7 +109,7 @@ fn put_selected<N: Normalizing>(by: &N, buffer: &mut hb_buffer_t) -> Result<(), 
     }
 }
 
-/// Meets the character at the cursor while none waits.
+/// Handles the current character while no character is pending.
 fn select_first<N: Normalizing>(by: &N, buffer: &mut hb_buffer_t) -> Result<bool, ShapeCause>
     requires open { buffer.old.is_open ≡ true }
     requires there { 0 < length buffer.old.ahead }
@@ -123,7 +123,7 @@ fn select_first<N: Normalizing>(by: &N, buffer: &mut hb_buffer_t) -> Result<bool
     Ok(false)
 }
 
-/// Meets the character behind that at the cursor, which waits.
+/// Handles the character after the current one, which is pending.
 fn select_behind<N: Normalizing>(by: &N, buffer: &mut hb_buffer_t) -> Result<bool, ShapeCause>
     requires open { buffer.old.is_open ≡ true }
     requires there { 1 < length buffer.old.ahead }
@@ -138,7 +138,7 @@ fn select_behind<N: Normalizing>(by: &N, buffer: &mut hb_buffer_t) -> Result<boo
     Ok(false)
 }
 
-/// Meets the next character, and tells whether it waits to see whether a selector follows.
+/// Handles the next character, and returns whether it is pending: whether a selector may follow it.
 fn select_next<N: Normalizing>(
     by: &N,
     waits: bool,
@@ -156,7 +156,7 @@ fn select_next<N: Normalizing>(
     }
 }
 
-/// Puts the character at the cursor behind it, where it waits.
+/// Outputs the current character, if it is pending.
 fn put_waiting<N: Normalizing>(
     by: &N,
     waits: bool,
@@ -174,7 +174,7 @@ fn put_waiting<N: Normalizing>(
     Ok(())
 }
 
-/// Puts a character and so many marks and selectors behind it behind the cursor, without splitting them.
+/// Outputs a character and that many marks and selectors after it, without decomposing them.
 pub(crate) fn expand_selected<N: Normalizing>(
     by: &N,
     marks: usize,

@@ -31,7 +31,7 @@ many_circled : (t : Tables) (gs : List hb_glyph_info_t) → 0 < length gs → le
 many_circled t [] lt = absurd (omega arith)
 many_circled t (g ∷ gs) lt = omega arith
 
--- what stages see once a circle stands there
+-- what stages see once a circle is inserted
 abbrev circled_view : Tables → Sides → View
 circled_view t s = record (view_of s) { items = circled t (items_of s); positions = zero_positions (length (items_of s) + 1); told = bit_or (told_of s.scratch_flags) (scratch_flags_of DOTTED_CIRCLE) }
 

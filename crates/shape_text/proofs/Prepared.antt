@@ -78,7 +78,7 @@ all_prepared t i before told from hs xs le p =
     let rest = drop_all i xs le in
     (sym (ap (λ ys. take i xs ++ glyphs_prepared t before ys) rest ∙ append-nil (take i xs) ∙ take_all i xs le) ∙ p.glyphs, sym (ap (λ ys. glyphs_told ys told) rest) ∙ p.tells)
 
--- ---- what characters tell of their text
+-- ---- the scratch flags that characters set
 
 and_or : (n a m : ℕ) → bit_and (bit_or a m) n ≡ bit_or (bit_and a n) (bit_and m n)
 and_or n a m =

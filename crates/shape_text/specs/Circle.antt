@@ -1,4 +1,4 @@
--- The dotted circle in front of a text that begins with a mark.
+-- The dotted circle before a text that begins with a mark.
 use Rattle.std.specs.Prelude.{ℕ, ◌+◌, ◌==◌, ◌&&◌, not, Bool, false, nat_le, if◌then◌else◌, is_some, List, [], ◌∷◌, length, Ok, Err}
 use Rattle.std.specs.Int.RustNames.{bit_and, bit_or}
 use Rattle.buffer_glyphs.specs.declared.cause.ShapeCause.TheVariants.{TooLong}
@@ -18,20 +18,21 @@ use Rattle.buffer_properties.specs.Characters.{is_mark}
 abbrev pub DOTTED_CIRCLE : ℕ
 DOTTED_CIRCLE = 0x25CC
 
--- the text begins a paragraph, and circles are not switched off
+-- BEGINNING_OF_TEXT is set, and DO_NOT_INSERT_DOTTED_CIRCLE is not
 abbrev pub asks_circle : BufferFlags → Bool
 asks_circle flags = bit_and flags.0 1 == 1 && not (bit_and flags.0 16 == 16)
 
--- a mark stands first
+-- the first item is a mark
 abbrev pub begins_with_mark : List Item → Bool
 begins_with_mark [] = false
 begins_with_mark (x ∷ xs) = is_mark x
 
--- a circle is asked for, no text stands before, a mark stands first, and the font has the circle
+-- a text gets a circle: the flags require it, there is no context before, it begins with a mark, and the font has the
+-- glyph
 abbrev pub needs_circle : BufferFlags → List ℕ → FaceParts → List Item → Bool
 needs_circle flags context font xs = asks_circle flags && length context == 0 && begins_with_mark xs && is_some (nominal_glyph DOTTED_CIRCLE font)
 
--- a circle with the mask of the character that it stands before
+-- the circle before a character, with its mask
 abbrev pub circle_like : Tables → Item → Item
 circle_like t x = record {
   number = DOTTED_CIRCLE;
@@ -46,22 +47,24 @@ circle_like t x = record {
   mask = x.mask;
 }
 
+-- a list with a circle before its first item
 abbrev pub circled : Tables → List Item → List Item
 circled t [] = []
 circled t (x ∷ xs) = circle_like t x ∷ x ∷ xs
 
--- a circle before the first character, of its cluster
+-- the stage that inserts a circle before the first character, with its cluster
 abbrev pub with_circle : Tables → Stage
 with_circle t v = if nat_le (length v.items + 1) v.max_len
     then Ok (with_events (Circle false 0 0 ∷ []) (record v { items = circled t v.items; positions = zero_positions (length v.items + 1); told = bit_or v.told (scratch_flags_of DOTTED_CIRCLE) }))
     else Err TooLong
 
--- a text that begins with a mark gets a circle for it to stand on
+-- the stage that inserts a circle before a text that begins with a mark (HarfBuzz: hb_insert_dotted_circle)
 abbrev pub first_circle : Tables → FaceParts → BufferFlags → List ℕ → Stage
 first_circle t font flags context v = if needs_circle flags context font v.items then with_circle t v else as_it_is v
 
 -- ---- glyph records
 
+-- the glyph record of a circle before a character
 abbrev pub glyph_circle : Tables → hb_glyph_info_t → hb_glyph_info_t
 glyph_circle t g = record {
   glyph_id = DOTTED_CIRCLE;
@@ -77,10 +80,11 @@ glyph_circle t g = record {
   auxiliary = 0;
 }
 
+-- glyph records with a circle before the first
 abbrev pub glyphs_circled : Tables → List hb_glyph_info_t → List hb_glyph_info_t
 glyphs_circled t [] = []
 glyphs_circled t (g ∷ gs) = glyph_circle t g ∷ g ∷ gs
 
--- a buffer whose first glyph has a circle before it
+-- a buffer with a circle before its first glyph
 abbrev pub with_circle_put : Tables → Sides → Sides
 with_circle_put t s = record s { behind = []; ahead = glyphs_circled t (all_glyphs s); positions = zero_positions (length (all_glyphs s) + 1); scratch_flags = bit_or s.scratch_flags (scratch_flags_of DOTTED_CIRCLE) }

@@ -10,25 +10,26 @@ use Rattle.buffer_core.specs.Readings.{View, Read}
 use Rattle.buffer_groups.specs.Facts.{group_lengths}
 use Rattle.buffer_core.specs.Graphemes.{continues}
 
--- the characters of each grapheme merge where graphemes are to be clusters; else a break between them is unsafe
+-- the event of one grapheme: a merge at level MonotoneGraphemes, else an unsafe-to-break flag
 abbrev pub grapheme_event : BufferClusterLevel → ℕ → ℕ → Event
 grapheme_event MonotoneGraphemes from to = Merge InList from to
 grapheme_event MonotoneCharacters from to = Break from to
 grapheme_event Characters from to = Break from to
 
--- graphemes of given lengths from an index on, one after another
+-- the events of graphemes of the given lengths, from an index on
 abbrev pub grapheme_events : BufferClusterLevel → ℕ → List ℕ → List Event
 grapheme_events level at [] = []
 grapheme_events level at (n ∷ lens) = grapheme_event level at (at + n) ∷ grapheme_events level (at + n) lens
 
--- how long the graphemes of a text are
+-- the lengths of a text's graphemes
 abbrev pub grapheme_lengths : List Item → List ℕ
 grapheme_lengths xs = group_lengths (λ x y. continues y) xs
 
--- a text with characters past U+007F
+-- the scratch flags say that the text has characters above U+007F
 abbrev pub has_non_ascii : ℕ → Bool
 has_non_ascii told = not (bit_and told 1 == 0)
 
--- the graphemes of a text are made clusters; below U+0080 each character is one
+-- the view with a cluster for each grapheme; a text without characters above U+007F is unchanged (HarfBuzz:
+-- hb_form_clusters)
 abbrev pub with_clusters : View → Read
 with_clusters v = record { view = v; events = λ level. if has_non_ascii v.told then grapheme_events level 0 (grapheme_lengths v.items) else [] }

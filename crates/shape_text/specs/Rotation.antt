@@ -1,4 +1,4 @@
--- Characters that stand mirrored, or upright, in the line that they are to run in.
+-- Characters that are mirrored in right-to-left text or have a vertical form.
 use Rattle.std.specs.Prelude.{ℕ, ◌&&◌, Bool, not, if◌then◌else◌, is_some, [], Option, Some, None}
 use Rattle.std.specs.Int.RustNames.{bit_or}
 use lib.Utf8.{scalar}
@@ -11,39 +11,43 @@ use Rattle.buffer_glyphs.specs.Items.{Item, without_flags}
 use Rattle.buffer_core.specs.Readings.{View, Read, then_read, with_events}
 use Rattle.buffer_stages.specs.Stages.{mapped}
 
--- a character that the font has
+-- a character, if the font has it
 abbrev pub if_known : FaceParts → Option ℕ → Option ℕ
 if_known font None = None
 if_known font (Some c) = if is_some (nominal_glyph c font) then Some c else None
 
--- the mirror image of a character, and its form in vertical text, where the font has it
+-- the mirror image of a character, if the font has it
 abbrev pub mirror_image : Tables → FaceParts → ℕ → Option ℕ
 mirror_image t font u = if scalar u then if_known font (counterpart_in t.mirrored u) else None
 
+-- the vertical form of a character, if the font has it
 abbrev pub vertical_form : Tables → FaceParts → ℕ → Option ℕ
 vertical_form t font u = if scalar u then if_known font (counterpart_in t.vertical u) else None
 
--- another character where there is one, else the mask of the feature that mirrors
+-- an item with another character, or else with the mask of rtlm
 abbrev pub mirrored_or : ℕ → Item → Option ℕ → Item
 mirrored_or mask x None = record x { mask = without_flags (bit_or x.mask mask) }
 mirrored_or mask x (Some c) = record x { number = c }
 
--- a character of a line that runs backward; its properties stay
+-- an item of a backward text: its mirror image, or the mask of rtlm; its properties are unchanged
 abbrev pub mirrored : Tables → FaceParts → ℕ → Item → Item
 mirrored t font mask x = mirrored_or mask x (mirror_image t font x.number)
 
+-- an item with its vertical form, if there is one
 abbrev pub upright_or : Item → Option ℕ → Item
 upright_or x None = x
 upright_or x (Some c) = record x { number = c }
 
--- a character of a line that runs down or up; its properties stay
+-- an item of a vertical text, with its vertical form; its properties are unchanged
 abbrev pub upright : Tables → FaceParts → Item → Item
 upright t font x = upright_or x (vertical_form t font x.number)
 
+-- the view with each item mapped, if a condition holds
 abbrev pub mapped_where : Bool → (Item → Item) → View → Read
 mapped_where b k v = if b then mapped k v else with_events [] v
 
--- characters are mirrored where the line runs backward, and stand upright where it is vertical and no feature sees to that
+-- the view with characters mirrored where the direction is backward, and with vertical forms where it is vertical and
+-- the font lacks vert (HarfBuzz: hb_ot_rotate_chars)
 abbrev pub rotated : Tables → FaceParts → Direction → ℕ → Bool → View → Read
 rotated t font target mask has_vert v =
     let m = mapped_where (is_backward target) (mirrored t font mask) v in

@@ -1,4 +1,4 @@
-//! The dotted circle in front of a text that begins with a mark.
+//! The dotted circle before a text that begins with a mark, insert_dotted_circle (rustybuzz: hb/ot_shape.rs).
 ghost use Rattle.std.specs.Prelude.{◌≡◌, ◌≢◌, ◌<◌, ◌≤◌, ◌+◌, length, bit_or, IfErr, OnOk, Err};
 ghost use Rattle.buffer_glyphs.specs.Items.{item_of, strip};
 ghost use Rattle.buffer_core.specs.Readings.{read_of};
@@ -19,16 +19,16 @@ use buffer_properties::info::init_unicode_props;
 use buffer_unicode_tables::UnicodeTables;
 use layout_face::Face;
 
-/// U+25CC DOTTED CIRCLE, for a mark that has no letter to stand on.
+/// U+25CC DOTTED CIRCLE, the base of a mark that has none.
 pub const DOTTED_CIRCLE: char = '\u{25CC}';
 
-/// Puts a dotted circle before a text that begins with a mark, where the text begins a paragraph, no text was told to
-/// stand before it, circles are not switched off, and the font has one. The circle is of the first character's cluster
-/// and has its mask.
+/// Inserts a dotted circle before a text that begins with a mark (`insert_dotted_circle`), where BEGINNING_OF_TEXT is
+/// set, there is no context before the text, DO_NOT_INSERT_DOTTED_CIRCLE is not set, and the font has the glyph. The
+/// circle has the first character's cluster and mask.
 ///
 /// # Errors
 ///
-/// `TooLong` where the text would have more characters than the buffer may hold, or want of memory.
+/// `TooLong` where the text would have more characters than the buffer may hold, or lack of memory.
 pub fn insert_dotted_circle(
     face: &Face,
     tables: &UnicodeTables,
@@ -74,7 +74,7 @@ fn begins_with_mark(glyphs: &[hb_glyph_info_t]) -> bool
     }
 }
 
-/// Puts a circle before the first glyph.
+/// Inserts a circle before the first glyph.
 fn put_circle(tables: &UnicodeTables, buffer: &mut hb_buffer_t) -> Result<(), ShapeCause>
     requires ready { IsReady buffer.old }
     requires there { 0 < length buffer.old.ahead }
@@ -97,7 +97,7 @@ fn put_circle(tables: &UnicodeTables, buffer: &mut hb_buffer_t) -> Result<(), Sh
     Ok(())
 }
 
-/// A circle of the cluster of a glyph and with its mask.
+/// A circle with a glyph's cluster and mask.
 fn circle_like(
     tables: &UnicodeTables,
     glyph: &hb_glyph_info_t,

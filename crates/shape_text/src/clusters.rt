@@ -1,4 +1,4 @@
-//! The graphemes of a text, as clusters.
+//! Merges the graphemes of a text into clusters, form_clusters (rustybuzz: hb/ot_shape.rs).
 ghost use Rattle.std.specs.Prelude.{◌≡◌, ◌<◌, ◌≤◌, ◌∷◌, [], length};
 ghost use Rattle.buffer_core.specs.Readings.{always};
 ghost use Rattle.buffer_core.specs.Sides.{all_glyphs, items_of};
@@ -10,8 +10,9 @@ use buffer_common::constants::HB_BUFFER_SCRATCH_FLAG_HAS_NON_ASCII;
 use buffer_core::buffer::hb_buffer_t;
 use buffer_glyphs::level::BufferClusterLevel;
 
-/// Makes each grapheme of the text a cluster, at the level of graphemes; at the others it marks a break within a grapheme
-/// as unsafe. Below U+0080 each character is a grapheme, and the text stays as it is. It takes linear time.
+/// Merges each grapheme of the text into a cluster at level MonotoneGraphemes, and flags it as unsafe to break at the
+/// others (`form_clusters`). A text without characters above U+007F stays unchanged: each of its characters is a
+/// grapheme. It takes linear time.
 #[tactic(auto, using(crate::proofs::Formed::clusters_followed, crate::proofs::Formed::none_followed))]
 pub fn form_clusters(buffer: &mut hb_buffer_t)
     requires { IsReady buffer.old }
@@ -38,7 +39,7 @@ fn form_graphemes(buffer: &mut hb_buffer_t)
 }
 
 #[tactic(auto, using(buffer_stages::proofs::Lemmas::Happened::merge_happens, buffer_stages::proofs::Lemmas::Happened::break_happens, buffer_stages::proofs::Lemmas::Happened::end_of_input))]
-/// Merges the characters of a grapheme, or marks a break between them as unsafe.
+/// Merges the characters of a grapheme, or flags them as unsafe to break.
 fn form_grapheme(buffer: &mut hb_buffer_t, start: usize, end: usize)
     requires ready { IsReady buffer.old }
     requires ordered { start ≤ end }

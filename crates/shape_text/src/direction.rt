@@ -1,4 +1,4 @@
-//! The order in which a text's script is written.
+//! Reverses a text that is set against its script's direction, ensure_native_direction (rustybuzz: hb/ot_shape.rs).
 ghost use Rattle.std.specs.Prelude.{◌≡◌, false};
 ghost use Rattle.std.specs.List.{list_any};
 ghost use Rattle.buffer_glyphs.specs.Items.{item_of, strip};
@@ -97,9 +97,9 @@ fn without_continuation(glyph: &hb_glyph_info_t) -> hb_glyph_info_t
     }
 }
 
-/// Puts a text in the order in which its script is written, where it is to run the other way: the graphemes in turned
-/// order, each in its own, and the direction with them. Graphemes that are no clusters merge before, at the level of
-/// characters. From here on no record says that it goes on with the one before it. It takes linear time and no memory.
+/// Reverses a text whose direction is against its script's (`ensure_native_direction`): the graphemes are reversed,
+/// each in its own order, and so is the direction. At level MonotoneCharacters, each grapheme is merged before.
+/// Afterwards no glyph record has the continuation bit. It takes linear time and no memory.
 pub fn ensure_native_direction(buffer: &mut hb_buffer_t)
     requires { IsReady buffer.old }
     ensures { IsFollowed (always (native_order buffer.old.script)) buffer.old buffer.new }

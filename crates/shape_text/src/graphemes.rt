@@ -1,4 +1,5 @@
-//! What goes on with the character before it (UAX 29, extended grapheme clusters), as far as shaping asks.
+//! Which characters continue the grapheme of the one before (UAX 29 GB9 and GB9a, and GB11 to GB13 in part), as far as
+//! shaping requires (rustybuzz: hb/ot_shape.rs, set_unicode_props).
 ghost use Rattle.std.specs.Prelude.{◌≡◌};
 ghost use Rattle.unicode.specs.GeneralCategory.{general_category};
 ghost use Rattle.shape_text.specs.Graphemes.{continues, is_emoji_modifier, is_extender, is_joined, is_other_extender, is_regional_indicator};
@@ -7,15 +8,16 @@ use buffer_unicode::{CharExt, GeneralCategoryExt};
 use buffer_unicode_tables::{CharTablesExt, UnicodeTables};
 use unicode::properties::GeneralCategory;
 
-/// A character that was met, and whether it goes on with the one before it.
+/// The previous character, and whether it continues a grapheme.
 #[derive(Clone, Copy)]
 pub struct Before {
     pub character: char,
     pub continues: bool,
 }
 
-/// Whether a character goes on with the one before it: marks, emoji modifiers, joiners and extenders do; so does the
-/// second of two regional indicators, and a pictographic character after a joiner.
+/// Whether a character continues the grapheme of the one before (`set_unicode_props`): marks, emoji modifiers, joiners
+/// and extenders do (UAX 29 GB9, GB9a); so do the second of two regional indicators (GB12, GB13), and a pictographic
+/// character after a joiner (GB11).
 pub fn continues(tables: &UnicodeTables, before: Option<Before>, u: char) -> bool
     ensures { result ≡ continues tables.now before u }
 {

@@ -1,5 +1,5 @@
-// A text as shaping begins with it: its characters' properties, its graphemes, a circle before a mark, the order of its writing,
-// and how its characters stand in the line.
+//! The start of shaping: the properties of a text's characters, its graphemes, a dotted circle before a mark, the
+//! text's direction, and mirrored and vertical characters.
 #![tactic(auto)]
 
 pub mod circle;

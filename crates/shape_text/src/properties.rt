@@ -1,4 +1,4 @@
-//! The properties of a text's characters.
+//! The properties of a text's characters, set_unicode_props (rustybuzz: hb/ot_shape.rs).
 ghost use Rattle.std.specs.Prelude.{◌≡◌, true, None};
 ghost use Rattle.std.specs.Char.{IsScalar};
 ghost use Rattle.buffer_properties.specs.Properties.{scratch_flags_of};
@@ -19,8 +19,9 @@ use buffer_properties::character::properties_of;
 use buffer_properties::info::init_unicode_props;
 use buffer_unicode_tables::UnicodeTables;
 
-/// Gives each character of the text its property word and its class by Unicode and the tables, and tells the buffer what
-/// they say of the text. The word says whether a character goes on with the one before it.
+/// Sets the property word and the combining class of each character, by Unicode and the tables, and the buffer's
+/// scratch flags (`set_unicode_props`). The property word says whether a character continues the grapheme of the one
+/// before.
 pub fn set_unicode_props(tables: &UnicodeTables, buffer: &mut hb_buffer_t)
     requires ready { IsReady buffer.old }
     requires characters { are_characters (items_of buffer.old) ≡ true }
@@ -53,7 +54,7 @@ fn prepare(
     }
 }
 
-/// Gives a character its property word and its class.
+/// Sets the property word and the combining class of one character.
 fn prepare_glyph(
     tables: &UnicodeTables,
     goes_on: bool,

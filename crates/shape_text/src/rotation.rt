@@ -1,4 +1,5 @@
-//! Characters that stand mirrored, or upright, in the line that they are to run in.
+//! Characters that are mirrored in right-to-left text or have a vertical form, rotate_chars (rustybuzz:
+//! hb/ot_shape.rs).
 ghost use Rattle.std.specs.Prelude.{◌≡◌, ◌&&◌, not};
 ghost use Rattle.std.specs.Int.RustNames.{bit_and};
 ghost use Rattle.buffer_glyphs.specs.declared.info.TheConstants.{DEFINED};
@@ -17,20 +18,20 @@ use buffer_stages::glyphs::map_glyphs;
 use buffer_unicode_tables::{CharTablesExt, UnicodeTables};
 use layout_face::Face;
 
-/// What decides how a character stands in its line.
+/// What decides whether characters are mirrored or get vertical forms.
 #[derive(Clone, Copy)]
 pub struct Rotation {
-    /// The direction that was asked for.
+    /// The direction that the text is to have.
     pub target_direction: Direction,
-    /// The mask of the feature that mirrors what has no mirror image; it has no glyph flag.
+    /// The mask of the feature rtlm, which mirrors characters without a mirror image; it has no glyph flag.
     pub rtlm_mask: hb_mask_t,
-    /// Whether the font has a feature for vertical forms.
+    /// Whether the font has the feature vert.
     pub has_vert: bool,
 }
 
-/// Puts the mirror image of each character in its place where the line runs backward, and its vertical form where the line is
-/// vertical and no feature of the font sees to that, each if the font has it. A character that is not mirrored gets the mask
-/// of the feature that mirrors. It takes no memory.
+/// Replaces each character by its mirror image where the direction is backward, and by its vertical form where it is
+/// vertical and the font lacks the feature vert, each only if the font has that character (`rotate_chars`). A character
+/// that is not mirrored gets the mask of rtlm. It takes no memory.
 pub fn rotate_chars(
     rotation: Rotation,
     face: &Face,

@@ -161,7 +161,7 @@ pub fn language_faults_are_equal(left: LanguageFault, right: LanguageFault) -> b
     left == right
 }
 
-/// A direction that nobody set.
+/// The direction where none was set.
 pub fn default_direction() -> Direction
     ensures { result ≡ Invalid }
 {
@@ -201,7 +201,7 @@ pub fn glyph_flag_numbers() -> [hb_mask_t; 4]
     ]
 }
 
-/// What a buffer keeps of its text: characters outside ASCII, ignorables, spaces without a glyph, attached glyphs, a
+/// The scratch flags of a text: characters outside ASCII, ignorables, spaces without a glyph, attached glyphs, a
 /// combining grapheme joiner, glyph flags, broken syllables.
 pub fn scratch_flag_numbers() -> [hb_buffer_scratch_flags_t; 7]
     ensures { result ≡ 1 ∷ 2 ∷ 4 ∷ 8 ∷ 16 ∷ 32 ∷ 64 ∷ [] }

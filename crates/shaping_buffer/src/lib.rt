@@ -1,4 +1,4 @@
-// The buffer layer under one name: glyph records, texts, characters, the buffer and its two wrappers, printing.
+//! The buffer layer under one name: glyph records, texts, characters, the buffer and its two wrappers, printing.
 #![tactic(auto)]
 
 pub mod laws;

@@ -1,4 +1,4 @@
--- Answers that are what the data mean, but for want of memory.
+-- Answers that are what the data mean, but for lack of memory.
 use Rattle.std.proofs.Common.{◌≡◌, ◌≢◌, ℕ, zero, suc, ◌<◌, Bool, true, false, List, [], ◌∷◌, length, get_or, take, Result, Ok, Err, IfOk, IfErr, refl, sym, ap, subst, ◌∙◌, ◌+◌, add-one, arith}
 use Rattle.std.proofs.lemmas.Bool.Decides.{nat_tests}
 use Rattle.std.specs.Prelude.{nat_le}

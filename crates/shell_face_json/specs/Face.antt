@@ -29,10 +29,11 @@ use Rattle.shell_face_json.specs.FontRows.{character_row, variation_row, extents
 
 -- ---- the key `gdef`
 
+-- the mark glyph sets, of which there are at most as many as an index can count
 abbrev pub few_sets : List (List ℕ) → Result (List (List ℕ)) JsonFault
 few_sets sets = if nat_le (length sets) set_limit then Ok sets else Err OutOfRange
 
--- glyph classes, where there are such, attachment classes, and sets of marks
+-- glyph definitions: glyph classes, if there are any, attachment classes, and mark glyph sets
 abbrev pub glyph_definition : Data → Result GlyphDefinition JsonFault
 glyph_definition d =
     and_then (is_object d) (λ _.
@@ -41,9 +42,11 @@ glyph_definition d =
     and_then (and_then (rows_at (codes "sets") (rows_in_turn (coverage glyph_limit)) d) few_sets) (λ sets.
     Ok (record { classes = classes; attach = attach; sets = sets })))))
 
+-- glyph definitions without entries
 abbrev pub no_definition : GlyphDefinition
 no_definition = record { classes = None; attach = no_classes; sets = [] }
 
+-- the glyph definitions of an optional value
 abbrev pub glyph_definition_in : Option Data → Result GlyphDefinition JsonFault
 glyph_definition_in None = Ok no_definition
 glyph_definition_in (Some d) = glyph_definition d
@@ -57,14 +60,14 @@ character_keys d =
     and_then (rows_at (codes "variants") (rows_by_key pair_order (λ r. (r.character, r.selector)) (variation_row glyph_limit) None) d) (λ variants.
     Ok (cmap, variants)))
 
--- advances of glyphs along a line and down a column
+-- the horizontal and the vertical advances of glyphs
 abbrev pub advance_keys : Data → Result (List (GlyphRow ℕ) × List (GlyphRow ℕ)) JsonFault
 advance_keys d =
     and_then (rows_at (codes "h") (glyph_rows (only (number_below glyph_limit))) d) (λ widths.
     and_then (rows_at (codes "v") (glyph_rows (only (number_below glyph_limit))) d) (λ heights.
     Ok (widths, heights)))
 
--- origins, boxes and names of glyphs
+-- the vertical origins, extents and names of glyphs
 abbrev pub drawing_keys : Data → Result (List (GlyphRow ℤ) × (List (GlyphRow hb_glyph_extents_t) × List GlyphName)) JsonFault
 drawing_keys d =
     and_then (rows_at (codes "origins") (glyph_rows (only signed_word)) d) (λ origins.
@@ -72,7 +75,7 @@ drawing_keys d =
     and_then (rows_at (codes "names") (rows_by_key nat_cmp (λ r. r.glyph) (name_row glyph_limit) None) d) (λ names.
     Ok (origins, (boxes, names)))))
 
--- what is said of glyphs, substitution and positioning, whose indices of mark sets are held against the sets
+-- the glyph definitions, GSUB and GPOS; indices of mark glyph sets must be below the number of sets
 abbrev pub layout_keys : Data → Result (GlyphDefinition × (Option SubstitutionTable × Option PositioningTable)) JsonFault
 layout_keys d =
     and_then (glyph_definition_in (get (codes "gdef") d)) (λ gdef.
@@ -80,7 +83,7 @@ layout_keys d =
     and_then (read_if_there (positioning_table (length gdef.sets)) (get (codes "gpos") d)) (λ gpos.
     Ok (gdef, (gsub, gpos)))))
 
--- the keys of a font in the order in which their faults come
+-- the keys of a font in the order of their faults
 abbrev pub face_keys : Data → Result FaceParts JsonFault
 face_keys d =
     and_then (read_or 0 word (get (codes "upem") d)) (λ upem.
@@ -104,7 +107,7 @@ face_keys d =
       gpos = layout.1.1;
     })))))))
 
--- that indices stay within their lists was held against each row that has one
+-- the font, whose indices were checked against their lists row by row
 abbrev pub with_indices : FaceParts → Result FaceParts JsonFault
 with_indices font = if indices_fit font then Ok font else Err OutOfRange
 

@@ -1,4 +1,4 @@
--- The rows of a font's keys; glyphs are below the limit.
+-- The rows of a font's keys; glyph numbers are below the limit.
 use Rattle.std.specs.Prelude.{ℕ, List, Result, Ok}
 use Rattle.std.specs.Option.{ok_or}
 use Rattle.serde_json.specs.Data.{Data, Items}
@@ -17,18 +17,18 @@ use Rattle.layout_face.specs.declared.parts.VariationRow.{VariationRow}
 abbrev pub character_row : ℕ → Data → Result CharacterRow JsonFault
 character_row limit d = and_then (row_of_two character (number_below limit) d) (λ p. Ok (record { character = p.0; glyph = p.1.0 }))
 
--- a character, a variation selector and the glyph of the two
+-- a character, a variation selector and the glyph of both
 abbrev pub variation_row : ℕ → Data → Result VariationRow JsonFault
 variation_row limit d =
     and_then (row_of_three character character (number_below limit) d) (λ p. Ok (record { character = p.0; selector = p.1.0; glyph = p.1.1.0 }))
 
--- x and y bearing, width and height
+-- glyph extents: x and y bearing, width and height
 abbrev pub extents : Items → Result hb_glyph_extents_t JsonFault
 extents ds =
     and_then (first_and_rest signed_word (first_and_rest signed_word (first_and_rest signed_word (first_and_rest signed_word no_more))) ds) (λ p.
     Ok (record { x_bearing = p.0; y_bearing = p.1.0; width = p.1.1.0; height = p.1.1.1.0 }))
 
--- any text
+-- the name of a glyph: any text
 abbrev pub glyph_name : Data → Result (List ℕ) JsonFault
 glyph_name d = ok_or (as_str d) WrongShape
 

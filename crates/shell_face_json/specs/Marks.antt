@@ -1,4 +1,4 @@
--- The subtables that attach marks; glyphs are below the limit.
+-- The subtables that attach marks (GPOS lookup types 4 to 6); glyph numbers are below the limit.
 use Rattle.std.specs.Prelude.{ℕ, List, codes, None, Result, Ok}
 use Rattle.std.specs.Ordering.{nat_cmp}
 use Rattle.serde_json.specs.Data.{Data, Items}
@@ -18,28 +18,28 @@ use Rattle.layout_subtables.specs.declared.mark.LigatureRow.{LigatureRow}
 use Rattle.layout_subtables.specs.declared.mark.MarkBasePos.{MarkBasePos}
 use Rattle.layout_subtables.specs.declared.mark.MarkLigPos.{MarkLigPos}
 
--- a mark's class, of so many, and its anchor or null
+-- a mark's class, which is below the number of classes, and its anchor or null
 abbrev pub mark_record : ℕ → Items → Result MarkRecord JsonFault
 mark_record classes ds =
     and_then (first_and_rest (number_below classes) (first_and_rest (or_null anchor) no_more) ds) (λ p. Ok (record { class = p.0; anchor = p.1.0 }))
 
--- the marks of a subtable of so many classes
+-- the marks of a subtable with that many classes
 abbrev pub marks_of : ℕ → Data → Result (List (GlyphRow MarkRecord)) JsonFault
 marks_of classes d = rows_at (codes "marks") (glyph_rows (mark_record classes)) d
 
--- a base, and an anchor or null for each class
+-- a base glyph, and an anchor or null for each class
 abbrev pub base_row : ℕ → Data → Result BaseRow JsonFault
 base_row limit d = and_then (row_of_two (number_below limit) (part_list (or_null anchor)) d) (λ p. Ok (record { glyph = p.0; anchors = p.1.0 }))
 
--- a component's anchors
+-- the anchors of a ligature component
 abbrev pub component : Data → Result ComponentRecord JsonFault
 component d = and_then (part_list (or_null anchor) d) (λ anchors. Ok (record { anchors = anchors }))
 
--- a ligature, and its components
+-- a ligature glyph, and its components
 abbrev pub ligature_row : ℕ → Data → Result LigatureRow JsonFault
 ligature_row limit d = and_then (row_of_two (number_below limit) (part_list component) d) (λ p. Ok (record { glyph = p.0; components = p.1.0 }))
 
--- marks, whose classes are held against each base's anchors, and bases
+-- a mark-to-base or mark-to-mark subtable: marks, whose classes are checked against each base's anchors, and bases
 abbrev pub mark_base : ℕ → Data → Result MarkBasePos JsonFault
 mark_base limit d =
     and_then (is_object d) (λ _.
@@ -47,7 +47,7 @@ mark_base limit d =
     and_then (rows_at (codes "bases") (rows_by_key nat_cmp (λ r. r.glyph) (base_row limit) None) d) (λ bases.
     Ok (record { marks = marks; bases = bases }))))
 
--- marks, whose classes are held against each component's anchors, and ligatures
+-- a mark-to-ligature subtable: marks, whose classes are checked against each component's anchors, and ligatures
 abbrev pub mark_lig : ℕ → Data → Result MarkLigPos JsonFault
 mark_lig limit d =
     and_then (is_object d) (λ _.

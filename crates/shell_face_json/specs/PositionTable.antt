@@ -1,4 +1,4 @@
--- The table of glyph positioning.
+-- The GPOS table.
 use Rattle.std.specs.Prelude.{ℕ, if◌then◌else◌, List, codes, Option, Some, None, Result, Ok, Err}
 use Rattle.std.specs.Option.{ok_or}
 use Rattle.std.specs.Str.{bytes_eq}
@@ -21,7 +21,7 @@ use Rattle.shell_face_json.specs.Scripts.{layout_of}
 use Rattle.shell_face_json.specs.Positions.{single_pos, pair_pos, cursive_pos}
 use Rattle.shell_face_json.specs.Marks.{mark_base, mark_lig}
 
--- the type of a name
+-- the GPOS lookup type of a name
 abbrev pub positioning_type_of : List ℕ → Result PositioningType JsonFault
 positioning_type_of name =
     if bytes_eq name (codes "single") then Ok Single
@@ -34,7 +34,7 @@ positioning_type_of name =
     else if bytes_eq name (codes "chain") then Ok ChainContext
     else Err UnknownName
 
--- a lookup has a type
+-- the GPOS lookup type of a lookup's key, which is required
 abbrev pub positioning_type_in : Option Data → Result PositioningType JsonFault
 positioning_type_in None = Err WrongShape
 positioning_type_in (Some d) = and_then (ok_or (as_str d) WrongShape) positioning_type_of
@@ -50,7 +50,7 @@ positionings MarkToMark d = and_then (subtables_of (mark_base glyph_limit) d) (�
 positionings Context d = and_then (subtables_of (context glyph_limit) d) (λ s. Ok (Subtables.Context s))
 positionings ChainContext d = and_then (subtables_of (context glyph_limit) d) (λ s. Ok (Subtables.ChainContext s))
 
--- a lookup, in a font with so many sets of marks: its keys in the order in which their faults come
+-- a lookup, in a font with that many mark glyph sets: its keys in the order of their faults
 abbrev pub positioning_lookup : ℕ → Data → Result PositioningLookup JsonFault
 positioning_lookup sets d =
     and_then (is_object d) (λ _.
@@ -60,7 +60,7 @@ positioning_lookup sets d =
     and_then (positionings lookup_type d) (λ subtables.
     Ok (record { flags = flags; mark_filtering_set = set; subtables = subtables }))))))
 
--- the table, in a font with so many sets of marks: scripts, features, lookups
+-- the GPOS table, in a font with that many mark glyph sets: scripts, features, lookups
 abbrev pub positioning_table : ℕ → Data → Result PositioningTable JsonFault
 positioning_table sets d =
     and_then (is_object d) (λ _.

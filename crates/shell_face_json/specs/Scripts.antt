@@ -15,15 +15,17 @@ use Rattle.layout_tables.specs.Layout.{LangSysTable, LangSysEntry, ScriptTable, 
 use Rattle.buffer_common.specs.declared.tag.Tag.{Tag}
 use Rattle.shell_json_values.specs.Parts.{tag}
 
--- ---- scripts, in a table with as many features as the limit says
+-- ---- scripts, in a table whose number of features is the limit
 
+-- the index of the required feature, none where the key is missing
 abbrev pub required_feature : ℕ → Data → Result (Option ℕ) JsonFault
 required_feature limit d = read_if_there (number_below limit) (get (codes "required") d)
 
+-- the feature indices of a language system
 abbrev pub system_features : ℕ → Data → Result (List ℕ) JsonFault
 system_features limit d = rows_at (codes "features") (parts_of (number_below limit)) d
 
--- a language system, of whose keys' faults the one comes first that does so by its kind
+-- a language system: of its keys' faults the one that is first by its kind is the result
 abbrev pub lang_sys : ℕ → Data → Result LangSysTable JsonFault
 lang_sys limit d =
     and_then (is_object d) (λ _.
@@ -34,26 +36,26 @@ lang_sys limit d =
 abbrev pub lang_sys_entry : ℕ → Data → Result LangSysEntry JsonFault
 lang_sys_entry limit d = and_then (row_of_two tag (lang_sys limit) d) (λ p. Ok (record { tag = p.0; lang_sys = p.1.0 }))
 
--- a script whose systems rise by their tags
+-- a script whose language systems rise by their tags
 abbrev pub script_parts : Tag × (Option LangSysTable × (List LangSysEntry × ⊤)) → Result ScriptTable JsonFault
 script_parts p =
     if is_rising (λ s. s.tag.0) None p.1.1.0
     then Ok (record { tag = p.0; default_lang_sys = p.1.0; lang_systems = p.1.1.0 })
     else Err OutOfOrder
 
--- a script: its tag, a system or null, and systems by rising tags
+-- a script: its tag, a default language system or null, and language systems by rising tags
 abbrev pub script : ℕ → Data → Result ScriptTable JsonFault
 script limit d = and_then (row_of_three tag (or_null (lang_sys limit)) (part_list (lang_sys_entry limit)) d) script_parts
 
--- ---- features, in a table with as many lookups as the limit says
+-- ---- features, in a table whose number of lookups is the limit
 
--- a feature: its tag and its lookups
+-- a feature: its tag and its lookup indices
 abbrev pub feature : ℕ → Data → Result FeatureTable JsonFault
 feature limit d = and_then (row_of_two tag (part_list (number_below limit)) d) (λ p. Ok (record { tag = p.0; lookups = p.1.0 }))
 
 -- ---- a table
 
--- scripts and features; an index is held against the length of the list that it points into
+-- scripts and features; an index must be below the length of the list that it points into
 abbrev pub layout_of : Data → Result LayoutLists JsonFault
 layout_of d =
     and_then (rows_at (codes "scripts") (rows_by_key nat_cmp (λ s. s.tag.0) (script (count_at (codes "features") d)) None) d) (λ scripts.

@@ -1,4 +1,4 @@
--- The table of glyph substitution.
+-- The GSUB table.
 use Rattle.std.specs.Prelude.{ℕ, if◌then◌else◌, List, codes, Option, Some, None, Result, Ok, Err}
 use Rattle.std.specs.Option.{ok_or}
 use Rattle.std.specs.Str.{bytes_eq}
@@ -20,7 +20,7 @@ use Rattle.shell_face_json.specs.Contexts.{context}
 use Rattle.shell_face_json.specs.Scripts.{layout_of}
 use Rattle.shell_face_json.specs.Substitutions.{single, multiple, alternate, ligature_subst, reverse}
 
--- the type of a name
+-- the GSUB lookup type of a name
 abbrev pub substitution_type_of : List ℕ → Result SubstitutionType JsonFault
 substitution_type_of name =
     if bytes_eq name (codes "single") then Ok Single
@@ -32,7 +32,7 @@ substitution_type_of name =
     else if bytes_eq name (codes "reverse") then Ok ReverseChainSingle
     else Err UnknownName
 
--- a lookup has a type
+-- the GSUB lookup type of a lookup's key, which is required
 abbrev pub substitution_type_in : Option Data → Result SubstitutionType JsonFault
 substitution_type_in None = Err WrongShape
 substitution_type_in (Some d) = and_then (ok_or (as_str d) WrongShape) substitution_type_of
@@ -47,7 +47,7 @@ substitutions Context d = and_then (subtables_of (context glyph_limit) d) (λ s.
 substitutions ChainContext d = and_then (subtables_of (context glyph_limit) d) (λ s. Ok (Subtables.ChainContext s))
 substitutions ReverseChainSingle d = and_then (subtables_of (reverse glyph_limit) d) (λ s. Ok (Subtables.ReverseChainSingle s))
 
--- a lookup, in a font with so many sets of marks: its keys in the order in which their faults come
+-- a lookup, in a font with that many mark glyph sets: its keys in the order of their faults
 abbrev pub substitution_lookup : ℕ → Data → Result SubstLookup JsonFault
 substitution_lookup sets d =
     and_then (is_object d) (λ _.
@@ -57,7 +57,7 @@ substitution_lookup sets d =
     and_then (substitutions lookup_type d) (λ subtables.
     Ok (record { flags = flags; mark_filtering_set = set; subtables = subtables }))))))
 
--- the table, in a font with so many sets of marks: scripts, features, lookups
+-- the GSUB table, in a font with that many mark glyph sets: scripts, features, lookups
 abbrev pub substitution_table : ℕ → Data → Result SubstitutionTable JsonFault
 substitution_table sets d =
     and_then (is_object d) (λ _.

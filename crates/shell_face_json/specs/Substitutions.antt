@@ -1,4 +1,4 @@
--- The subtables of glyph substitution, whose glyphs are below the limit.
+-- The GSUB subtables; glyph numbers are below the limit.
 use Rattle.std.specs.Prelude.{ℕ, Bool, false, if◌then◌else◌, is_some, List, [], ◌∷◌, None, Result, Ok}
 use Rattle.std.specs.Ordering.{nat_cmp}
 use Rattle.serde_json.specs.Data.{Data, Items, no_items, item}
@@ -17,7 +17,7 @@ use Rattle.layout_subtables.specs.declared.sequence.MultipleSubst.{MultipleSubst
 use Rattle.layout_subtables.specs.declared.sequence.AlternateSubst.{AlternateSubst}
 use Rattle.layout_subtables.specs.declared.reverse.ReverseChainSubst.{ReverseChainSubst}
 
--- rows of a glyph and its substitute
+-- a single substitution subtable: rows of a glyph and its substitute (GSUB lookup type 1)
 abbrev pub single : ℕ → Data → Result SingleSubst JsonFault
 single limit d = and_then (and_then (list_of d) (glyph_rows (only (number_below limit)))) (λ rows. Ok (record { rows = rows }))
 
@@ -26,20 +26,21 @@ abbrev pub sequence_row : ℕ → Data → Result SequenceRow JsonFault
 sequence_row limit d =
     and_then (row_of_two (number_below limit) (part_list (number_below limit)) d) (λ p. Ok (record { glyph = p.0; glyphs = p.1.0 }))
 
+-- rows of a glyph and a list of glyphs, by rising glyphs
 abbrev pub sequence_rows : ℕ → Data → Result (List SequenceRow) JsonFault
 sequence_rows limit d = and_then (list_of d) (rows_by_key nat_cmp (λ r. r.glyph) (sequence_row limit) None)
 
--- rows of a glyph and its sequence
+-- a multiple substitution subtable: rows of a glyph and its sequence (GSUB lookup type 2)
 abbrev pub multiple : ℕ → Data → Result MultipleSubst JsonFault
 multiple limit d = and_then (sequence_rows limit d) (λ rows. Ok (record { rows = rows }))
 
--- rows of a glyph and its alternates
+-- an alternate substitution subtable: rows of a glyph and its alternates (GSUB lookup type 3)
 abbrev pub alternate : ℕ → Data → Result AlternateSubst JsonFault
 alternate limit d = and_then (sequence_rows limit d) (λ rows. Ok (record { rows = rows }))
 
 -- ---- ligatures
 
--- a ligature: the glyphs after the first, and the glyph for all
+-- a ligature: the component glyphs after the first, and the ligature glyph
 abbrev pub ligature : ℕ → Data → Result LigatureTable JsonFault
 ligature limit d =
     and_then (row_of_two (part_list (number_below limit)) (number_below limit) d) (λ p. Ok (record { components = p.0; glyph = p.1.0 }))
@@ -61,13 +62,14 @@ abbrev pub ligature_set : ℕ → Data → Result LigatureSetTable JsonFault
 ligature_set limit d =
     and_then (row_of_two (number_below limit) (ligatures limit) d) (λ p. Ok (record { first = p.0; ligatures = p.1.0 }))
 
--- sets by rising first glyphs
+-- a ligature substitution subtable: ligature sets by rising first glyphs (GSUB lookup type 4)
 abbrev pub ligature_subst : ℕ → Data → Result (List LigatureSetTable) JsonFault
 ligature_subst limit d = and_then (list_of d) (rows_by_key nat_cmp (λ s. s.first) (ligature_set limit) None)
 
 -- ---- reverse chaining
 
--- the sets of glyphs before (the nearest first), those after, and rows of a glyph and its substitute
+-- a reverse chaining subtable: backtrack coverages (the nearest first), lookahead coverages, and rows of a glyph and
+-- its substitute (GSUB lookup type 8)
 abbrev pub reverse : ℕ → Data → Result ReverseChainSubst JsonFault
 reverse limit d =
     and_then (row_of_three (part_list (coverage limit)) (part_list (coverage limit)) (glyph_row_list (only (number_below limit))) d) (λ p.

@@ -1,4 +1,4 @@
-//! Contexts and chained contexts.
+//! Reads context and chained-context subtables.
 ghost use Rattle.std.specs.Prelude.{◌≡◌, ◌≢◌, IfOk, IfErr, Ok, Err, codes};
 ghost use Rattle.serde_json.specs.Find.{get};
 ghost use Rattle.serde_json.specs.View.{view};
@@ -15,7 +15,8 @@ use serde_json::Value;
 use shell_json_values::fault::JsonFault;
 use std::alloc::Global;
 
-/// The formats of a context: what the items of its rules are.
+/// The formats of a context subtable, by the items of its rules: glyphs, classes or coverages (OpenType, formats 1 to
+/// 3).
 #[derive(Clone, Copy)]
 pub enum ContextFormat {
     Glyphs,

@@ -1,4 +1,4 @@
-//! A font.
+//! Reads a font.
 ghost use Rattle.std.specs.Prelude.{◌≡◌, ◌≢◌, ℕ, IfOk, IfErr, Ok, Err, codes};
 ghost use Rattle.serde_json.specs.Find.{get};
 ghost use Rattle.serde_json.specs.View.{view};
@@ -22,8 +22,9 @@ use shell_json_values::fault::JsonFault;
 use shell_json_values::keys::read_key;
 use std::alloc::Global;
 
-/// Reads a font. Keys that are not of the format are passed over. Of several faults it gives the first by the order of the
-/// format's keys, then of their rows; of one row's faults a wrong shape, then a float, a range, the order of rows.
+/// Reads a font. Unknown keys are skipped. Of several faults it returns the first by the order of the format's keys,
+/// then by the order of their rows; of one row's faults wrong shapes come first, then floats, ranges, and the order of
+/// rows.
 pub fn read_face(alloc: Global, value: &Value) -> Result<Face, JsonFault>
     ensures ok { IfOk result (λ f. face_of (view value.now) ≡ Ok f) }
     ensures refused { IfErr result (λ e. e ≢ JsonFault.OutOfMemory
@@ -67,7 +68,7 @@ fn read_face_parts(alloc: Global, value: &Value) -> Result<FaceParts, JsonFault>
     })
 }
 
-/// The glyphs of characters, and those of characters with variation selectors.
+/// Reads the glyphs of characters, and those of characters with variation selectors.
 fn read_characters(
     alloc: Global,
     value: &Value,
@@ -83,7 +84,7 @@ fn read_characters(
 
 type Rows<V> = SortedRows<GlyphRow<V>>;
 
-/// Advances of glyphs along a line and down a column.
+/// Reads the horizontal and the vertical advances of glyphs.
 fn read_advances(alloc: Global, value: &Value) -> Result<(Rows<u16>, Rows<u16>), JsonFault>
     ensures ok { IfOk result (λ p. advance_keys (view value.now) ≡ Ok p) }
     ensures refused { IfErr result (λ e. e ≢ JsonFault.OutOfMemory
@@ -96,7 +97,7 @@ fn read_advances(alloc: Global, value: &Value) -> Result<(Rows<u16>, Rows<u16>),
 
 type Drawing = (Rows<i16>, (Rows<hb_glyph_extents_t>, SortedRows<NameRow>));
 
-/// Origins, boxes and names of glyphs.
+/// Reads the vertical origins, extents and names of glyphs.
 fn read_drawing(alloc: Global, value: &Value) -> Result<Drawing, JsonFault>
     ensures ok { IfOk result (λ p. drawing_keys (view value.now) ≡ Ok p) }
     ensures refused { IfErr result (λ e. e ≢ JsonFault.OutOfMemory
@@ -113,7 +114,7 @@ type Layouts = (
     (Option<SubstitutionTable>, Option<PositioningTable>),
 );
 
-/// What is said of glyphs, substitution and positioning.
+/// Reads the glyph definitions, GSUB and GPOS.
 fn read_layouts(alloc: Global, value: &Value) -> Result<Layouts, JsonFault>
     ensures ok { IfOk result (λ p. layout_keys (view value.now) ≡ Ok p) }
     ensures refused { IfErr result (λ e. e ≢ JsonFault.OutOfMemory
@@ -137,7 +138,7 @@ fn read_definition_at(alloc: Global, value: &Value) -> Result<GlyphDefinition, J
     }
 }
 
-/// What a font says of its glyphs.
+/// Reads the glyph definitions (GDEF).
 pub fn read_definition(alloc: Global, value: &Value) -> Result<GlyphDefinition, JsonFault>
     ensures ok { IfOk result (λ g. glyph_definition (view value.now) ≡ Ok g) }
     ensures refused { IfErr result (λ e. e ≢ JsonFault.OutOfMemory
@@ -164,7 +165,7 @@ fn few_sets(sets: Array<Coverage>) -> Result<Array<Coverage>, JsonFault>
     }
 }
 
-/// A font that says nothing of its glyphs.
+/// Glyph definitions without entries.
 pub fn no_definition(alloc: Global) -> GlyphDefinition
     ensures { result ≡ no_definition }
 {

@@ -1,4 +1,4 @@
-//! Features, and a table's lists.
+//! Reads features, and a table's lists of them.
 ghost use Rattle.std.specs.Prelude.{◌≡◌, ◌≢◌, IfOk, IfErr, Ok, Err};
 ghost use Rattle.serde_json.specs.View.{view};
 ghost use Rattle.shell_face_json.specs.Scripts.{feature, layout_of};
@@ -24,8 +24,8 @@ impl Part for FeatureRecord {
     }
 }
 
-/// The keys `scripts` and `features` of a layout table, whose indices are held against the lengths of its lists `features`
-/// and `lookups`.
+/// Reads the keys `scripts` and `features` of a layout table, whose indices must be below the lengths of its lists
+/// `features` and `lookups`.
 pub fn read_layout(alloc: Global, value: &Value) -> Result<LayoutTable, JsonFault>
     ensures ok { IfOk result (λ t. layout_of (view value.now) ≡ Ok t) }
     ensures refused { IfErr result (λ e. e ≢ JsonFault.OutOfMemory

@@ -1,4 +1,4 @@
-//! The rows of a font's keys.
+//! Reads the rows of a font's keys.
 ghost use Rattle.std.specs.Prelude.{◌≡◌, ◌≢◌, IfOk, IfErr, Ok, Err};
 ghost use Rattle.shell_face_json.specs.FontRows.{character_row, variation_row, extents, glyph_name, name_row};
 
@@ -33,7 +33,7 @@ impl Part for VariationRow {
     }
 }
 
-/// The box of a glyph.
+/// The extents of a glyph.
 impl Parts for hb_glyph_extents_t {
     ghost parts = { λ _. extents };
 

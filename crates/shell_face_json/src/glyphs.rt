@@ -1,4 +1,4 @@
-//! Rows of glyphs, sets and classes of glyphs.
+//! Reads rows of glyphs, glyph sets and glyph classes.
 ghost use Rattle.std.specs.Prelude.{◌≡◌, ◌≢◌, IfOk, IfErr, Ok, Err};
 ghost use Rattle.serde_json.specs.View.{view, items_view};
 ghost use Rattle.shell_face_json.specs.Lists.{rows_at};
@@ -18,10 +18,10 @@ use shell_json_values::fault::JsonFault;
 use shell_json_values::parts::{list, list_at};
 use std::alloc::Global;
 
-/// Glyphs are numbers of 16 bits.
+/// Glyph numbers are below this limit: they have 16 bits.
 pub const GLYPH_LIMIT: usize = 0x1_0000;
 
-/// A glyph, and what the rest of the row says of it.
+/// A glyph, followed by the fields of its row.
 impl<V: Parts> Part for GlyphRow<V> {
     ghost part = { λ limit. glyph_row (V.parts limit) };
 
@@ -51,7 +51,7 @@ impl Part for ClassDefinition {
     }
 }
 
-/// Rows of a glyph and its class, by rising glyphs.
+/// Reads rows of a glyph and its class, by rising glyphs.
 pub fn read_classes(
     alloc: Global,
     values: &[Value],
@@ -65,7 +65,7 @@ pub fn read_classes(
     Ok(ClassDefinition { rows })
 }
 
-/// The classes of a key.
+/// Reads the classes under a key.
 pub fn read_classes_at(
     alloc: Global,
     value: &Value,
@@ -79,7 +79,7 @@ pub fn read_classes_at(
     read_classes(alloc, list_at(value, key)?, limit)
 }
 
-/// The set of glyphs of a key.
+/// Reads the set of glyphs under a key.
 pub fn read_coverage_at(
     alloc: Global,
     value: &Value,

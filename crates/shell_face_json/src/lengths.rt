@@ -1,4 +1,4 @@
-//! Lengths of lists, against which classes are held.
+//! The lengths of lists against which glyph classes are checked.
 ghost use Rattle.std.specs.Prelude.{◌≡◌, min};
 ghost use Rattle.serde_json.specs.Find.{at};
 ghost use Rattle.serde_json.specs.View.{view, items_view};
@@ -6,7 +6,7 @@ ghost use Rattle.shell_face_json.specs.Lengths.{items_at, length_or, least_lengt
 
 use serde_json::Value;
 
-/// The items of the list of a key, none where the key has no list.
+/// The items of the list under a key; none where there is no list.
 pub(crate) fn items_at<'a>(value: &'a Value, key: &str) -> &'a [Value]
     ensures { items_view result.now ≡ items_at key.now (view value.entry.now) }
 {
@@ -30,7 +30,7 @@ pub(crate) fn least_length(limit: usize, values: &[Value]) -> usize
     least
 }
 
-/// The least length of the lists that are the second items of rows, at most the limit.
+/// The least length of the lists that are second items of rows, at most the limit.
 pub(crate) fn least_row_length(limit: usize, rows: &[Value]) -> usize
     ensures { result ≡ least_row_length limit (items_view rows.now) }
 {
@@ -41,7 +41,7 @@ pub(crate) fn least_row_length(limit: usize, rows: &[Value]) -> usize
     least
 }
 
-/// The least length of the lists in the second items of rows, at most the limit.
+/// The least length of the lists within the second items of rows, at most the limit.
 pub(crate) fn least_length_in_rows(limit: usize, rows: &[Value]) -> usize
     ensures { result ≡ least_length_in_rows limit (items_view rows.now) }
 {

@@ -1,4 +1,4 @@
-// Reads a font from a JSON value, with the fault that comes first.
+//! Reads a font from a JSON value, with the fault that comes first.
 #![tactic(auto)]
 
 mod contexts;

@@ -1,4 +1,4 @@
-//! Lists of parts, and lists of rows.
+//! Reads lists of values, and lists of rows.
 ghost use Rattle.std.specs.Prelude.{◌≡◌, ◌≢◌, IfOk, IfErr, Ok, Err};
 ghost use Rattle.std.specs.Result.{result_map_both};
 ghost use Rattle.serde_json.specs.View.{items_view};
@@ -22,7 +22,7 @@ impl<P: Part> Part for Array<P> {
     }
 }
 
-/// The parts of a list inside a row: of their faults the one that comes first by its kind.
+/// Reads the items of a list inside a row: of their faults the one that is first by its kind is returned.
 pub(crate) fn read_list<P: Part>(
     alloc: Global,
     values: &[Value],
@@ -58,7 +58,7 @@ fn with_part<P: Drop>(
     }
 }
 
-/// The rows of a list in turn: the fault of the first faulty row.
+/// Reads the rows of a list in turn; the fault of the first faulty row is returned.
 pub fn read_in_turn<P: Part>(
     alloc: Global,
     values: &[Value],

@@ -1,4 +1,4 @@
-//! The subtables that attach marks.
+//! Reads the subtables that attach marks (GPOS lookup types 4 to 6).
 ghost use Rattle.shell_face_json.specs.Marks.{mark_record, base_row, component, ligature_row, mark_base, mark_lig};
 
 use crate::lengths::{items_at, least_length_in_rows, least_row_length};

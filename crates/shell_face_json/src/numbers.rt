@@ -1,4 +1,4 @@
-//! Numbers and tags.
+//! Reads numbers and tags.
 ghost use Rattle.shell_json_values.specs.Cell.{signed_word, character};
 ghost use Rattle.shell_json_values.specs.Parts.{tag};
 ghost use Rattle.shell_face_json.specs.Lists.{number_below};

@@ -1,4 +1,4 @@
-//! Objects, and the lists of an object's keys.
+//! Reads objects, and the lists under an object's keys.
 ghost use Rattle.std.specs.Prelude.{◌≡◌, ◌≢◌, IfOk, IfErr, Ok, Err, None};
 ghost use Rattle.serde_json.specs.Find.{get};
 ghost use Rattle.serde_json.specs.View.{view};
@@ -18,7 +18,7 @@ use shell_json_values::fault::JsonFault;
 use shell_json_values::parts::list_at;
 use std::alloc::Global;
 
-/// Refuses what is no object.
+/// Refuses a value that is no object.
 pub fn object(value: &Value) -> Result<(), JsonFault>
     ensures { result ≡ is_object (view value.now) }
 {
@@ -29,7 +29,7 @@ pub fn object(value: &Value) -> Result<(), JsonFault>
     }
 }
 
-/// The rows of a key in turn.
+/// Reads the rows under a key in turn.
 pub fn read_in_turn_at<P: Part>(
     alloc: Global,
     value: &Value,
@@ -44,7 +44,7 @@ pub fn read_in_turn_at<P: Part>(
     read_in_turn(alloc, list_at(value, key)?, limit)
 }
 
-/// The rows of a key in turn, whose keys rise strictly.
+/// Reads the rows under a key in turn; their keys must rise strictly.
 pub fn read_by_key_at<R: Part + Keyed>(
     alloc: Global,
     value: &Value,
@@ -59,7 +59,7 @@ pub fn read_by_key_at<R: Part + Keyed>(
     read_by_key(alloc, list_at(value, key)?, limit)
 }
 
-/// The list of a key, as a list inside a row.
+/// Reads the list under a key as a list inside a row.
 pub fn read_list_at<P: Part>(
     alloc: Global,
     value: &Value,
@@ -74,7 +74,7 @@ pub fn read_list_at<P: Part>(
     read_list(alloc, list_at(value, key)?, limit)
 }
 
-/// The value of a key, none where the key is missing.
+/// Reads the value under a key; `None` where the key is missing.
 pub fn read_optional_at<P: Part>(
     alloc: Global,
     value: &Value,
@@ -92,7 +92,7 @@ pub fn read_optional_at<P: Part>(
     }
 }
 
-/// How many items the list of a key has, 0 where the key has no list.
+/// The number of items of the list under a key, 0 where there is no list.
 #[tactic(auto, using(crate::proofs::Split::count_is_length))]
 pub fn count_at(value: &Value, key: &str) -> usize
     ensures { result ≡ count_at key.now (view value.now) }
@@ -106,7 +106,7 @@ pub fn count_at(value: &Value, key: &str) -> usize
     }
 }
 
-/// The subtables of a lookup, whose glyphs are numbers of 16 bits.
+/// Reads the subtables of a lookup, whose glyph numbers have 16 bits.
 pub fn subtables<P: Part>(alloc: Global, value: &Value) -> Result<Array<P>, JsonFault>
     ensures ok { IfOk result (λ v. subtables_of (P.part glyph_limit) (view value.now) ≡ Ok v) }
     ensures refused { IfErr result (λ e. e ≢ JsonFault.OutOfMemory

@@ -1,4 +1,4 @@
-//! The table of glyph positioning.
+//! Reads the GPOS table.
 ghost use Rattle.std.specs.Prelude.{◌≡◌, ◌≢◌, IfOk, IfErr, Ok, Err, codes};
 ghost use Rattle.serde_json.specs.Find.{get};
 ghost use Rattle.serde_json.specs.View.{view};
@@ -13,7 +13,7 @@ use shell_json_values::fault::JsonFault;
 use shell_json_values::keys::read_key;
 use std::alloc::Global;
 
-/// The types of positioning lookups.
+/// The GPOS lookup types.
 #[derive(Clone, Copy)]
 pub enum PositioningType {
     Single,

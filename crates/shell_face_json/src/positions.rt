@@ -1,4 +1,4 @@
-//! The subtables of glyph positioning but those that attach marks.
+//! Reads the GPOS subtables other than those that attach marks.
 ghost use Rattle.std.specs.Prelude.{◌≡◌, ◌≢◌, IfOk, IfErr, Ok, Err};
 ghost use Rattle.serde_json.specs.Find.{get};
 ghost use Rattle.serde_json.specs.View.{view};
@@ -45,7 +45,7 @@ impl Part for ValueRecord {
     }
 }
 
-/// One adjustment, and no more.
+/// A row of one value record.
 impl Parts for ValueRecord {
     ghost parts = { λ _. only value_record };
 
@@ -128,7 +128,7 @@ fn read_class_pairs(alloc: Global, value: &Value, limit: usize) -> Result<ClassP
     })
 }
 
-/// The anchors by which a glyph is joined.
+/// The entry and exit anchors of cursive attachment.
 impl Parts for EntryExit {
     ghost parts = { λ _. entry_exit };
 

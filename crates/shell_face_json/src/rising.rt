@@ -1,4 +1,4 @@
-//! Rows whose keys rise strictly.
+//! Checks that the keys of rows rise strictly.
 ghost use Rattle.std.specs.Prelude.{◌≡◌, ◌≢◌, IfOk, IfErr, Ok, Err, None, true};
 ghost use Rattle.serde_json.specs.View.{items_view};
 ghost use Rattle.buffer_rows.specs.Keys.{is_above, is_rising};
@@ -27,8 +27,8 @@ impl<R: Part + Keyed> Part for SortedRows<R> {
     }
 }
 
-/// The rows of a list in turn, whose keys rise strictly: the fault of the first faulty row; of one row's faults the order
-/// comes last.
+/// Reads the rows of a list in turn, whose keys must rise strictly; the fault of the first faulty row is returned, and
+/// of that row's faults the order is the last.
 pub fn read_by_key<R: Part + Keyed>(
     alloc: Global,
     values: &[Value],
@@ -42,7 +42,7 @@ pub fn read_by_key<R: Part + Keyed>(
     Ok(SortedRows::new(read_rising(alloc, values, limit)?))
 }
 
-/// What reads the rows of a list in which an index is below a limit.
+/// Reads rows in which each index is below a limit.
 #[derive(Drop)]
 struct ByKey<R> {
     limit: usize,
@@ -77,7 +77,7 @@ impl<R: Part + Keyed> RowReader for ByKey<R> {
     }
 }
 
-/// The same rows as a vector.
+/// Reads the rows of a list with rising keys into a vector.
 #[tactic(auto, using(crate::proofs::RisingKeys::keys_rise), unfolding(crate::specs::Sorted::rows_by_key))]
 pub fn read_rising<R: Part + Keyed>(
     alloc: Global,

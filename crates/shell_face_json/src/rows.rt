@@ -1,4 +1,4 @@
-//! Rows: lists whose items are parts of different kinds.
+//! Reads rows: lists whose items differ in kind.
 ghost use Rattle.std.specs.Prelude.{◌≡◌, ◌≢◌, ℕ, IfOk, IfErr, Ok, Err, Result};
 ghost use Rattle.serde_json.specs.Data.{Items};
 ghost use Rattle.serde_json.specs.View.{view, items_view};
@@ -15,11 +15,11 @@ use shell_json_values::fault::JsonFault;
 use shell_json_values::parts::list;
 use std::alloc::Global;
 
-/// The parts of a row, from one of them to the last.
+/// The items of a row from one of them on.
 pub trait Parts: Drop {
     ghost parts: { ℕ → Items → Result Self JsonFault };
 
-    /// Reads the items that are left of a row. Of several faults it gives the one that comes first by its kind.
+    /// Reads the remaining items of a row. Of several faults it returns the one that is first by its kind.
     fn read_parts(alloc: Global, values: &[Value], limit: usize) -> Result<Self, JsonFault>
         ensures ok { IfOk result (λ p. parts limit (items_view values.now) ≡ Ok p) }
         ensures refused { IfErr result (λ e. e ≢ JsonFault.OutOfMemory
@@ -49,7 +49,7 @@ impl<A: Part, R: Parts> Parts for (A, R) {
     }
 }
 
-/// One number, and no more.
+/// A row of one number.
 impl Parts for u16 {
     ghost parts = { λ limit. only (number_below limit) };
 
@@ -58,7 +58,7 @@ impl Parts for u16 {
     }
 }
 
-/// One number, and no more.
+/// A row of one signed number.
 impl Parts for i16 {
     ghost parts = { λ _. only signed_word };
 
@@ -67,7 +67,7 @@ impl Parts for i16 {
     }
 }
 
-/// One part, and no more.
+/// Reads a row of exactly one item.
 pub fn read_only<P: Part>(alloc: Global, values: &[Value], limit: usize) -> Result<P, JsonFault>
     ensures ok { IfOk result (λ p. only (P.part limit) (items_view values.now) ≡ Ok p) }
     ensures refused { IfErr result (λ e. e ≢ JsonFault.OutOfMemory
@@ -77,7 +77,7 @@ pub fn read_only<P: Part>(alloc: Global, values: &[Value], limit: usize) -> Resu
     Ok(part)
 }
 
-/// A row of parts.
+/// Reads a row of the given items.
 pub fn read_row<R: Parts>(alloc: Global, value: &Value, limit: usize) -> Result<R, JsonFault>
     ensures ok { IfOk result (λ p. row_of (R.parts limit) (view value.now) ≡ Ok p) }
     ensures refused { IfErr result (λ e. e ≢ JsonFault.OutOfMemory

@@ -1,4 +1,4 @@
-//! Scripts and language systems.
+//! Reads scripts and language systems.
 ghost use Rattle.shell_face_json.specs.Scripts.{lang_sys, lang_sys_entry, script};
 
 use crate::objects::{object, read_list_at, read_optional_at};

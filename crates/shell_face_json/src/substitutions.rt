@@ -1,4 +1,4 @@
-//! The subtables of glyph substitution.
+//! Reads the GSUB subtables.
 ghost use Rattle.std.specs.Prelude.{◌≡◌, ◌≢◌, IfOk, IfErr, Ok, Err, [], ◌∷◌};
 ghost use Rattle.serde_json.specs.View.{view, items_view};
 ghost use Rattle.layout_tables.specs.Layout.{LigatureTable, LigatureSetTable};

@@ -1,3 +1,5 @@
+//! What a reader of JSON values makes of one value.
+
 ghost use Rattle.std.specs.Prelude.{◌≡◌, ◌≢◌, ℕ, IfOk, IfErr, Ok, Err, Result};
 ghost use Rattle.serde_json.specs.Data.{Data};
 ghost use Rattle.serde_json.specs.View.{view};
@@ -8,11 +10,11 @@ use serde_json::Value;
 use shell_json_values::fault::JsonFault;
 use std::alloc::Global;
 
-/// A part of a row, or a row: a number, a text, a list.
+/// An item of a row, or a row: a number, a text, a list.
 pub trait Part: Drop {
     ghost part: { ℕ → Data → Result Self JsonFault };
 
-    /// Reads a value, in which each index has to be below a limit: the length of the list that it points into.
+    /// Reads a value, in which each index must be below a limit: the length of the list that it points into.
     fn read_part(alloc: Global, value: &Value, limit: usize) -> Result<Self, JsonFault>
         ensures ok { IfOk result (λ p. part limit (view value.now) ≡ Ok p) }
         ensures refused { IfErr result (λ e. e ≢ JsonFault.OutOfMemory

@@ -8,6 +8,6 @@ use Rattle.shell_json_values.specs.Cell.{and_then}
 use Rattle.shell_face_json.specs.Face.{face_of}
 use Rattle.layout_face.specs.declared.parts.FaceParts.{FaceParts}
 
--- the font of a text, which is no JSON, or has the font of its value
+-- the font of a text: that of its JSON value, or the fault of a text that is no JSON
 abbrev pub face_in : List ℕ → Result FaceParts JsonFault
 face_in text = and_then (ok_or (read text) NotJson) face_of

@@ -10,7 +10,7 @@ use Rattle.shell_face_json.specs.Scripts.{script, feature}
 use Rattle.shell_face_json.specs.Sorted.{rows_by_key}
 use Rattle.layout_tables.specs.Layout.{LayoutLists}
 
--- scripts and features of a table, by the values of their keys and its number of lookups
+-- the scripts and features of a table, by the values of their keys and the number of lookups
 abbrev pub layout_in : Option Data → Option Data → ℕ → Result LayoutLists JsonFault
 layout_in scripts features lookups =
     and_then (and_then (list_or_none scripts) (rows_by_key nat_cmp (λ s. s.tag.0) (script (count_of features)) None)) (λ ss.

@@ -1,4 +1,4 @@
-//! What is said of glyphs.
+//! Reads the glyph definitions (GDEF) of a font.
 ghost use Rattle.std.specs.Prelude.{◌≡◌, codes, unwrap_or, IfOk, Ok};
 ghost use Rattle.shell_face_json.specs.Contexts.{no_classes};
 ghost use Rattle.shell_face_json.specs.Face.{few_sets, glyph_definition, no_definition};
@@ -20,7 +20,7 @@ use shell_json_text::members::take_object;
 use shell_json_text::unread::Unread;
 use std::alloc::Global;
 
-/// Takes the classes of glyphs.
+/// Reads the classes of glyphs.
 #[derive(Clone, Copy)]
 pub struct ClassTaker;
 
@@ -41,7 +41,7 @@ impl ValueTaker for ClassTaker {
     }
 }
 
-/// Takes what a font says of its glyphs.
+/// Reads the glyph definitions of a font.
 #[derive(Clone, Copy)]
 pub struct DefinitionTaker;
 
@@ -112,7 +112,7 @@ fn few_sets(sets: Array<Coverage>) -> Result<Array<Coverage>, Unread>
     Ok(sets)
 }
 
-/// What was said of glyphs, which is nothing where the key is missing.
+/// The glyph definitions that were found, without entries where the key is missing.
 pub fn definition_or_none(alloc: Global, found: Option<GlyphDefinition>) -> GlyphDefinition
     ensures { result ≡ unwrap_or found no_definition }
 {

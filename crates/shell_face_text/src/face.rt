@@ -1,4 +1,4 @@
-//! A font.
+//! Reads a font from a JSON text.
 ghost use Rattle.std.specs.Prelude.{◌≡◌, ◌≢◌, IfOk, IfErr, Ok, Err, Some};
 ghost use Rattle.serde_json.specs.Data.{Data};
 ghost use Rattle.serde_json.specs.Read.{read};
@@ -17,9 +17,9 @@ use shell_json_text::unread::Unread;
 use shell_json_values::fault::JsonFault;
 use std::alloc::Global;
 
-/// Reads a font from a text. A text that is no JSON is the first fault; the others come in the order in which `read_face`
-/// gives them. A font without a fault is read a part at a time: beside the font and some two bytes a byte of text only a
-/// lookup, or a row of another list, is kept. Of a font with a fault its whole value is.
+/// Reads a font from a text. A text that is no JSON is the first fault; the others are ordered as in `read_face`. A
+/// font without a fault is read value by value: beside the font, and some two bytes for each byte of text, only a
+/// lookup or a row of another list is held in memory. For a font with a fault its whole JSON value is.
 pub fn read_face_text(alloc: Global, text: &str) -> Result<Face, JsonFault>
     ensures ok { IfOk result (λ f. face_in text.now ≡ Ok f) }
     ensures refused { IfErr result (λ e. e ≢ JsonFault.OutOfMemory → face_in text.now ≡ Err e) }
@@ -41,8 +41,8 @@ fn read_whole(alloc: Global, text: &str) -> Result<Face, JsonFault>
     }
 }
 
-/// Reads a font from a text a part at a time. An error claims nothing of the text: it has a fault, or a number that is no
-/// integer of 64 bits, or memory was wanted.
+/// Reads a font from a text value by value. An error doesn't say which: the text has a fault, or a number that is no
+/// integer of 64 bits, or memory was lacking.
 pub fn read_by_parts(alloc: Global, text: &str) -> Result<Face, Unread>
     ensures { IfOk result (λ f. face_in text.now ≡ Ok f) }
 {

@@ -1,4 +1,4 @@
-//! The keys of a font, a few in each walk over its text.
+//! Reads the keys of a font, a few in each walk over its text.
 ghost use Rattle.std.specs.Prelude.{◌≡◌, [], None, codes, unwrap_or, IfOk, Ok, pos};
 ghost use Rattle.std.specs.Option.{option_map};
 ghost use Rattle.serde_json.specs.Data.{Data};
@@ -33,7 +33,7 @@ use shell_json_text::unread::Unread;
 use shell_json_values::cell::Cell;
 use std::alloc::Global;
 
-/// Units per em, the ascender, and what is said of glyphs.
+/// Reads units per em, the ascender, and the glyph definitions.
 pub fn take_metrics(
     alloc: Global,
     text: &str,
@@ -88,7 +88,7 @@ fn cell_or<T: Cell>(value: &Option<Value>, missing: T) -> Result<T, Unread>
     }
 }
 
-/// The rows of a key of the font.
+/// Reads the rows under a key of the font.
 pub fn take_rows<R: Part + Keyed>(
     alloc: Global,
     text: &str,
@@ -103,7 +103,7 @@ pub fn take_rows<R: Part + Keyed>(
     Ok(rows_or_none(alloc, found))
 }
 
-/// The rows of two keys of the font.
+/// Reads the rows under two keys of the font.
 pub fn take_two<A: Part + Keyed, B: Part + Keyed>(
     alloc: Global,
     text: &str,
@@ -143,7 +143,7 @@ fn rows_or_none<R: Keyed>(alloc: Global, found: Option<SortedRows<R>>) -> Sorted
 
 type Tables = (Option<SubstitutionTable>, Option<PositioningTable>);
 
-/// Substitution and positioning, in a font with so many sets of marks.
+/// Reads GSUB and GPOS, in a font with that many mark glyph sets.
 pub fn take_tables(
     alloc: Global,
     text: &str,

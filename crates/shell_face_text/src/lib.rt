@@ -1,5 +1,5 @@
-// Reads a font from a JSON text: a part at a time, so that a large font takes little more memory than it keeps, or else whole,
-// with the fault that comes first.
+//! Reads a font from a JSON text: key by key, so that a large font takes little more memory than its records, or else
+//! whole, with the fault that comes first.
 #![tactic(auto)]
 
 mod definition;

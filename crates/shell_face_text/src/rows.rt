@@ -1,4 +1,4 @@
-//! Parts and rows of a font, each read by itself.
+//! Reads the values and rows of a font, each one by itself.
 ghost use Rattle.std.specs.Prelude.{◌≡◌, ◌<◌, ℕ, List, length, None, true, IfOk, OnOk, Ok};
 ghost use Rattle.json.specs.Token.{Token as SpecToken};
 ghost use Rattle.json.specs.Json.{value, items};
@@ -20,7 +20,7 @@ use shell_json_text::value::read_value;
 use std::alloc::Global;
 use std::marker::PhantomData;
 
-/// Takes a list of parts in turn, in which each index is below a limit.
+/// Reads the items of a list in turn, in which each index is below a limit.
 #[derive(Drop)]
 pub struct ListTaker<P> {
     limit: usize,
@@ -28,6 +28,7 @@ pub struct ListTaker<P> {
 }
 
 impl<P: Part> ListTaker<P> {
+    /// A reader of items whose indices are below `limit`.
     pub fn new(limit: usize) -> ListTaker<P>
         ensures { result.limit ≡ limit }
     {
@@ -53,7 +54,7 @@ impl<P: Part> ValueTaker for ListTaker<P> {
     }
 }
 
-/// Takes a list of rows whose keys rise strictly, in which each index is below a limit.
+/// Reads a list of rows whose keys rise strictly, in which each index is below a limit.
 #[derive(Drop)]
 pub struct RowTaker<R> {
     limit: usize,
@@ -61,6 +62,7 @@ pub struct RowTaker<R> {
 }
 
 impl<R: Part + Keyed> RowTaker<R> {
+    /// A reader of rows whose indices are below `limit`.
     pub fn new(limit: usize) -> RowTaker<R>
         ensures { result.limit ≡ limit }
     {

@@ -1,4 +1,4 @@
-//! The tables of substitution and positioning.
+//! Reads the GSUB and GPOS tables.
 ghost use Rattle.std.specs.Prelude.{◌≡◌, [], length, codes, unwrap_or, IfOk, Ok};
 ghost use Rattle.std.specs.Option.{option_map};
 ghost use Rattle.serde_json.specs.View.{view, items_view};
@@ -23,7 +23,7 @@ use shell_json_values::parts::list;
 use std::alloc::Global;
 use std::marker::PhantomData;
 
-/// Takes a table of lookups, in which each index of a set of marks is below a limit.
+/// Reads GSUB or GPOS, in which each index of a mark glyph set is below a limit.
 #[derive(Drop)]
 pub struct TableTaker<L> {
     set_count: usize,
@@ -31,6 +31,7 @@ pub struct TableTaker<L> {
 }
 
 impl<L: Part> TableTaker<L> {
+    /// A reader of a table in a font with that many mark glyph sets.
     pub fn new(set_count: usize) -> TableTaker<L>
         ensures { result.set_count ≡ set_count }
     {
@@ -87,7 +88,7 @@ fn table_keys<L: Part>(set_count: usize) -> TableKeys<L>
     (scripts, (features, lookups))
 }
 
-/// The parts that were found, none where their key is missing.
+/// The values that were found, none where their key is missing.
 pub(crate) fn parts_or_none<P: Drop>(alloc: Global, found: Option<Array<P>>) -> Array<P>
     ensures { result ≡ unwrap_or found [] }
 {
@@ -97,7 +98,7 @@ pub(crate) fn parts_or_none<P: Drop>(alloc: Global, found: Option<Array<P>>) -> 
     }
 }
 
-/// Scripts and features of a table with so many lookups.
+/// Reads the scripts and features of a table with that many lookups.
 fn read_layout(
     alloc: Global,
     scripts: &Option<Value>,

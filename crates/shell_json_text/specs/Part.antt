@@ -1,4 +1,4 @@
--- Parts of a text that has a value.
+-- The values within a JSON text.
 use Rattle.std.specs.Prelude.{◌≡◌, ℕ, List, [], ◌∷◌, Option, Some, None, ⊤}
 use Rattle.json.specs.Token.{Token}
 use Rattle.json.specs.Json.{value}
@@ -6,21 +6,21 @@ use Rattle.serde_json.specs.Data.{Num, Data, Members}
 use Rattle.serde_json.specs.Find.{get_member}
 use Rattle.serde_json.specs.Read.{number_of, of_json, converted}
 
--- the tokens begin with the value d, nested at most so deep, and `rest` follows it
+-- the tokens begin with the value d, nested at most that deep, and are followed by `rest`
 abbrev pub BeginsWith : ℕ → List Token → Data → List Token → Type 0
 BeginsWith depth tokens d rest = converted of_json (value depth tokens) ≡ Some (d, rest)
 
--- what was found of a value, which may be missing
+-- what was found of a value, if there is one
 abbrev pub IsFound : {A : Type 0} → (Data → A → Type 0) → Option Data → Option A → Type 0
 IsFound Means None found = found ≡ None
 IsFound Means (Some d) None = ⊥
 IsFound Means (Some d) (Some a) = Means d a
 
--- what was found of the member of a name, the last one where it comes twice
+-- what was found of the member of a name, the last one where it occurs twice
 abbrev pub HasMember : {A : Type 0} → (Data → A → Type 0) → List ℕ → Members → Option A → Type 0
 HasMember Means name ms found = IsFound Means (get_member name ms) found
 
--- a number that has a value
+-- a number token has a value
 abbrev pub IsNumber : Token → Type 0
 IsNumber Token.begin_object = ⊤
 IsNumber Token.end_object = ⊤

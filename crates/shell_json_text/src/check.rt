@@ -1,4 +1,4 @@
-//! Whether a text is JSON.
+//! Tests whether a text is JSON.
 ghost use Rattle.std.specs.Prelude.{◌≡◌, [], true, Some, IfOk};
 ghost use Rattle.json.specs.Json.{Json, value};
 ghost use Rattle.json.specs.Lex.{tokens};
@@ -12,7 +12,7 @@ use crate::number::integer;
 use crate::unread::Unread;
 use json::{Reader, Scratch, Token};
 
-/// Whether a text is JSON whose numbers are integers that fit 64 bits.
+/// Whether a text is JSON, with numbers that are integers of 64 bits.
 #[tactic(auto, using(crate::proofs::Numbers::has_value))]
 pub fn is_json(text: &str, scratch: &mut Scratch) -> Result<bool, Unread>
     ensures { IfOk result (λ b. b ≡ true → (d : Data) × (read text.now ≡ Some d)) }
@@ -22,7 +22,7 @@ pub fn is_json(text: &str, scratch: &mut Scratch) -> Result<bool, Unread>
     Ok(nested && numbers)
 }
 
-/// Whether a text is one value but for the range of its numbers.
+/// Whether a text is one JSON value, numbers of any range included.
 fn is_value(text: &str, scratch: &mut Scratch) -> Result<bool, Unread>
     ensures { IfOk result (λ b. b ≡ true → (j : Json) × (value 127 (tokens text.now) ≡ Some (j, []))) }
 {
@@ -31,7 +31,7 @@ fn is_value(text: &str, scratch: &mut Scratch) -> Result<bool, Unread>
     Ok(reader.next().is_none())
 }
 
-/// Whether each number of a text is an integer that fits 64 bits.
+/// Whether each number of a text is an integer of 64 bits.
 fn has_integers(text: &str, scratch: &mut Scratch) -> Result<bool, Unread>
     ensures { IfOk result (λ b. b ≡ true → HasNumbers (tokens text.now)) }
 {

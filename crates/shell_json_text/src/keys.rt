@@ -1,4 +1,4 @@
-//! What takes the values of keys.
+//! The takers of the values of an object's keys.
 ghost use Rattle.std.specs.Prelude.{◌≡◌, ◌≢◌, ◌<◌, List, length, true, false, None, IfOk, OnOk};
 ghost use Rattle.json.specs.Token.{Token as SpecToken};
 ghost use Rattle.serde_json.specs.Data.{Data};
@@ -12,14 +12,14 @@ use json::Reader;
 use serde_json::Value;
 use std::alloc::Global;
 
-/// What takes one value of a reader.
+/// The reader of one value.
 pub trait ValueTaker: Drop {
     type Output: Drop;
 
-    /// What was taken, of a value.
+    /// The relation between the value and what is read from it.
     ghost means: { Self → Data → Self.Output → Type 0 };
 
-    /// Takes the next value of a reader, in which arrays and objects nest at most `depth` deep.
+    /// Reads the next value, in which arrays and objects nest at most `depth` deep.
     fn take_value(
         &self,
         alloc: Global,
@@ -31,7 +31,7 @@ pub trait ValueTaker: Drop {
         ensures shorter { OnOk result (length reader.new < length reader.old) };
 }
 
-/// Takes the value of a key, the last one where the key comes twice.
+/// Reads the value of a key, the last one where the key occurs twice.
 #[derive(Drop)]
 pub struct Key<T> {
     pub name: &'static str,
@@ -70,7 +70,7 @@ fn same_name(name: &str, other: &str) -> bool
     name == other
 }
 
-/// Takes the values of several keys, no two of which are the same.
+/// Reads the values of several keys, no two of which are equal.
 impl<A: MemberTaker, B: MemberTaker> MemberTaker for (A, B) {
     type Found = (A::Found, B::Found);
 
@@ -98,7 +98,7 @@ impl<A: MemberTaker, B: MemberTaker> MemberTaker for (A, B) {
     }
 }
 
-/// Takes a value whole.
+/// Reads a value whole.
 #[derive(Clone, Copy)]
 pub struct Whole;
 

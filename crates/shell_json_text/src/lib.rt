@@ -1,4 +1,4 @@
-// Reads a JSON text a part at a time, so that no more than a part is kept.
+//! Reads a JSON text one value at a time, so that no more than that value is held in memory.
 #![tactic(auto)]
 
 pub mod check;

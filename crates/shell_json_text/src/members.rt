@@ -1,4 +1,4 @@
-//! The members of an object, one after another.
+//! Reads the members of an object one after another.
 ghost use Rattle.std.specs.Prelude.{◌≡◌, ◌<◌, ℕ, List, length, false, Some, IfOk, OnOk};
 ghost use Rattle.json.specs.Token.{Token as SpecToken};
 ghost use Rattle.json.specs.Json.{value, members};
@@ -10,23 +10,23 @@ use crate::unread::Unread;
 use json::{Reader, Scratch, Token};
 use std::alloc::Global;
 
-/// How deep arrays and objects of a text nest at most, as in `serde_json`.
+/// The greatest depth of nested arrays and objects, as in `serde_json`.
 pub(crate) const MAX_DEPTH: usize = 127;
 
-/// What takes the members of an object that it wants.
+/// The reader of an object's members.
 pub trait MemberTaker: Drop {
     /// What is found of them.
     type Found: Drop;
 
-    /// What was found, of the members so far.
+    /// The relation between the members read so far and what is found.
     ghost holds: { Self → Members → Self.Found → Type 0 };
 
-    /// Whether it wants the member of a name.
+    /// Whether the member of a name is read.
     fn wants(&self, name: &str) -> bool
         ensures { result ≡ false → (d : Data) → (ms : Members) → (found : Self.Found)
             → holds self.now ms found → holds self.now (put name.now d ms) found };
 
-    /// Takes the value of a member that it wants.
+    /// Reads the value of a member.
     fn take(
         &self,
         alloc: Global,
@@ -41,7 +41,7 @@ pub trait MemberTaker: Drop {
         ensures shorter { OnOk result (length reader.new < length reader.old) };
 }
 
-/// Takes the members of the object that a text is.
+/// Reads the members of the object that a text is.
 pub fn take_text<T: MemberTaker>(
     alloc: Global,
     text: &str,
@@ -56,7 +56,7 @@ pub fn take_text<T: MemberTaker>(
     take_object(alloc, &mut reader, MAX_DEPTH, taker, found)
 }
 
-/// Takes the members of the object that is the next value of a reader.
+/// Reads the members of the object that is the next value.
 pub fn take_object<T: MemberTaker>(
     alloc: Global,
     reader: &mut Reader<'_>,

@@ -1,4 +1,4 @@
-//! The numbers of a text.
+//! Reads the numbers of a JSON text.
 ghost use Rattle.std.specs.Prelude.{◌≡◌, ◌==◌, ◌<◌, length, slice_index, Some, IfSome, IsTrue, true, false};
 ghost use Rattle.serde_json.specs.Read.{number_of, number_from};
 ghost use Rattle.serde_json.specs.View.{number_view};
@@ -6,7 +6,7 @@ ghost use Rattle.serde_json.specs.View.{number_view};
 use fast_float::Numeral;
 use serde_json::Number;
 
-/// The number of a token, where it is an integer that fits 64 bits.
+/// The number of a token, where it is an integer of 64 bits.
 pub fn integer(text: &str) -> Option<Number>
     ensures { IfSome result (λ n. number_of text.now ≡ Some (number_view n)) }
 {

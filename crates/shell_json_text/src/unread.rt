@@ -1,8 +1,10 @@
+//! Why a JSON text was not read.
+
 use json::Invalid;
 use std::alloc::{AllocError, AllocFailed};
 
-/// The text is not read by parts: it is no JSON, or not of the shape that is asked for, or it has a number that is no
-/// integer of 64 bits, or memory was wanted. Read whole, it may still have a value.
+/// The text could not be read value by value: it is no JSON, or not of the required shape, or it has a number that is
+/// no integer of 64 bits, or memory was lacking. Read whole, it may still have a value.
 #[derive(Clone, Copy)]
 pub struct Unread;
 

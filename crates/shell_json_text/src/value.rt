@@ -1,4 +1,4 @@
-//! Whole values.
+//! Reads whole JSON values.
 ghost use Rattle.std.specs.Prelude.{◌≡◌, ◌<◌, length, Some, IfOk, OnOk};
 ghost use Rattle.json.specs.Json.{value, items, members};
 ghost use Rattle.serde_json.specs.Data.{no_members};
@@ -11,8 +11,8 @@ use json::{Reader, Token};
 use serde_json::{Map, Value};
 use std::alloc::Global;
 
-/// The next value of a reader, in which arrays and objects nest at most `depth` deep. Its numbers are integers; an error
-/// says nothing of the text.
+/// Reads the next value, in which arrays and objects nest at most `depth` deep and numbers are integers of 64 bits; an
+/// error doesn't say which of these fails.
 #[cycle(read)]
 pub fn read_value(alloc: Global, reader: &mut Reader<'_>, depth: usize) -> Result<Value, Unread>
     ensures ok { IfOk result

@@ -6,24 +6,25 @@ use Rattle.shell_json_values.specs.declared.fault.JsonFault.{JsonFault}
 use Rattle.shell_json_values.specs.declared.fault.JsonFault.TheVariants.{WrongShape}
 use Rattle.shell_json_values.specs.Cell.{and_then}
 
--- the value of a key as `read` reads it, or `missing` where the key is not there
+-- the value of a key as `read` reads it, or `missing` without the key
 abbrev pub read_or : {A : Type 0} → A → (Data → Result A JsonFault) → Option Data → Result A JsonFault
 read_or missing read None = Ok missing
 read_or missing read (Some d) = read d
 
--- the value of a key as `read` reads it, none where the key is not there
+-- the value of a key as `read` reads it, `None` without the key
 abbrev pub read_if_there : {A : Type 0} → (Data → Result A JsonFault) → Option Data → Result (Option A) JsonFault
 read_if_there read None = Ok None
 read_if_there read (Some d) = and_then (read d) (λ a. Ok (Some a))
 
--- one of the keys is there
+-- an object has one of the keys
 abbrev pub has_some : List (List ℕ) → Data → Bool
 has_some [] d = false
 has_some (k ∷ ks) d = if is_some (get k d) then true else has_some ks d
 
--- keys that are not read yet
+-- refuses an object with one of the keys, which are not supported yet
 abbrev pub without : List (List ℕ) → Data → Result ⊤ JsonFault
 without ks d = if has_some ks d then Err WrongShape else Ok tt
 
+-- a value that is an object
 abbrev pub of_object : {A : Type 0} → (Data → Result A JsonFault) → Data → Result A JsonFault
 of_object read d = if is_some (as_object d) then read d else Err WrongShape

@@ -1,3 +1,5 @@
+//! The values in the cells of a row.
+
 ghost use Rattle.std.specs.Prelude.{◌≡◌, Result};
 ghost use Rattle.serde_json.specs.Data.{Data};
 ghost use Rattle.serde_json.specs.View.{view, items_view};
@@ -7,7 +9,7 @@ ghost use Rattle.shell_json_values.specs.Cell.{rank_of, first_fault, both, integ
 use crate::fault::JsonFault;
 use serde_json::Value;
 
-/// A part of a row: a number, or a list of parts.
+/// The value of a cell: a number, or a list of such values.
 pub trait Cell: Drop {
     ghost cell: { Data → Result Self JsonFault };
 
@@ -59,7 +61,7 @@ impl<A: Cell, B: Cell> Cell for (A, B) {
     }
 }
 
-/// An integer that fits 64 bits, signed or not.
+/// An integer of 64 bits, signed or not.
 pub(crate) fn integer(value: &Value) -> Result<i128, JsonFault>
     ensures { result ≡ integer (view value.now) }
 {
@@ -94,7 +96,7 @@ fn rank(fault: JsonFault) -> u8
     }
 }
 
-/// Two parts, or of their faults the one that comes first.
+/// A pair of results; of two faults the first by its kind.
 pub fn pair<A: Drop, B: Drop>(
     first: Result<A, JsonFault>,
     second: Result<B, JsonFault>,
@@ -108,7 +110,7 @@ pub fn pair<A: Drop, B: Drop>(
     }
 }
 
-/// The one of two faults that comes first.
+/// Of two faults the first by its kind.
 pub fn first_fault(one: JsonFault, other: JsonFault) -> JsonFault
     ensures { result ≡ first_fault one other }
 {

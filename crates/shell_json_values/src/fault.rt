@@ -1,3 +1,5 @@
+//! The faults of JSON values.
+
 ghost use Rattle.std.specs.Prelude.{◌≡◌};
 ghost use Rattle.shell_json_values.specs.Fault.{name_of};
 
@@ -5,12 +7,12 @@ use std::alloc::{AllocError, AllocFailed};
 use std::error::Error;
 use std::fmt;
 
-/// Why a JSON value is no value of the format.
+/// Why a JSON value is not of the format.
 #[derive(Clone, Copy, PartialEq, Eq, Debug)]
 pub enum JsonFault {
     /// The bytes are no JSON text.
     NotJson,
-    /// A value has another shape, or a key that is not read yet.
+    /// A value has another shape, or a key that is not supported yet.
     WrongShape,
     /// A number has a fraction or an exponent, or is outside 64 bits.
     FloatNumber,
@@ -20,7 +22,7 @@ pub enum JsonFault {
     OutOfOrder,
     /// A number is outside its range.
     OutOfRange,
-    /// A chain of first parts is too long.
+    /// A chain of first halves has too many decompositions.
     SplitDepth,
     OutOfMemory,
 }

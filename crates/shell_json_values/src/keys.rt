@@ -1,3 +1,5 @@
+//! Refuses keys of an object that are not known.
+
 ghost use Rattle.std.specs.Prelude.{◌≡◌, map};
 ghost use Rattle.serde_json.specs.Find.{get};
 ghost use Rattle.serde_json.specs.View.{view};
@@ -7,7 +9,7 @@ use crate::cell::Cell;
 use crate::fault::JsonFault;
 use serde_json::Value;
 
-/// The value of a key, or another where the key is missing.
+/// The value of a key, or `missing` where there is no such key.
 pub fn read_key<T: Cell>(value: &Value, key: &str, missing: T) -> Result<T, JsonFault>
     ensures { result ≡ read_or missing T.cell (get key.now (view value.now)) }
 {
@@ -17,7 +19,7 @@ pub fn read_key<T: Cell>(value: &Value, key: &str, missing: T) -> Result<T, Json
     }
 }
 
-/// Refuses each of the keys.
+/// Refuses an object that has one of the keys.
 pub fn refuse_keys(value: &Value, keys: &[&str]) -> Result<(), JsonFault>
     ensures { result ≡ without (map (λ k. k.now) keys.now) (view value.now) }
 {

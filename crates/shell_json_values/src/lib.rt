@@ -1,4 +1,4 @@
-// Reads numbers, rows and keys from JSON values, with the fault that comes first.
+//! Reads numbers, rows and keys from JSON values, with the fault that comes first.
 #![tactic(auto)]
 
 pub mod cell;

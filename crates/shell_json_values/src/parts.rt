@@ -1,3 +1,5 @@
+//! Reads numbers, texts and lists from JSON values.
+
 ghost use Rattle.std.specs.Prelude.{◌≡◌, ◌≤◌, ◌^◌, IfOk, IfErr, Ok, Err};
 ghost use Rattle.std.specs.List.{list_all};
 ghost use Rattle.serde_json.specs.View.{view, items_view};
@@ -9,7 +11,11 @@ use crate::fault::JsonFault;
 use buffer_common::tag::Tag;
 use serde_json::Value;
 
-/// The items of a list; another value is a wrong shape.
+/// The items of a list.
+///
+/// # Errors
+///
+/// `WrongShape` for any other value.
 pub fn list(value: &Value) -> Result<&[Value], JsonFault>
     ensures ok { IfOk result (λ vs. list_of (view value.entry.now) ≡ Ok (items_view vs.now)) }
     ensures refused { IfErr result (λ e. list_of (view value.entry.now) ≡ Err e) }
@@ -20,7 +26,7 @@ pub fn list(value: &Value) -> Result<&[Value], JsonFault>
     }
 }
 
-/// The items of the list of a key, none where the key is missing.
+/// The items of the list under a key, none where the key is missing.
 pub fn list_at<'a>(value: &'a Value, key: &str) -> Result<&'a [Value], JsonFault>
     ensures ok { IfOk result (λ vs. list_at key.now (view value.entry.now) ≡ Ok (items_view vs.now)) }
     ensures refused { IfErr result (λ e. list_at key.now (view value.entry.now) ≡ Err e) }
@@ -31,7 +37,7 @@ pub fn list_at<'a>(value: &'a Value, key: &str) -> Result<&'a [Value], JsonFault
     }
 }
 
-/// The parts of a row of exactly two.
+/// The items of a row of exactly two.
 #[tactic(auto, using(crate::proofs::Items::two_items, crate::proofs::Items::not_two_items))]
 pub fn two_parts(value: &Value) -> Result<(&Value, &Value), JsonFault>
     ensures ok { IfOk result (λ p. and_then (list_of (view value.entry.now)) two_in
@@ -45,7 +51,7 @@ pub fn two_parts(value: &Value) -> Result<(&Value, &Value), JsonFault>
     Ok((&values[0], &values[1]))
 }
 
-/// The parts of a row of exactly three.
+/// The items of a row of exactly three.
 #[tactic(auto, using(crate::proofs::Items::three_items, crate::proofs::Items::not_three_items))]
 pub fn three_parts(value: &Value) -> Result<(&Value, &Value, &Value), JsonFault>
     ensures ok { IfOk result (λ p. and_then (list_of (view value.entry.now)) three_in
@@ -59,7 +65,7 @@ pub fn three_parts(value: &Value) -> Result<(&Value, &Value, &Value), JsonFault>
     Ok((&values[0], &values[1], &values[2]))
 }
 
-/// The parts of a row of exactly four.
+/// The items of a row of exactly four.
 #[tactic(auto, using(crate::proofs::Items::four_items, crate::proofs::Items::not_four_items))]
 pub fn four_parts(value: &Value) -> Result<(&Value, &Value, &Value, &Value), JsonFault>
     ensures ok { IfOk result (λ p. and_then (list_of (view value.entry.now)) four_in
@@ -73,7 +79,11 @@ pub fn four_parts(value: &Value) -> Result<(&Value, &Value, &Value, &Value), Jso
     Ok((&values[0], &values[1], &values[2], &values[3]))
 }
 
-/// A text; another value is a wrong shape.
+/// The text of a value.
+///
+/// # Errors
+///
+/// `WrongShape` for any other value.
 pub fn text(value: &Value) -> Result<&str, JsonFault>
     ensures ok { IfOk result (λ s. text (view value.entry.now) ≡ Ok s.now) }
     ensures refused { IfErr result (λ e. text (view value.entry.now) ≡ Err e) }
@@ -84,7 +94,7 @@ pub fn text(value: &Value) -> Result<&str, JsonFault>
     }
 }
 
-/// An integer from 0 on that is below a limit.
+/// An integer from 0 on and below a limit.
 pub fn natural_number_below(value: &Value, limit: u32) -> Result<u32, JsonFault>
     ensures { result ≡ natural_number_below limit (view value.now) }
 {

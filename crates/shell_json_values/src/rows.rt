@@ -1,4 +1,4 @@
-//! Rows of a list in turn, each of which may stand after the one before it.
+//! Reads the rows of a list, each of which must be in order with the one before it.
 ghost use Rattle.std.specs.Prelude.{◌≡◌, ◌≢◌, Bool, IfOk, IfErr, Ok, Err, None, Option, Result, true};
 ghost use Rattle.serde_json.specs.Data.{Data};
 ghost use Rattle.serde_json.specs.View.{view, items_view};
@@ -9,7 +9,7 @@ use crate::fault::JsonFault;
 use serde_json::Value;
 use std::alloc::Global;
 
-/// What reads the rows of a list and knows in which order they stand.
+/// The reader of a list's rows, with their order.
 pub trait RowReader {
     type Row: Drop;
 
@@ -21,22 +21,23 @@ pub trait RowReader {
 
     ghost may_follow: { Option Self.Key → Self.Key → Bool };
 
-    /// Reads one row. Of several faults it gives the one that comes first by its kind.
+    /// Reads one row. Of several faults it returns the one that is first by its kind.
     fn read_row(&self, alloc: Global, value: &Value) -> Result<Self::Row, JsonFault>
         ensures ok { IfOk result (λ r. means self.now (view value.now) ≡ Ok r) }
         ensures refused { IfErr result (λ e. e ≢ JsonFault.OutOfMemory
             → means self.now (view value.now) ≡ Err e) };
 
-    /// What the place of a row goes by.
+    /// The key by which rows are ordered.
     fn key(row: &Self::Row) -> Self::Key
         ensures { result ≡ key_of row.now };
 
-    /// Whether a row of a key may stand after one of the key before, or in front where there is none.
+    /// Whether a row with a key may follow one with the key before, or be the first where there is none.
     fn follows(before: Option<Self::Key>, key: Self::Key) -> bool
         ensures { result ≡ may_follow before key };
 }
 
-/// The rows of a list: the fault of the first faulty row, of whose faults the order comes last.
+/// Reads the rows of a list; the fault of the first faulty row is returned, and of that row's faults the order is the
+/// last.
 pub fn read_rows<T: RowReader>(
     alloc: Global,
     values: &[Value],

@@ -8,17 +8,18 @@ use Rattle.buffer_glyphs.specs.declared.cause.ShapeCause.TheVariants as cause
 use Rattle.shell_json_values.specs.declared.fault.JsonFault.TheVariants as json
 use Rattle.shell_readers.specs.declared.fault.RunFault.TheVariants as run
 
--- a fault of a table or a font as a fault of the run; want of memory is one fault wherever it showed
+-- the run's fault for a fault of a table or a font; lack of memory is one fault, in whichever step
 abbrev pub run_fault_of : JsonFault → RunFault
 run_fault_of json.OutOfMemory = run.OutOfMemory
 run_fault_of fault = run.Json fault
 
--- a cause for which a text is not shaped as a fault of the run
+-- the run's fault for a cause for which a text was not shaped
 abbrev pub fault_of_cause : ShapeCause → RunFault
 fault_of_cause cause.OutOfMemory = run.OutOfMemory
 fault_of_cause c = run.Shape c
 
--- 2 for words, 3 for tables and fonts, 4 for the text's bytes, 5 for shaping and want of memory, 6 for input and output
+-- the exit status: 2 for command-line words, 3 for tables and fonts, 4 for the text's bytes, 5 for shaping and lack of
+-- memory, 6 for input and output
 abbrev pub status_of : RunFault → ℕ
 status_of run.Words = 2
 status_of (run.Json json.OutOfMemory) = 5
@@ -32,7 +33,7 @@ status_of run.Read = 6
 status_of run.ReadLimit = 6
 status_of run.Write = 6
 
--- the name under which a fault is printed
+-- the printed name of a fault
 abbrev pub name_of : RunFault → List ℕ
 name_of run.Words = codes "words"
 name_of run.Read = codes "Read"

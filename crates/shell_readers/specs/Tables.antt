@@ -1,4 +1,4 @@
--- What the bytes of tables are read as, and which of them shaping goes by.
+-- The tables of bytes, and those that are lawful.
 use Rattle.std.specs.Prelude.{ℕ, ◌≡◌, ◌⊎◌, List, [], Option, Result, Ok, Err, find}
 use Rattle.std.specs.Option.{option_map_or}
 use Rattle.std.specs.Str.{bytes_eq}
@@ -20,16 +20,18 @@ use Rattle.buffer_unicode_tables.specs.Tables.{Tables, split_of}
 use Rattle.shell_readers.specs.declared.tables.TextTables.{TextTables}
 use Rattle.shell_readers.specs.Values.{json_of, of_json, then_answers}
 
--- what shaping goes by, beside the font: the tables of characters, the machines of syllables, and the languages with their tags
+-- the tables that shaping depends on: of characters, the machines of syllables, and the languages with their OpenType
+-- tags
 pub record RunTables : Type 0 where
   pub characters : Tables
   pub syllables : Machines
   pub languages : List Language
 
+-- the tables, without the memory that they occupy
 abbrev pub tables_value : TextTables → RunTables
 tables_value t = record { characters = t.characters; syllables = t.syllables; languages = languages_in t.languages }
 
--- of rows without a fault, those are refused whose chains of first parts have more than eight splits
+-- where no row has a fault, refuses tables with a chain of first halves of more than eight decompositions
 abbrev pub IfShallow : {A : Type 0} → Tables → (Result A JsonFault → Type 0) → Result A JsonFault → Type 0
 IfShallow t Answers r = (EndWithin (split_of t) 8 × Answers r) ⊎ (HasDeepChain (split_of t) 8 × (r ≡ Err SplitDepth))
 
@@ -40,29 +42,30 @@ with_rest t d =
     and_then (languages_of d) (λ languages.
     Ok (record { characters = t; syllables = syllables; languages = languages })))
 
--- what a JSON value of tables is read as: the rows from splits to Thai forms, then syllables and languages; the first
--- fault ends it
+-- the tables of a JSON value: the rows from splits to Thai forms, then syllables and languages; the first fault is the
+-- result
 unfoldable pub IsValueOf : Data → Result RunTables JsonFault → Type 0
 IsValueOf d r = then_answers (tables_of d) (λ t. IfShallow t (λ whole. whole ≡ with_rest t d)) r
 
--- the same with the run's name of the fault
+-- the tables of a JSON value, or the run's fault
 abbrev pub IsRunValueOf : Data → Result RunTables RunFault → Type 0
 IsRunValueOf d r = (read : Result RunTables JsonFault) × IsValueOf d read × (r ≡ of_json read)
 
--- what the bytes of tables are read as
+-- the tables of bytes
 unfoldable pub AreTables : List ℕ → Result RunTables RunFault → Type 0
 AreTables bytes r = then_answers (json_of bytes) IsRunValueOf r
 
--- tables are refused that are not lawful; of lawful ones the answer is the next
+-- refuses unlawful tables, and goes on with lawful ones
 abbrev pub IfLawful : {B : Type 0} → (RunTables → Result B RunFault) → RunTables → Result B RunFault → Type 0
 IfLawful next t answer = (IsLawful t.characters × (answer ≡ next t)) ⊎ ((¬ IsLawful t.characters) × (answer ≡ Err Unlawful))
 
 -- ---- languages
 
+-- the language with the given text, if it is in the list
 abbrev pub language_of : List Language → List ℕ → Option Language
 language_of languages text = find (λ (l : Language). bytes_eq l.0 text) languages
 
--- the tags of a language, else those of its primary part
+-- the OpenType tags of a language, else those of its primary subtag
 abbrev pub language_tags : List Language → List ℕ → List Tag
 language_tags languages text =
     option_map_or (λ (l : Language). l.1) (language_of languages text) (option_map_or (λ (l : Language). l.1) (language_of languages (primary_part text)) [])

@@ -1,3 +1,5 @@
+//! The reasons why a run of the program is refused.
+
 ghost use Rattle.std.specs.Prelude.{◌≡◌};
 ghost use Rattle.shell_readers.specs.Fault.{name_of, status_of};
 
@@ -7,32 +9,32 @@ use std::alloc::{AllocError, AllocFailed};
 use std::error::Error;
 use std::fmt;
 
-/// Why a run gave no glyphs. Want of memory is `OutOfMemory`, wherever it showed.
+/// Why a run printed no glyphs. Lack of memory is `OutOfMemory`, in whichever step.
 #[derive(Clone, Copy, PartialEq, Eq, Debug)]
 pub enum RunFault {
-    /// The words of the command line are no options and three file names.
+    /// The command-line words are not options and three file names.
     Words,
     /// A file can't be opened, or a read failed.
     Read,
-    /// A reader gave no end in 2^26 reads.
+    /// A reader did not reach its end in 2^26 reads.
     ReadLimit,
     /// Tables or a font are not of their format.
     Json(JsonFault),
-    /// Tables are of their format, and equivalent texts would be shaped apart by them.
+    /// The tables are of their format, but equivalent texts would be shaped differently with them.
     Unlawful,
     /// The text is not UTF-8.
     NotUtf8,
-    /// The text is of a script that waits for its shaper: one of the nine of the Indic shaper.
+    /// The text's script needs the Indic shaper, which is not implemented yet.
     NotYet,
-    /// The text can't be shaped.
+    /// The text could not be shaped.
     Shape(ShapeCause),
     Write,
     OutOfMemory,
 }
 
 impl RunFault {
-    /// The exit status of the program: 2 for words, 3 for tables and fonts, 4 for a text that is not UTF-8, 5 for
-    /// what can't be shaped and for want of memory, 6 for input and output.
+    /// The exit status of the program: 2 for command-line words, 3 for tables and fonts, 4 for a text that is not
+    /// UTF-8, 5 for a text that could not be shaped and for lack of memory, 6 for input and output.
     pub fn status(self) -> u8
         ensures { result ≡ status_of self }
     {

@@ -1,4 +1,4 @@
-//! Tables and a font, in this order.
+//! Reads tables and a font, in this order.
 ghost use Rattle.std.specs.Prelude.{◌≡◌, ◌≢◌, Ok, Err, IfOk, IfErr};
 ghost use Rattle.shell_readers.specs.Faults.{IsOfRun};
 ghost use Rattle.shell_readers.specs.Input.{IsInput, font_in, input_value};
@@ -12,10 +12,10 @@ use shell_face_text::read_face_text;
 use shell_json_values::fault::JsonFault;
 use std::alloc::Global;
 
-/// What a run goes by, beside its words and its text.
+/// The tables and the font of a run.
 #[derive(Drop)]
 pub struct RunInput {
-    /// What is known of characters and languages.
+    /// The tables of characters, syllables and languages.
     pub tables: TextTables,
     /// The font.
     pub face: Face,
@@ -34,7 +34,7 @@ fn font_in(alloc: Global, bytes: &[u8]) -> Result<Face, RunFault>
     Ok(face)
 }
 
-/// The font of bytes, which is read once the tables were found lawful.
+/// The font of bytes, which are read after the tables were found lawful.
 fn lawful_font(alloc: Global, tables: &TextTables, font: &[u8]) -> Result<Face, RunFault>
     ensures ok { IfOk result (λ face. IfLawful (λ _. font_in font.now) (tables_value tables.now) (Ok face)) }
     ensures refused { IfErr result (λ e. e ≢ RunFault.OutOfMemory
@@ -45,8 +45,8 @@ fn lawful_font(alloc: Global, tables: &TextTables, font: &[u8]) -> Result<Face, 
     font_in(alloc, font)
 }
 
-/// Reads tables and a font. The tables are asked whether they are lawful before the font is read; the first fault ends
-/// it, one of the tables' format, `Unlawful`, or one of the font's format.
+/// Reads tables and a font. The tables must be lawful before the font is read; the first fault is returned: one of the
+/// tables' format, `Unlawful`, or one of the font's format.
 pub fn read_input(alloc: Global, tables: &[u8], font: &[u8]) -> Result<RunInput, RunFault>
     ensures ok { IfOk result (λ input. IsInput tables.now font.now (Ok (input_value input))) }
     ensures refused { IfErr result (λ e. e ≢ RunFault.OutOfMemory → IsInput tables.now font.now (Err e)) }

@@ -1,4 +1,4 @@
-// What a run of the program is asked for, why it may be refused, and the readers of its tables and its font.
+//! The options of a run of the program, the reasons why it is refused, and the readers of its tables and its font.
 #![tactic(auto)]
 
 pub mod fault;

@@ -1,3 +1,5 @@
+//! The options of a run.
+
 use buffer_common::constants::BufferFlags;
 use buffer_common::direction::Direction;
 use buffer_common::language::Language;
@@ -6,20 +8,20 @@ use buffer_features::feature::Feature;
 use buffer_glyphs::flags::SerializeFlags;
 use buffer_glyphs::level::BufferClusterLevel;
 
-/// What a run of the program is asked for.
+/// The options of a run of the program.
 #[derive(Debug, Drop)]
 pub struct Options {
-    /// The direction of the text; `Invalid` where it is to be guessed.
+    /// The direction of the text; `Invalid` where it must be guessed.
     pub direction: Direction,
-    /// The script of the text; none where it is to be guessed.
+    /// The script of the text; `None` where it must be guessed.
     pub script: Option<Script>,
-    /// The language of the text; none where it is not told.
+    /// The language of the text; `None` where it is not given.
     pub language: Option<Language>,
-    /// The features that are asked for, in the order of the words.
+    /// The requested features, in the order of the command-line words.
     pub features: Vec<Feature>,
-    /// How finely clusters are kept apart.
+    /// The cluster level.
     pub cluster_level: BufferClusterLevel,
-    /// Where the text stands, and what is kept, left out and flagged.
+    /// The buffer's flags.
     pub buffer_flags: BufferFlags,
     /// What is printed of each glyph.
     pub flags: SerializeFlags,

@@ -1,4 +1,4 @@
-//! The tables of a run.
+//! Reads the tables of a run.
 ghost use Rattle.std.specs.Prelude.{◌≡◌, ◌≢◌, Ok, Err, IfOk, IfErr, OnOk};
 ghost use Rattle.serde_json.specs.View.{view};
 ghost use Rattle.shell_tables_json.specs.Languages.{languages_in};
@@ -17,18 +17,18 @@ use shell_json_values::fault::JsonFault;
 use shell_tables_json::{read_languages, read_syllables, read_tables};
 use std::alloc::Global;
 
-/// What shaping goes by, beside the font.
+/// The tables that shaping depends on, beside the font.
 #[derive(Drop)]
 pub struct TextTables {
-    /// What is known of characters.
+    /// The tables of characters.
     pub characters: UnicodeTables,
-    /// Where syllables end.
+    /// The machines that find syllables.
     pub syllables: SyllableTable,
-    /// The languages with their tags.
+    /// The languages with their OpenType tags.
     pub languages: LanguageTable,
 }
 
-/// What is known of a text beside its characters.
+/// The tables other than those of characters.
 #[derive(Drop)]
 struct OtherTables {
     syllables: SyllableTable,
@@ -76,7 +76,7 @@ pub fn tables_in(alloc: Global, bytes: &[u8]) -> Result<TextTables, RunFault>
     Ok(tables)
 }
 
-/// Refuses tables that are not lawful.
+/// Refuses tables with which equivalent texts would be shaped differently.
 pub fn check_laws(tables: &UnicodeTables) -> Result<(), RunFault>
     ensures lawful { OnOk result (IsLawful tables.now) }
     ensures unlawful { IfErr result (λ e. (e ≡ RunFault.Unlawful) × (¬ IsLawful tables.now)) }

@@ -1,4 +1,4 @@
-//! The JSON values of bytes.
+//! Reads JSON values from bytes.
 ghost use Rattle.std.specs.Prelude.{◌≡◌, ◌≢◌, Ok, Err, IfOk, IfErr, MatchOption, true, false};
 ghost use Rattle.std.specs.Str.{is_utf8};
 ghost use Rattle.serde_json.specs.View.{view};
@@ -11,7 +11,7 @@ use serde_json::Value;
 use shell_json_values::fault::JsonFault;
 use std::alloc::Global;
 
-/// The text of the bytes, where they are UTF-8.
+/// The text of bytes, where they are UTF-8.
 #[tactic(auto, using(crate::proofs::Bytes::is_text, crate::proofs::Bytes::is_no_text))]
 pub fn utf8(bytes: &[u8]) -> Option<&str>
     ensures { MatchOption result (is_utf8 bytes.now ≡ false)
@@ -20,6 +20,11 @@ pub fn utf8(bytes: &[u8]) -> Option<&str>
     str::from_utf8(bytes).ok()
 }
 
+/// The JSON value of bytes.
+///
+/// # Errors
+///
+/// `NotJson` where they are no JSON text, or lack of memory.
 pub fn read_json(alloc: Global, bytes: &[u8]) -> Result<Value, RunFault>
     ensures ok { IfOk result (λ v. json_of bytes.now ≡ Ok (view v)) }
     ensures refused { IfErr result (λ e. e ≢ RunFault.OutOfMemory → json_of bytes.now ≡ Err e) }

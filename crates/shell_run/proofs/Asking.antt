@@ -1,4 +1,4 @@
--- One name after another is asked for.
+-- File names that are opened one after another.
 use Rattle.std.proofs.Common.{◌≡◌, ℕ, List, [], ◌∷◌, ◌++◌, Option, Some, None, take, refl, ap, ◌∙◌, append_assoc}
 use Rattle.shell_run.specs.Program.{Asks}
 

@@ -1,4 +1,4 @@
--- What is printed for the bytes of tables, a font and a text, or the first fault that is found in them.
+-- The printed line for the bytes of tables, a font and a text, or the first fault in them.
 use Rattle.std.specs.Prelude.{ℕ, Bool, true, false, ◌≡◌, ◌==◌, ◌-◌, if◌then◌else◌, List, [], ◌∷◌, ◌++◌, length, take, slice_index, Result, Ok, Err}
 use Rattle.std.specs.Str.{is_utf8}
 use Rattle.buffer_glyphs.specs.declared.info.hb_glyph_info_t.{hb_glyph_info_t}
@@ -30,21 +30,21 @@ use Rattle.shell_run.specs.Output.{glyphs_of}
 
 -- ---- bytes
 
--- a text without one line feed at its end
+-- a text without the one line feed at its end
 abbrev pub without_line_feed : List ℕ → List ℕ
 without_line_feed text = if slice_index text (length text - 1) == 10 then take (length text - 1) text else text
 
--- the text of bytes
+-- the text of bytes, which must be UTF-8
 abbrev pub text_of : List ℕ → Result (List ℕ) RunFault
 text_of bytes = if is_utf8 bytes then Ok (without_line_feed bytes) else Err NotUtf8
 
 -- ---- glyphs
 
--- the printed text of glyphs, by the font's names and boxes, and a line feed
+-- the printed text of glyphs, with the font's names and extents, and a line feed
 abbrev pub printed_line : FaceParts → SerializeFlags → List hb_glyph_info_t → List Position → List ℕ
 printed_line font flags gs ps = printed_text (λ glyph. name_of glyph font) (λ glyph. value_of glyph font.extents) flags gs ps ++ 10 ∷ []
 
--- what a text of a run is shaped by
+-- the `Shaping` of a run's text
 abbrev pub shaping : RunTables → FaceParts → List Feature → Sides → Shaping
 shaping t font features s = by_text font t.characters (language_tags t.languages) (syllable_at t.syllables) features s
 
@@ -52,17 +52,17 @@ shaping t font features s = by_text font t.characters (language_tags t.languages
 abbrev pub line_of_run : FaceParts → SerializeFlags → Run → List ℕ
 line_of_run font flags run = printed_line font flags (glyphs_of run.view.items run.origins) run.view.positions
 
--- the line of a reading: clusters and glyph flags are those of the text after its events at the level
+-- the line of a reading, whose clusters and glyph flags are those of the text after its events at the level
 abbrev pub line_of_reading : FaceParts → SerializeFlags → Run → Reading → Result (List ℕ) RunFault
 line_of_reading font flags run (Ok r) = Ok (line_of_run font flags (run_after r run))
 line_of_reading font flags run (Err e) = Err (fault_of_cause e)
 
--- the line of a text that waits for its shaper, or of what shaping makes of it
+-- the line of a shaped text, or the fault of a text that needs the Indic shaper
 abbrev pub line_of_text : Options → RunTables → FaceParts → Sides → Result (List ℕ) RunFault
 line_of_text options t font s = if script_waits s.script then Err NotYet
     else line_of_reading font options.flags (run_of s) (text_reading (shaping t font options.features.items s) (run_of s))
 
--- why a text was not shaped: it waits for its shaper, or its reading refuses
+-- the reason why a text is not shaped: it needs the Indic shaper, or its reading fails
 abbrev pub IsUnshaped : Bool → Reading → RunFault → Type 0
 IsUnshaped true reading e = e ≡ NotYet
 IsUnshaped false reading e = (cause : ShapeCause) × (reading ≡ Err cause) × (e ≡ fault_of_cause cause)
@@ -71,13 +71,13 @@ IsUnshaped false reading e = (cause : ShapeCause) × (reading ≡ Err cause) × 
 abbrev pub line_of : Options → RunTables → FaceParts → List ℕ → Result (List ℕ) RunFault
 line_of options t font text = if fits_text text empty_buffer then line_of_text options t font (text_buffer options text) else Err (Shape TooLong)
 
--- ---- all of it
+-- ---- a whole run
 
 -- the line of a text's bytes
 unfoldable pub line_in : Options → RunTables → FaceParts → List ℕ → Result (List ℕ) RunFault
 line_in options t font bytes = then_run (text_of bytes) (line_of options t font)
 
--- the line of a text's bytes, where tables and a font were read: their faults come before those of the text
+-- the line of a text's bytes, where tables and a font were read; their faults come before the text's
 unfoldable pub answer_by : Options → Result RunParts RunFault → List ℕ → Result (List ℕ) RunFault
 answer_by options read text = then_run read (λ input. line_in options input.tables input.font text)
 

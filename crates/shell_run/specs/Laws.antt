@@ -1,4 +1,4 @@
--- What holds of every run.
+-- Laws of every run.
 use Rattle.std.specs.Prelude.{ℕ, ◌≡◌, false, List, [], ◌∷◌, Result, Ok}
 use Rattle.shell_readers.specs.declared.options.Options.{Options}
 use Rattle.layout_face.specs.declared.parts.FaceParts.{FaceParts}
@@ -7,11 +7,11 @@ use Rattle.shell_readers.specs.declared.fault.RunFault.{RunFault}
 use Rattle.shell_run.specs.Answer.{IsAnswer, line_of}
 use Rattle.shell_readers.specs.Tables.{RunTables}
 
--- no glyphs and a line feed, where such a text does not wait
+-- law: the empty text gives a line feed only, where such a text needs no Indic shaper
 abbrev pub EmptyTextGivesEmptyLine : Type 0
 EmptyTextGivesEmptyLine = (options : Options) (t : RunTables) (font : FaceParts) → script_waits options.script ≡ false → line_of options t font [] ≡ Ok (10 ∷ [])
 
--- tables, a font and a text have one answer at most
+-- law: tables, a font and a text have at most one answer
 abbrev pub AnswersAreOne : Type 0
 AnswersAreOne = (options : Options) (tables font text : List ℕ) (r s : Result (List ℕ) RunFault)
     → IsAnswer options tables font text r → IsAnswer options tables font text s → r ≡ s

@@ -4,7 +4,7 @@ use Rattle.buffer_glyphs.specs.declared.info.hb_glyph_info_t.{hb_glyph_info_t}
 use Rattle.buffer_glyphs.specs.Items.{Item}
 use Rattle.buffer_glyphs.specs.Origins.{Origin}
 
--- an item as a glyph of a cluster, with its glyph flags
+-- the glyph record of an item, with the cluster and the glyph flags of its origin
 abbrev pub glyph_of : Item → Origin → hb_glyph_info_t
 glyph_of x o = record {
   glyph_id = x.number;
@@ -20,7 +20,7 @@ glyph_of x o = record {
   auxiliary = x.auxiliary;
 }
 
--- items and where they come from as glyphs
+-- the glyph records of items, with their origins
 abbrev pub glyphs_of : List Item → List Origin → List hb_glyph_info_t
 glyphs_of [] os = []
 glyphs_of (x ∷ xs) [] = []

@@ -40,7 +40,7 @@ fn read_text(bytes: &[u8]) -> Result<&str, RunFault>
     }
 }
 
-/// A buffer as the options ask for it. The language moves into it.
+/// A buffer with the settings of the options. The language is moved into it.
 fn new_text(alloc: Global, options: &mut Options) -> UnicodeBuffer
     ensures text { result ≡ asked_buffer options.old }
     ensures features { options.new.features.items ≡ options.old.features.items }
@@ -59,7 +59,7 @@ fn new_text(alloc: Global, options: &mut Options) -> UnicodeBuffer
     text
 }
 
-/// The characters of a text, with what was not asked for guessed.
+/// A buffer with the characters of a text; settings that the options lack are guessed.
 fn text_buffer(alloc: Global, options: &mut Options, text: &str) -> Result<UnicodeBuffer, RunFault>
     ensures fits { OnOk result (fits_text text.now empty_buffer ≡ true) }
     ensures text { IfOk result (λ b. b ≡ text_buffer options.old text.now) }
@@ -77,7 +77,7 @@ fn text_buffer(alloc: Global, options: &mut Options, text: &str) -> Result<Unico
     Ok(buffer)
 }
 
-/// The printed text of glyphs, by the font's names and boxes, and a line feed.
+/// The printed text of glyphs, with the font's names and extents, and a line feed.
 fn print(
     alloc: Global,
     face: &Face,
@@ -92,7 +92,7 @@ fn print(
     Ok(line)
 }
 
-/// The line of a text in a font.
+/// The printed line of a text in a font.
 fn line(
     alloc: Global,
     mut options: Options,
@@ -130,7 +130,7 @@ fn line_in(
     line(alloc, options, tables, face, text)
 }
 
-/// The line for the bytes of tables, a font and a text, which are read in this order.
+/// The printed line for the bytes of tables, a font and a text, which are read in this order.
 pub(crate) fn answer(
     alloc: Global,
     options: Options,

@@ -1,4 +1,4 @@
-//! The files of a run, opened by their names.
+//! Opens the files of a run by their names.
 ghost use Rattle.std.specs.Prelude.{◌≡◌, ℕ, List, [], ◌∷◌, Option, None, OnOk, OnErr, IfErr, string_bytes, take};
 ghost use Rattle.shell_run.specs.Program.{Asks};
 
@@ -7,12 +7,12 @@ use shell_words::CommandLine;
 use std::fs::File;
 use std::io::Read;
 
-/// Where files are opened by their names.
+/// A source of files, which are opened by their names.
 pub trait Files<F: Read> {
-    // The names that were asked for, where that is known.
+    // The names of the files opened so far, where they are known.
     ghost names: { Self → Option (List (List ℕ)) } = { λ _. None };
 
-    /// The file of a name, none where it can't be opened.
+    /// The file of a name, `None` where it can't be opened.
     fn open(&mut self, name: &str) -> Option<F>
         ensures { Asks (names self.old) (names self.new) (name.now ∷ []) };
 }
@@ -29,7 +29,7 @@ impl Files<File> for SystemFiles<'_> {
     }
 }
 
-/// The files of a run: tables, font and text.
+/// The open files of a run: tables, font and text.
 #[derive(Drop)]
 pub(crate) struct OpenFiles<F> {
     pub(crate) tables: F,
@@ -37,7 +37,7 @@ pub(crate) struct OpenFiles<F> {
     pub(crate) text: F,
 }
 
-/// Opens tables, font and text, in this order; the first that can't be opened ends it.
+/// Opens tables, font and text, in this order; the first that can't be opened is the fault.
 #[tactic(auto, using(crate::proofs::Asking::asked_one, crate::proofs::Asking::asked_two, crate::proofs::Asking::asked_three, crate::proofs::Asking::asked_all))]
 pub(crate) fn open_files<F: Read + Drop, O: Files<F>>(
     files: &mut O,

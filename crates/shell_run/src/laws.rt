@@ -1,3 +1,5 @@
+//! Laws of the program's runs.
+
 ghost use Rattle.std.specs.Prelude.{◌≡◌, ◌≢◌, MatchBool};
 ghost use Rattle.shell_run.specs.Laws.{AnswersAreOne, EmptyTextGivesEmptyLine};
 
@@ -10,18 +12,20 @@ pub fn empty_text_gives_empty_line()
     ensures { EmptyTextGivesEmptyLine }
 {}
 
-/// Tables, a font and a text have one answer at most: the relation by which a run is described is a function.
+/// Tables, a font and a text have at most one answer: the relation that specifies a run is a function.
 #[tactic(auto, using(crate::proofs::Reading::answers_are_one))]
 pub fn answers_are_one()
     ensures { AnswersAreOne }
 {}
 
+/// `==` of JSON faults holds exactly between equal ones.
 pub fn json_faults_are_equal(left: JsonFault, right: JsonFault) -> bool
     ensures { MatchBool result (left ≡ right) (left ≢ right) }
 {
     left == right
 }
 
+/// `==` of run faults holds exactly between equal ones.
 pub fn run_faults_are_equal(left: RunFault, right: RunFault) -> bool
     ensures { MatchBool result (left ≡ right) (left ≢ right) }
 {

@@ -1,5 +1,5 @@
-// Runs the shaper: from the bytes of tables, a font and a text to the printed glyphs; and what the program hb_shape does,
-// over its words, the files that they name, and what it writes to.
+//! Runs the shaper: from the bytes of tables, a font and a text to the printed glyphs; and the program hb_shape, over
+//! its command-line words, the files that they name, and its output streams.
 #![tactic(auto)]
 
 mod answer;

@@ -1,4 +1,4 @@
-//! The program over its words, its files and what it writes to.
+//! The program, over its command-line words, its files and its output streams.
 ghost use Rattle.std.specs.Prelude.{IfOk};
 ghost use Rattle.shell_run.specs.Program.{Ends};
 
@@ -11,8 +11,8 @@ use std::alloc::Global;
 use std::io;
 use std::io::{Read, Write};
 
-/// Does what the words ask for, and gives the exit status: 0 where the line was written, else that of the fault, which
-/// is told on `err`.
+/// Runs the program with its command-line words, and returns its exit status: 0 where the line was written, else that
+/// of the fault, which is written to `err`.
 #[tactic(auto, using(crate::proofs::Ending::ends_well, crate::proofs::Ending::ends_with_fault))]
 pub fn shape<F: Read + Drop, O: Files<F>, W: Write, E: Write>(
     alloc: Global,

@@ -1,3 +1,5 @@
+//! Reads a stream to its end.
+
 ghost use Rattle.std.specs.Prelude.{◌≡◌, ◌≤◌, ◌^◌, ◌⊎◌, length, Err, IfOk, OnOk, IfErr, IfSome};
 ghost use Rattle.std.specs.Io.KnownBytes.{IsAtEnd};
 
@@ -5,10 +7,14 @@ use shell_readers::fault::RunFault;
 use std::alloc::Global;
 use std::io::Read;
 
-/// How often a reader is asked at most.
+/// The greatest number of reads from one reader.
 const READ_LIMIT: u32 = 1 << 26;
 
-/// All bytes of a reader, which is read to its end.
+/// All bytes of a reader up to its end.
+///
+/// # Errors
+///
+/// `Read` where a read fails, `ReadLimit` where the end isn't reached in 2^26 reads, or lack of memory.
 pub(crate) fn read_all<R: Read>(alloc: Global, reader: &mut R) -> Result<Vec<u8>, RunFault>
     ensures bytes { IfOk result (λ v. IfSome (R.remaining reader.old) (λ bs. v.items ≡ bs)) }
     ensures ended { OnOk result (IfSome (R.remaining reader.old) (λ _. IsAtEnd (R.remaining reader.new))) }

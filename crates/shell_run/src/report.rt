@@ -1,4 +1,4 @@
-//! What the program says of a fault.
+//! The message and the status of a fault.
 ghost use Rattle.std.specs.Prelude.{◌≡◌, IfOk, OnOk};
 ghost use Rattle.std.specs.Io.KnownBytes.{Appends};
 ghost use Rattle.shell_readers.specs.Fault.{status_of};
@@ -8,7 +8,7 @@ use shell_readers::fault::RunFault;
 use std::io;
 use std::io::Write;
 
-/// Writes the line of a fault, and gives its exit status.
+/// Writes the line of a fault to `err`, and returns its exit status.
 pub(crate) fn report<W: Write>(err: &mut W, fault: RunFault) -> io::Result<u8>
     ensures line { OnOk result (Appends (W.contents err.old) (W.contents err.new) (line_of_fault fault)) }
     ensures status { IfOk result (λ status. status ≡ status_of fault) }

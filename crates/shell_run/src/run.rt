@@ -1,3 +1,5 @@
+//! Runs the program over open streams.
+
 ghost use Rattle.std.specs.Prelude.{◌≡◌, ◌≢◌, ◌⊎◌, ◌≤◌, ◌^◌, Ok, Err, length, IfOk, IfErr, OnOk, OnErr, IfSome};
 ghost use Rattle.std.specs.Io.KnownBytes.{Appends, IsAtEnd, Keeps};
 ghost use Rattle.shell_run.specs.Answer.{IsAnswer};
@@ -12,8 +14,7 @@ use shell_readers::options::Options;
 use std::alloc::Global;
 use std::io::{Read, Write};
 
-/// Reads tables, a font and a text to their ends, and writes the printed glyphs of the text and a line feed, and
-/// nothing else.
+/// Reads tables, a font and a text to their ends, and writes only the printed glyphs of the text and a line feed.
 pub fn run<T: Read, F: Read, X: Read, W: Write>(
     alloc: Global,
     options: Options,
@@ -22,7 +23,7 @@ pub fn run<T: Read, F: Read, X: Read, W: Write>(
     text: &mut X,
     out: &mut W,
 ) -> Result<(), RunFault>
-    // Of readers whose bytes are known the line is written, and the readers are at their ends.
+    // Where the readers' bytes are known, the line is written and the readers are at their ends.
     ensures written { OnOk result
         (OnKnown (T.remaining tables.old) (F.remaining font.old) (X.remaining text.old)
         (λ ts fs xs. SomeLine (IsAnswer options ts fs xs)
@@ -31,7 +32,7 @@ pub fn run<T: Read, F: Read, X: Read, W: Write>(
     ensures font_ended { OnOk result (IfSome (F.remaining font.old) (λ _. IsAtEnd (F.remaining font.new))) }
     ensures text_ended { OnOk result (IfSome (X.remaining text.old) (λ _. IsAtEnd (X.remaining text.new))) }
 
-    // A fault of the bytes is the first that is found in them, once all readers are at their ends.
+    // A fault of the bytes is the first one in them, and all readers are at their ends.
     ensures refused { IfErr result (λ e. IsOfBytes e
         → OnKnown (T.remaining tables.old) (F.remaining font.old) (X.remaining text.old)
         (λ ts fs xs. IsAnswer options ts fs xs (Err e))) }
@@ -42,7 +43,7 @@ pub fn run<T: Read, F: Read, X: Read, W: Write>(
     ensures refused_text { IfErr result (λ e. IsOfBytes e
         → IfSome (X.remaining text.old) (λ _. IsAtEnd (X.remaining text.new))) }
 
-    // Writing comes last, and where it fails a front of the line was written.
+    // Writing is last: where it fails, a prefix of the line was written.
     ensures write_last { result ≡ Err RunFault.Write
         → OnKnown (T.remaining tables.old) (F.remaining font.old) (X.remaining text.old)
         (λ ts fs xs. SomeLine (IsAnswer options ts fs xs)

@@ -1,4 +1,4 @@
-//! Shaping of a text that doesn't wait.
+//! Shapes a text that is wholly in memory.
 ghost use Rattle.std.specs.Prelude.{◌≡◌, ◌≢◌, false, IfOk, IfErr, OnOk};
 ghost use Rattle.buffer_core.specs.Readings.{Follows};
 ghost use Rattle.buffer_core.specs.Segment.{guessed};
@@ -18,7 +18,7 @@ use shell_readers::fault::RunFault;
 use shell_readers::tables::TextTables;
 use std::alloc::Global;
 
-/// Shapes a text whose direction and script are known.
+/// Shapes a text whose direction and script are set.
 fn shape_text(
     alloc: Global,
     tables: &TextTables,
@@ -45,7 +45,7 @@ fn shape_text(
     }
 }
 
-/// Shapes a text. One that waits for its script's shaper is not shaped yet.
+/// Shapes a text. It refuses one of a script that needs the Indic shaper, which is not implemented yet.
 pub(crate) fn shape(
     alloc: Global,
     tables: &TextTables,

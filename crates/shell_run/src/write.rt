@@ -1,3 +1,5 @@
+//! Writes a line to a stream.
+
 ghost use Rattle.std.specs.Prelude.{◌≡◌, IfErr, OnOk, OnErr};
 ghost use Rattle.std.specs.Io.KnownBytes.{Appends};
 ghost use Rattle.shell_run.specs.Run.{AppendsFront};
@@ -5,7 +7,7 @@ ghost use Rattle.shell_run.specs.Run.{AppendsFront};
 use shell_readers::fault::RunFault;
 use std::io::Write;
 
-/// Writes a line from its first byte on, until a write fails or takes nothing.
+/// Writes a line from its first byte on, until a write fails or writes nothing.
 #[tactic(auto, using(crate::proofs::Writing::front_none, crate::proofs::Writing::front_stays, crate::proofs::Writing::front_whole))]
 pub(crate) fn write_line<W: Write>(out: &mut W, line: &[u8]) -> Result<(), RunFault>
     ensures written { OnOk result (Appends (W.contents out.old) (W.contents out.new) line.now) }

@@ -1,4 +1,4 @@
--- What a row of each table of characters denotes.
+-- The rows of the character tables.
 use Rattle.std.specs.Prelude.{Result, Ok}
 use Rattle.serde_json.specs.Data.{Data}
 use Rattle.shell_json_values.specs.declared.fault.JsonFault.{JsonFault}
@@ -19,11 +19,11 @@ use Rattle.buffer_unicode_rows.specs.declared.rows.IndicRow.{IndicRow}
 use Rattle.buffer_unicode_rows.specs.declared.rows.UniversalRow.{UniversalRow}
 use Rattle.buffer_unicode_rows.specs.declared.rows.ThaiRow.{ThaiRow}
 
--- [u, a, b]: a character and the two parts into which it splits, the second 0 where there is none
+-- [u, a, b]: a character and the two halves of its decomposition, the second 0 where there is only one
 abbrev pub split : Data → Result Split JsonFault
 split d = and_then (row_of_three character character character d) (λ p. Ok (record { whole = p.0; first = p.1.0; second = p.1.1 }))
 
--- [a, b, u]: two characters and what they compose to
+-- [a, b, u]: two characters and their composition
 abbrev pub pair : Data → Result Pair JsonFault
 pair d = and_then (row_of_three character character character d) (λ p. Ok (record { first = p.0; second = p.1.0; whole = p.1.1 }))
 
@@ -31,11 +31,11 @@ pair d = and_then (row_of_three character character character d) (λ p. Ok (reco
 abbrev pub character_class : Data → Result CharacterClass JsonFault
 character_class d = and_then (row_of_two character (natural_number_below 256) d) (λ p. Ok (record { character = p.0; class = p.1 }))
 
--- [u, v]: a character and the one that takes its place in another direction
+-- [u, v]: a character and its counterpart in another direction
 abbrev pub counterpart : Data → Result Counterpart JsonFault
 counterpart d = and_then (row_of_two character character d) (λ p. Ok (record { character = p.0; counterpart = p.1 }))
 
--- [first, last]: a stretch of characters
+-- [first, last]: a range of characters
 abbrev pub character_range : Data → Result CharacterRange JsonFault
 character_range d = and_then (row_of_two character character d) (λ p. Ok (record { first = p.0; last = p.1 }))
 
@@ -53,8 +53,8 @@ indic_row d =
 abbrev pub universal_row : Data → Result UniversalRow JsonFault
 universal_row d = and_then (row_of_two character (named universal_categories) d) (λ p. Ok (record { character = p.0; category = p.1 }))
 
--- [u, action, first, second]: a character, the name of an action, and two private characters, of which the first that
--- a font has stands for it after the action
+-- [u, action, first, second]: a character, the name of an action, and two private-use characters, the first of which
+-- that a font has replaces it by that action
 abbrev pub thai_row : Data → Result ThaiRow JsonFault
 thai_row d =
     and_then (row_of_four character (named thai_actions) character character d) (λ p.

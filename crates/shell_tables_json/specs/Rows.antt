@@ -1,4 +1,4 @@
--- Rows of a list whose keys rise strictly, and names that stand for numbers.
+-- Rows of a list whose keys rise strictly, and names of numbers.
 use Rattle.std.specs.Prelude.{ℕ, List, None, Result}
 use Rattle.std.specs.Option.{ok_or}
 use Rattle.serde_json.specs.Data.{Data}
@@ -10,13 +10,14 @@ use Rattle.shell_json_values.specs.Rows.{rows_after}
 use Rattle.script_categories.specs.Names.{number_of}
 use Rattle.buffer_unicode_rows.specs.Keys.{follows}
 
--- the rows of a key, whose keys are pairs of numbers that rise, the more significant first
+-- the rows under a key, ordered by pairs of numbers, the more significant first
 abbrev pub rows_at : {R : Type 0} → List ℕ → (R → ℕ) → (R → ℕ) → (Data → Result R JsonFault) → Data → Result (List R) JsonFault
 rows_at key high low row d = and_then (list_at key d) (rows_after (follows high low) (λ r. r) row None)
 
+-- the number of a name, else a fault
 abbrev pub number_named : List (List ℕ × ℕ) → List ℕ → Result ℕ JsonFault
 number_named names name = ok_or (number_of names name) UnknownName
 
--- the number of a name in a list of names
+-- a value that is one of the names
 abbrev pub named : List (List ℕ × ℕ) → Data → Result ℕ JsonFault
 named names d = and_then (text d) (number_named names)

@@ -1,4 +1,4 @@
--- What the key `syllables` denotes: for each shaper that sees syllables a machine of states.
+-- The value of the key `syllables`: a state machine for each shaper that finds syllables.
 use Rattle.std.specs.Prelude.{ℕ, List, [], codes, Result, Ok}
 use Rattle.serde_json.specs.Data.{Data}
 use Rattle.serde_json.specs.Find.{get}
@@ -14,7 +14,7 @@ use Rattle.script_categories.specs.declared.machine.Step.{Step}
 use Rattle.script_categories.specs.Machines.{Machine, Machines}
 use Rattle.shell_tables_json.specs.Rows.{rows_at, named}
 
--- ---- rows of a machine with so many states
+-- ---- rows of a machine, by its number of states
 
 -- [state, category, state]: a category leads from one state to another
 abbrev pub step : hb_ot_script_shaper_t → ℕ → Data → Result Step JsonFault
@@ -22,13 +22,14 @@ step shaper states d =
     and_then (row_of_three (natural_number_below states) (named (categories_of shaper)) (natural_number_below states) d) (λ p.
     Ok (record { state = p.0; category = p.1.0; next = p.1.1 }))
 
--- [state, kind]: in a state a syllable of a kind may end
+-- [state, kind]: a syllable of a kind may end in a state
 abbrev pub accept : hb_ot_script_shaper_t → ℕ → Data → Result Accept JsonFault
 accept shaper states d =
     and_then (row_of_two (natural_number_below states) (named (kinds_of shaper)) d) (λ p. Ok (record { state = p.0; kind = p.1 }))
 
 -- ---- keys
 
+-- a machine without states
 abbrev pub no_machine : Machine
 no_machine = record { states = 0; next = []; accept = [] }
 
@@ -36,7 +37,7 @@ no_machine = record { states = 0; next = []; accept = [] }
 abbrev pub state_count : Data → Result ℕ JsonFault
 state_count d = natural_number_below 0x1_0000_0000 d
 
--- the keys of a machine in the order in which their faults come
+-- the keys of a machine in the order of their faults
 abbrev pub machine_keys : hb_ot_script_shaper_t → Data → Result Machine JsonFault
 machine_keys shaper d =
     and_then (read_or 0 state_count (get (codes "states") d)) (λ states.
@@ -44,7 +45,7 @@ machine_keys shaper d =
     and_then (rows_at (codes "accept") (λ _. 0) (λ r. r.state) (accept shaper states) d) (λ accept.
     Ok (record { states = states; next = next; accept = accept }))))
 
--- a shaper's machine, which has no states where its key is missing
+-- the machine of a shaper, without states where its key is missing
 abbrev pub machine_at : List ℕ → hb_ot_script_shaper_t → Data → Result Machine JsonFault
 machine_at key shaper d = read_or no_machine (of_object (machine_keys shaper)) (get key d)
 
@@ -57,9 +58,11 @@ machines_keys d =
     and_then (machine_at (codes "universal") UNIVERSAL_SHAPER d) (λ universal.
     Ok (record { indic = indic; khmer = khmer; myanmar = myanmar; universal = universal })))))
 
+-- machines without states
 abbrev pub no_machines : Machines
 no_machines = record { indic = no_machine; khmer = no_machine; myanmar = no_machine; universal = no_machine }
 
+-- the machines of the key's value
 abbrev pub syllables_key : Data → Result Machines JsonFault
 syllables_key d = read_or no_machines (of_object machines_keys) (get (codes "syllables") d)
 

@@ -1,4 +1,4 @@
--- What the keys of tables denote, from splits to Thai forms.
+-- The values of the character tables' keys, from splits to Thai forms.
 use Rattle.std.specs.Prelude.{codes, Result, Ok}
 use Rattle.serde_json.specs.Data.{Data}
 use Rattle.shell_json_values.specs.declared.fault.JsonFault.{JsonFault}
@@ -8,7 +8,7 @@ use Rattle.shell_tables_json.specs.Rows.{rows_at}
 use Rattle.shell_tables_json.specs.Characters.{split, pair, character_class, counterpart, character_range, joining_row, indic_row, universal_row, thai_row}
 use Rattle.buffer_unicode_tables.specs.Tables.{Tables}
 
--- the keys in the order in which their faults come
+-- the keys in the order of their faults
 abbrev pub tables_keys : Data → Result Tables JsonFault
 tables_keys d =
     and_then (rows_at (codes "splits") (λ _. 0) (λ r. r.whole) split d) (λ splits.
@@ -34,6 +34,6 @@ tables_keys d =
       thai = thai;
     })))))))))))
 
--- the tables of a JSON value, whatever the length of their chains of splits
+-- the tables of a JSON value, whatever the length of their chains of decompositions
 abbrev pub tables_of : Data → Result Tables JsonFault
 tables_of d = of_object tables_keys d

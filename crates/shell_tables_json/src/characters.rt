@@ -1,4 +1,4 @@
-//! What reads a row of each table of characters.
+//! Reads a row of each character table.
 ghost use Rattle.std.specs.Prelude.{◌≡◌};
 ghost use Rattle.serde_json.specs.View.{view};
 ghost use Rattle.shell_json_values.specs.Cell.{both, character};
@@ -17,7 +17,7 @@ use shell_json_values::cell::{Cell, pair};
 use shell_json_values::fault::JsonFault;
 use shell_json_values::parts::{four_parts, three_parts, two_parts};
 
-/// Reads a character and the two parts into which it splits.
+/// Reads a character and the two halves of its decomposition.
 #[derive(Clone, Copy)]
 pub struct Splits;
 
@@ -38,7 +38,7 @@ impl RowReader for Splits {
     }
 }
 
-/// Reads two characters and what they compose to.
+/// Reads two characters and their composition.
 #[derive(Clone, Copy)]
 pub struct Pairs;
 
@@ -75,7 +75,7 @@ impl RowReader for Classes {
     }
 }
 
-/// Reads a character and the one that takes its place in another direction.
+/// Reads a character and its counterpart in another direction.
 #[derive(Clone, Copy)]
 pub struct Counterparts;
 
@@ -94,7 +94,7 @@ impl RowReader for Counterparts {
     }
 }
 
-/// Reads a stretch of characters.
+/// Reads a range of characters.
 #[derive(Clone, Copy)]
 pub struct Ranges;
 
@@ -169,7 +169,7 @@ impl RowReader for UniversalRows {
     }
 }
 
-/// Reads a character, an action and the two characters that may stand for it after the action.
+/// Reads a character, an action and the two private-use characters that may replace it by that action.
 #[derive(Clone, Copy)]
 pub struct ThaiRows;
 

@@ -1,4 +1,4 @@
-//! The tags of languages.
+//! Reads the OpenType tags of languages.
 ghost use Rattle.std.specs.Prelude.{◌≡◌, ◌≢◌, ◌≤◌, IfOk, IfErr, Ok, Err, length, map};
 ghost use Rattle.std.specs.Option.{option_copied};
 ghost use Rattle.serde_json.specs.View.{view, items_view};
@@ -14,7 +14,7 @@ use shell_json_values::fault::JsonFault;
 use shell_json_values::parts::{list, list_at, text, two_parts};
 use std::alloc::Global;
 
-/// How many tags a language may have.
+/// The greatest number of OpenType tags of a language.
 const MAX_TAGS: usize = 3;
 
 /// Reads the rows of the key `languages`, whose texts rise by their bytes.
@@ -46,7 +46,7 @@ fn read_rows(alloc: Global, values: &[Value]) -> Result<Vec<LanguageRow>, JsonFa
     Ok(rows)
 }
 
-/// Whether a row is the first, or its text is above that of the row before.
+/// Whether a row is the first, or its text is greater than that of the row before.
 fn follows(before: Option<&LanguageRow>, row: &LanguageRow) -> bool
     ensures { result ≡ follows (option_copied before.entry) row.now }
 {

@@ -1,4 +1,5 @@
-// Reads tables from JSON values: rows of characters, names that stand for numbers, languages, and the machines that find syllables.
+//! Reads tables from JSON values: rows of characters, names of numbers, languages, and the machines that find
+//! syllables.
 #![tactic(auto)]
 
 pub mod characters;

@@ -1,4 +1,4 @@
-//! Names that stand for numbers.
+//! Names of numbers.
 ghost use Rattle.std.specs.Prelude.{◌≡◌};
 ghost use Rattle.serde_json.specs.View.{view};
 ghost use Rattle.script_categories.specs.Indic.{ot_categories, ot_positions};

@@ -1,4 +1,4 @@
-//! Lists of rows whose keys rise, each row read by a reader.
+//! Reads lists of rows whose keys rise, each row by a reader of its own.
 ghost use Rattle.std.specs.Prelude.{◌≡◌, ◌≢◌, true, IfOk, IfErr, Ok, Err, Result};
 ghost use Rattle.serde_json.specs.Data.{Data};
 ghost use Rattle.serde_json.specs.View.{view};
@@ -13,7 +13,7 @@ use shell_json_values::parts::list_at;
 use shell_json_values::rows::read_rows;
 use std::alloc::Global;
 
-/// What reads the rows of a list.
+/// The reader of a list's rows.
 pub trait RowReader: Copy {
     type Row: Keyed;
 
@@ -57,7 +57,7 @@ impl<T: RowReader> shell_json_values::rows::RowReader for Rising<T> {
     }
 }
 
-/// The rows of a key, none where the key is missing.
+/// Reads the rows under a key, none where the key is missing.
 #[tactic(auto, using(crate::proofs::Orders::rows_rise))]
 pub fn read_rows_at<T: RowReader>(
     alloc: Global,

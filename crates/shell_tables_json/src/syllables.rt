@@ -1,4 +1,4 @@
-//! The machines of syllables.
+//! Reads the machines that find syllables.
 ghost use Rattle.std.specs.Prelude.{◌≡◌, ◌≢◌, IfOk, IfErr, Ok, Err};
 ghost use Rattle.serde_json.specs.Find.{get};
 ghost use Rattle.serde_json.specs.View.{view};
@@ -20,7 +20,7 @@ use shell_json_values::keys::read_key;
 use shell_json_values::parts::{natural_number_below, three_parts, two_parts};
 use std::alloc::Global;
 
-/// The steps of a machine with so many states.
+/// The steps of a machine with that many states.
 #[derive(Clone, Copy)]
 struct Steps {
     shaper: hb_ot_script_shaper_t,
@@ -45,7 +45,7 @@ impl RowReader for Steps {
     }
 }
 
-/// The accepting states of a machine with so many states.
+/// The accepting states of a machine with that many states.
 #[derive(Clone, Copy)]
 struct Accepts {
     shaper: hb_ot_script_shaper_t,
@@ -65,8 +65,8 @@ impl RowReader for Accepts {
     }
 }
 
-/// Reads the machines of the key `syllables`, in the order of their shapers' names. A state that its machine does not
-/// have is out of range, a category or a kind that the shaper does not have an unknown name.
+/// Reads the machines of the key `syllables`, in the order of their shapers' names. A state that its machine lacks is
+/// out of range; a category or a kind that the shaper lacks is an unknown name.
 pub fn read_syllables(alloc: Global, value: &Value) -> Result<SyllableTable, JsonFault>
     ensures ok { IfOk result (λ t. syllables_of (view value.now) ≡ Ok t) }
     ensures refused { IfErr result (λ e. e ≢ JsonFault.OutOfMemory → syllables_of (view value.now) ≡ Err e) }

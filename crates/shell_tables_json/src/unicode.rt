@@ -1,4 +1,4 @@
-//! The tables of characters.
+//! Reads the character tables.
 ghost use Rattle.std.specs.Prelude.{◌≡◌, ◌≢◌, IfOk, IfErr, Ok, Err};
 ghost use Rattle.serde_json.specs.View.{view};
 ghost use Rattle.shell_tables_json.specs.Unicode.{tables_keys, tables_of};
@@ -17,9 +17,8 @@ use serde_json::Value;
 use shell_json_values::fault::JsonFault;
 use std::alloc::Global;
 
-/// Reads the tables, the keys from `splits` to `thai` in their order, with the first fault of a row; where no row has
-/// one, `SplitDepth` if a chain of first parts has more than eight splits. Keys that are not of the format are passed
-/// over.
+/// Reads the tables: the keys from `splits` to `thai` in their order. The first fault of a row is returned; where no
+/// row has one, `SplitDepth` if a chain of first halves has more than eight decompositions. Unknown keys are skipped.
 #[tactic(auto, using(crate::proofs::Shallow::rows_not_deep))]
 pub fn read_tables(alloc: Global, value: &Value) -> Result<UnicodeTables, JsonFault>
     ensures ok { IfOk result (λ t. tables_of (view value.now) ≡ Ok t) }

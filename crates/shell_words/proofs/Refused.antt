@@ -1,4 +1,4 @@
--- What words ask for is refused by `Words` alone.
+-- Command-line words are refused by `Words` alone.
 use Rattle.std.proofs.Common.{◌≡◌, ℕ, Bool, true, false, List, [], ◌∷◌, Option, Some, None, Result, Ok, Err, ap, codes}
 use Rattle.std.specs.Option.{ok_or}
 use Rattle.std.specs.Prelude.{if◌then◌else◌}
@@ -83,7 +83,7 @@ asked-refused : (faults : Kinds) (rows : List Row) → RefusedByWords (asked fau
 asked-refused [] rows e same = settings-refused (λ id. first_of id rows) (values_in (all_of (codes "features") rows)) e same
 asked-refused (fault ∷ faults) rows e same = cc
 
--- what words ask for is refused by Words alone
+-- command-line words are refused by Words alone
 pub options-refused : (words : List Text) (e : RunFault) → options_of words ≡ Err e → e ≡ Words
 unfolding options_of
 options-refused words = asked-refused (fault_of hb_shape words) (matches_of hb_shape words)

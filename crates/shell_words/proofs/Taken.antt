@@ -23,7 +23,7 @@ asked_of_some : (faults : Kinds) (rows : List Row) (k : ErrorKind) → IsAmong k
 asked_of_some [] rows k among = absurd among
 asked_of_some (fault ∷ faults) rows k among = refl
 
--- words that are taken ask for what was found
+-- command-line words that are accepted have the values found
 pub taken : (a : App) (words : List Text) (m : ArgMatches) → a ≡ hb_shape → HasMatchesOf a words m → (is_simple_and_free a ≡ true → fault_of a words ≡ [])
     → options_of words ≡ settings_of (first_value (found_of m)) (values_in (option_map raw_values (matched_of (found_of m) (codes "features"))))
 unfolding options_of

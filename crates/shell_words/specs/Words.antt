@@ -30,7 +30,7 @@ use Rattle.buffer_common.specs.Script.{script_of_text}
 
 -- ---- the command
 
--- a file name, which has to be there
+-- a file name, which is required
 abbrev pub file_rule : List ℕ → Rule
 file_rule id = record (new_rule id) { required = true; action = Some Set }
 
@@ -38,7 +38,7 @@ file_rule id = record (new_rule id) { required = true; action = Some Set }
 abbrev pub option_rule : List ℕ → Rule
 option_rule id = record (new_rule id) { long = Some id; action = Some Set }
 
--- an option with a value that may be given several times
+-- an option with a value that may occur several times
 abbrev pub list_rule : List ℕ → Rule
 list_rule id = record (new_rule id) { long = Some id; action = Some Append }
 
@@ -46,6 +46,7 @@ list_rule id = record (new_rule id) { long = Some id; action = Some Append }
 abbrev pub switch_rule : List ℕ → Rule
 switch_rule id = record (new_rule id) { long = Some id; action = Some SetTrue }
 
+-- the rule of an argument of a kind
 abbrev pub rule_by : Kind → List ℕ → Rule
 rule_by Value id = option_rule id
 rule_by Values id = list_rule id
@@ -57,11 +58,11 @@ abbrev pub with_all : (List ℕ → Rule) → List (List ℕ) → App → App
 with_all rule [] app = app
 with_all rule (id ∷ ids) app = with_all rule ids (with_rule app (rule id))
 
--- options with a value
+-- the options with a value
 abbrev pub value_names : List (List ℕ)
 value_names = codes "direction" ∷ codes "script" ∷ codes "language" ∷ codes "cluster-level" ∷ []
 
--- switches, of the text and then of what is printed
+-- the switches, those of the text first, then those of the output
 abbrev pub switch_names : List (List ℕ)
 switch_names = codes "bot" ∷ codes "eot" ∷ codes "preserve-default-ignorables" ∷ codes "remove-default-ignorables" ∷ codes "no-dotted-circle"
     ∷ codes "unsafe-to-concat" ∷ codes "safe-to-insert-tatweel"
@@ -71,7 +72,7 @@ switch_names = codes "bot" ∷ codes "eot" ∷ codes "preserve-default-ignorable
 abbrev pub file_names : List (List ℕ)
 file_names = codes "tables" ∷ codes "font" ∷ codes "text" ∷ []
 
--- the features are the one option that may be given several times
+-- the command of the program; `--features` is the only option that may occur several times
 abbrev pub hb_shape : App
 hb_shape =
     with_all file_rule file_names
@@ -79,22 +80,23 @@ hb_shape =
     (with_all list_rule (codes "features" ∷ [])
     (with_all option_rule value_names (new_app (codes "hb_shape")))))
 
--- ---- what it asks for
+-- ---- the options
 
--- the texts and values of options, without what their strings keep of memory
+-- the options and file names, without the memory that their strings occupy
 pub record Settings : Type 0 where
   pub tables : List ℕ
   pub font : List ℕ
   pub text : List ℕ
   pub direction : Direction
   pub script : Option Script
-  -- a tag of BCP 47 in small letters
+  -- the language: a tag of BCP 47 in lower case
   pub language : Option (List ℕ)
   pub features : List Feature
   pub cluster_level : BufferClusterLevel
   pub buffer_flags : BufferFlags
   pub flags : SerializeFlags
 
+-- the options and file names of a command line
 abbrev pub settings_in : CommandLine → Settings
 settings_in c = record {
   tables = string_bytes c.tables;
@@ -109,48 +111,56 @@ settings_in c = record {
   flags = c.options.flags;
 }
 
--- the value of an id, where the words give one
+-- the first value of an id among the parsed words, if there is one
 abbrev pub Lookup : Type 0
 Lookup = List ℕ → Option (List ℕ)
 
+-- the next step after a result without a fault
 abbrev pub and_then : {A B : Type 0} → Result A RunFault → (A → Result B RunFault) → Result B RunFault
 and_then (Ok a) next = next a
 and_then (Err e) next = Err e
 
+-- a result, with the fault of command-line words
 abbrev pub or_words : {A E : Type 0} → Result A E → Result A RunFault
 or_words (Ok a) = Ok a
 or_words (Err e) = Err Words
 
--- the value of an option as its type reads it, or `missing` where the option is not there
+-- the value of an option as its type parses it, or `missing` without the option
 abbrev pub read_or : {A E : Type 0} → A → (List ℕ → Result A E) → Option (List ℕ) → Result A RunFault
 read_or missing read None = Ok missing
 read_or missing read (Some text) = or_words (read text)
 
+-- the name of a file
 abbrev pub file_in : List ℕ → Lookup → Result (List ℕ) RunFault
 file_in id value = ok_or (value id) Words
 
+-- the direction among the options
 abbrev pub direction_in : Lookup → Result Direction RunFault
 direction_in value = read_or Invalid direction_of_text (value (codes "direction"))
 
+-- the script of a text
 abbrev pub some_script : List ℕ → Result (Option Script) InvalidScript
 some_script text = result_map_both Some (λ e. e) (script_of_text text)
 
+-- the script among the options
 abbrev pub script_in : Lookup → Result (Option Script) RunFault
 script_in value = read_or None some_script (value (codes "script"))
 
--- the tag of a language: any text but the empty one, in small letters
+-- the language of a text: any text but the empty one, in lower case
 abbrev pub language_of_text : List ℕ → Result (Option (List ℕ)) RunFault
 language_of_text [] = Err Words
 language_of_text (byte ∷ bytes) = Ok (Some (str_to_ascii_lowercase (byte ∷ bytes)))
 
+-- the language of an optional text
 abbrev pub language_or_none : Option (List ℕ) → Result (Option (List ℕ)) RunFault
 language_or_none None = Ok None
 language_or_none (Some text) = language_of_text text
 
+-- the language among the options
 abbrev pub language_in : Lookup → Result (Option (List ℕ)) RunFault
 language_in value = language_or_none (value (codes "language"))
 
--- the level of a number, 0 to 2
+-- the cluster level of a number, 0 to 2
 abbrev pub level_of_text : List ℕ → Result BufferClusterLevel RunFault
 level_of_text text =
     if bytes_eq text (codes "0") then Ok MonotoneGraphemes
@@ -158,23 +168,25 @@ level_of_text text =
     else if bytes_eq text (codes "2") then Ok Characters
     else Err Words
 
+-- the cluster level of an optional text
 abbrev pub level_or_default : Option (List ℕ) → Result BufferClusterLevel RunFault
 level_or_default None = Ok MonotoneGraphemes
 level_or_default (Some text) = level_of_text text
 
+-- the cluster level among the options
 abbrev pub level_in : Lookup → Result BufferClusterLevel RunFault
 level_in value = level_or_default (value (codes "cluster-level"))
 
--- the parts of a text between its commas
+-- the pieces of a text between its commas
 abbrev pub parts_of : List ℕ → List (List ℕ)
 parts_of text = slice_split (λ byte. byte == 44) text
 
--- features in front of others
+-- features before other features
 abbrev pub after : List Feature → Result (List Feature) RunFault → Result (List Feature) RunFault
 after features (Ok rest) = Ok (features ++ rest)
 after features (Err e) = Err e
 
--- the features that the parts write
+-- the features of pieces
 abbrev pub features_of : List (List ℕ) → Result (List Feature) RunFault
 features_of [] = Ok []
 features_of (part ∷ parts) = and_then (or_words (feature_of_text part)) (λ feature. after (feature ∷ []) (features_of parts))
@@ -183,15 +195,15 @@ features_of (part ∷ parts) = and_then (or_words (feature_of_text part)) (λ fe
 abbrev pub features_in : List (List ℕ) → Result (List Feature) RunFault
 features_in values = features_of (flat_map parts_of values)
 
--- a switch has the value "true" where it is given
+-- a switch is given
 abbrev pub is_given : List ℕ → Lookup → Bool
 is_given id value = option_map_or (λ text. bytes_eq text (codes "true")) (value id) false
 
--- a flag where its switch is given
+-- a flag where its switch is given, else 0
 abbrev pub flag_of : List ℕ → ℕ → Lookup → ℕ
 flag_of id flag value = if is_given id value then flag else 0
 
--- what is printed: each switch has its flag
+-- the serialize flags of the switches
 abbrev pub flags_in : Lookup → SerializeFlags
 flags_in value = record {
   0 = flag_of (codes "no-clusters") 1 value
@@ -202,7 +214,7 @@ flags_in value = record {
       + flag_of (codes "no-advances") 32 value))));
 }
 
--- what the buffer of the text is asked for: each switch has its flag
+-- the buffer flags of the switches
 abbrev pub buffer_flags_in : Lookup → BufferFlags
 buffer_flags_in value = record {
   0 = flag_of (codes "bot") 1 value
@@ -214,7 +226,7 @@ buffer_flags_in value = record {
       + flag_of (codes "safe-to-insert-tatweel") 128 value)))));
 }
 
--- what the first value of each id and all values of `features` ask for
+-- the options of the first value of each id and all values of `features`
 abbrev pub settings_of : Lookup → List (List ℕ) → Result Settings RunFault
 settings_of value features =
     and_then (file_in (codes "tables") value) (λ tables.
@@ -238,25 +250,25 @@ settings_of value features =
       flags = flags_in value;
     })))))))))
 
--- an error of the parse as a fault of the run
+-- the run's fault of a parsing error
 abbrev pub refusal_of : ErrorKind → RunFault
 refusal_of kind.OutOfMemory = OutOfMemory
 refusal_of _ = Words
 
--- all values of an id, where the words give some
+-- all values of an id, none without it
 abbrev pub values_in : Option (List (List ℕ)) → List (List ℕ)
 values_in found = unwrap_or found []
 
--- all values of `features` that a parse found
+-- all values of `features` that were parsed
 abbrev pub feature_values : Found → List (List ℕ)
 feature_values found = values_in (option_map raw_values (matched_of found (codes "features")))
 
--- what is asked for where the command has these faults and finds these values
+-- the options, where the command has these faults and values
 abbrev pub asked : Kinds → List Row → Result Settings RunFault
 asked [] rows = settings_of (λ id. first_of id rows) (values_in (all_of (codes "features") rows))
 asked (fault ∷ faults) rows = Err Words
 
--- what the words ask for, the first of which is the program's name: they are refused where the command has a fault at
--- them, and where the value of an option is none of its type's
+-- the options of the command-line words, the first of which is the program's name; they are refused where the command
+-- refuses them, and where the value of an option is not of its type
 unfoldable pub options_of : List (List ℕ) → Result Settings RunFault
 options_of words = asked (fault_of hb_shape words) (matches_of hb_shape words)

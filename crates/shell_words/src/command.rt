@@ -1,3 +1,5 @@
+//! The command of the program: its options and the names of its files.
+
 ghost use Rattle.std.specs.Prelude.{◌≡◌, IfOk, false, map};
 ghost use Rattle.clap.specs.Words.{app_of, rule_of};
 ghost use Rattle.shell_words.specs.Words.{hb_shape, rule_by, with_all};
@@ -5,16 +7,16 @@ ghost use Rattle.shell_words.specs.Words.{hb_shape, rule_by, with_all};
 use clap::{Arg, ArgAction, Command};
 use std::alloc::{AllocError, Global};
 
-/// How an argument is given.
+/// The kind of an argument of the command.
 #[derive(Clone, Copy)]
 pub(crate) enum Kind {
     /// An option with a value.
     Value,
-    /// An option with a value that may be given several times.
+    /// An option with a value that may occur several times.
     Values,
     /// An option without a value.
     Switch,
-    /// The name of a file, without an option.
+    /// The name of a file.
     File,
 }
 
@@ -38,7 +40,7 @@ const SWITCHES: [&str; 13] = [
 
 const FILES: [&str; 3] = ["tables", "font", "text"];
 
-/// The command line of the program.
+/// The command of the program, as clap has it.
 pub(crate) fn command<'a>(alloc: Global) -> Result<Command<'a>, AllocError>
     ensures { IfOk result (λ c. app_of c ≡ hb_shape) }
 {
@@ -49,7 +51,7 @@ pub(crate) fn command<'a>(alloc: Global) -> Result<Command<'a>, AllocError>
     with_arguments(alloc, command, Kind::File, &FILES)
 }
 
-/// The command with an argument for each name.
+/// A command with an argument for each name.
 fn with_arguments<'a>(
     alloc: Global,
     command: Command<'a>,

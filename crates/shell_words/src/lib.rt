@@ -1,4 +1,4 @@
-// Reads the command line of the program.
+//! Parses the command-line words of the program.
 #![tactic(auto)]
 
 mod command;

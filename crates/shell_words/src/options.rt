@@ -1,3 +1,5 @@
+//! Parses the options among the command-line words.
+
 ghost use Rattle.std.specs.Prelude.{◌≡◌, ◌≢◌, ◌≤◌, IfOk, IfErr, OnOk, Ok, Err, map, string_bytes};
 ghost use Rattle.buffer_features.specs.FeatureText.{feature_of_text};
 ghost use Rattle.clap.specs.Words.{found_of, first_value};
@@ -21,7 +23,7 @@ use std::alloc::{AllocError, Global};
 use std::convert::AsStr;
 use std::str::FromStr;
 
-/// What the words of the command line ask for.
+/// The options and the file names among the command-line words.
 #[derive(Drop)]
 pub struct CommandLine {
     /// The name of the file of the tables.
@@ -33,13 +35,13 @@ pub struct CommandLine {
     pub options: Options,
 }
 
-/// Reads the words of the command line, `hb_shape [options] TABLES FONT TEXT`, of which the first is the program's name.
-/// The options stand anywhere among the names of the files, each at most once: `--direction D`, `--script S`,
-/// `--language L`, `--cluster-level 0` to `2`; of the text `--bot`, `--eot`, `--preserve-default-ignorables`,
-/// `--remove-default-ignorables`, `--no-dotted-circle`, `--unsafe-to-concat` and `--safe-to-insert-tatweel`; of what is
-/// printed `--no-clusters`, `--no-positions`, `--no-glyph-names`, `--show-extents`, `--show-flags` and `--no-advances`.
-/// Only `--features F` may be repeated and then adds, and each F is features with commas between them. Words that are
-/// anything else, `--help` among them, are refused.
+/// Parses the command-line words `hb_shape [options] TABLES FONT TEXT`, the first of which is the program's name. The
+/// options may be anywhere among the names of the files, each at most once: `--direction D`, `--script S`, `--language
+/// L`, `--cluster-level 0` to `2`; for the text `--bot`, `--eot`, `--preserve-default-ignorables`,
+/// `--remove-default-ignorables`, `--no-dotted-circle`, `--unsafe-to-concat` and `--safe-to-insert-tatweel`; for the
+/// output `--no-clusters`, `--no-positions`, `--no-glyph-names`, `--show-extents`, `--show-flags` and `--no-advances`.
+/// Only `--features F` may be repeated; each F is features separated by commas. All other words, `--help` among them,
+/// are refused.
 pub fn parse_options<'a, S: AsStr>(alloc: Global, words: &'a [S]) -> Result<CommandLine, RunFault>
     ensures ok { IfOk result (λ o. options_of (map S.text words.entry.now) ≡ Ok (settings_in o)) }
     ensures refused { IfErr result (λ e. e ≢ RunFault.OutOfMemory
@@ -185,7 +187,7 @@ fn read_values(alloc: Global, values: &[&str]) -> Result<Vec<Feature>, RunFault>
     Ok(features)
 }
 
-/// Adds the features of a value, with commas between them.
+/// Adds the features of a value, separated by commas.
 fn add_features(alloc: Global, features: &mut Vec<Feature>, value: &str) -> Result<(), RunFault>
     ensures ok { OnOk result (after features.old.items (features_of (parts_of value.now)) ≡ Ok features.new.items) }
     ensures refused { IfErr result (λ e. e ≢ RunFault.OutOfMemory
@@ -253,7 +255,7 @@ fn read_buffer_flags(matches: &ArgMatches<'_>) -> BufferFlags
     )
 }
 
-/// The bits of a buffer's flag where its switch is given.
+/// The buffer flag where its switch is given, else none.
 fn buffer_flag_of(matches: &ArgMatches<'_>, id: &str, flag: BufferFlags) -> u32
     ensures value { result ≡ flag_of id.now flag.0 (first_value (found_of matches.now)) }
     ensures below { result ≤ flag.0 }
@@ -265,7 +267,7 @@ fn buffer_flag_of(matches: &ArgMatches<'_>, id: &str, flag: BufferFlags) -> u32
     }
 }
 
-/// The bits of a flag where its switch is given.
+/// The serialize flag where its switch is given, else none.
 fn flag_of(matches: &ArgMatches<'_>, id: &str, flag: SerializeFlags) -> u8
     ensures value { result ≡ flag_of id.now flag.0 (first_value (found_of matches.now)) }
     ensures below { result ≤ flag.0 }

@@ -1,6 +1,6 @@
-//! Walks a buffer of a million glyphs, glyph by glyph, by ligatures, and by pairs that are merged in the output; sorts such
-//! buffers and turns their groups round, with clusters that rise and that fall. In no order each merge walks the list, so
-//! that is left out.
+//! Walks a buffer of a million glyphs, glyph by glyph, by ligatures, and by pairs that are merged in the output; sorts
+//! such buffers and reverses their groups, with clusters that rise and that fall. Clusters in no order are left out:
+//! each merge would walk the list.
 ghost use Rattle.std.specs.Prelude.{◌≡◌, true, false, OnOk, IfOk};
 ghost use Rattle.buffer_core.specs.Sides.{all_glyphs};
 
@@ -11,7 +11,7 @@ use std::time::Instant;
 
 const COUNT: u32 = 1_000_000;
 
-/// A buffer of glyphs, each of a cluster of its own, with an output open.
+/// A buffer of glyphs, each in its own cluster, with an output open.
 fn filled(alloc: Global) -> Result<hb_buffer_t, AllocError>
     ensures { IfOk result (λ b. b.is_open ≡ true) }
 {
@@ -25,7 +25,7 @@ fn filled(alloc: Global) -> Result<hb_buffer_t, AllocError>
     Ok(buffer)
 }
 
-/// Moves the cursor over each glyph.
+/// Outputs each glyph.
 fn walk(buffer: &mut hb_buffer_t) -> Result<(), AllocError>
     requires { buffer.old.is_open ≡ true }
     ensures { OnOk result (all_glyphs buffer.new ≡ all_glyphs buffer.old) }
@@ -52,7 +52,7 @@ fn ligate(buffer: &mut hb_buffer_t) -> Result<(), AllocError>
     Ok(())
 }
 
-/// Writes each second glyph once it is in the output, and merges it with the one before it.
+/// Sets each second glyph once it is in the output, and merges it with the previous one.
 fn compose(buffer: &mut hb_buffer_t) -> Result<(), AllocError>
     requires { buffer.old.is_open ≡ true }
 {
@@ -87,14 +87,14 @@ fn merge_last_two(buffer: &mut hb_buffer_t)
     buffer.merge_out_clusters(end.saturating_sub(2), end);
 }
 
-/// How clusters go from glyph to glyph.
+/// The order of clusters from glyph to glyph.
 #[derive(Clone, Copy)]
 enum Going {
     Rising,
     Falling,
 }
 
-/// The cluster of a glyph. The second of each two glyphs shares its cluster with the next.
+/// The cluster of a glyph. The second of each two glyphs shares its cluster with the next one.
 fn cluster_at(going: Going, place: u32) -> u32 {
     match going {
         Going::Rising => place / 2 + place % 2,
@@ -102,7 +102,7 @@ fn cluster_at(going: Going, place: u32) -> u32 {
     }
 }
 
-/// A buffer of glyphs, each two of which stand the wrong way round.
+/// A buffer of glyphs, each two of which are in the wrong order.
 fn swapped(alloc: Global, going: Going) -> Result<hb_buffer_t, AllocError>
     ensures { IfOk result (λ b. b.is_open ≡ false) }
 {
@@ -116,7 +116,7 @@ fn swapped(alloc: Global, going: Going) -> Result<hb_buffer_t, AllocError>
     Ok(buffer)
 }
 
-/// Puts each two glyphs the right way round.
+/// Sorts each two glyphs.
 fn sort(rt: &HostRuntime, name: &str, buffer: &mut hb_buffer_t) -> io::Result<()>
     requires { buffer.old.is_open ≡ false }
 {
@@ -126,7 +126,7 @@ fn sort(rt: &HostRuntime, name: &str, buffer: &mut hb_buffer_t) -> io::Result<()
     tell_of(rt, "sort", name, start, buffer.len())
 }
 
-/// Turns round the order of pairs.
+/// Reverses the order of pairs.
 fn turn(rt: &HostRuntime, name: &str, buffer: &mut hb_buffer_t) -> io::Result<()>
     requires { buffer.old.is_open ≡ false }
 {
@@ -190,7 +190,7 @@ fn time_merges(rt: &HostRuntime, buffer: &mut hb_buffer_t) -> io::Result<()>
     tell(rt, "prev_mut, merge_out_clusters", start, buffer.len())
 }
 
-/// What is done with a buffer that is filled anew.
+/// What is measured on a newly filled buffer.
 #[derive(Clone, Copy)]
 enum Task {
     Walk,

@@ -1,4 +1,5 @@
-// What calls of the buffer cost, and look-ups in tables: how long a glyph or a look-up took is told on standard error.
+//! Measures what calls of the buffer and look-ups in tables cost; the time per glyph or look-up is printed on standard
+//! error.
 #![tactic(auto)]
 
 mod buffer;

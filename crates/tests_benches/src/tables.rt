@@ -1,6 +1,6 @@
-//! Asks a table of some 5,000 characters, spread like those of Unicode's tables, for a million characters: of running
-//! text, at random, and of text that the table lacks, by halves and by pages. Then asks tables of the size of a large
-//! font's, by halves.
+//! Looks a million characters up in a table of some 5,000 characters, spread like those of Unicode's tables: running
+//! text, characters at random, and text that the table lacks, by binary search and by pages. Then the same in tables of
+//! the size of a large font's, by binary search.
 ghost use Rattle.std.specs.Prelude.{◌≡◌, IfOk};
 ghost use Rattle.buffer_rows.specs.Keys.{numbers_rise};
 
@@ -39,7 +39,7 @@ impl Numbered for Class {
     }
 }
 
-/// The first character of a stretch, how many of its characters have a row, and how far apart they are.
+/// The first character of a range, how many of its characters have a row, and how far apart they are.
 const STRETCHES: [(u32, u32, u32); 16] = [
     (0xC0, 180, 2),
     (0x300, 112, 1),
@@ -118,7 +118,7 @@ fn tell(rt: &HostRuntime, name: &str, start: Instant, found: usize) -> io::Resul
     eprintln!(rt; "{name}: {picoseconds} ps a look-up")
 }
 
-/// Asks for a text, by halves and by pages.
+/// Looks up a text's characters, by binary search and by pages.
 fn compare(
     rt: &HostRuntime,
     name: &str,

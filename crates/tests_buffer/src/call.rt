@@ -19,7 +19,7 @@ pub enum Call {
     Concat(Option<usize>, Option<usize>),
     ConcatAcross(Option<usize>, Option<usize>),
     Delete,
-    /// The glyphs of this number go.
+    /// Deletes the glyphs with this number.
     DeleteInPlace(u32),
     /// Keeps characters apart.
     KeepApart,
@@ -33,7 +33,7 @@ pub enum Call {
     Output(u32),
     Push(&'static str),
     Put(u32),
-    /// Puts the first glyph of the list into a cluster, with a mask where it was in another.
+    /// Sets the cluster of the first glyph of the list, with a mask if the cluster changes.
     Recast(u32, u32),
     Replace(u32),
     ReplaceMany(usize, &'static [u32]),
@@ -41,29 +41,29 @@ pub enum Call {
     ResetMasks(u32),
     Reverse,
     ReverseClusters,
-    /// Groups of glyphs of one number, merged before.
+    /// Reverses groups of glyphs with one number, merged before.
     ReverseMerged,
     ReverseRange(usize, usize),
     SetLen(usize),
     SetMasks(u32, u32, u32, u32),
     Skip,
-    /// By number.
+    /// Sorts a range by number.
     Sort(usize, usize),
     Spread,
     Sync,
     Tatweel(Option<usize>, Option<usize>),
     UnsafeToBreak(Option<usize>, Option<usize>),
-    /// Puts the i-th glyph from the cursor on into a cluster.
+    /// Sets the cluster of the i-th glyph from the cursor on.
     WriteCluster(usize, u32),
-    /// Numbers the glyph at the cursor.
+    /// Sets the number of the current glyph.
     WriteCurrent(u32),
-    /// Numbers the first of the glyphs behind the cursor.
+    /// Sets the number of the first output glyph.
     WriteFirst(u32),
-    /// Masks the glyph behind the cursor.
+    /// Sets the mask of the last output glyph.
     WriteLast(u32),
 }
 
-/// Makes a call, and tells what it answers: true where it answers nothing, and false where it may not be made.
+/// Makes a call, and returns its answer: true where it has none, and false where the call is not permitted.
 pub fn make(buffer: &mut hb_buffer_t, alloc: Global, call: &Call) -> Result<bool, AllocError> {
     match *call {
         Ask(_) | KeepApart | Clear | ResetMasks(_) | SetMasks(..) => {
@@ -81,7 +81,7 @@ pub fn make(buffer: &mut hb_buffer_t, alloc: Global, call: &Call) -> Result<bool
     }
 }
 
-/// Calls that may always be made.
+/// Calls that are always permitted.
 fn set(buffer: &mut hb_buffer_t, call: &Call) {
     match *call {
         Ask(flags) => buffer.set_flags(flags),
@@ -100,7 +100,7 @@ fn limit(buffer: &mut hb_buffer_t, n: usize) -> bool {
     fits
 }
 
-/// Calls that lend glyphs on either side of the cursor.
+/// Calls that lend glyphs of the output or the input.
 fn write(buffer: &mut hb_buffer_t, call: &Call) -> bool {
     let left = buffer.len() - buffer.idx();
     match *call {

@@ -1,4 +1,4 @@
-//! More glyphs than 16 bits count: no call is refused for want of memory from some size on.
+//! More glyphs than 16 bits count: no size makes a call fail for lack of memory.
 use crate::call::Call::*;
 use crate::call::{Call, make};
 use buffer_core::buffer::hb_buffer_t;
@@ -7,7 +7,7 @@ use std::test::Fail;
 
 const COUNT: usize = 70_000;
 
-/// Each call, and how many glyphs the list or the output has after it.
+/// Each call, with the number of glyphs in the list or the output after it.
 static CALLS: &[(Call, usize)] = &[
     (SetLen(COUNT), COUNT),
     (Push("bc"), COUNT + 2),

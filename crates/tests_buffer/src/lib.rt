@@ -1,5 +1,5 @@
-// Worked rows of lists of glyphs, of the buffer's calls, of texts and printed glyphs, and of the numbers that types of
-// glyphs have.
+//! Worked rows of lists of glyphs, of the buffer's calls, of texts and printed glyphs, and of the numbers of flags and
+//! other types.
 #![tactic(auto)]
 
 #[cfg(test)]

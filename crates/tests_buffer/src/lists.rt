@@ -7,9 +7,9 @@ mod slices;
 use std::alloc::{AllocError, Global};
 use std::test::Fail;
 
-// In each row stands the call, and after it what it takes and what is wanted. In the third sort spans each share a cluster
-// with the next. In the third turn are groups of falling clusters, two of which share one; in the last a merge makes
-// neighbours that are a group then.
+// Each row has the call, and after it its arguments and the expected result. In the third sort each two ranges share a
+// cluster. In the third reversal there are groups of falling clusters, two of which share one; in the last a merge
+// makes neighbours a group.
 static ROWS: &str =
     "sort;graphemes;4;true;false;true;5,0,0 7,1,1 6,2,9 7,3,2;5,0,0 6,1,8 7,1,1 7,3,2
 sort;apart;2;true;true;false;2,0,0 1,1,0 0,2,0;1,1,3 2,0,0 0,2,0
@@ -38,7 +38,7 @@ output;5;0,6,15 0,8,15 0,3,15 0,3,8 0,3,8 0,30,15 0,9,15 0,3,15 0,21,15 0,7,15 0
 range;graphemes;1;3;false;1,0,1 2,1,1 3,2,9 4,2,2;1,0,1 2,1,1 3,1,8 4,1,0
 range;apart;0;2;true;1,0,1 2,1,1 3,1,8 4,1,0;1,0,1 2,1,3 3,1,8 4,1,0";
 
-/// Whether a call, told of the order or not where it may be, leaves what is wanted.
+/// Whether a call, given the order or not where it may be, leaves the expected result.
 fn holds(alloc: Global, row: &str, tell: bool) -> Result<bool, AllocError> {
     let (call, row) = row.split_once(';').unwrap_or(("", row));
     match call {

@@ -1,6 +1,6 @@
-//! Parts of rows.
+//! The fields of rows.
 
-/// A field of a row whose fields are apart by semicolons.
+/// A field of a row whose fields are separated by semicolons.
 pub fn part(row: &str, at: usize) -> &str {
     row.split(';').nth(at).unwrap_or("")
 }

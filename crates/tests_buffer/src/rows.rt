@@ -1,3 +1,5 @@
+//! Worked rows of the buffer's calls.
+
 mod lists;
 mod merges;
 mod outputs;
@@ -17,7 +19,7 @@ struct Row {
     /// The clusters of the glyphs 1, 2 and so on.
     start: &'static [u32],
     calls: &'static [Call],
-    /// How many of the calls answer false.
+    /// How many of the calls return false.
     refused: usize,
     /// The list, or the output if one is open.
     want: &'static [Glyph],
@@ -31,7 +33,7 @@ fn started(alloc: Global, clusters: &[u32]) -> Result<hb_buffer_t, AllocError> {
     Ok(buffer)
 }
 
-/// Makes the calls, and counts those that answer false.
+/// Makes the calls, and counts those that return false.
 fn make_all(buffer: &mut hb_buffer_t, alloc: Global, calls: &[Call]) -> Result<usize, AllocError> {
     let mut refused: usize = 0;
     for call in calls {

@@ -1,4 +1,4 @@
-//! What is set for a text, limits, and where runs of glyphs end.
+//! The settings of a text, limits, and the ends of runs of glyphs.
 ghost use Rattle.std.specs.Prelude.{◌≡◌, false, IfOk};
 
 use buffer_core::buffer::hb_buffer_t;
@@ -37,7 +37,7 @@ fn sets_limits_and_gives_ligature_numbers(rt: HostRuntime) {
     assert!(rt; sets_limits(rt.alloc()));
 }
 
-/// The characters in front and after that a buffer keeps of a text are these.
+/// The characters before and after a text that a buffer keeps are these.
 fn keeps(buffer: &mut hb_buffer_t, text: &str, pre: &str, post: &str) -> bool {
     buffer.set_pre_context(text);
     buffer.set_post_context(text);
@@ -61,7 +61,7 @@ fn keeps_five_characters_of_the_text_around(rt: HostRuntime) {
     keeps_each(&rt, &mut buffer);
 }
 
-/// Three characters, the first two of one cluster.
+/// Three characters, the first two in one cluster.
 fn two_clusters(alloc: Global) -> Result<hb_buffer_t, AllocError>
     ensures { IfOk result (λ b. b.is_open ≡ false) }
 {

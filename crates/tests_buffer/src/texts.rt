@@ -1,4 +1,4 @@
-//! Texts, what is guessed of them, and glyphs in print.
+//! Texts, their guessed settings, and printed glyphs.
 ghost use Rattle.std.specs.Prelude.{None};
 
 use crate::parts::part;
@@ -17,7 +17,7 @@ use buffer_wrappers::unicode_buffer::UnicodeBuffer;
 use std::alloc::{AllocError, Global};
 use std::test::Fail;
 
-/// A font that knows no glyph's name and no glyph's box.
+/// A font without glyph names and extents.
 struct NoNames;
 
 impl GlyphNames for NoNames {
@@ -34,7 +34,7 @@ impl GlyphNames for NoNames {
     }
 }
 
-/// The glyphs are these characters of these clusters, with all else of them nothing.
+/// The glyphs are these characters in these clusters, with all other fields zero.
 fn are(glyphs: &[hb_glyph_info_t], want: &[(char, u32)]) -> bool {
     let wanted = want.iter().map(|(character, cluster)| hb_glyph_info_t {
         glyph_id: *character as u32,
@@ -65,7 +65,7 @@ fn numbers_characters_by_bytes(rt: HostRuntime) -> Result<(), Fail> {
     Ok(())
 }
 
-// The text, the direction and the script that were told, the direction and the script that are guessed.
+// The text, the direction and the script that are set, the direction and the script that are guessed.
 static GUESSES: &str = "12 я;;;l;Cyrl
 אב;;;r;Hebr
 \u{301}ب;;;r;Arab
@@ -105,7 +105,7 @@ fn place(positions: &mut [GlyphPosition], advances: &[i32]) {
     }
 }
 
-/// The glyphs 1 and 2, of the clusters 0 and 1, with such advances.
+/// The glyphs 1 and 2, in the clusters 0 and 1, with such advances.
 fn two_glyphs(alloc: Global, advances: &[i32], turned: bool) -> Result<GlyphBuffer, AllocError> {
     let mut text = UnicodeBuffer::new(alloc);
     text.push_str("\u{1}\u{2}")?;

@@ -1,4 +1,4 @@
-//! The numbers of flags, levels and sets of bits, the records of glyphs, and the names of causes.
+//! The numbers of flags, levels and bit sets, glyph records, and the names of causes.
 use bitflags::Flags;
 use buffer_glyphs::cause::ShapeCause;
 use buffer_glyphs::flags::{GlyphPropsFlags, SerializeFlags, UnicodeProps};
@@ -9,7 +9,7 @@ use buffer_glyphs::position::GlyphPosition;
 use std::alloc::{AllocError, AllocFailed};
 use std::test::Fail;
 
-/// Numbers of flags and levels, as they are and as they are to be.
+/// Numbers of flags and levels: the actual and the expected one.
 static NUMBERS: [(u32, u32); 8] = [
     (UNSAFE_TO_BREAK, 1),
     (UNSAFE_TO_CONCAT, 2),

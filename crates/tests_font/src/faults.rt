@@ -110,7 +110,7 @@ fn answer_of_sets(
     Ok(first_wrong(alloc, &text, ""))
 }
 
-// The index 65535 names no set.
+// The index 65535 is of no set.
 #[test]
 fn too_many_sets_are_refused(rt: HostRuntime) -> Result<(), Fail> {
     assert_eq!(rt; answer_of_sets(rt.alloc(), 65_535)?, Ok(None));

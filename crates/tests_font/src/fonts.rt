@@ -1,4 +1,4 @@
-//! What a font answers of characters and glyphs.
+//! A font's answers about characters and glyphs.
 use crate::rows::{first_wrong, prints};
 use crate::{positions, substitutions};
 use buffer_glyphs::names::{GlyphId, GlyphNames};
@@ -11,9 +11,9 @@ const FONT: &str = r#"{"upem":1000,"ascender":-800,"cmap":[[97,1],[98,2]],"varia
 "h":[[1,501]],"v":[[1,900]],"origins":[[1,880]],"extents":[[1,10,700,480,-710]],"names":[[1,"alpha"]],"kern":1.5,
 "gdef":{"classes":[[1,1],[5,300],[7,0],[9,3]],"attach":[[9,2]],"sets":[[9,3,65535,3,0],[4],[]]}}"#;
 
-/// Of a character and a selector: the glyph, whether it has one, and the glyph with the selector. Of lengths: the units
-/// of an em, the advances and the origin of a glyph. Of classes: the class of a glyph and its attachment class. Of sets:
-/// whether a glyph is in the sets 0 to 3, of which the third is empty and the last is none of the font's.
+/// For a character and a selector: the glyph, whether it has one, and the glyph with the selector. For lengths: the
+/// units per em, the advances and the origin of a glyph. For classes: the class of a glyph and its attachment class.
+/// For sets: whether a glyph is in the sets 0 to 3, of which the third is empty and the last is none of the font's.
 const ANSWERS: &str = r#"character 97 65024: (Some(1), true, Some(7))
 character 97 65025: (Some(1), true, None)
 character 98 65024: (Some(2), true, None)
@@ -91,7 +91,7 @@ fn character(number: &str) -> Option<char> {
     char::from_u32(number.parse::<u32>().ok()?)
 }
 
-/// Whether a font answers as a row says of a character, alone or with a variation selector.
+/// Whether a font's answer about a character, alone or with a variation selector, is that of a row.
 pub(crate) fn answers_of_characters(
     alloc: Global,
     font: &Face,
@@ -105,7 +105,7 @@ pub(crate) fn answers_of_characters(
     prints(alloc, &glyphs, answer)
 }
 
-/// Whether a font answers a question as its row says.
+/// Whether a font's answer to a question is that of its row.
 pub(crate) fn answers(
     alloc: Global,
     font: &Face,
@@ -130,7 +130,7 @@ fn answers_of_a_font(rt: HostRuntime) -> Result<(), Fail> {
     Ok(())
 }
 
-/// Fonts, and whether they have classes of glyphs, substitution and positioning.
+/// Fonts, and whether they have glyph classes, GSUB and GPOS.
 static TABLES: [(&str, &str); 4] = [
     ("{}", "font tables: (false, false, false)"),
     (

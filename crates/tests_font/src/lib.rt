@@ -1,4 +1,4 @@
-// Tests of what a font is read as, and of what it answers.
+//! Tests of reading fonts, and of their answers.
 #![tactic(auto)]
 
 #[cfg(test)]

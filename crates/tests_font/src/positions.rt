@@ -20,7 +20,7 @@ pub(crate) const FONT: &str = r#"{"gpos":{"lookups":[
 {"flags":8,"type":"context","subtables":[{"format":"coverage"}]},
 {"type":"chain","subtables":[]}]}}"#;
 
-/// Of pairs, by the subtable and two glyphs: the advance of the first, and whether the second has an adjustment.
+/// For pairs, by the subtable and two glyphs: the advance of the first, and whether the second has a value record.
 const ANSWERS: &str = "\
 gpos single 1: Some(ValueRecord { x_placement: 1, y_placement: 2, x_advance: -30, y_advance: 4 })
 gpos single 2: None
@@ -99,7 +99,7 @@ fn pair_advance(
     Some((values.first.x_advance, values.second.is_some()))
 }
 
-/// What a lookup says of the mark 9.
+/// The record of the mark 9 in a lookup.
 fn mark(table: &PositioningTable, index: u16) -> Option<MarkRecord> {
     match subtables(table, index)? {
         PositioningSubtables::MarkToBase(subtables) | PositioningSubtables::MarkToMark(subtables) =>
@@ -137,7 +137,7 @@ fn properties(table: &PositioningTable, index: u16) -> Option<(u32, bool)> {
     Some((lookup.props(), lookup.is_reverse()))
 }
 
-/// Whether a table answers a question as its row says.
+/// Whether a table's answer to a question is that of its row.
 pub(crate) fn answers(
     alloc: Global,
     table: &PositioningTable,

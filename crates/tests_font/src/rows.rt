@@ -1,12 +1,12 @@
-//! Rows of what a font answers: who is asked, the question with its numbers, and the answer as it prints. One function
-//! owns the fonts, since each that does is dear to prove.
+//! Rows of a font's answers: the font, the question with its numbers, and the answer as it prints. One function owns
+//! the fonts, since each function that does is dear to prove.
 use crate::{fonts, positions, substitutions};
 use layout_face::Face;
 use shell_face_text::read_face_text;
 use std::alloc::Global;
 use std::fmt::Debug;
 
-/// The first row that a font answers otherwise, or the fault for which the font is refused.
+/// The first row whose answer a font doesn't give, or the fault for which the font is refused.
 pub(crate) fn first_wrong(
     alloc: Global,
     text: &str,
@@ -27,7 +27,7 @@ fn first_wrong_row(alloc: Global, font: &Face, rows: &'static str) -> Option<&'s
     None
 }
 
-/// Whether a font answers as a row says; none where the row is no row.
+/// Whether a font's answer is that of a row; `None` where the row is no row.
 fn is_answered(alloc: Global, font: &Face, row: &str) -> Option<bool> {
     let (question, answer) = row.split_once(": ")?;
     let (part, question) = question.split_once(' ')?;

@@ -68,7 +68,7 @@ fn sequence(table: &SubstitutionTable, index: u16, glyph: u16) -> Option<&[u16]>
     }
 }
 
-/// How many ligatures a first glyph has, and the glyph of the first.
+/// The number of ligatures of a first glyph, and the glyph of the first.
 fn ligatures(table: &SubstitutionTable, glyph: u16) -> Option<(usize, u16)> {
     let SubstitutionSubtables::Ligature(subtables) = subtables(table, 3)? else {
         return None;
@@ -102,7 +102,7 @@ fn rule_count(table: &SubstitutionTable, index: u16, subtable: usize) -> Option<
     }
 }
 
-/// Whether a glyph may be the first of the rules by classes, and its classes before and inside.
+/// Whether a glyph may be the first of class-based rules, and its backtrack and input classes.
 fn classes_of(table: &SubstitutionTable, glyph: u16) -> Option<(bool, u16, u16)> {
     let ContextSubtable::Classes(rules) = context(table, 5, 0)? else {
         return None;
@@ -121,7 +121,7 @@ fn properties(table: &SubstitutionTable, index: u16) -> Option<(u32, bool)> {
     Some((lookup.props(), lookup.is_reverse()))
 }
 
-/// Whether a table answers a question as its row says.
+/// Whether a table's answer to a question is that of its row.
 pub(crate) fn answers(
     alloc: Global,
     table: &SubstitutionTable,

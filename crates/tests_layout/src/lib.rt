@@ -1,5 +1,5 @@
-// Requests for features, from their merging to the stages of lookups, and whether a lookup would act on glyphs: tests that
-// cross the crates of the layout.
+//! Requests for features, from their merging to the stages of lookups, and whether a lookup would act on glyphs: tests
+//! that cross the crates of the layout.
 #![tactic(auto)]
 
 #[cfg(test)]

@@ -25,7 +25,7 @@ type System = (Option<u16>, &'static [u16]);
 
 type Script = (Text, Option<System>, &'static [(Text, System)]);
 
-/// Whether ZWNJ and ZWJ are passed over, random, per syllable.
+/// Whether ZWNJ and ZWJ are skipped, random, per syllable.
 type Ways = [bool; 4];
 
 /// Index, mask, ways to match.
@@ -111,7 +111,7 @@ static REQUIRED: Case = Case {
     },
 };
 
-/// Requests of one tag joined, and lookups that two features run.
+/// Requests of one tag that are merged, and lookups that two features apply.
 static JOINED: Case = Case {
     gsub: Some(Table {
         scripts: &[
@@ -256,7 +256,7 @@ static SEARCHED: Case = Case {
     },
 };
 
-/// A required feature whose request is dropped for want of bits.
+/// A required feature whose request is dropped for lack of bits.
 static FULL: Case = Case {
     gsub: Some(Table {
         scripts: &[(
@@ -655,7 +655,7 @@ fn requests_become_maps(rt: HostRuntime) -> Result<(), Fail> {
     Ok(())
 }
 
-/// A map without a font, in whose positioning the pause 3 comes before the feature `kern`.
+/// A map without a font, in whose GPOS the pause 3 precedes the feature `kern`.
 fn paused_map(alloc: Global) -> Result<hb_ot_map_t, AllocError> {
     let mut builder = hb_ot_map_builder_t::new(alloc, None, None, &[], &[]);
     builder.add_gpos_pause(3)?;

@@ -22,7 +22,7 @@ const GLOBAL_MASKS: [u32; 12] = [
     0x80000060, 0x80001010, 0x80000050, 0x83fffff0,
 ];
 
-/// Case, and one of its requests: tag, flags, value, stage of substitution.
+/// Case, and one of its requests: tag, flags, value, GSUB stage.
 static ASKED: [Asked; 75] = [
     (0, b"vert", 3, 256, 0),
     (1, b"x   ", 65, 2, 0),
@@ -101,7 +101,7 @@ static ASKED: [Asked; 75] = [
     (11, b"t025", 2, 1, 0),
 ];
 
-/// Case, and one of the fields that its requests get, by tag: lowest bit, mask, mask of value 1, stage of substitution.
+/// Case, and the map's entry of one of its tags: lowest bit, mask, mask of value 1, GSUB stage.
 static KEPT: [Kept; 26] = [
     (0, b"vert", 4, 0xff0, 0x10, 0),
     (1, b"x   ", 4, 0x30, 0x10, 0),
@@ -204,7 +204,7 @@ fn requests_are_merged_and_get_bits(rt: HostRuntime) -> Result<(), Fail> {
     Ok(())
 }
 
-/// The flags of a request joined from two.
+/// The flags of a request that was merged from two.
 fn are_flags_joined(request: &MergedRequest) -> bool {
     request.is_global
         && request.has_fallback
@@ -232,7 +232,7 @@ fn flags_are_those_of_the_first(rt: HostRuntime) -> Result<(), Fail> {
     Ok(())
 }
 
-/// Index, mask, whether ZWNJ is passed over, random.
+/// Index, mask, whether ZWNJ is skipped, random.
 type Use = (u16, u32, bool, bool);
 
 fn lookup(run: &Use) -> lookup_map_t {

@@ -13,7 +13,7 @@ fn tag(text: &str) -> Tag {
     Tag::from_bytes_lossy(text.as_bytes())
 }
 
-/// The tags of a text with commas between them.
+/// The tags of a text, separated by commas.
 fn tags_of(alloc: Global, text: &str) -> Result<Vec<Tag>, AllocError> {
     let mut tags = Vec::new(alloc);
     if text.is_empty() {
@@ -183,7 +183,7 @@ fn tables_are_asked(rt: HostRuntime) -> Result<(), Fail> {
     Ok(())
 }
 
-/// Scripts of a table, wanted scripts, and the script that is selected, with whether it was wanted.
+/// Scripts of a table, requested scripts, and the script that is selected, with whether it was requested.
 const SCRIPT_CHOICES: &str = "DFLT,dev2,deva,latn dev3,dev2,deva wanted:dev2
 DFLT,dev2,dev3 dev3,dev2 wanted:dev3
 deva dev3,dev2,deva wanted:deva
@@ -224,8 +224,8 @@ fn scripts_are_selected(rt: HostRuntime) -> Result<(), Fail> {
     Ok(())
 }
 
-/// Wanted languages, and the first feature of the system that is selected: with the default systems of both kinds, with
-/// the untagged one alone, and with neither.
+/// Requested languages, and the first feature of the selected language system: with the default systems of both kinds,
+/// with the untagged one alone, and with neither.
 const LANGUAGE_CHOICES: [(&str, [Option<u16>; 3]); 5] = [
     ("DEU", [Some(1), Some(1), Some(1)]),
     ("XXX,TRK", [Some(2), Some(2), Some(2)]),

@@ -1,4 +1,4 @@
-//! What contexts would do, by their rules.
+//! Whether contexts would apply, by their rules.
 use buffer_rows::SortedRows;
 use layout_common::array::Array;
 use layout_common::class_definition::ClassDefinition;
@@ -12,8 +12,8 @@ use std::alloc::Global;
 use std::process::Abort;
 use std::test::Fail;
 
-/// What a rule wants before, in and after its input, glyphs, whether nothing may be wanted around them, and whether it would
-/// act. Of glyphs 1 to 4 the odd ones are of class 1.
+/// What a rule requires before, in and after its input, the glyphs, whether the context must be empty, and whether the
+/// rule would apply. Of glyphs 1 to 4 the odd ones are of class 1.
 type Row = (
     &'static [u16],
     &'static [u16],
@@ -34,7 +34,7 @@ const BY_GLYPHS: [Row; 8] = [
     (&[], &[], &[], &[], false, false),
 ];
 
-// The first glyph has to be 1 or 2 beside its class.
+// The first glyph must be 1 or 2 beside its class.
 const BY_CLASSES: [Row; 5] = [
     (&[], &[1, 0], &[], &[1, 4], true, true),
     (&[], &[1, 0], &[], &[1, 3], true, false),

@@ -1,4 +1,4 @@
-//! What texts are shaped by.
+//! The tables that the tests' texts are shaped with.
 use buffer_languages::language_table::LanguageTable;
 use buffer_unicode_tables::UnicodeTables;
 use layout_face::Face;
@@ -12,7 +12,7 @@ use std::test::Fail;
 const TABLES: &str =
     "{\"splits\":[[225,97,769]],\"pairs\":[[97,769,225]],\"classes\":[[769,230],[803,220]]}";
 
-/// What shaping goes by, beside a font.
+/// The tables that shaping depends on, beside a font.
 #[derive(Clone, Copy)]
 pub(crate) struct Tables<'a> {
     pub characters: &'a UnicodeTables,

@@ -1,4 +1,4 @@
-//! A shaper that wants characters split as far as may be, and has no hooks: its laws can be met outside the stack.
+//! A shaper that prefers decomposed characters and has no hooks: its laws can be met outside the stack.
 use buffer_common::script::Script;
 use buffer_common::tag::Tag;
 use buffer_core::buffer::hb_buffer_t;
@@ -16,7 +16,7 @@ use script_plan::planned::{
 };
 use std::alloc::{AllocError, Global};
 
-/// A shaper of texts whose characters are split and not composed again.
+/// A shaper that prefers decomposed characters.
 #[derive(Clone, Copy)]
 pub struct DecomposingShaper;
 

@@ -1,4 +1,4 @@
-// Tests of shaping with plans and without them, and with a shaper of their own.
+//! Tests of shaping with and without plans, and with a shaper of their own.
 #![tactic(auto)]
 
 #[cfg(test)]

@@ -10,7 +10,7 @@ use shape_pipeline::hb_ot_any_shaper_t;
 use std::alloc::{AllocError, Global};
 use std::test::Fail;
 
-/// The plan of a text, with the shaper that its script has.
+/// The plan of a text, with the shaper chosen for its script.
 fn plan_of(
     alloc: Global,
     face: &Face,
@@ -60,7 +60,7 @@ fn decomposing_plan_of(
     planner.compile(alloc, &[])
 }
 
-/// The plan of a row's text, with that shaper.
+/// The plan of a row's text, with the test's own shaper.
 pub(crate) fn decomposing_plan_of_row(
     alloc: Global,
     face: &Face,

@@ -1,4 +1,4 @@
-//! Rows of tests: fields apart by semicolons, lists by spaces, and numbers by commas.
+//! Rows of tests: fields are separated by semicolons, lists by spaces, and numbers by commas.
 use buffer_glyphs::flags::SerializeFlags;
 use buffer_glyphs::level::BufferClusterLevel;
 use buffer_wrappers::unicode_buffer::UnicodeBuffer;
@@ -14,7 +14,7 @@ fn number(list: &str, at: usize) -> Option<u32> {
     list.split(',').nth(at)?.parse().ok()
 }
 
-/// What is printed of a row's glyphs: their clusters and places, or their numbers alone.
+/// What is printed of a row's glyphs: their clusters and positions, or their numbers only.
 pub(crate) fn flags_of(row: &str) -> SerializeFlags {
     if part(row, 1) == "glyphs" {
         SerializeFlags(7)

@@ -1,4 +1,4 @@
-//! Texts that are shaped with a plan and without one.
+//! Texts that are shaped with and without a plan.
 use crate::data::{Tables, face_of, value};
 use crate::plans::{decomposing_plan_of_row, plan_of_row};
 use crate::rows::{flags_of, part, text_of};
@@ -17,11 +17,11 @@ use std::alloc::{AllocError, Global};
 use std::process::Abort;
 use std::test::Fail;
 
-// In each row stand the level, what is printed, the characters with their clusters, the font, and the line; the shaper, where it
-// is not the stack's own. A ligature has the cluster of its first part, also where the numbers have gaps and characters are kept
-// apart. A mark composes with its letter, past a mark of a lesser class too, but with a shaper that wants characters split marks
-// are only put in the order of their classes. Of one character at most 16,384 glyphs may come, and the text's buffer is handed
-// back empty.
+// Each row has the level, what is printed, the characters with their clusters, the font, and the line; and the shaper,
+// where it is not the stack's own. A ligature has the cluster of its first component, also where the numbers have gaps
+// and at level Characters. A mark composes with its letter, also across a mark of a lesser class; with a shaper
+// that prefers decomposed characters marks are only sorted by class. One character may become at most 16,384 glyphs,
+// and the text's buffer is returned empty.
 const ROWS: &str =
     r#"graphemes;;97,0 102,1 105,2;{"upem":1000,"cmap":[[97,1],[102,3],[105,4]],"h":[[1,500],[3,300],[4,250],[7,520]],"gsub":{"scripts":[["DFLT",{"features":[0]},[]]],"features":[["liga",[0]]],"lookups":[{"type":"ligature","subtables":[[[3,[[[4],7]]]]]}]}};1=0+500|7=1+520
 characters;;102,10 105,40;{"upem":1000,"cmap":[[97,1],[102,3],[105,4]],"h":[[1,500],[3,300],[4,250],[7,520]],"gsub":{"scripts":[["DFLT",{"features":[0]},[]]],"features":[["liga",[0]]],"lookups":[{"type":"ligature","subtables":[[[3,[[[4],7]]]]]}]}};7=10+520
@@ -31,7 +31,7 @@ graphemes;glyphs;97,0 769,1 803,2;{"upem":1000,"cmap":[[97,1],[225,8],[769,9],[8
 graphemes;glyphs;97,0 769,1 803,2;{"upem":1000,"cmap":[[97,1],[225,8],[769,9],[803,10]],"h":[[1,500],[8,510]]};1|10|9;decomposing
 graphemes;;97,0;{"cmap":[[97,1]],"gsub":{"scripts":[["DFLT",{"features":[0]},[]]],"features":[["ccmp",[0,1,2,3]]],"lookups":[{"type":"multiple","subtables":[[[1,[1,1,1,1,1,1,1,1,1,1,1,1]]]]},{"type":"multiple","subtables":[[[1,[1,1,1,1,1,1,1,1,1,1,1,1]]]]},{"type":"multiple","subtables":[[[1,[1,1,1,1,1,1,1,1,1,1,1,1]]]]},{"type":"multiple","subtables":[[[1,[1,1,1,1,1,1,1,1,1,1,1,1]]]]}]}};S2 TooLong 0"#;
 
-/// What is printed of glyphs, or why there are none, with the number of characters that are left.
+/// The printed glyphs, or why there are none, with the number of characters that are left.
 fn answer(
     alloc: Global,
     row: &str,
@@ -44,7 +44,7 @@ fn answer(
     }
 }
 
-/// A text without a plan becomes the line.
+/// Whether a text shaped without a plan prints as the line.
 fn gives_by_itself(
     alloc: Global,
     row: &str,
@@ -57,7 +57,7 @@ fn gives_by_itself(
     Ok(line.as_str() == part(row, 4))
 }
 
-/// A plan fits the text, which becomes the line by it.
+/// Whether a plan fits the text, and the text shaped with it prints as the line.
 fn gives_by_plan<S: hb_ot_shaper_t>(
     alloc: Global,
     row: &str,
@@ -72,7 +72,7 @@ fn gives_by_plan<S: hb_ot_shaper_t>(
     Ok(fits && line.as_str() == part(row, 4))
 }
 
-/// A plan gives the line each time.
+/// Whether each use of a plan prints the line.
 fn gives_as_often(
     alloc: Global,
     row: &str,
@@ -85,13 +85,13 @@ fn gives_as_often(
     Ok(first && second)
 }
 
-/// The stack's own shaper gives the line by a plan, as often as it is used.
+/// Whether the stack's own shaper prints the line with a plan, each time it is used.
 fn gives_planned(alloc: Global, row: &str, face: &Face, tables: Tables<'_>) -> Result<bool, Fail> {
     let plan = plan_of_row(alloc, face, tables.languages, row)?;
     gives_as_often(alloc, row, face, tables, &plan)
 }
 
-/// A shaper that is handed in gives the line.
+/// Whether the test's own shaper prints the line.
 fn gives_decomposed(
     alloc: Global,
     row: &str,
@@ -102,7 +102,7 @@ fn gives_decomposed(
     gives_by_plan(alloc, row, face, tables, &plan)
 }
 
-/// The row's line is what its shaper gives: the stack's own without a plan too.
+/// Whether the row's shaper prints its line, the stack's own also without a plan.
 fn gives(alloc: Global, row: &str, face: &Face, tables: Tables<'_>) -> Result<bool, Fail> {
     if part(row, 5) == "decomposing" {
         return gives_decomposed(alloc, row, face, tables);

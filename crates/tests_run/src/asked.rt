@@ -1,8 +1,8 @@
-//! Lines by what the words ask: of clusters and their flags, of what is printed of a glyph, and of the language.
+//! Printed lines by the options: clusters and their flags, what is printed of a glyph, and the language.
 use crate::rows::follow;
 use std::test::Fail;
 
-// Of the font's two glyphs one has a name and a box.
+// One of the font's two glyphs has a name and extents.
 static PRINTED: &str =
     r#"{"cmap":[[97,1],[98,2]],"h":[[1,500],[2,600]],"names":[[1,"alpha"]],"extents":[[1,10,700,480,-710]]}
 print=0;ab;alpha=0+500|gid2=1+600
@@ -17,9 +17,9 @@ fn glyphs_are_printed_as_asked(rt: HostRuntime) -> Result<(), Fail> {
     follow(&rt, rt.alloc(), "{}", PRINTED)
 }
 
-// A ligature merges what it covers. Where characters are kept apart it keeps its first glyph's number, and that glyph is
-// unsafe to break before unless it is of the least number. Unsafe to concat is told only where it is asked for: a failed
-// match is so up to the glyph that isn't the component.
+// A ligature merges the clusters of its components. At level Characters it keeps its first glyph's number, and
+// is unsafe to break unless that number is the least. UNSAFE_TO_CONCAT is set only where it is requested: a failed
+// match is unsafe up to the glyph that isn't the component.
 static CLUSTERS: &str =
     r#"{"cmap":[[97,1],[98,2],[102,3],[105,4]],"h":[[1,500],[2,600],[3,300],[4,250],[7,520],[8,530],[9,540]],"gsub":{"scripts":[["DFLT",{"features":[0]},[]],["grek",null,[]]],"features":[["liga",[1,0]]],"lookups":[{"type":"ligature","flags":9,"subtables":[[[3,[[[3,4],9],[[4],7]]]]]},{"type":"ligature","subtables":[[[2,[[[7],8]]]],[[2,[[[2],1]]]]]}]}}
 level=0 buffer=0 direction=r print=20;if;7=0+520

@@ -7,9 +7,9 @@ use std::test::Fail;
 
 const BROKEN: &[u8] = &[0xC3, 0x28];
 
-// In each row stand what is asked, the tables, the font, and the name of the fault. First come tables, with a font that is
-// no JSON value: tables are asked for every fault of theirs before the font is read. Tables come before syllables, these
-// before languages, and lawfulness comes last. Then come fonts, whose faults are told before those of the text.
+// Each row has the options, the tables, the font, and the name of the fault. First are tables, with a font that is no
+// JSON value: every fault of the tables precedes the font's. Tables of characters come before syllables, these before
+// languages, and lawfulness is last. Then fonts, whose faults precede those of the text.
 static BEFORE_BROKEN: &str = r#";{;{;J1 NotJson
 ;{"classes":[[769,false]]};{;J2 WrongShape
 ;{"classes":[[769,230.0]]};{;J3 FloatNumber
@@ -28,12 +28,12 @@ static BEFORE_BROKEN: &str = r#";{;{;J1 NotJson
 ;{};{"upem":1000,"ascender":800,"cmap":[[97,1],[98,2],[102,3],[105,4]],"h":[[1,500],[2,600],[3,300],[4,250]]};NotUtf8
 direction=t;{};{"upem":1000,"ascender":800,"cmap":[[97,1],[98,2],[102,3],[105,4]],"h":[[1,500],[2,600],[3,300],[4,250]]};NotUtf8"#;
 
-// The Indic scripts' shaper is not there yet.
+// The Indic shaper is not implemented yet.
 static BEFORE_NOTHING: &str = r#";{};{"upem":1000.5};J3 FloatNumber
 script=telu;{};{"upem":1000,"ascender":800,"cmap":[[97,1],[98,2],[102,3],[105,4]],"h":[[1,500],[2,600],[3,300],[4,250]]};NotYet"#;
 
-// In the last font 1 becomes two hundred 2s, and each of them two hundred 1s: more than the 16,384 that one character may
-// become.
+// In the last font 1 becomes two hundred 2s, and each of them two hundred 1s: more than the 16,384 glyphs that one
+// character may become.
 static BEFORE_LETTER: &str = r#";{};{"cmap":[[98,1],[97,2]]};U1 OutOfOrder
 ;{};{"gpos":{"lookups":[{"type":"single","subtables":[]},{"type":"nothing"}]}};J4 UnknownName
 script=deva;{};{"upem":1000,"ascender":800,"cmap":[[97,1],[98,2],[102,3],[105,4]],"h":[[1,500],[2,600],[3,300],[4,250]]};NotYet

@@ -8,8 +8,8 @@ pub(crate) const TABLES: &str = r#"{"languages":[["de",["DEU "]],["ro",["MOL ","
 pub(crate) const FONT: &str =
     r#"{"cmap":[[97,1],[98,2]],"h":[[1,500],[2,600],[3,510],[4,610]],"gsub":{"scripts":[["DFLT",{"features":[0]},[["ROM ",{"features":[1]}]]]],"features":[["liga",[0]],["locl",[1]]],"lookups":[{"type":"single","subtables":[[[2,4]]]},{"type":"single","subtables":[[[1,3]]]}]}}"#;
 
-// A text without a language, and one whose language has no tags or none that the font knows, goes by the default
-// system. A language without tags has those of its primary part.
+// A text without a language, or with one that has no tags or none that the font knows, uses the default language
+// system. A language without tags has those of its primary subtag.
 static ROWS: &str = ";ab;1=0+500|4=1+610
 language=en;ab;1=0+500|4=1+610
 language=de;ab;1=0+500|4=1+610

@@ -1,4 +1,4 @@
-// Runs of the shaper from bytes to the line or the fault: tests that cross the crates of the program.
+//! Runs of the shaper from bytes to the line or the fault: tests that cross the crates of the program.
 #![tactic(auto)]
 
 #[cfg(test)]

@@ -2,14 +2,14 @@
 use crate::rows::follow;
 use std::test::Fail;
 
-// A script of right to left gives its direction; its letters stand from the right, numbers alone from the left. Of the
-// ligatures of a list the first that matches counts, and what it made is not tried again. The second lookup sees what the
-// first made; its first subtable is asked before its second. The last request for a feature counts, and of 256 no bit fits
-// into a field of eight. A script that the font knows has no features but its own.
+// A right-to-left script sets its direction: its letters run from the right, numbers alone from the left. Of a list of
+// ligatures the first match counts, and its result is not matched again. The second lookup reads the result of the
+// first; its first subtable is tried before its second. The last request for a feature counts, and the value 256
+// doesn't fit into a field of eight bits. A script that the font has uses only its own features.
 //
-// In the font after these the feature `dlig` is off unless asked for; the required one is always on, and has no request of
-// its own, so it runs in the stage before the others. The keys of the last are those that a horizontal line does not show,
-// and a positioning table without lookups.
+// In the next font the feature `dlig` is off unless it is requested; the required feature is always on, and has no
+// request of its own, so it is applied in the first stage. The keys of the last font are those that a horizontal text
+// does not show, and a GPOS table without lookups.
 static LINES: &str =
     r#"{"upem":1000,"ascender":800,"cmap":[[97,1],[98,2],[102,3],[105,4]],"h":[[1,500],[2,600],[3,300],[4,250]]}
 ;ab;1=0+500|2=1+600

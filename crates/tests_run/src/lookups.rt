@@ -4,7 +4,7 @@ use crate::rows::is_followed;
 use std::alloc::{AllocError, Global};
 use std::test::Fail;
 
-// Glyph 5 is a ligature, 8 and 9 are marks; the first of the lookups is always on.
+// Glyph 5 is a ligature, 8 and 9 are marks; the first lookup is always on.
 const BEFORE: &str =
     "{\"cmap\":[[97,1],[98,2],[108,5],[120,8],[121,9]],\"h\":[[1,500],[2,500],[5,500]],\
     \"gdef\":{\"classes\":[[5,2],[8,3],[9,3]]},\
@@ -12,11 +12,11 @@ const BEFORE: &str =
 
 const BEHIND: &str = "]}}";
 
-// Lookups, and the row of a text in a font with them. A second glyph without a record begins the next pair; one with a
-// record doesn't. With marks ignored a pair is found past one, and of two subtables the first that has the pair counts. The
-// earlier glyph of a cursive pair hangs on the later one. Two marks stand on one base, in both directions, and none on a base
-// past another glyph. A mark that belongs to no component hangs on the last one. Lookups are nested at the places of a match,
-// and one has a glyph before it. A context that calls itself ends.
+// Lookups, and the row of a text in a font with them. A second glyph without a value record begins the next pair; one
+// with a record doesn't. With marks ignored a pair is found across one, and of two subtables the first that has the
+// pair counts. The earlier glyph of a cursive pair is attached to the later one. Two marks are attached to one base, in
+// both directions, and none to a base across another glyph. A mark that belongs to no component is attached to the last
+// one. Lookups are nested at the indices of a match, and one has a backtrack glyph. A context that calls itself ends.
 static ROWS: &str =
     r#"{"type":"pair","subtables":[[[1,1,[0,0,-50,0],null]]]};;aaa;1=0+450|1=1+450|1=2+500
 {"type":"pair","subtables":[[[1,1,[0,0,-50,0],[0,0,0,0]]]]};;aaa;1=0+450|1=1+500|1=2+500
@@ -53,7 +53,7 @@ fn lookups_follow_their_rules(rt: HostRuntime) -> Result<(), Fail> {
 const MARK_ON_BASE: &str =
     "{\"type\":\"markbase\",\"subtables\":[{\"marks\":[[9,0,[100,0]]],\"bases\":[[1,[[250,480]]]]}]}";
 
-/// A base with so many marks.
+/// A base with that many marks.
 fn stacked(alloc: Global, count: u32) -> Result<String, AllocError> {
     let mut text = String::from_str(alloc, "a")?;
     for _ in 0..count {
@@ -62,7 +62,7 @@ fn stacked(alloc: Global, count: u32) -> Result<String, AllocError> {
     Ok(text)
 }
 
-/// Whether the line of a base with so many marks ends with these glyphs.
+/// Whether the line of a base with that many marks ends with these glyphs.
 fn is_stacked(alloc: Global, count: u32, last: &str) -> Result<bool, AllocError> {
     let text = stacked(alloc, count)?;
     let font = font_of(alloc, MARK_ON_BASE)?;
@@ -71,7 +71,7 @@ fn is_stacked(alloc: Global, count: u32, last: &str) -> Result<bool, AllocError>
     Ok(answer == Ok(()) && out.as_slice().ends_with(last.as_bytes()))
 }
 
-// A link leads over at most 32,767 glyphs: a mark that is farther stays where it is.
+// A link reaches at most 32,767 glyphs: a mark that is farther away is not attached.
 #[test]
 fn many_marks_hang_on_one_base(rt: HostRuntime) -> Result<(), Fail> {
     let last = "|9=32767@-350,480+0|9=32768+0\n";

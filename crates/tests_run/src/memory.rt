@@ -10,7 +10,7 @@ use std::alloc::Global;
 
 const NUMBERS: SerializeFlags = SerializeFlags(4);
 
-/// What is asked where nothing is told, but that glyphs are printed by their numbers.
+/// The options without any, but that glyphs are printed by their numbers.
 pub(crate) fn plain_options(alloc: Global) -> Options {
     Options {
         direction: Direction::Invalid,
@@ -23,7 +23,7 @@ pub(crate) fn plain_options(alloc: Global) -> Options {
     }
 }
 
-/// What a run writes of bytes over memory, and its answer.
+/// The output of a run over memory, and its result.
 pub(crate) fn ran(
     alloc: Global,
     options: Options,

@@ -2,10 +2,10 @@
 use crate::rows::follow;
 use std::test::Fail;
 
-// Offsets are told from where the pen stands, which each advance before has moved. A single value, a pair, a cursive pair.
-// Then glyph 4 is a mark: it hangs on the base before it, and on the mark before it; a pair moves the base before that. Then
-// marks on the second component of a ligature, and one that no component has an anchor for. In the last font the mark hangs
-// on its base only between two others.
+// Offsets are relative to the pen, which each previous advance has moved. A single value, a pair, a cursive pair. Then
+// glyph 4 is a mark: it is attached to the base before it, and to the mark before it; a pair moves the base before
+// that. Then marks on the second component of a ligature, and one that no component has an anchor for. In the last font
+// the mark is attached to its base only between two others.
 static POSITIONS: &str =
     r#"{"cmap":[[97,1]],"h":[[1,500]],"gpos":{"scripts":[["DFLT",{"features":[0]},[]]],"features":[["dist",[0]]],"lookups":[{"type":"single","subtables":[[[1,[10,20,-30,0]]]]}]}}
 ;a;1=0@10,20+470

@@ -1,4 +1,4 @@
-//! The program: statuses, what it writes and tells, the order of its files.
+//! The program: its statuses, what it writes to each stream, and the order in which it reads its files.
 use crate::languages;
 use crate::rows::part;
 use shell_run::files::Files;
@@ -8,7 +8,7 @@ use std::test::Fail;
 
 const FONT: &[u8] = b"{\"upem\":1000,\"cmap\":[[97,1],[98,2]],\"h\":[[1,500],[2,600]]}";
 
-// Files in memory, of which one may be missing. It keeps the names that were asked for, each with a comma.
+// Files in memory, one of which may be missing. It records the names that were opened, each with a comma.
 #[derive(Drop)]
 struct MemoryFiles {
     missing: &'static str,
@@ -42,9 +42,9 @@ fn words_of(alloc: Global, line: &str) -> Result<Vec<String>, AllocError> {
     Ok(words)
 }
 
-// In each row stand the words, the file that is missing, the status, the line and the fault that are written, and the files
-// that are asked for, each with a comma. Files are opened in their order, and the first that is missing ends it. The fault of
-// the tables comes before that of the font, and that before the text's.
+// Each row has the command-line words, the missing file, the status, the written line and fault, and the opened files,
+// each with a comma. Files are opened in their order, and the first that is missing ends the program. The fault of the
+// tables precedes that of the font, and that the text's.
 static ROWS: &str =
     "hb_shape --no-glyph-names tables font text;;0;1=0+500|2=1+600;;tables,font,text,
 hb_shape --direction=r tables font text;;0;gid2=1+600|gid1=0+500;;tables,font,text,

@@ -3,7 +3,7 @@ use crate::rows::{asked, part, prints};
 use std::alloc::{AllocError, Global};
 use std::test::Fail;
 
-// How many times, what is asked, the characters, of each glyph that they become its number, the character and its width, and
+// The count, the options, the characters, for each glyph that they become its number, the character and its width, and
 // the font: ligatures, and each other kind of lookup.
 static ROWS: &str =
     r#"25000;;afi;1,0,500 7,1,520;{"cmap":[[97,1],[98,2],[102,3],[105,4]],"h":[[1,500],[2,600],[3,300],[4,250],[7,520],[8,530],[9,540]],"gsub":{"scripts":[["DFLT",{"features":[0]},[]],["grek",null,[]]],"features":[["liga",[1,0]]],"lookups":[{"type":"ligature","flags":9,"subtables":[[[3,[[[3,4],9],[[4],7]]]]]},{"type":"ligature","subtables":[[[2,[[[7],8]]]],[[2,[[[2],1]]]]]}]}}
@@ -34,7 +34,7 @@ fn push_glyph(alloc: Global, line: &mut String, glyph: &str, start: u32) -> Resu
     Ok(())
 }
 
-/// The line of the characters' glyphs so many times.
+/// The line of that many repetitions of the characters' glyphs.
 fn line_of(alloc: Global, characters: &str, glyphs: &str, count: u32) -> Result<String, Fail> {
     let length = u32::try_from(characters.len())?;
     let mut line = String::new(alloc);

@@ -1,4 +1,4 @@
-//! Rows of tests: fields apart by semicolons, and in the first of them words of what is asked, apart by spaces.
+//! Rows of tests: fields are separated by semicolons; the first field holds the options, separated by spaces.
 use crate::memory::{plain_options, ran};
 use buffer_common::constants::BufferFlags;
 use buffer_common::language::Language;
@@ -37,7 +37,7 @@ fn ask(alloc: Global, options: &mut Options, word: &str) -> Result<(), Fail> {
     Ok(())
 }
 
-/// What words ask.
+/// The options of command-line words.
 pub(crate) fn asked(alloc: Global, words: &str) -> Result<Options, Fail> {
     let mut options = plain_options(alloc);
     for word in words.split_terminator(' ') {
@@ -77,7 +77,7 @@ pub(crate) fn prints(
     answer == Ok(()) && out.strip_suffix(b"\n") == Some(line.as_bytes())
 }
 
-/// Whether a row is followed: after what is asked stand a text and its line.
+/// Whether a row holds: its options, a text and the line.
 pub(crate) fn is_followed(
     alloc: Global,
     tables: &str,
@@ -89,7 +89,7 @@ pub(crate) fn is_followed(
     Ok(prints(alloc, options, tables, font, &text, part(row, 2)))
 }
 
-/// A font, and below it the rows that are followed in it.
+/// A font, and after it the rows that must hold in it.
 fn follow_in_font(rt: &impl Abort, alloc: Global, tables: &str, block: &str) -> Result<(), Fail> {
     let (font, rows) = block.split_once('\n').ok_or("a font without rows")?;
     for row in rows.lines() {
@@ -99,7 +99,7 @@ fn follow_in_font(rt: &impl Abort, alloc: Global, tables: &str, block: &str) -> 
     Ok(())
 }
 
-/// Fonts with their rows, apart by empty lines.
+/// Fonts with their rows, separated by empty lines.
 pub(crate) fn follow(
     rt: &impl Abort,
     alloc: Global,

@@ -1,4 +1,4 @@
-//! Rules of scripts, each by a text of rows: what a run prints of a text.
+//! The rules of scripts, each by a text of rows: what a run prints for an input text.
 mod circles;
 mod hangul;
 mod stretch;
@@ -39,7 +39,7 @@ fn font_of(alloc: Global, ends: (&str, &str), own: &str) -> Result<String, Alloc
     Ok(font)
 }
 
-/// Whether a run prints what a row says, of a font that begins and ends as all do that its rule has.
+/// Whether a run prints a row's line, in a font with the same start and end as all fonts of its rule.
 fn is_printed(
     alloc: Global,
     script: Script,

@@ -6,7 +6,7 @@ use shell_readers::fault::RunFault;
 use std::alloc::{AllocError, Global};
 use std::test::Fail;
 
-/// A machine of the universal shaper: bases with vowels are a syllable, and so are rephas alone, a broken one.
+/// A machine of the universal shaper: bases with vowels are a syllable; rephas alone are a broken one.
 const TABLES: &str =
     "{\"splits\":[[6918,6917,6965]],\"pairs\":[[6917,6965,6918]],\"mirrored\":[[40,41],[41,40]],\
     \"joining\":[[1575,\"R\"],[1576,\"D\"]],\
@@ -15,12 +15,12 @@ const TABLES: &str =
     \"next\":[[0,\"B\",1],[0,\"R\",2],[1,\"VAbv\",1],[1,\"VPst\",1],[2,\"R\",2]],\
     \"accept\":[[1,\"standard\"],[2,\"broken\"]]}}}";
 
-// The letters beh and alef and a mark, with forms by their neighbours; a mark is transparent: the letters on both sides of it
-// join. A sign that becomes two tiles, of which the second repeats: a tile 300 wide is laid four times over a word of 1100,
-// beside one of 100, and each copy lies 66 over its neighbour. A Balinese character, and what it splits to. A syllable of
-// Hangul, and a bracket before a Hebrew letter. The first part of a Thai vowel goes before the tone mark. At last a repha of
-// Dives Akuru, and a circle, which stands after two rephas with the second one's cluster, and then the first goes after
-// it.
+// The letters beh and alef and a mark, with forms by their neighbours; a mark is transparent: the letters on both sides
+// of it join. A sign that becomes two tiles, the second of which repeats: a tile 300 wide is laid four times over a
+// word of 1100, beside one of 100, and each copy overlaps its neighbour by 66. A Balinese character, and its
+// decomposition. A syllable of Hangul, and a bracket before a Hebrew letter. The first half of a Thai vowel is moved
+// before the tone mark. Last a repha of Dives Akuru, and a dotted circle, which is inserted after two rephas with the
+// second one's cluster; then the first repha is moved after it.
 static ROWS: &str =
     r#"{"upem":1000,"cmap":[[1575,10],[1576,20],[1611,30]],"h":[[10,200],[13,250],[20,400],[21,400],[22,400],[23,400],[30,100]],"gsub":{"scripts":[["arab",{"features":[0,1,2]},[]]],"features":[["fina",[2]],["init",[0]],["medi",[1]]],"lookups":[{"type":"single","subtables":[[[20,21]]]},{"type":"single","subtables":[[[20,22]]]},{"type":"single","subtables":[[[10,13],[20,23]]]}]}}
 direction=r;U+628 628 628;23=4+400|22=2+400|21=0+400
@@ -50,7 +50,7 @@ fn scripts_are_shaped(rt: HostRuntime) -> Result<(), Fail> {
     follow(&rt, rt.alloc(), TABLES, ROWS)
 }
 
-/// A sign that becomes two tiles, of which the second repeats, and the widest letter that a font may have.
+/// A sign that becomes two tiles, the second of which repeats, and the widest letter that a font may have.
 const WIDE: &str =
     "{\"upem\":1000,\"cmap\":[[1569,40],[1576,20]],\"h\":[[20,65535],[41,100],[42,300]],\
     \"gsub\":{\"scripts\":[[\"arab\",{\"features\":[0]},[]]],\"features\":[[\"stch\",[0]]],\
@@ -71,8 +71,8 @@ fn is_refused(alloc: Global, letters: u32, cause: ShapeCause) -> Result<bool, Al
     Ok(answer == Err(RunFault::Shape(cause)) && out.is_empty())
 }
 
-// 32,768 letters are nearly 2^31 wide: so many copies of a tile no text may have. A letter more, and the width is no number
-// of 32 bits.
+// 32,768 letters are nearly 2^31 wide: no text may have that many copies of a tile. With one letter more, the width
+// doesn't fit in 32 bits.
 #[test]
 fn words_are_stretched_within_limits(rt: HostRuntime) -> Result<(), Fail> {
     for (letters, cause) in [

@@ -11,7 +11,7 @@ use std::test::Fail;
 const FONT: &[u8] =
     b"{\"upem\":1000,\"ascender\":800,\"cmap\":[[97,1],[98,2],[102,3],[105,4]],\"h\":[[1,500],[2,600],[3,300],[4,250]]}";
 
-// Gives a byte a call and then the end, which it counts.
+// Gives one byte per call and then the end, which it counts.
 #[derive(Drop)]
 struct ByteReader<'a> {
     rest: &'a [u8],
@@ -43,7 +43,7 @@ impl Read for FailingReader {
     }
 }
 
-// Takes so many bytes, a byte a call.
+// Takes a number of bytes, one per call.
 #[derive(Drop)]
 struct ByteWriter {
     taken: Vec<u8>,
@@ -73,7 +73,7 @@ fn reader(bytes: &[u8]) -> ByteReader<'_> {
     }
 }
 
-// What a run writes into so much room, with its answer; each reader is asked for its end once.
+// The output of a run with room for that many bytes, and its result; each reader is read to its end once.
 fn ran_by_bytes(alloc: Global, room: usize) -> Result<(Result<(), RunFault>, Vec<u8>), Fail> {
     let options = plain_options(alloc);
     let (mut tables, mut font, mut text) = (reader(b"{}"), reader(FONT), reader(b"ab"));
@@ -102,7 +102,7 @@ fn lines_are_written_byte_by_byte(rt: HostRuntime) -> Result<(), Fail> {
     Ok(())
 }
 
-// The answers to a text, and to tables, that can't be read.
+// The results of a text, and of tables, that can't be read.
 fn failed_reads(alloc: Global) -> Result<[Result<(), RunFault>; 2], Fail> {
     let mut out = Vec::new(alloc);
     let asked = plain_options(alloc);

@@ -2,12 +2,13 @@
 use crate::rows::follow;
 use std::test::Fail;
 
-// Splits, deletions, alternates; a chain, whose lookup 1 is in no feature; a lookup from the end. A lookup that leaves out
-// base glyphs: `a` is one by the font's classes, `b` is not. A context that calls itself, and one that does so twice.
+// Decompositions, deletions, alternates; a chained context, whose lookup 1 is in no feature; a lookup from the end. A
+// lookup that ignores base glyphs: `a` is one by the font's classes, `b` is not. A context that calls itself, and one
+// that does so twice.
 //
-// Then glyph 2 is a mark by the font's classes: over what stands before it where the font places nothing and the text runs
-// forward. Required variations come before all other features, whatever their lookups' order. At last forms for a
-// direction, and fractions, which are off unless asked for.
+// Then glyph 2 is a mark by the font's classes: it is drawn over the glyph before it where the font has no positioning
+// and the text runs forward. Required variations come before all other features, whatever their lookups' order. Last,
+// forms for a direction, and fractions, which are off unless they are requested.
 static SUBSTITUTIONS: &str =
     r#"{"cmap":[[97,1],[98,2]],"h":[[1,500],[2,600],[3,300],[4,250]],"gsub":{"scripts":[["DFLT",{"features":[0]},[]]],"features":[["ccmp",[0]]],"lookups":[{"type":"multiple","subtables":[[[1,[3,4]]]]}]}}
 ;ab;3=0+300|4=0+250|2=1+600

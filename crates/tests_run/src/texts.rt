@@ -1,4 +1,5 @@
-//! Texts whose characters, directions and marks shaping goes by: composed and split, ignored, in fractions, around bases.
+//! Texts whose characters, directions or marks change the shaping: composed and decomposed, ignored, in fractions,
+//! around bases.
 use crate::rows::follow;
 use std::test::Fail;
 
@@ -6,10 +7,10 @@ const TABLES: &str =
     "{\"splits\":[[225,97,769]],\"pairs\":[[97,769,225]],\"classes\":[[769,230],[803,220]],\
     \"mirrored\":[[40,41],[41,40]]}";
 
-// An ignorable goes where that is asked for, and else is as wide as nothing. An em space is as wide as the em. A mark
-// composes with its base where the font has both as one, and they are split where it has only the two. A circle stands
-// before a mark at the beginning of a text. Then come a variant and a fraction. A mark stands above the box of its base, and
-// at its anchor where there is one.
+// A default ignorable is deleted where that is requested, and else has zero width. An em space is as wide as the em. A
+// mark composes with its base where the font has the composite, and the composite is decomposed where it has only the
+// two. A dotted circle is inserted before a mark at the start of a text. Then a variant and a fraction. A mark is
+// positioned above the extents of its base, and at its anchor where there is one.
 static ROWS: &str =
     r#"{"upem":1000,"ascender":800,"cmap":[[97,1],[98,2],[102,3],[105,4]],"h":[[1,500],[2,600],[3,300],[4,250]]}
 buffer=8;U+61 AD 62;1=0+500|2=3+600

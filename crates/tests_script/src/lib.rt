@@ -1,4 +1,4 @@
-// Worked rows of what the shapers of scripts do to a text.
+//! Worked rows of the scripts' shapers.
 #![tactic(auto)]
 
 #[cfg(test)]

@@ -1,4 +1,4 @@
-//! Rows of numbers, read one after another.
+//! Rows of numbers, parsed one after another.
 ghost use Rattle.std.specs.Prelude.{◌≡◌, false, IfOk, OnOk};
 ghost use Rattle.std.specs.Int.RustNames.{bit_and};
 ghost use Rattle.buffer_stages.specs.Ready.{IsReady};
@@ -41,7 +41,7 @@ impl Numbers {
         u8::try_from(self.next()).unwrap_or(0)
     }
 
-    /// A number with a sign: twice it, or for what is below 0 one less than twice its amount.
+    /// A signed number: twice it, or for a negative one, one less than twice its amount.
     pub fn signed(&mut self) -> i32 {
         let number = self.next();
         let half = (number / 2) as i32;
@@ -61,7 +61,7 @@ impl Numbers {
         [first, second, third, fourth, fifth, self.next()]
     }
 
-    /// The syllable byte of a wanted glyph.
+    /// The syllable byte of an expected glyph.
     pub fn syllable(&mut self) -> u8 {
         self.four();
         let syllable = self.class();
@@ -94,7 +94,7 @@ impl Numbers {
         Ok(text)
     }
 
-    /// A buffer: its level, how many characters, then each with its cluster, then properties, class and mask of each.
+    /// A buffer: its level, the number of characters, the cluster of each, then properties, class and mask of each.
     pub fn buffer(&mut self, alloc: Global) -> Result<hb_buffer_t, Fail>
         ensures { IfOk result (λ b. IsReady b) }
     {
@@ -109,7 +109,7 @@ impl Numbers {
         Ok(buffer)
     }
 
-    /// A buffer: its level, how many glyphs, the cluster of each, what else is known of each, and where each stands.
+    /// A buffer: its level, the number of glyphs, the cluster of each, its other fields, and its position.
     pub fn glyphs(&mut self, alloc: Global, max_len: usize) -> Result<hb_buffer_t, Fail>
         ensures { IfOk result (λ b. IsReady b) }
     {
@@ -201,7 +201,7 @@ impl Numbers {
     }
 }
 
-/// The buffer stands ready, with a position for each glyph.
+/// Makes the buffer ready, with a position for each glyph.
 fn settle(buffer: &mut hb_buffer_t) -> Result<(), Fail>
     requires { buffer.old.is_open ≡ false }
     ensures { OnOk result (IsReady buffer.new) }

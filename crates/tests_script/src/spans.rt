@@ -1,4 +1,4 @@
-//! Spans that tests hand in.
+//! Spans that tests give.
 
 use script_categories::{SyllableSpans, hb_ot_script_shaper_t};
 

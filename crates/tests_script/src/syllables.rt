@@ -18,7 +18,7 @@ use script_universal::reorder::reorder_use;
 use std::alloc::Global;
 use std::test::Fail;
 
-/// What a rule is given beside a font and a text.
+/// The arguments of a rule, beside a font and a text.
 type Given = [u32; 6];
 
 fn check(alloc: Global, line: &str) -> Result<bool, Fail> {

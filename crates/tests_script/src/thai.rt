@@ -1,4 +1,4 @@
-//! The vowels of Thai and Lao that split.
+//! The Thai and Lao vowels that are decomposed.
 ghost use Rattle.std.specs.Prelude.{◌≡◌, false};
 
 use crate::numbers::Numbers;
@@ -14,7 +14,7 @@ fn check(alloc: Global, row: &str) -> Result<bool, Fail> {
     Ok(are_wanted(&buffer, &mut numbers))
 }
 
-/// Whether a text has so many characters, with these numbers, clusters and properties but the mark of a continuation.
+/// Whether a text has that many characters, with these numbers, clusters and properties without the continuation bit.
 fn are_wanted(buffer: &hb_buffer_t, numbers: &mut Numbers) -> bool
     requires { buffer.now.is_open ≡ false }
 {

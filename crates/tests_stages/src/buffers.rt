@@ -15,7 +15,7 @@ use buffer_glyphs::level::BufferClusterLevel;
 use buffer_glyphs::position::GlyphPosition;
 use std::alloc::Global;
 
-/// Writes a glyph of the text.
+/// Sets a glyph of the text.
 #[tactic(auto, using(crate::proofs::Ready::written_ready))]
 pub fn write_glyph(info: hb_glyph_info_t, i: usize, buffer: &mut hb_buffer_t)
     requires ready { IsReady buffer.old }
@@ -71,7 +71,7 @@ pub fn buffer_of(alloc: Global, row: &str) -> Result<hb_buffer_t, ShapeCause>
     Ok(buffer)
 }
 
-/// Whether each number is one that a glyph can have.
+/// Whether each number is at most 65,535.
 #[tactic(auto, using(crate::proofs::Masks::items_fit))]
 pub fn are_glyphs(buffer: &hb_buffer_t) -> bool
     requires { IsReady buffer.now }

@@ -1,4 +1,4 @@
-// Tests of the stages around the lookups, each called alone.
+//! Tests of the pipeline stages around the lookups, each called alone.
 #![tactic(auto)]
 
 #[cfg(test)]

@@ -1,4 +1,4 @@
-//! Normalising on the buffer.
+//! Normalizing on the buffer.
 mod lists;
 mod rows;
 mod texts;

@@ -6,7 +6,7 @@ use layout_links::links::finish_offsets;
 use std::alloc::{AllocError, Global};
 use std::test::Fail;
 
-// The direction of each run, and of each of its positions both advances, both offsets, link and kind, and both offsets after.
+// Each run: its direction; then of each position both advances, both offsets, link and kind, and both offsets after.
 const RUNS: &str = "ttb;0,0,10,7,0,0,10,7;0,0,10,7,-1,2,20,7;-20,0,-30,0,0,0,-30,0
 rtl;100,0,10,0,1,2,10,0;0,-900,0,0,0,0,0,0;0,0,0,200,0,0,0,200
 rtl;500,0,10,7,0,0,10,7;100,0,10,7,0,0,10,7;-20,0,0,7,-1,1,-10,14
@@ -68,7 +68,7 @@ fn are_drawn(positions: &[GlyphPosition], run: &str) -> bool {
         .all(|(position, row)| *position == drawn(row))
 }
 
-/// Whether each position of a run is drawn as its row says.
+/// Whether the links of a run's positions are followed as its row says.
 fn is_drawn(alloc: Global, run: &str) -> Result<bool, AllocError> {
     let rows = run.split(';').skip(1);
     let mut positions: Vec<GlyphPosition> = rows.map(|row| position(row)).collect(alloc)?;
@@ -85,7 +85,7 @@ fn runs_are_drawn(rt: HostRuntime) -> Result<(), Fail> {
     Ok(())
 }
 
-/// A mark whose link leads so far.
+/// A mark with a link of that length.
 fn mark(attach_chain: i16) -> GlyphPosition {
     GlyphPosition {
         x_offset: 10,
@@ -118,7 +118,7 @@ fn rings_are_cleared(rt: HostRuntime) -> Result<(), Fail> {
     Ok(())
 }
 
-/// A base and all marks that a link can lead to it.
+/// A base and all marks whose links can reach it.
 fn many_marks(alloc: Global) -> Result<Vec<GlyphPosition>, AllocError> {
     let mut positions = Vec::new(alloc);
     positions.push(GlyphPosition {

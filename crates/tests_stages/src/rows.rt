@@ -1,4 +1,4 @@
-//! Rows of tests: fields apart by semicolons, lists by spaces, and numbers by commas.
+//! Rows of tests: fields are separated by semicolons, lists by spaces, and numbers by commas.
 ghost use Rattle.std.specs.Prelude.{◌≡◌};
 ghost use Rattle.std.specs.Int.RustNames.{bit_and};
 ghost use Rattle.buffer_glyphs.specs.declared.info.TheConstants.{DEFINED};
@@ -10,8 +10,8 @@ use buffer_glyphs::flags::{GlyphPropsFlags, UnicodeProps};
 use buffer_glyphs::info::hb_glyph_info_t;
 use buffer_glyphs::position::GlyphPosition;
 
-/// How many numbers a glyph may have: its own and its cluster's, mask, properties, class, glyph properties, ligature word,
-/// advances, offsets.
+/// The number of a glyph's fields: its number and its cluster, mask, properties, class, glyph properties, ligature
+/// word, advances, offsets.
 pub const GLYPH_NUMBERS: usize = 11;
 
 /// A field of a row.
@@ -19,7 +19,7 @@ pub fn part(row: &str, at: usize) -> &str {
     row.split(';').nth(at).unwrap_or("")
 }
 
-/// A number of a list, none where it isn't said.
+/// A number of a list, `None` where it is missing.
 pub fn number(list: &str, at: usize) -> Option<i64> {
     list.split(',').nth(at)?.parse().ok()
 }
@@ -31,7 +31,7 @@ fn natural(list: &str, at: usize) -> u32 {
     }
 }
 
-/// A number of a list as a distance, zero where it isn't said.
+/// A number of a list as a distance, zero where it is missing.
 pub fn distance(list: &str, at: usize) -> i32 {
     match number(list, at) {
         Some(n) => i32::try_from(n).unwrap_or(0),
@@ -39,7 +39,7 @@ pub fn distance(list: &str, at: usize) -> i32 {
     }
 }
 
-/// A mask without flags of glyphs.
+/// A mask without glyph flags.
 #[tactic(auto, using(crate::proofs::Masks::eightfold))]
 pub fn mask(list: &str, at: usize) -> u32
     ensures { bit_and result DEFINED ≡ 0 }
@@ -62,7 +62,7 @@ pub fn info_of(glyph: &str) -> hb_glyph_info_t {
     }
 }
 
-/// Where a glyph of a row stands.
+/// The position of a row's glyph.
 pub fn position_of(glyph: &str) -> GlyphPosition {
     GlyphPosition {
         x_advance: distance(glyph, 7),
@@ -73,7 +73,7 @@ pub fn position_of(glyph: &str) -> GlyphPosition {
     }
 }
 
-/// A number of a glyph by its place in rows.
+/// A field of a glyph by its index in rows.
 pub fn seen(info: &hb_glyph_info_t, position: &GlyphPosition, at: usize) -> i64 {
     match at {
         0 => i64::from(info.glyph_id),

@@ -1,4 +1,4 @@
-//! Rows of stages.
+//! Rows of pipeline stages.
 ghost use Rattle.std.specs.Prelude.{◌≡◌, false};
 ghost use Rattle.buffer_stages.specs.Ready.{IsReady};
 
@@ -24,8 +24,8 @@ use shell_tables_json::read_tables;
 use std::alloc::Global;
 use std::test::Fail;
 
-// In each row stand the stage, the direction, the one that was asked for, the script and the level; what else the stage is
-// given; the glyphs before and after it, of which only the numbers are compared that are said; tables and a font.
+// Each row has the stage, the direction, the requested one, the script and the level; the stage's other arguments; the
+// glyphs before and after it, of which only the given numbers are compared; tables and a font.
 const ROWS: &str = r#"fraction-masks;ltr;;;0;16,32,0;49,,0,13;49,,0;{};{}
 fraction-masks;rtl;;;0;16,32,64;49,,2147483648,13 8260,,2147483648,25 49,,0,13;49,,2147483728 8260,,2147483664 49,,48;{};{}
 fraction-masks;ttb;;;0;16,32,64;8260,,0,25 50,,2147483648,13 8260,,0,25 49,,2147483648,13;8260,,0 50,,2147483696 8260,,16 49,,2147483728;{};{}
@@ -96,7 +96,7 @@ fn set_fractions(masks: &str, buffer: &mut hb_buffer_t)
     setup_masks_fraction(fractions, buffer);
 }
 
-/// A mask for all, then whether text begins there and whether a circle is left out.
+/// A mask for all glyphs, whether BEGINNING_OF_TEXT is set, and whether DO_NOT_INSERT_DOTTED_CIRCLE is.
 fn prepare(
     given: &str,
     face: &Face,
@@ -171,7 +171,7 @@ fn glyphs_agree(wanted: &str, infos: &[hb_glyph_info_t], positions: &[GlyphPosit
     infos.len() == wanted.split(' ').count()
 }
 
-/// Whether the list is closed, and its direction and glyphs are as a row says.
+/// Whether no output is open, and the direction and the glyphs are those of a row.
 fn is_as_said(row: &str, buffer: &hb_buffer_t) -> bool {
     if buffer.have_output() {
         return false;

@@ -10,7 +10,8 @@ static CHARACTERS: [char; 30] = [
     ')', '\u{00BB}', '\u{00AB}', '!', '(', '$', '^', '+', '\u{00A9}', '\u{2028}', '\u{2029}', ' ',
 ];
 
-/// Whether the category of a character has that number, leads back from it, and is of marks and of letters as it should.
+/// Whether the general category of a character has that number, is the category of that number, and is one of marks and
+/// of letters as expected.
 fn has_number(c: char, i: usize) -> [bool; 4] {
     let category = GeneralCategory::for_char(c);
     let number = category.to_rb();
@@ -76,7 +77,7 @@ fn spaces(rt: HostRuntime) {
     }
 }
 
-// Whether each is ignorable, and whether it is a variation selector.
+// Whether each is a default ignorable, and whether it is a variation selector.
 static IGNORABLES: [(char, bool, bool); 9] = [
     ('\u{00AD}', true, false),
     ('\u{00AE}', false, false),

@@ -59,7 +59,7 @@ fn faults_of_calls() -> [RunFault; 6] {
     ]
 }
 
-// Want of memory is one fault, wherever it showed.
+// Lack of memory is one fault, in whichever step.
 #[test]
 fn faults_of_the_calls_below(rt: HostRuntime) {
     let want = [

@@ -1,4 +1,4 @@
-//! Requests of features as they are written.
+//! Feature requests as they are written.
 use buffer_common::tag::Tag;
 use buffer_features::feature::{Feature, InvalidFeature};
 use buffer_features::text_parser::TextParser;
@@ -6,7 +6,7 @@ use std::ops::Bound;
 
 const NO_END: u32 = u32::MAX;
 
-// Texts of requests, with their tags, values, starts and ends.
+// Texts of feature requests, with their tags, values, starts and ends.
 const REQUESTS: &str = r#"kern|kern|1|0|4294967295
 -kern|kern|0|0|4294967295
  + kern |kern|1|0|4294967295
@@ -114,7 +114,7 @@ fn ranges(rt: HostRuntime) {
     }
 }
 
-/// A tag between quotes, a signed number, an unsigned one, a word for true or false, and how much is left.
+/// A tag between quotes, a signed number, an unsigned one, a text for true or false, and the number of characters left.
 type Parts = (Option<Tag>, Option<i32>, Option<u32>, Option<bool>, usize);
 
 fn parts_of(text: &'static str) -> Parts {

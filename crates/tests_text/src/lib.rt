@@ -1,5 +1,5 @@
-// Tests of characters, of what is read from a text's settings, of names, features, words and JSON values, of sorted rows, and
-// of the printed text and faults.
+//! Tests of characters, of parsed settings, names, features, command-line words and JSON values, of sorted rows, and of
+//! the printed text and faults.
 #![tactic(auto)]
 
 #[cfg(test)]

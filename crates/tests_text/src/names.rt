@@ -19,7 +19,7 @@ static KINDS: [(hb_ot_script_shaper_t, &str, Option<u8>); 12] = [
     (HEBREW_SHAPER, "non", None),
 ];
 
-// Whether a shaper knows a kind.
+// Whether a shaper has a kind.
 static KNOWN_KINDS: [(hb_ot_script_shaper_t, u8, bool); 3] = [
     (UNIVERSAL_SHAPER, 9, true),
     (UNIVERSAL_SHAPER, 15, false),

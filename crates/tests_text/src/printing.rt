@@ -10,7 +10,7 @@ use std::alloc::{AllocError, Global};
 use std::process::Abort;
 use std::test::Fail;
 
-/// A font whose glyph 2 has a name and a box.
+/// A font whose glyph 2 has a name and extents.
 struct TwoGlyphs;
 
 impl GlyphNames for TwoGlyphs {
@@ -163,7 +163,7 @@ fn is_long_run_printed(alloc: Global, want: &str) -> Result<bool, AllocError> {
     is_printed(alloc, &glyphs, &positions, 6, want)
 }
 
-// A text past 65,536 glyphs, with names and clusters alone.
+// A text of more than 65,536 glyphs, with names and clusters only.
 #[test]
 fn prints_a_long_run(rt: HostRuntime) -> Result<(), Fail> {
     let want = text_of_long_run(rt.alloc())?;

@@ -1,4 +1,4 @@
-//! Records that are found and missed, by numbers and by pairs.
+//! Look-ups of records in sorted rows, by numbers and by pairs.
 use buffer_rows::{Keyed, Numbered, PagedRows, SortedRows, is_rising};
 use std::alloc::Global;
 use std::process::Abort;
@@ -135,7 +135,7 @@ impl Numbered for Letter {
     }
 }
 
-/// One character of each of so many pages of 128.
+/// One character of each of a number of pages of 128.
 fn letters(alloc: Global, count: u32) -> Result<PagedRows<Letter>, Fail> {
     let mut rows = Vec::new(alloc);
     for page in 0..count {
@@ -166,7 +166,7 @@ fn has_pages(alloc: Global, count: u32) -> Result<bool, Fail> {
     Ok(are_found(&table, count) && table.get(letter_of(count)).is_none())
 }
 
-// The index has room for 188 pages; records after those are searched for.
+// The index has room for 188 pages; records after those are found by binary search.
 #[test]
 fn pages(rt: HostRuntime) -> Result<(), Fail> {
     for count in [0, 1, 188, 189, 500] {

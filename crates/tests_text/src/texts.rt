@@ -46,7 +46,7 @@ fn tags(rt: HostRuntime) {
     assert_eq!(rt; Tag(0x6C696761).to_bytes(), *b"liga");
 }
 
-// The tag of each text's script; none where it is refused.
+// The tag of each text's script; `None` where it is refused.
 const SCRIPTS_OF_TEXTS: &str = "Arab;Arab
 aran;Arab
 QAAI;Zinh

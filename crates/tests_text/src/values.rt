@@ -1,4 +1,4 @@
-//! Parts of rows, each with its fault.
+//! JSON values, each with its fault.
 use buffer_common::tag::Tag;
 use serde_json::Value;
 use shell_json_values::cell::Cell;
@@ -9,9 +9,9 @@ use std::alloc::Global;
 use std::process::Abort;
 use std::test::Fail;
 
-// What is asked of a value, the answer, and the value, with semicolons between: a character with a word after it, of two faults
-// the one that comes first by its kind; a byte, a number below 70000 and a tag; a row of two, of three and of four; and how
-// many items stand in `k`, none where that is no list.
+// What is read of a value, the answer, and the value, separated by semicolons: a character followed by a number of 16
+// bits, of two faults the one that is first by its kind; a byte, a number below 70000 and a tag; a row of two, of three
+// and of four; and the number of items in `k`, none where that is no list.
 const ANSWERS: &str = r#"pair;read;[97,-2]
 pair;U2 OutOfRange;[97,-32769]
 pair;U2 OutOfRange;[55296,0]

@@ -1,4 +1,4 @@
-//! The words of a command line.
+//! Command-line words.
 use buffer_common::direction::Direction;
 use buffer_common::direction::Direction::{Invalid, LeftToRight, RightToLeft};
 use buffer_common::script::{GREEK, INHERITED, LATIN, Script, UNKNOWN};
@@ -10,7 +10,7 @@ use shell_words::{CommandLine, parse_options};
 use std::alloc::{AllocError, Global};
 use std::test::Fail;
 
-// Words that are refused, with a bar between two.
+// Command-line words that are refused, separated by bars.
 const REFUSED: &str = "hb_shape|--language=|a|b|c
 hb_shape|--language=en|--language=en|a|b|c
 hb_shape|--cluster-level=3|a|b|c
@@ -77,8 +77,9 @@ fn other_words_are_refused(rt: HostRuntime) -> Result<(), Fail> {
     Ok(())
 }
 
-// Words, and what they set, with semicolons between: direction, script, flags of what is printed, language, and the name of
-// the text's file. A language is any text but the empty one, in small letters; names stand anywhere among the options.
+// Command-line words and what they set, separated by semicolons: direction, script, serialize flags, language, and the
+// name of the text's file. A language is any text but the empty one, in lower case; names may be anywhere among the
+// options.
 const TAKEN: &str = "hb_shape|--no-clusters|a|b|c;;;1;;c
 hb_shape|--no-positions|a|b|c;;;2;;c
 hb_shape|--show-extents|a|b|c;;;8;;c
@@ -239,7 +240,7 @@ fn has_many_features(alloc: Global, line: &str) -> Result<bool, Fail> {
     Ok(are_many(found.options.features.as_slice()))
 }
 
-// A value past 65,536 features.
+// A value of more than 65,536 features.
 #[test]
 fn many_features_are_read(rt: HostRuntime) -> Result<(), Fail> {
     let line = long_line(rt.alloc())?;

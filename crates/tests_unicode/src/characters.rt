@@ -67,7 +67,7 @@ fn types(tables: &UnicodeTables) -> [Option<u8>; 3] {
     ]
 }
 
-/// Whether characters have the classes, the other forms, the property, the types and the rows that the tables say.
+/// Whether characters have the classes, the counterparts, the property, the types and the rows that the tables have.
 fn are_known(tables: &UnicodeTables) -> [bool; 7] {
     [
         classes(tables) == [230, 0],

@@ -8,9 +8,10 @@ use std::alloc::Global;
 use std::process::Abort;
 use std::test::Fail;
 
-// Each key, its row's parts one by one; then several faults: keys come before rows, rows before the parts of one row, and
-// those by their kinds. Last, chains of splits: each character splits to the one before, eight splits in a chain are enough,
-// nine are too many, and a syllable with a trailing consonant splits twice before its leading consonant does.
+// Each key, its row's items one by one; then several faults: keys come before rows, rows before the items of one row,
+// and these are in the order of their kinds. Last, chains of decompositions: each character decomposes to the one
+// before, eight decompositions in a chain are allowed, nine are too many, and a syllable with a trailing consonant
+// decomposes twice before its leading consonant does.
 const TABLES: &str = r#"none: {}
 none: {"unicode":"15.0","languages":3}
 J2 WrongShape: []
@@ -68,7 +69,7 @@ U3 SplitDepth: {"splits":[[4097,4096,768],[4098,4097,768],[4099,4098,768],[4100,
 none: {"splits":[[4097,4096,768],[4098,4097,768],[4099,4098,768],[4100,4099,0],[4101,4100,768],[4352,4101,0]]}
 U3 SplitDepth: {"splits":[[4097,4096,768],[4098,4097,768],[4099,4098,768],[4100,4099,0],[4101,4100,768],[4102,4101,0],[4352,4102,0]]}"#;
 
-// What stands in `syllables`; in the last two, states come before steps, steps before accepting states, and Indic before
+// The value of `syllables`; in the last two, states come before steps, steps before accepting states, and Indic before
 // Khmer.
 const SYLLABLES: &str = r#"J2 WrongShape: []
 none: {"splits":3}
@@ -89,7 +90,7 @@ U2 OutOfRange: {"syllables":{"khmer":{"states":1,"accept":[[1,"non"]]}}}
 J2 WrongShape: {"syllables":{"indic":{"accept":3,"next":[[0]]},"khmer":{"states":1.5}}}
 J4 UnknownName: {"syllables":{"khmer":{"accept":3,"next":[[0,"QQ",9]]}}}"#;
 
-// What stands in `languages`.
+// The value of `languages`.
 const LANGUAGES: &str = r#"J2 WrongShape: 3
 none: {"syllables":3}
 J2 WrongShape: {"languages":{}}
@@ -103,7 +104,7 @@ J2 WrongShape: {"languages":[["en",["\u007f"]]]}
 U1 OutOfOrder: {"languages":[["en",[]],["de",[]]]}
 U1 OutOfOrder: {"languages":[["en",[]],["en",[]],["fr",3]]}"#;
 
-// Tables that are not lawful. U+1EA1 U+0301 is U+00E1 U+0323 in another order, as long as the classes differ.
+// Tables that are not lawful. U+1EA1 U+0301 is U+00E1 U+0323 in another order, as long as their classes differ.
 const LAWS: &str = r#"ClassOnNonMark: {"classes":[[97,230]]}
 none: {"splits":[[225,97,769]],"classes":[[769,230]]}
 SplitLosesClass: {"splits":[[836,776,769]],"classes":[[769,230],[836,230]]}
@@ -155,7 +156,7 @@ fn law_fault(alloc: Global, text: &str) -> Result<&'static str, Fail> {
     Ok(broken_law(&tables))
 }
 
-/// What reads a text.
+/// The readers of a text.
 #[derive(Clone, Copy)]
 enum Reader {
     Tables,

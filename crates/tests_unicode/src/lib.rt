@@ -1,4 +1,4 @@
-// Tests of what shaping knows of characters, of syllables and of languages, and of how it is read.
+//! Tests of what shaping knows of characters, of syllables and of languages, and of how it is read in.
 #![tactic(auto)]
 
 #[cfg(test)]

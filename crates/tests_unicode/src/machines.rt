@@ -11,7 +11,7 @@ use script_categories::{
 use std::alloc::Global;
 use std::test::Fail;
 
-/// A part of a case.
+/// A field of a case.
 fn part(case: &str, at: usize) -> &str {
     case.split('|').nth(at).unwrap_or("")
 }

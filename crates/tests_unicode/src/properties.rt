@@ -18,8 +18,9 @@ const IGNORABLE: u32 = PLAIN | HB_BUFFER_SCRATCH_FLAG_HAS_DEFAULT_IGNORABLES;
 
 const JOINER: u32 = IGNORABLE | HB_BUFFER_SCRATCH_FLAG_HAS_CGJ;
 
-// Characters with their property words as they are and as continuations are cleared, their classes and scratch flags:
-// the categories are those of UnicodeData.txt, as numbers in the order Cc Cf Cn Co Cs Ll Lm Lo Lt Lu Mc Me Mn and so on.
+// Characters with their property words before and after continuation bits are cleared, their classes and scratch flags:
+// the categories are those of UnicodeData.txt, as numbers in the order Cc Cf Cn Co Cs Ll Lm Lo Lt Lu Mc Me Mn and so
+// on.
 const PROPERTIES: [(char, u16, u16, u8, u32); 17] = [
     ('a', 5, 5, 0, ASCII),
     ('\u{7F}', 0, 0, 0, ASCII),
@@ -27,9 +28,9 @@ const PROPERTIES: [(char, u16, u16, u8, u32); 17] = [
     ('é', 5, 5, 0, PLAIN),
     // A mark, with its class.
     ('\u{301}', 0x8C, 0x0C, 230, PLAIN),
-    // A spacing mark that the tables give no class.
+    // A spacing mark without a class in the tables.
     ('\u{903}', 0x8A, 0x0A, 0, PLAIN),
-    // The soft hyphen is ignorable and no more.
+    // The soft hyphen is a default ignorable and nothing else.
     ('\u{AD}', 0x21, 0x21, 0, IGNORABLE),
     ('\u{200B}', 0x21, 0x21, 0, IGNORABLE),
     ('\u{200C}', 0x221, 0x221, 0, IGNORABLE),
@@ -44,8 +45,8 @@ const PROPERTIES: [(char, u16, u16, u8, u32); 17] = [
     ('\u{FE00}', 0xAC, 0x2C, 0, IGNORABLE),
 ];
 
-/// The property word of a character, the word of a continuation that is cleared, its class, the scratch flags, and its number
-/// and cluster, which stay.
+/// The property word of a character, the property word with the continuation bit cleared, its class, the scratch flags,
+/// and its number and cluster, which are unchanged.
 fn words_of(tables: &UnicodeTables, u: char) -> (u16, u16, u8, u32, u32, u32) {
     let mut info = standing_for(u);
     let mut scratch_flags = 0x1000000;

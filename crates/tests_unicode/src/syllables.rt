@@ -1,4 +1,4 @@
-//! Syllables and languages that are read from JSON values.
+//! Syllables and languages that are read in from JSON values.
 use buffer_common::language_tags::LanguageTags;
 use buffer_common::tag::Tag;
 use buffer_languages::language_table::LanguageTable;
@@ -25,7 +25,7 @@ fn next_syllables(table: &SyllableTable, categories: &[u8; 4]) -> [(usize, u8); 
     ]
 }
 
-// C H C H: the longest front that the machine accepts, then one glyph of the kind of what is no syllable.
+// C H C H: the longest prefix that the machine accepts, then one glyph of the kind of non-clusters.
 #[test]
 fn khmer_syllables(rt: HostRuntime) -> Result<(), Fail> {
     let table = syllables(rt.alloc(), MACHINE)?;

@@ -1,3 +1,4 @@
+//! Merges and glyph flags of ranges that begin in the output (rustybuzz: hb/buffer.rs).
 ghost use Rattle.std.specs.Prelude.{◌≡◌, ◌+◌, ◌-◌, ◌≤◌, ◌<◌, if◌then◌else◌, nat_lt, true, length, ◌∷◌, []};
 ghost use Rattle.buffer_core.specs.Sides.{items_of, origins_of, origins_by};
 ghost use Rattle.buffer_core.specs.Merging.{index_in_all, with_output_merged};
@@ -13,8 +14,8 @@ use buffer_lists::merges::merge_output;
 
 // Ranges that begin in the output.
 impl hb_buffer_t {
-    /// Merges the clusters of the glyphs of the output from `start` up to before `end`, as `merge_clusters` does those of the
-    /// input; at the level that keeps characters apart it does nothing at all. It takes no memory.
+    /// Merges the clusters of the output's glyphs from `start` up to before `end`, as `merge_clusters` does those of
+    /// the input; at the level `Characters` it changes nothing. It takes no memory.
     pub fn merge_out_clusters(&mut self, start: usize, end: usize)
         requires open { self.old.is_open ≡ true }
         requires ordered { start ≤ end }
@@ -34,9 +35,9 @@ impl hb_buffer_t {
         );
     }
 
-    /// Marks the glyphs from `start` of the output, over its end, up to before `end` of the input that are outside the least
-    /// cluster among them as unsafe to break and to concat; with no output open, those of the list, as `unsafe_to_break`.
-    /// Where they are not told, the range begins at 0 and ends at the length of the input.
+    /// Flags as unsafe to break and to concat the glyphs from `start` of the output, over its end, up to before `end`
+    /// of the input that are outside the least cluster among them; with no output open, those of the list, as
+    /// `unsafe_to_break` does. Without a bound the range begins at 0 or ends at the length of the input.
     pub fn unsafe_to_break_from_outbuffer(&mut self, start: Option<usize>, end: Option<usize>)
         requires begins { start_or start ≤ length self.old.behind }
         requires unread { self.old.read ≤ end_or end self.old }
@@ -57,8 +58,8 @@ impl hb_buffer_t {
         );
     }
 
-    /// Marks the glyphs from `start` of the output, over its end, up to before `end` of the input as unsafe to concat, where
-    /// that is asked for; with no output open, those of the list.
+    /// Flags as unsafe to concat the glyphs from `start` of the output, over its end, up to before `end` of the input,
+    /// where PRODUCE_UNSAFE_TO_CONCAT is set; with no output open, those of the list.
     pub fn unsafe_to_concat_from_outbuffer(&mut self, start: Option<usize>, end: Option<usize>)
         requires begins { start_or start ≤ length self.old.behind }
         requires unread { self.old.read ≤ end_or end self.old }

@@ -1,3 +1,4 @@
+//! The text around the shaped text, five characters on each side (rustybuzz: hb/buffer.rs, `context`).
 ghost use Rattle.std.specs.Prelude.{◌≡◌, ◌<◌, ◌++◌, ◌∷◌, [], length, reverse, take};
 ghost use Rattle.std.specs.Char.{IsScalar};
 ghost use Rattle.std.specs.Str.{chars};
@@ -7,28 +8,28 @@ use super::hb_buffer_t;
 use arrayvec::ArrayVec;
 
 impl hb_buffer_t {
-    /// The characters in front of the text that is shaped, nearest first, five at most.
+    /// The characters before the shaped text, nearest first, five at most.
     pub fn pre_context(&self) -> &[char]
         ensures { result.now ≡ self.now.pre_context }
     {
         &self.pre_context
     }
 
-    /// Keeps the last five characters of the text in front. It takes no memory.
+    /// Keeps the last five characters of the text before. It takes no memory.
     pub fn set_pre_context(&mut self, text: &str)
         ensures { self.new ≡ with_pre_context (take 5 (reverse (chars text.now))) self.old }
     {
         self.pre_context = last_characters(text);
     }
 
-    /// The characters behind the text that is shaped, nearest first, five at most.
+    /// The characters after the shaped text, nearest first, five at most.
     pub fn post_context(&self) -> &[char]
         ensures { result.now ≡ self.now.post_context }
     {
         &self.post_context
     }
 
-    /// Keeps the first five characters of the text behind. It takes no memory.
+    /// Keeps the first five characters of the text after. It takes no memory.
     pub fn set_post_context(&mut self, text: &str)
         ensures { self.new ≡ with_post_context (take 5 (chars text.now)) self.old }
     {

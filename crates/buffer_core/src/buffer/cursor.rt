@@ -1,3 +1,4 @@
+//! The buffer's cursor calls (rustybuzz: hb/buffer.rs).
 ghost use Rattle.std.specs.Prelude.{◌≡◌, ◌<◌, ◌≤◌, ◌+◌, ◌-◌, ◌^◌, ◌++◌, [], drop, length, vec_len, true, false, Some, OnOk, OnErr, IfOk, slice_get};
 ghost use Rattle.std.specs.Borrow.{sem};
 ghost use Rattle.buffer_core.specs.Sides.{all_glyphs, has_output_room, with_output, moved_on, fits_next, fits_joined, synced, refused, zero_positions};
@@ -11,7 +12,7 @@ use std::alloc::AllocError;
 use std::mem;
 
 impl hb_buffer_t {
-    /// Opens an empty output, with the cursor in front of all glyphs. It takes no memory.
+    /// Opens an empty output, with the cursor before all glyphs. It takes no memory.
     pub fn clear_output(&mut self) -> Result<bool, AllocError>
         requires { self.old.is_open ≡ false }
         ensures opened { result ≡ Ok true }
@@ -23,7 +24,7 @@ impl hb_buffer_t {
         Ok(true)
     }
 
-    /// How many glyphs stand behind the cursor: those of the output while one is open.
+    /// How many glyphs are behind the cursor: those of the output while one is open.
     pub fn out_len(&self) -> usize
         ensures { result ≡ length self.now.behind }
     {
@@ -34,7 +35,7 @@ impl hb_buffer_t {
         }
     }
 
-    /// How many glyphs stand from the cursor on. What a list takes of memory bounds it.
+    /// How many glyphs are ahead of the cursor; the memory that a list takes bounds it.
     pub fn lookahead_len(&self) -> usize
         ensures count { result ≡ length self.now.ahead }
         ensures small { result < 2 ^ 59 }
@@ -42,7 +43,7 @@ impl hb_buffer_t {
         self.info[self.idx..].len()
     }
 
-    /// The glyph behind the cursor: the last of the output while one is open.
+    /// The last glyph behind the cursor: that of the output while one is open.
     pub fn prev(&self) -> &hb_glyph_info_t
         requires { 0 < length self.now.behind }
         ensures { slice_get self.now.behind (length self.now.behind - 1) ≡ Some result.now }
@@ -51,7 +52,7 @@ impl hb_buffer_t {
         &behind[behind.len() - 1]
     }
 
-    /// The glyph behind the cursor, to be written.
+    /// The last glyph behind the cursor, to be written.
     pub fn prev_mut(&mut self) -> &mut hb_glyph_info_t
         requires { 0 < length self.old.behind }
         ensures value { slice_get self.old.behind (length self.old.behind - 1) ≡ Some result.now }
@@ -86,7 +87,7 @@ impl hb_buffer_t {
         &self.info[..self.idx]
     }
 
-    /// The i-th glyph from the cursor on.
+    /// The i-th glyph from the cursor on; `cur(0)` is the current one.
     pub fn cur(&self, i: usize) -> &hb_glyph_info_t
         requires { i < length self.now.ahead }
         ensures { slice_get self.now.ahead i ≡ Some result.now }
@@ -111,7 +112,7 @@ impl hb_buffer_t {
         &mut self.info[at]
     }
 
-    /// The place of the glyph at the cursor, to be written, while no output is open.
+    /// The position of the glyph at the cursor, to be written, while no output is open.
     pub fn cur_pos_mut(&mut self) -> &mut GlyphPosition
         requires closed { self.old.is_open ≡ false }
         requires there { 0 < length self.old.ahead }
@@ -121,8 +122,8 @@ impl hb_buffer_t {
         &mut self.pos[self.idx]
     }
 
-    /// Moves the cursor over a glyph, which goes behind the output where one is open; answers false, and moves nothing,
-    /// where the output has as many as it may.
+    /// Moves the cursor over a glyph, which is appended to the output where one is open; answers false, and moves
+    /// nothing, where the output has as many as it may.
     #[tactic(auto, using(crate::proofs::Kept::moved_all))]
     pub fn next_glyph(&mut self) -> Result<bool, AllocError>
         requires { 0 < length self.old.ahead }
@@ -157,9 +158,9 @@ impl hb_buffer_t {
         Ok(())
     }
 
-    /// Puts what is ahead of the cursor behind the output, which becomes the list, with positions of nothing and the cursor
-    /// at its front; answers false, and joins nothing, where the list would have more than it may or a call before was
-    /// refused for length.
+    /// Appends the rest of the input to the output, which becomes the list, with zero positions and the cursor at its
+    /// front; answers false, and joins nothing, where the list would have more than it may or a call before was refused
+    /// for length.
     pub fn sync(&mut self) -> Result<bool, AllocError>
         requires { self.old.is_open ≡ true }
         ensures held { IfOk result (λ b. b ≡ fits_joined self.old) }
@@ -196,7 +197,7 @@ impl hb_buffer_t {
     }
 }
 
-/// Puts what the input has from an index on behind the output, which takes its place, with positions of nothing.
+/// Appends the rest of the input, from an index on, to the output, which becomes the list, with zero positions.
 fn join_lists(
     info: &mut Vec<hb_glyph_info_t>,
     from: usize,

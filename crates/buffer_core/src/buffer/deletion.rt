@@ -1,3 +1,4 @@
+//! Deletes a glyph while an output is open (rustybuzz: hb/buffer.rs, `delete_glyph`).
 ghost use Rattle.std.specs.Prelude.{◌≡◌, ◌+◌, ◌<◌, ◌++◌, ◌∷◌, true, List, length, drop, []};
 ghost use Rattle.buffer_glyphs.specs.declared.info.hb_glyph_info_t.{hb_glyph_info_t as Glyph};
 ghost use Rattle.buffer_glyphs.specs.Items.{strip};
@@ -11,9 +12,9 @@ use super::merges::telling_flags;
 use buffer_lists::deletion::delete_first;
 
 impl hb_buffer_t {
-    /// The glyph at the cursor goes. Where neither neighbour is of its cluster, the run before it takes its cluster and its
-    /// three flags if that is less; with none before it, it is merged with the next, as by `merge_clusters`. It takes no
-    /// memory.
+    /// Deletes the glyph at the cursor. Where neither neighbour is of its cluster, the run of glyphs before it takes
+    /// its cluster and its three flags if that cluster is less; with none before it, it is merged with the next, as by
+    /// `merge_clusters`. It takes no memory.
     pub fn delete_glyph(&mut self)
         requires open { self.old.is_open ≡ true }
         requires there { 0 < length self.old.ahead }

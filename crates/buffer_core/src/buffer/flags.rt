@@ -1,3 +1,4 @@
+//! Glyph flags at the end of shaping (rustybuzz: hb/ot_shape.rs, `propagate_flags`).
 ghost use Rattle.std.specs.Prelude.{◌≡◌, ◌∷◌, [], false, map};
 ghost use Rattle.buffer_glyphs.specs.Events.{Spread};
 ghost use Rattle.buffer_glyphs.specs.Items.{item_masked};
@@ -10,10 +11,11 @@ use buffer_common::constants::BufferFlags;
 use buffer_groups::flags::{AskedFlags, propagate_flags};
 
 impl hb_buffer_t {
-    /// Gives the glyphs of each run of one cluster the same glyph flags: those that one of them has. Where tatweels are
-    /// asked for, none may stand where a break is unsafe, and where one may stand a break is. The flag of texts that may not
-    /// be put together stays only where it is asked for. A mask has no other bit then: those of features go. It takes linear
-    /// time, and walks also where no scratch flag tells of glyph flags.
+    /// Gives all glyphs of a cluster the same glyph flags: those that one of them has. Where
+    /// PRODUCE_SAFE_TO_INSERT_TATWEEL is set, UNSAFE_TO_BREAK clears SAFE_TO_INSERT_TATWEEL; where that stays,
+    /// UNSAFE_TO_BREAK and UNSAFE_TO_CONCAT are added. UNSAFE_TO_CONCAT stays only where PRODUCE_UNSAFE_TO_CONCAT is
+    /// set. All other bits of a mask, those of features, are cleared. It takes linear time, and walks the list even
+    /// where no scratch flag says that there are glyph flags.
     pub fn propagate_flags(&mut self)
         requires { self.old.is_open ≡ false }
         ensures rest { self.new ≡ with_glyphs (all_glyphs self.new) self.old }

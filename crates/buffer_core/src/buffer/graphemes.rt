@@ -1,3 +1,4 @@
+//! Graphemes, clusters and default ignorables of a buffer (rustybuzz: hb/ot_shape.rs, hb/ot_layout.rs).
 ghost use Rattle.std.specs.Prelude.{◌≡◌, ◌≤◌, ◌==◌, ◌++◌, ◌∷◌, [], false, map, take, drop, length, slice_range, OnOk, OnErr};
 ghost use Rattle.buffer_glyphs.specs.Items.{item_of};
 ghost use Rattle.buffer_glyphs.specs.Events.{Sort};
@@ -15,10 +16,10 @@ use buffer_glyphs::flags::{GlyphPropsFlags, UnicodeProps};
 use buffer_glyphs::info::hb_glyph_info_t;
 use std::alloc::{AllocError, Global};
 
-// Calls that shaping makes of the groups, the deletion and the sort of a buffer.
+// Groups, deletion and sort with the tests of shaping.
 impl hb_buffer_t {
-    /// Reverses the order of the graphemes, each in its own order; positions go with their glyphs. Where `merge` is told,
-    /// the glyphs of each grapheme are merged before.
+    /// Reverses the order of the graphemes, each in its own order; positions move with their glyphs. Where `merge` is
+    /// set, the glyphs of each grapheme are merged before.
     pub fn reverse_graphemes(&mut self, merge: bool)
         requires { self.old.is_open ≡ false }
         ensures turned { self.new ≡ with_groups_turned merge (λ g h. continues (item_of h)) self.old }
@@ -31,7 +32,7 @@ impl hb_buffer_t {
         self.reverse_groups(|_before, glyph| continues_grapheme(glyph), merge);
     }
 
-    /// Reverses the order of the clusters, each in its own order; positions go with their glyphs.
+    /// Reverses the order of the clusters, each in its own order; positions move with their glyphs.
     pub fn reverse_clusters(&mut self)
         requires { self.old.is_open ≡ false }
         ensures turned { self.new ≡ with_groups_turned false (λ g h. g.cluster == h.cluster) self.old }
@@ -40,7 +41,7 @@ impl hb_buffer_t {
         self.reverse_groups(|before, glyph| before.cluster == glyph.cluster, false);
     }
 
-    /// Takes out the default ignorable characters that no substitution made into glyphs, and their positions.
+    /// Deletes the default ignorable characters that no substitution made into glyphs, and their positions.
     pub fn delete_default_ignorables(&mut self)
         requires { self.old.is_open ≡ false }
         ensures deleted { self.new ≡ with_picked_deleted (λ g. is_default_ignorable (item_of g)) self.old }
@@ -53,7 +54,7 @@ impl hb_buffer_t {
         self.delete_glyphs_inplace(|glyph| is_ignorable_glyph(glyph));
     }
 
-    /// Puts the marks from `start` up to before `end` in stable order by their modified combining classes, and merges each
+    /// Sorts the marks from `start` up to before `end` stably by their modified combining classes, and merges each
     /// smallest span that the order permutes.
     pub fn sort_by_class(
         &mut self,

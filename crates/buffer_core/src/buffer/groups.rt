@@ -1,3 +1,5 @@
+//! Groups of neighbours in a buffer, and deletion in place (rustybuzz: hb/buffer.rs, `group_end`, `reverse_groups`,
+//! `delete_glyphs_inplace`).
 ghost use Rattle.std.specs.Prelude.{◌≡◌, ◌+◌, ◌<◌, ◌≤◌, false, Bool, drop, length, min};
 ghost use Rattle.buffer_glyphs.specs.declared.info.hb_glyph_info_t.{hb_glyph_info_t as Glyph};
 ghost use Rattle.buffer_groups.specs.Groups.{Decides, group_length};
@@ -18,7 +20,7 @@ use buffer_groups::{groups, reversal};
 use buffer_lists::order::{ClusterOrder, KnownOrder};
 
 impl hb_buffer_t {
-    /// Where the run of glyphs of one syllable that begins at `start` ends; past the end of the glyphs, `start`.
+    /// The end of the run of glyphs of one syllable that begins at `start`; past the end of the glyphs, `start`.
     pub fn next_syllable(&self, start: usize) -> usize
         requires { self.now.is_open ≡ false }
         ensures { result ≡ start + run_length (λ g. g.syllable) (drop start (all_glyphs self.now)) }
@@ -26,7 +28,7 @@ impl hb_buffer_t {
         groups::next_syllable(&self.info, start)
     }
 
-    /// Where the run of glyphs of one cluster that begins at `start` ends; past the end of the glyphs, `start`.
+    /// The end of the run of glyphs of one cluster that begins at `start`; past the end of the glyphs, `start`.
     pub fn next_cluster(&self, start: usize) -> usize
         requires { self.now.is_open ≡ false }
         ensures { result ≡ start + run_length (λ g. g.cluster) (drop start (all_glyphs self.now)) }
@@ -34,8 +36,8 @@ impl hb_buffer_t {
         groups::next_cluster(&self.info, start)
     }
 
-    /// Where the grapheme that begins at `start` ends: the glyphs behind that one that continue it belong to it; past the
-    /// end of the glyphs, `start`.
+    /// The end of the grapheme that begins at `start`: the glyphs after the first that continue it belong to it; past
+    /// the end of the glyphs, `start`.
     pub fn next_grapheme(&self, start: usize) -> usize
         requires { self.now.is_open ≡ false }
         ensures { result ≡ start + grapheme_length (drop start (all_glyphs self.now)) }
@@ -43,8 +45,8 @@ impl hb_buffer_t {
         groups::next_grapheme(&self.info, start)
     }
 
-    /// Where the group that begins at `start` ends: the first index after it at which the test of two neighbours fails, or
-    /// the length.
+    /// The end of the group that begins at `start`: the first index after it at which the test of two neighbours fails,
+    /// or the length.
     pub fn group_end<F: Fn(&hb_glyph_info_t, &hb_glyph_info_t) -> bool>(
         &self,
         start: usize,
@@ -59,8 +61,8 @@ impl hb_buffer_t {
         groups::group_end(&self.info, start, group)
     }
 
-    /// Turns round the order of the groups, and keeps the order within each; positions go with their glyphs. Where `merge` is
-    /// told, the glyphs of each group are merged before, as by `merge_clusters`. It takes no memory.
+    /// Reverses the order of the groups, and keeps the order within each; positions move with their glyphs. Where
+    /// `merge` is set, the glyphs of each group are merged before, as by `merge_clusters`. It takes no memory.
     pub fn reverse_groups<F: Fn(&hb_glyph_info_t, &hb_glyph_info_t) -> bool>(
         &mut self,
         group: F,
@@ -94,9 +96,9 @@ impl hb_buffer_t {
         self.scratch_flags = telling_flags(marked, self.scratch_flags);
     }
 
-    /// Takes out the glyphs that `filter` picks, and their positions, from the left: what becomes of clusters is what
-    /// `delete_glyph` leaves of each. The cursor stays at its index, or stands after the last glyph where fewer are left.
-    /// It takes no memory.
+    /// Deletes the glyphs where `filter` holds, and their positions, from the left, with the clusters that
+    /// `delete_glyph` leaves after each. The cursor stays at its index, or is after the last glyph where fewer are
+    /// left. It takes no memory.
     pub fn delete_glyphs_inplace<F: Fn(&hb_glyph_info_t) -> bool>(&mut self, filter: F)
         requires callable { F.IsAlwaysCallable filter }
         requires closed { self.old.is_open ≡ false }

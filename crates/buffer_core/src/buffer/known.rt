@@ -1,3 +1,4 @@
+//! What a buffer knows of the order of its clusters, so that merges need not walk the list (of this project).
 ghost use Rattle.std.specs.Prelude.{◌≡◌, false};
 ghost use Rattle.buffer_glyphs.specs.Items.{clusters};
 ghost use Rattle.buffer_lists.specs.Known.{HasOrder};
@@ -7,7 +8,7 @@ use super::hb_buffer_t;
 use buffer_lists::order::{ClusterOrder, KnownOrder};
 
 impl hb_buffer_t {
-    /// What is known of the order of clusters once the list has been walked, where it was not known.
+    /// What is known of the order of clusters after a walk of the list where it was not known.
     pub(super) fn walked_order(&mut self) -> KnownOrder
         requires { self.old.is_open ≡ false }
         ensures same { self.new ≡ self.old }
@@ -19,7 +20,7 @@ impl hb_buffer_t {
         known
     }
 
-    /// Learns whether the clusters stand in order, where that is not known, so that ranges of one cluster are marked
+    /// Learns whether the clusters are in order, where that is not known, so that ranges of one cluster are flagged
     /// without a walk. It takes linear time, and changes nothing that is seen.
     pub fn learn_order(&mut self)
         requires { self.old.is_open ≡ false }
@@ -28,8 +29,8 @@ impl hb_buffer_t {
         self.walked_order();
     }
 
-    /// What is known of the order of the clusters of all glyphs, without a walk, for one who is to write glyphs and to say
-    /// by `keep_order` that it holds of what they then are.
+    /// What is known of the order of the clusters of all glyphs, without a walk; a caller that writes glyphs passes it
+    /// to `keep_order` where it still holds.
     pub fn known_order(&mut self) -> KnownOrder
         ensures same { self.new ≡ self.old }
         ensures order { HasOrder result (clusters (all_glyphs self.old)) }
@@ -38,8 +39,8 @@ impl hb_buffer_t {
         self.order.known
     }
 
-    /// The clusters of all glyphs have an order: ranges of them merge without a walk over the rest. It changes nothing that
-    /// is seen.
+    /// Records that the clusters of all glyphs have an order: ranges of them merge without a walk over the rest. It
+    /// changes nothing that is seen.
     pub fn keep_order(&mut self, known: KnownOrder)
         requires { HasOrder known (clusters (all_glyphs self.old)) }
         ensures { self.new ≡ self.old }

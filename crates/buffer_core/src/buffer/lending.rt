@@ -1,3 +1,5 @@
+//! Whole lists of a buffer, lent to be written (rustybuzz: hb/buffer.rs, `info_slice_mut`, `out_info_mut`,
+//! `pos_slice_mut`).
 ghost use Rattle.std.specs.Prelude.{◌≡◌, false, true};
 ghost use Rattle.std.specs.Borrow.{sem};
 ghost use Rattle.buffer_core.specs.Sides.{all_glyphs};
@@ -8,7 +10,7 @@ use buffer_glyphs::info::hb_glyph_info_t;
 use buffer_glyphs::position::GlyphPosition;
 use buffer_lists::order::{ClusterOrder, KnownOrder};
 
-// Whole lists, to be written. As many glyphs come back as were lent.
+// Whole lists, lent to be written. As many glyphs come back as were lent.
 impl hb_buffer_t {
     /// All glyphs, to be written, while no output is open.
     pub fn info_slice_mut(&mut self) -> &mut [hb_glyph_info_t]

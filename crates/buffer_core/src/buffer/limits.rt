@@ -1,3 +1,4 @@
+//! Limits of length and steps, and ligature numbers (rustybuzz: hb/buffer.rs, `enter`, `leave`, `allocate_lig_id`).
 ghost use Rattle.std.specs.Prelude.{◌≡◌, ◌≤◌, ◌+◌, length, false};
 ghost use Rattle.buffer_core.specs.Sides.{with_max_len};
 ghost use Rattle.buffer_core.specs.Settings.{after_enter, after_leave, length_limit, next_lig_id, steps_limit, with_lig_id, with_max_ops};
@@ -22,20 +23,22 @@ impl hb_buffer_t {
         self.max_len = max_len;
     }
 
-    /// How many steps may still be taken.
+    /// How many steps may still be taken; a step is a nested lookup.
     pub fn max_ops(&self) -> i32
         ensures { result ≡ self.now.max_ops }
     {
         self.max_ops
     }
 
+    /// Sets how many steps may still be taken.
     pub fn set_max_ops(&mut self, max_ops: i32)
         ensures { self.new ≡ with_max_ops max_ops self.old }
     {
         self.max_ops = max_ops;
     }
 
-    /// A number for a ligature and what hangs on it, 1 to 7, the next after the one that was given last.
+    /// Gives out a number for a ligature and the marks attached to it: 1 to 7, the next after the last one given, and
+    /// then 1 again.
     pub fn allocate_lig_id(&mut self) -> u8
         ensures given { result ≡ next_lig_id self.old.lig_id }
         ensures kept { self.new ≡ with_lig_id result self.old }
@@ -46,7 +49,7 @@ impl hb_buffer_t {
         self.lig_id
     }
 
-    /// Shaping begins: sets the limits by the number of glyphs.
+    /// Sets the limits of shaping by the number of glyphs, and resets ligature numbers and scratch flags.
     pub fn enter(&mut self)
         requires { self.old.is_open ≡ false }
         ensures { self.new ≡ after_enter self.old }
@@ -58,7 +61,7 @@ impl hb_buffer_t {
         self.scratch_flags = HB_BUFFER_SCRATCH_FLAG_DEFAULT;
     }
 
-    /// Shaping ends: sets the limits as they were at first; that of the length is never less than what is held.
+    /// Resets the limits to the defaults; the limit of the length is never less than the number of glyphs.
     pub fn leave(&mut self)
         requires { self.old.is_open ≡ false }
         ensures { self.new ≡ after_leave self.old }

@@ -1,3 +1,5 @@
+//! Glyph flags on ranges of the input (rustybuzz: hb/buffer.rs, `unsafe_to_break`, `unsafe_to_concat`,
+//! `safe_to_insert_tatweel`).
 ghost use Rattle.std.specs.Prelude.{◌≡◌, ◌+◌, ◌-◌, ◌≤◌, ◌<◌, if◌then◌else◌, true, length, ◌∷◌, []};
 ghost use Rattle.buffer_core.specs.Sides.{items_of, origins_of, origins_by};
 ghost use Rattle.buffer_core.specs.Merging.{index_in_all};
@@ -12,8 +14,8 @@ use buffer_glyphs::info::{SAFE_TO_INSERT_TATWEEL, UNSAFE_TO_BREAK, UNSAFE_TO_CON
 use buffer_glyphs::marks::{flag_within, mark_within};
 
 impl hb_buffer_t {
-    /// Marks the glyphs of a range of the input that are outside its least cluster as unsafe to break and to concat. Where
-    /// they are not told, the range begins at 0 and ends at the length of the input.
+    /// Flags as unsafe to break and to concat the glyphs of a range of the input that are outside its least cluster.
+    /// Without a bound the range begins at 0 or ends at the length of the input.
     pub fn unsafe_to_break(&mut self, start: Option<usize>, end: Option<usize>)
         requires ordered { start_or start ≤ end_or end self.old }
         requires within { end_or end self.old ≤ self.old.read + length self.old.ahead }
@@ -31,7 +33,7 @@ impl hb_buffer_t {
         );
     }
 
-    /// Marks the glyphs of a range of the input as unsafe to concat, where that is asked for.
+    /// Flags the glyphs of a range of the input as unsafe to concat, where PRODUCE_UNSAFE_TO_CONCAT is set.
     pub fn unsafe_to_concat(&mut self, start: Option<usize>, end: Option<usize>)
         requires ordered { start_or start ≤ end_or end self.old }
         requires within { end_or end self.old ≤ self.old.read + length self.old.ahead }
@@ -47,8 +49,8 @@ impl hb_buffer_t {
         }
     }
 
-    /// Marks the glyphs of a range of the input that are outside its least cluster: a tatweel may stand in front of them,
-    /// where that is asked for; else they are unsafe to break.
+    /// Flags the glyphs of a range of the input that are outside its least cluster: as safe to insert a tatweel before,
+    /// where PRODUCE_SAFE_TO_INSERT_TATWEEL is set; else as unsafe to break.
     pub fn safe_to_insert_tatweel(&mut self, start: Option<usize>, end: Option<usize>)
         requires ordered { start_or start ≤ end_or end self.old }
         requires within { end_or end self.old ≤ self.old.read + length self.old.ahead }

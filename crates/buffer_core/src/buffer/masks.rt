@@ -1,3 +1,4 @@
+//! Feature masks of a buffer's glyphs (rustybuzz: hb/buffer.rs, `reset_masks`, `set_masks`).
 ghost use Rattle.std.specs.Prelude.{◌≡◌, map, bit_and, ◌∷◌, []};
 ghost use Rattle.buffer_glyphs.specs.declared.info.TheConstants.{DEFINED};
 ghost use Rattle.buffer_glyphs.specs.Items.{clusters};
@@ -11,7 +12,7 @@ use buffer_glyphs::info::hb_mask_t;
 use buffer_lists::masks::{reset_masks, set_masks};
 
 impl hb_buffer_t {
-    /// Gives each glyph the mask, its three flags among it.
+    /// Sets each glyph's mask, its three glyph flags included.
     pub fn reset_masks(&mut self, mask: hb_mask_t)
         ensures masked { self.new ≡ with_masks mask self.old }
         ensures items { items_of self.new ≡ map (item_masked mask) (items_of self.old) }
@@ -22,8 +23,8 @@ impl hb_buffer_t {
         reset_masks(&mut self.out_info, mask);
     }
 
-    /// Of each glyph whose cluster is from `cluster_start` up to before `cluster_end` the bits under `mask` become those of
-    /// the value; so of each glyph where these are 0 and `u32::MAX`.
+    /// Sets the bits under `mask` to those of the value on each glyph whose cluster is from `cluster_start` up to
+    /// before `cluster_end`, and on every glyph where these are 0 and `u32::MAX`.
     pub fn set_masks(
         &mut self,
         value: hb_mask_t,

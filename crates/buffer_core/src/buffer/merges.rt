@@ -1,3 +1,4 @@
+//! Merges of clusters in the input (rustybuzz: hb/buffer.rs, `merge_clusters`, `set_cluster`).
 ghost use Rattle.std.specs.Prelude.{◌≡◌, ◌+◌, ◌-◌, ◌≤◌, if◌then◌else◌, true, length, ◌∷◌, []};
 ghost use Rattle.buffer_glyphs.specs.Deleting.{recast};
 ghost use Rattle.buffer_core.specs.Sides.{items_of, origins_of, origins_by};
@@ -12,11 +13,11 @@ use buffer_glyphs::info::{hb_glyph_info_t, hb_mask_t};
 use buffer_lists::merges::merge_input;
 
 impl hb_buffer_t {
-    /// Merges the clusters of the glyphs from `start` up to before `end`, indices of the input. At the monotone levels each
-    /// cluster that occurs among them becomes the least of them, wherever it is, and a glyph whose cluster changes loses
-    /// its three flags. At the level that keeps characters apart those outside the least cluster are marked as unsafe to
-    /// break and to concat. It takes no memory. Where clusters rise or fall it costs the range and the runs at its ends; in
-    /// no order each glyph is compared with the range.
+    /// Merges the clusters of the glyphs from `start` up to before `end`, indices of the input. At the monotone levels
+    /// each cluster that occurs among them becomes the least of them, wherever it is, and a glyph whose cluster changes
+    /// loses its three flags. At the level `Characters` the glyphs outside the least cluster are flagged as unsafe to
+    /// break and to concat. It takes no memory. Where clusters rise or fall it costs the range and the runs of glyphs
+    /// at its ends; in no order each glyph is compared with the range.
     pub fn merge_clusters(&mut self, start: usize, end: usize)
         requires ordered { start ≤ end }
         requires within { end ≤ self.old.read + length self.old.ahead }
@@ -40,14 +41,14 @@ impl hb_buffer_t {
         self.scratch_flags = telling_flags(marked, self.scratch_flags);
     }
 
-    /// Puts the glyph into the cluster; where it was in another, the three glyph flags of `mask` take the place of its own.
+    /// Puts the glyph into the cluster; where it was in another, the three glyph flags of `mask` replace its own.
     pub fn set_cluster(info: &mut hb_glyph_info_t, cluster: u32, mask: hb_mask_t)
         ensures { info.new ≡ recast cluster mask info.old }
     {
         set_cluster(info, cluster, mask);
     }
 
-    /// Where in the input the glyphs ahead, or with no output open all glyphs, begin.
+    /// The index in the input of the first glyph ahead; with no output open, 0.
     pub(super) fn first_of_input(&self) -> usize
         ensures { result ≡ (if self.now.is_open then self.now.read else 0) }
     {

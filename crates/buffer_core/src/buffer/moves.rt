@@ -1,3 +1,4 @@
+//! Moves of the cursor (rustybuzz: hb/buffer.rs, `next_glyphs`, `skip_glyph`, `move_to`).
 ghost use Rattle.std.specs.Prelude.{◌≡◌, ◌<◌, ◌≤◌, ◌+◌, ◌-◌, ◌++◌, length, drop, true, false, Ok, OnOk, OnErr, IfOk, ◌∷◌, []};
 ghost use Rattle.buffer_glyphs.specs.Items.{strip};
 ghost use Rattle.buffer_core.specs.Sides.{all_glyphs, fits_next, has_output_room, items_of, moved_on, refused, origins_of, origins_by};
@@ -10,8 +11,8 @@ use buffer_lists::moves::put_in_front;
 use std::alloc::AllocError;
 
 impl hb_buffer_t {
-    /// Moves the cursor over so many glyphs, which go behind the output where one is open; answers false, and moves nothing,
-    /// where the output would have more than it may.
+    /// Moves the cursor over so many glyphs, which are appended to the output where one is open; answers false, and
+    /// moves nothing, where the output would have more than it may.
     #[tactic(auto, using(crate::proofs::Kept::moved_all))]
     pub fn next_glyphs(&mut self, count: usize) -> Result<bool, AllocError>
         requires { count ≤ length self.old.ahead }
@@ -47,7 +48,7 @@ impl hb_buffer_t {
         Ok(())
     }
 
-    /// The glyph at the cursor goes. It takes no memory.
+    /// Deletes the glyph at the cursor, with no merge of clusters. It takes no memory.
     #[tactic(auto, using(buffer_glyphs::specs::Lists::drop_next))]
     pub fn skip_glyph(&mut self)
         requires open { self.old.is_open ≡ true }
@@ -59,9 +60,9 @@ impl hb_buffer_t {
         self.idx += 1;
     }
 
-    /// Moves the cursor in front of the i-th of all glyphs. While an output is open, glyphs go from the one side to the other;
-    /// it answers false, and moves nothing, where a call before was refused for length, or the side that grows would have
-    /// more than it may.
+    /// Moves the cursor to before the i-th of all glyphs. While an output is open, glyphs move from the one side to the
+    /// other; it answers false, and moves nothing, where a call before was refused for length, or the side that grows
+    /// would have more than it may.
     pub fn move_to(&mut self, i: usize) -> Result<bool, AllocError>
         requires { i ≤ length (all_glyphs self.old) }
         ensures held { IfOk result (λ b. b ≡ fits_moved i self.old) }
@@ -85,7 +86,7 @@ impl hb_buffer_t {
         self.move_back(i)
     }
 
-    /// Takes the glyphs of the output from the i-th on back in front of the input.
+    /// Moves the glyphs of the output from the i-th on back to the front of the input.
     #[tactic(auto, using(crate::proofs::Moved::moved_to_all))]
     fn move_back(&mut self, i: usize) -> Result<bool, AllocError>
         requires open { self.old.is_open ≡ true }

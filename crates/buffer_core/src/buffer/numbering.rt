@@ -1,3 +1,4 @@
+//! Clusters by index (rustybuzz: hb/buffer.rs, `reset_clusters`).
 ghost use Rattle.std.specs.Prelude.{◌≡◌, false, vec_len};
 ghost use Rattle.buffer_core.specs.Sides.{items_of, origins_of};
 ghost use Rattle.buffer_core.specs.Settings.{glyphs_counted, with_counted, origins_counted};
@@ -7,7 +8,7 @@ use buffer_glyphs::info::hb_glyph_info_t;
 use buffer_lists::order::{ClusterOrder, KnownOrder};
 
 impl hb_buffer_t {
-    /// Gives the glyphs the clusters 0, 1, 2 and so on; those past the greatest number have that one.
+    /// Sets the clusters of the glyphs to 0, 1, 2 and so on; those past `u32::MAX` get that number.
     pub fn reset_clusters(&mut self)
         requires { self.old.is_open ≡ false }
         ensures counted { self.new ≡ with_counted self.old }

@@ -1,3 +1,4 @@
+//! Single glyphs appended to the output (rustybuzz: hb/buffer.rs, `output_glyph`, `output_info`, `replace_glyph`).
 ghost use Rattle.std.specs.Prelude.{◌≡◌, ◌<◌, ◌+◌, ◌++◌, ◌∷◌, [], length, true, false, Ok, OnOk, OnErr, IfOk};
 ghost use Rattle.buffer_glyphs.specs.Items.{item_of, strip};
 ghost use Rattle.buffer_glyphs.specs.Parts.{replaced};
@@ -13,8 +14,8 @@ use buffer_lists::replacement::push_copies;
 use std::alloc::AllocError;
 
 impl hb_buffer_t {
-    /// Puts a copy of the glyph at the cursor behind the output under another number; where the cursor is past the end, a
-    /// copy of the output's last, and with neither none. It answers false, and puts none, where the output would have more
+    /// Appends a copy of the glyph at the cursor (of the last output glyph where the cursor is past the end; none where
+    /// there is neither) under another number. It answers false, and appends none, where the output would have more
     /// than it may.
     pub fn output_glyph(&mut self, glyph_index: u32) -> Result<bool, AllocError>
         requires { self.old.is_open ≡ true }
@@ -46,7 +47,7 @@ impl hb_buffer_t {
         Ok(())
     }
 
-    /// Puts a glyph behind the output; answers false, and puts none, where the output has as many as it may.
+    /// Appends a glyph to the output; answers false, and appends none, where the output has as many as it may.
     pub fn output_info(&mut self, glyph_info: hb_glyph_info_t) -> Result<bool, AllocError>
         requires { self.old.is_open ≡ true }
         ensures held { IfOk result (λ b. b ≡ has_output_room 1 self.old) }
@@ -80,7 +81,7 @@ impl hb_buffer_t {
         Ok(())
     }
 
-    /// Puts the glyph at the cursor behind the output under another number; answers false, and moves nothing, where the
+    /// Appends the glyph at the cursor to the output under another number; answers false, and moves nothing, where the
     /// output has as many as it may.
     #[tactic(auto, using(crate::proofs::Kept::renumbered_origins))]
     pub fn replace_glyph(&mut self, glyph_index: u32) -> Result<bool, AllocError>

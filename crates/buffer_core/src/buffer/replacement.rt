@@ -1,3 +1,4 @@
+//! Some glyphs replaced by others (rustybuzz: hb/buffer.rs, `replace_glyphs`).
 ghost use Rattle.std.specs.Prelude.{◌≡◌, ◌+◌, ◌≤◌, length, true, false, Ok, OnOk, OnErr, IfOk, ◌∷◌, []};
 ghost use Rattle.buffer_glyphs.specs.Parts.{replaced};
 ghost use Rattle.buffer_glyphs.specs.Replacements.{items_replaced};
@@ -11,9 +12,9 @@ use buffer_lists::replacement::replace_first;
 use std::alloc::AllocError;
 
 impl hb_buffer_t {
-    /// Merges the `num_in` glyphs at the cursor and takes them out; a copy of the glyph at the cursor goes behind the output
-    /// for each of the `num_out` numbers. Where the cursor is past the end the copies are of the output's last, and with
-    /// neither none is made. It answers false, and changes neither list, where the output would have more than it may.
+    /// Merges the `num_in` glyphs at the cursor, deletes them, and appends a copy of the first input glyph (of the last
+    /// output glyph where the input is empty; none where there is neither) for each of the `num_out` numbers. It
+    /// answers false, and changes neither list, where the output would have more than it may.
     pub fn replace_glyphs(
         &mut self,
         num_in: usize,
@@ -62,7 +63,7 @@ impl hb_buffer_t {
         Ok(())
     }
 
-    /// Whether so many copies may be put behind the output.
+    /// Whether so many copies may be appended to the output.
     pub(super) fn fits_copies(&self, count: usize) -> bool
         requires { self.now.is_open ≡ true }
         ensures { result ≡ fits_copies count self.now }

@@ -1,3 +1,4 @@
+//! Reversals of a buffer's list (rustybuzz: hb/buffer.rs, `reverse`, `reverse_range`, `clear_positions`).
 ghost use Rattle.std.specs.Prelude.{◌≡◌, ◌≤◌, ◌-◌, false, length, reverse, vec_len, ◌∷◌, []};
 ghost use Rattle.buffer_core.specs.Sides.{all_glyphs, items_of, reversed, with_cleared_positions, origins_of, origins_by};
 ghost use Rattle.buffer_core.specs.Moving.{range_reversed, with_range_reversed, indices_reversed};
@@ -9,7 +10,7 @@ use buffer_glyphs::position::GlyphPosition;
 use buffer_lists::order::{ClusterOrder, KnownOrder};
 
 impl hb_buffer_t {
-    /// Turns the list of glyphs round, and their positions with it.
+    /// Reverses the list of glyphs, and their positions with it.
     pub fn reverse(&mut self)
         requires { self.old.is_open ≡ false }
         ensures turned { self.new ≡ reversed self.old }
@@ -22,7 +23,7 @@ impl hb_buffer_t {
         self.pos.reverse();
     }
 
-    /// Turns the glyphs from `start` up to before `end` round, and their positions with them.
+    /// Reverses the glyphs from `start` up to before `end`, and their positions with them.
     pub fn reverse_range(&mut self, start: usize, end: usize)
         requires closed { self.old.is_open ≡ false }
         requires ordered { start ≤ end }
@@ -37,7 +38,7 @@ impl hb_buffer_t {
         turn_positions(&mut self.pos, start, end);
     }
 
-    /// Makes each place nothing.
+    /// Resets every position to zero.
     pub fn clear_positions(&mut self)
         ensures { self.new ≡ with_cleared_positions self.old }
     {

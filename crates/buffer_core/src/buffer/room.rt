@@ -1,3 +1,4 @@
+//! Whether a list may grow, and refusals for length (rustybuzz: hb/buffer.rs, `ensure`, `successful`).
 ghost use Rattle.std.specs.Prelude.{◌≡◌, false, true};
 ghost use Rattle.buffer_core.specs.Sides.{has_output_room, refused};
 
@@ -12,7 +13,7 @@ impl hb_buffer_t {
         count <= self.max_len - self.out_info.len()
     }
 
-    /// A list would have more glyphs than it may: no later `sync` succeeds.
+    /// Records that a list would have more glyphs than it may: no later `sync` succeeds. Answers false.
     pub(super) fn refuse(&mut self) -> bool
         ensures answer { result ≡ false }
         ensures after { self.new ≡ refused self.old }

@@ -1,4 +1,4 @@
-//! Script and direction of a text that were not told.
+//! Script and direction of a text where none was set (rustybuzz: hb/buffer.rs, `guess_segment_properties`).
 ghost use Rattle.std.specs.Prelude.{◌≡◌, if◌then◌else◌, Some, None, false};
 ghost use Rattle.buffer_unicode.specs.Scripts.{script_of};
 ghost use Rattle.buffer_core.specs.Segment.{first_script, guessed, guessed_direction, is_shared, tells_script, with_segment};
@@ -10,32 +10,36 @@ use buffer_glyphs::info::hb_glyph_info_t;
 use buffer_unicode::CharExt;
 
 impl hb_buffer_t {
+    /// The direction, `Invalid` where none was set.
     pub fn direction(&self) -> Direction
         ensures { result ≡ self.now.direction }
     {
         self.direction
     }
 
+    /// Sets the direction of the text.
     pub fn set_direction(&mut self, direction: Direction)
         ensures { self.new ≡ with_segment direction self.old.script self.old }
     {
         self.direction = direction;
     }
 
+    /// The script, if one was set.
     pub fn script(&self) -> Option<Script>
         ensures { result ≡ self.now.script }
     {
         self.script
     }
 
+    /// Sets the script of the text.
     pub fn set_script(&mut self, script: Option<Script>)
         ensures { self.new ≡ with_segment self.old.direction script self.old }
     {
         self.script = script;
     }
 
-    /// Sets the script that was not told to that of the first character that tells it, and the direction that was not
-    /// told to that of the script, else to left to right.
+    /// Sets a script that was not set to that of the first character with a script of its own, and a direction that was
+    /// not set to that of the script, else to left to right.
     pub fn guess_segment_properties(&mut self)
         requires { self.old.is_open ≡ false }
         ensures { self.new ≡ guessed self.old }
@@ -45,7 +49,7 @@ impl hb_buffer_t {
     }
 }
 
-/// The script of the first character that tells it.
+/// The script of the first character with a script of its own: not Common, Inherited or Unknown.
 pub fn first_script(glyphs: &[hb_glyph_info_t]) -> Option<Script>
     ensures { result ≡ first_script glyphs.now }
 {
@@ -74,7 +78,7 @@ fn is_shared(script: Script) -> bool
     script == COMMON || script == INHERITED || script == UNKNOWN
 }
 
-/// The direction that was told, else that of the script, else left to right.
+/// The direction that was set, else that of the script, else left to right.
 pub fn guessed_direction(direction: Direction, script: Option<Script>) -> Direction
     ensures { result ≡ guessed_direction direction script }
 {

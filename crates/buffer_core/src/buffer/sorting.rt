@@ -1,3 +1,4 @@
+//! A range of a buffer sorted (rustybuzz: hb/buffer.rs, `sort`).
 ghost use Rattle.std.specs.Prelude.{◌≡◌, ◌≤◌, ◌++◌, ◌∷◌, [], ℕ, false, map, take, drop, length, slice_range, OnOk, OnErr};
 ghost use Rattle.buffer_glyphs.specs.declared.info.hb_glyph_info_t.{hb_glyph_info_t as Glyph};
 ghost use Rattle.buffer_glyphs.specs.Items.{Item, item_of};
@@ -16,8 +17,8 @@ use buffer_lists::order::ClusterOrder;
 use std::alloc::{AllocError, Global};
 
 impl hb_buffer_t {
-    /// Puts the glyphs from `start` up to before `end` in stable order by the keys that they have, and merges each smallest
-    /// span that the order permutes, as `merge_clusters` does. Places stay where they are.
+    /// Sorts the glyphs from `start` up to before `end` stably by their keys, and merges each smallest span that the
+    /// order permutes, as `merge_clusters` does. Positions stay at their indices.
     pub fn sort<F: Fn(&hb_glyph_info_t) -> u32>(
         &mut self,
         alloc: Global,

@@ -1,3 +1,4 @@
+//! The list of a buffer: its length, its characters, its slices (rustybuzz: hb/buffer.rs).
 ghost use Rattle.std.specs.Prelude.{◌≡◌, ◌+◌, ◌≤◌, ◌<◌, ◌^◌, ◌==◌, ◌++◌, ◌∷◌, [], length, not, nat_le, false, true, Ok, OnOk, OnErr, IfOk, IsTrue, vec_len, vec_capacity};
 ghost use Rattle.std.specs.Str.{chars};
 ghost use Rattle.buffer_core.specs.Sides.{all_glyphs, items_of, with_added, has_room, refused, zero_positions, origins_of};
@@ -14,8 +15,8 @@ use buffer_lists::order::{ClusterOrder, KnownOrder};
 use std::alloc::AllocError;
 
 impl hb_buffer_t {
-    /// How many glyphs there are while no output is open; while one is, how many the input has, read
-    /// ones included.
+    /// How many glyphs there are while no output is open; while one is, how many the input has, those already read
+    /// included.
     pub fn len(&self) -> usize
         ensures input { result ≡ self.now.read + length self.now.ahead }
         ensures count { self.now.is_open ≡ false → result ≡ length (all_glyphs self.now) }
@@ -24,7 +25,7 @@ impl hb_buffer_t {
         self.info.len()
     }
 
-    /// Whether there is no glyph.
+    /// Whether `len` is 0.
     pub fn is_empty(&self) -> bool
         ensures { result ≡ (length (all_glyphs self.now) == 0) }
     {
@@ -93,8 +94,8 @@ impl hb_buffer_t {
         Ok(true)
     }
 
-    /// Cuts the list at n glyphs, or fills it up with glyphs and positions of nothing; the cursor stands no further than its
-    /// end. It answers false, and changes nothing, where the list would have more than it may.
+    /// Truncates the list to n glyphs, or fills it up with zero glyphs and positions; the cursor is at most at its end.
+    /// It answers false, and changes nothing, where the list would have more than it may.
     pub fn set_len(&mut self, n: usize) -> Result<bool, AllocError>
         requires { self.old.is_open ≡ false }
         ensures held { IfOk result (λ b. b ≡ nat_le n self.old.max_len) }
@@ -116,8 +117,8 @@ impl hb_buffer_t {
     }
 
     #[tactic(auto, using(crate::proofs::Appended::appended_view, crate::proofs::Appended::appended_sound))]
-    /// Adds the characters of a text, each with the byte where it begins as its cluster; answers false, and adds
-    /// nothing, where the list would have more than it may or a character begins past byte `u32::MAX`.
+    /// Appends the characters of a text, each with the index of its first byte as its cluster; answers false, and
+    /// appends nothing, where the list would have more than it may or a character begins past byte `u32::MAX`.
     pub fn push_str(&mut self, text: &str) -> Result<bool, AllocError>
         requires { self.old.is_open ≡ false }
         ensures held { IfOk result (λ b. b ≡ fits_text text.now self.old) }
@@ -172,7 +173,7 @@ fn count_chars(text: &str) -> usize
     text.chars().count()
 }
 
-// Whether each character begins at a byte that 32 bits can tell.
+// Whether each character begins at a byte whose index fits 32 bits.
 #[tactic(auto, using(crate::proofs::Chars::offsets_fit_none, crate::proofs::Chars::offsets_fit_step, crate::proofs::Chars::utf8_step))]
 fn offsets_fit(text: &str) -> bool
     ensures { result ≡ offsets_fit 0 (chars text.now) }
@@ -226,7 +227,7 @@ fn push_chars(glyphs: &mut Vec<hb_glyph_info_t>, text: &str)
     }
 }
 
-/// What is known of the order of clusters with the characters of a text behind the glyphs.
+/// What is known of the order of clusters once the characters of a text are appended.
 #[tactic(auto, using(crate::proofs::Rising::text_rises))]
 fn order_of_text(glyphs: &[hb_glyph_info_t], text: &str) -> KnownOrder
     ensures { HasOrder result (clusters glyphs.now ++ clusters (added_text text.now)) }

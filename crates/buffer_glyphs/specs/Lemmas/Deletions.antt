@@ -159,7 +159,7 @@ first_merged : (falls : Bool) (n : ℕ) (back : List ℕ) → IsInOrder falls (n
 first_merged falls n [] o = refl
 first_merged falls n (q ∷ qs) o = ap (drop 1) (merge_is_join falls [] (n ∷ q ∷ []) qs o)
 
--- nothing stands before n
+-- nothing is before n
 alone_first : (level : BufferClusterLevel) (falls : Bool) (front : List ℕ) (n : ℕ) (back : List ℕ) → IsMonotone level → IsInOrder falls (front ++ n ∷ back) → last_of front ≡ None
     → deleted_alone level None front n back ≡ without (length front) (with_neighbour None (first_of back) n (front ++ n ∷ back))
 alone_first MonotoneGraphemes falls [] n back mono o last = first_merged falls n back o

@@ -71,7 +71,7 @@ replaced_at at given gone xs [] e =
     rw (drop-nil, append-nil, whole) (drawn_last given xs)
 replaced_at at given gone xs (x ∷ rest) e = rw append_assoc (drawn_after at xs (replicate given x ++ drop gone (x ∷ rest)) (rw e (drawn_copied given gone (x ∷ rest))))
 
--- so is a list in which items make room for others
+-- so is a list in which items are replaced by others
 pub drawn_replaced : (at gone given : ℕ) (xs : List ℕ) → IsDrawn xs (replaced at gone given xs)
 drawn_replaced at gone given xs = rw (← drop-drop gone at xs) (replaced_at at given gone xs (drop at xs) refl)
 

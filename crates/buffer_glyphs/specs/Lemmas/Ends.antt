@@ -30,7 +30,7 @@ united_rising x n y h k = grind (arith, nat_tests, common_steps)
 united_falling : (x n y : ℕ) → n ≤ x → y ≤ n → united (min x y) (max x y) n ≡ min x y
 united_falling x n y h k = grind (arith, nat_tests, common_steps)
 
--- in order, a join makes all numbers of its stretch one
+-- in order, a join makes all numbers of its range one
 pub joined_alike : (falls : Bool) (x n : ℕ) (xs : List ℕ) → IsInOrder falls (x ∷ xs) → Has (x ∷ xs) n → united (min x (last_from x xs)) (max x (last_from x xs)) n ≡ min x (last_from x xs)
 joined_alike false x n xs h has = united_rising x n (last_from x xs) (from_first (Stands false) (stands_self false) x n xs h.0 has) (to_last (Stands false) (stands_self false) x n xs h has)
 joined_alike true x n xs h has = united_falling x n (last_from x xs) (from_first (Stands true) (stands_self true) x n xs h.0 has) (to_last (Stands true) (stands_self true) x n xs h has)

@@ -1,4 +1,4 @@
--- What merges and marks of glyphs do to items, clusters and flags.
+-- Merges and glyph flags of glyphs, by items, clusters and flags.
 use Rattle.std.proofs.Common.{ℕ, ◌≡◌, ◌≤◌, ◌<◌, ◌+◌, ◌-◌, ◌==◌, ◌%◌, ◌/◌, Bool, true, false, if◌then◌else◌, List, [], ◌∷◌, ◌++◌, length, map, take, drop, arith, refl, ap, sym, ◌∙◌, append_assoc}
 use Rattle.std.specs.Prelude.{slice_range, bit_and}
 use Rattle.std.specs.Int.RustNames.{bit_or}
@@ -182,7 +182,7 @@ flagged_beyond bits xs ys i j =
     (append_assoc (xs ++ take i ys) (map (flagged bits) (slice_range ys i j)) (drop j ys) ∙ append_assoc xs (take i ys) (map (flagged bits) (slice_range ys i j) ++ drop j ys)
     ∙ ap (λ zs. xs ++ zs) (sym (append_assoc (take i ys) (map (flagged bits) (slice_range ys i j)) (drop j ys))))
 
--- a glyph stays where it goes to its own cluster, and so do all where nothing merges
+-- a glyph keeps its flags where it is moved to its own cluster, and so do all where nothing merges
 pub same_cluster : (g : hb_glyph_info_t) → in_cluster g.cluster g ≡ g
 same_cluster g = let yes : (g.cluster == g.cluster) ≡ true = grind (arith, common_steps) in rw yes refl
 

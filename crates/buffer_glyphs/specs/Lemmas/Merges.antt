@@ -100,7 +100,7 @@ before_falling x y n h k ne = grind (arith, nat_tests, common_steps)
 after_falling : (x y n : ℕ) → y ≤ x → n ≤ y → n ≢ y → united (min x y) (max x y) n ≡ n
 after_falling x y n h k ne = grind (arith, nat_tests, common_steps)
 
--- a number on either side of a stretch stays as it is
+-- a number on either side of a range stays as it is
 pub outside : (falls : Bool) (x y n : ℕ) → Stands falls x y → (Stands falls n x × n ≢ x) ⊎ (Stands falls y n × n ≢ y) → united (min x y) (max x y) n ≡ n
 outside false x y n h (inl k) = before_rising x y n h k.0 k.1
 outside false x y n h (inr k) = after_rising x y n h k.0 k.1

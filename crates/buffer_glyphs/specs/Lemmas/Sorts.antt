@@ -1,4 +1,4 @@
--- A sort whose spans were united leaves the numbers as they stand.
+-- A sort whose spans were united leaves the numbers as they are.
 use Rattle.std.proofs.Common.{ℕ, zero, suc, ◌≡◌, ◌≤◌, ◌<◌, ◌+◌, ◌-◌, ◌⊎◌, inl, inr, Bool, true, false, nat_lt, ◌==◌, if◌then◌else◌, List, [], ◌∷◌, Option, Some, None, length, map, take, drop, arith, refl, ap, sym, subst, ◌∙◌}
 use Rattle.std.specs.Prelude.{slice_get, unwrap_or, slice_index_or as get_or, nat_le, ◌++◌, ◌&&◌}
 use Rattle.std.specs.List.{list_all}
@@ -42,7 +42,7 @@ got_drop zero xs i = ap (slice_get xs) (omega arith)
 got_drop (suc n) [] i = refl
 got_drop (suc n) (x ∷ xs) i = let there : suc n + i ≡ suc (n + i) = omega arith in got_drop n xs i ∙ ap (slice_get (x ∷ xs)) (sym there)
 
--- what stands among the first ones stands in the list
+-- an element among the first ones is in the list
 got_first : {X : Type 0} (n : ℕ) (xs : List X) (i : ℕ) (x : X) → slice_get (take n xs) i ≡ Some x → slice_get xs i ≡ Some x
 got_first zero xs i x e = cc
 got_first (suc n) [] i x e = cc
@@ -138,13 +138,13 @@ all_got q [] i x all e = cc
 all_got q (y ∷ ys) zero x all e = let same : y ≡ x = cc in ap q (sym same) ∙ and_first (q y) (list_all q ys) all
 all_got q (y ∷ ys) (suc i) x all e = all_got q ys i x (and_second (q y) (list_all q ys) all) e
 
--- what comes to stand before a seam stood before it
+-- the elements that an order puts before a seam were before it
 seam_before : (order : List ℕ) (k i j : ℕ) → is_seam order k ≡ true → i < k → slice_get order i ≡ Some j → j < k
 seam_before order k i j seam lt e =
     let less : nat_lt j k ≡ true = all_got (λ n. nat_lt n k) (take k order) i j seam (got_taken k order i j lt e) in
     grind (arith, nat_tests, less)
 
--- no seam is between an index and the one that comes to stand there
+-- no seam is between an index and the index of its element before the sort
 none_up : (order : List ℕ) (i j t : ℕ) → slice_get order i ≡ Some j → i ≤ t → t < j → is_seam order (t + 1) ≡ false
 none_up order i j t e low high = by_seam (is_seam order (t + 1)) refl
   where

@@ -1,4 +1,4 @@
--- A join, and a deletion before its item goes, unite the parts of two items or leave all as they are.
+-- A join, and a deletion before its item is deleted, unite the parts of two items or leave all as they are.
 use Rattle.std.proofs.Common.{ℕ, ◌+◌, ◌-◌, ◌||◌, true, false, if◌then◌else◌, List, [], ◌∷◌, Option, Some, None, take, drop}
 use Rattle.buffer_glyphs.specs.Parts.{united_all, last_from, joined, stretch, first_of, last_of, is_number, with_neighbour, united_if_last, united_without, before_deletion}
 use Rattle.buffer_glyphs.specs.Lemmas.Numbers.{Has, MayHave, has_here, has_last_from, has_take, has_drop, has_last_before, has_first_from}
@@ -12,7 +12,7 @@ joined_by : (P : List ℕ → Type 0) (xs ns : List ℕ) → Unites P ns → ((n
 joined_by P [] ns u among = u.same
 joined_by P (x ∷ xs) ns u among = u.union x (last_from x xs) (among x (has_here x xs)) (among (last_from x xs) (has_last_from x xs))
 
--- it holds after a stretch is joined
+-- it holds after a range is joined
 pub joined_unites : (P : List ℕ → Type 0) (from to : ℕ) (ns : List ℕ) → Unites P ns → P (joined (stretch from to ns) ns)
 joined_unites P from to ns u = joined_by P (stretch from to ns) ns u (λ n h. has_drop n from ns (has_take n (to - from) (drop from ns) h))
 

@@ -36,7 +36,7 @@ deletions_many (suc n) asks level q ks kp (g ∷ back) pa m le =
           ∙ ap (λ hs. origins_after asks level (deletions_from q (at + 1) (strip back)) (origins hs)) (append_assoc ks (g ∷ []) back)
     ]
 
--- where the glyphs come from that a walk of deletions leaves
+-- the origins of the glyphs that a walk of deletions leaves
 pub deletions_are_events : (asks : Asks) (level : Level) (q : Item → Bool) (gs : List Glyph) (ps : List Position) → origins (all_passed level (λ g. q (item_of g)) gs ps).kept ≡ origins_after asks level (deletions q (strip gs)) (origins gs)
 deletions_are_events asks level q gs ps = deletions_many (length gs) asks level q [] [] gs ps false (omega arith)
 

@@ -18,7 +18,7 @@ picked_are all (i ∷ order) [] ys h le = absurd h
 picked_are all (i ∷ order) (z ∷ zs) [] h le = absurd (omega arith)
 picked_are all (i ∷ order) (z ∷ zs) (y ∷ ys) h le = rw h.0 (ap (λ xs. z ∷ xs) (picked_are all order zs ys h.1 (omega (arith, le))))
 
--- a stretch of a list that stands in an order
+-- a range of a list that stands in an order
 pub arranged_as : {X : Type 0} (from : ℕ) (order : List ℕ) (zs xs : List X) → AreAt (take (length order) (drop from xs)) order zs → from + length order ≤ length xs
     → arranged from order xs ≡ take from xs ++ zs ++ drop (from + length order) xs
 arranged_as from order zs xs h le =

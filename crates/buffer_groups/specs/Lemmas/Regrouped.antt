@@ -44,7 +44,7 @@ few_ahead merge level n m g gs le =
     let seen = ap length (ahead_items merge level (suc n) (g ∷ gs)) in
     omega (arith, seen, le, length-map (drop (suc n) (merged_if merge level 0 (suc n) (g ∷ gs))) item_of, length-drop (suc n) (strip (g ∷ gs)), length-map gs item_of)
 
--- the items that go in front of those that were turned
+-- the items that go before those that were turned
 first_items : (merge : Bool) (level : Level) (n : ℕ) (range : List ℕ) (ahead gs : List Glyph) → strip (take n (merged_if merge level 0 n ahead) ++ beside_if merge level range gs) ≡ take n (strip ahead) ++ strip gs
 first_items merge level n range ahead gs =
     map-append item_of (take n (merged_if merge level 0 n ahead)) (beside_if merge level range gs) ∙ ap (λ xs. strip (take n (merged_if merge level 0 n ahead)) ++ xs) (beside_items merge level range gs)
@@ -66,7 +66,7 @@ items_many (suc n) merge level q gs ps pa m (x ∷ xs) le =
     ∙ sym (append_assoc (groups_turned q (drop k (strip (x ∷ xs)))) (take k (strip (x ∷ xs))) (strip gs))
     ∙ ap (λ ys. ys ++ strip gs) (ap (λ j. groups_turned q (drop j (strip (x ∷ xs))) ++ take j (strip (x ∷ xs))) same ∙ sym (turned_onto q (item_of x) (strip xs)))
 
--- the groups of the items are turned round
+-- the groups of the items are reversed
 pub items_turned : (merge : Bool) (level : Level) (q : Item → Item → Bool) (gs : List Glyph) (ps : List Position) → strip (turning_of merge level (λ g h. q (item_of g) (item_of h)) gs ps).glyphs ≡ groups_turned q (strip gs)
 items_turned merge level q gs ps = items_many (length gs) merge level q [] [] ps false gs (omega arith) ∙ append-nil (groups_turned q (strip gs))
 

@@ -26,7 +26,7 @@ use Rattle.buffer_glyphs.specs.Lemmas.EventParts.{map-reverse}
 pub length_reversed_indices : (n : ℕ) → length (indices_reversed n) ≡ n
 length_reversed_indices n = length-reverse (range_with_len 0 n) ∙ length-range_with_len 0 n
 
--- a stretch that is reversed stands in the order of its indices, the last first
+-- a range that is reversed stands in the order of its indices, the last first
 pub range_arranged : {X : Type 0} (start n : ℕ) (xs : List X) → start + n ≤ length xs → range_reversed start (start + n) xs ≡ arranged start (indices_reversed n) xs
 range_arranged start n xs le =
     let range = take n (drop start xs) in
@@ -49,7 +49,7 @@ range_seen v start end xs =
 pub range_origins : (start n : ℕ) (gs : List Glyph) → start + n ≤ length gs → origins (range_reversed start (start + n) gs) ≡ arranged start (indices_reversed n) (origins gs)
 range_origins start n gs le = range_seen origin_of start (start + n) gs ∙ range_arranged start n (origins gs) (omega (arith, le, length-map gs origin_of))
 
--- a group that was merged where that is asked for, and reversed in its place
+-- a group that was merged where that is requested, and reversed in its place
 group_origins : (asks : Asks) (merge : Bool) (level : Level) (start n : ℕ) (gs : List Glyph) → start + n ≤ length gs → origins (range_reversed start (start + n) (merged_if merge level start (start + n) gs)) ≡ origins_after_event asks level (origins gs) (group_event merge start n)
 group_origins asks false level start n gs le = range_origins start n gs le
 group_origins asks true level start n gs le =
@@ -80,7 +80,7 @@ groups_many (suc n) asks merge level q start gs found (x ∷ xs) ps pa m f a le 
     ∙ ap (λ os. reverse (origins_after asks level (group_events merge (start + k) (group_lengths q (strip back))) os)) (group_origins asks merge level start k gs within)
     ∙ ap (λ lens. reverse (origins_after asks level (group_events merge start lens) (origins gs))) (sym (lengths_ahead merge level q x xs))
 
--- where the glyphs come from once their groups were reversed
+-- the origins of the glyphs once their groups were reversed
 pub groups_are_events : (asks : Asks) (merge : Bool) (level : Level) (q : Item → Item → Bool) (gs : List Glyph) (ps : List Position) → origins (turning_of merge level (λ g h. q (item_of g) (item_of h)) gs ps).glyphs ≡ origins_after asks level (groups_reversed merge q (strip gs)) (origins gs)
 groups_are_events asks merge level q gs ps = groups_many (length gs) asks merge level q 0 gs [] gs [] ps false refl refl (omega arith) ∙ sym (origins_after_both asks level (group_events merge 0 (group_lengths q (strip gs))) (Reverse ∷ []) (origins gs))
 

@@ -31,7 +31,7 @@ use Rattle.buffer_groups.specs.Lemmas.Picked.{AreAt, arranged_as}
 use Rattle.buffer_groups.specs.Lemmas.SortedItems.{spans_strip}
 use Rattle.buffer_groups.specs.Lemmas.Stretches.{map_twice}
 
--- ---- the order of the places
+-- ---- the order of the indices
 
 abbrev place_of : Keyed → ℕ
 place_of e = e.place
@@ -164,7 +164,7 @@ put_origins start end es gs le within long h =
 items_keyed : (k : Item → ℕ) (gs : List Glyph) → map (λ g. k (item_of g)) gs ≡ map k (strip gs)
 items_keyed k gs = sym (map_twice k item_of gs)
 
--- where the glyphs come from that a sort leaves
+-- the origins of the glyphs that a sort leaves
 pub sort_is_event : (asks : Asks) (level : Level) (start end : ℕ) (k : Item → ℕ) (gs : List Glyph) → start ≤ end → end ≤ length gs
     → origins (range_sorted level start end (λ g. k (item_of g)) gs).glyphs ≡ origins_after asks level (Sort start (order_of (map k (slice_range (strip gs) start end))) ∷ []) (origins gs)
 sort_is_event asks level start end k gs le within =

@@ -15,7 +15,7 @@ use Rattle.buffer_groups.specs.declared.sorting.Keyed.{Keyed}
 use Rattle.buffer_groups.specs.Sorting.{keyed_from, places_by_key, is_seam, Spanned, span_merged, spans_merged, range_spanned, range_sorted, glyph_at, put_in_order}
 use Rattle.buffer_groups.specs.Lemmas.Neighbours.{no_glyph}
 
--- what stands at a place of items
+-- what stands at an index of items
 abbrev item_at : List Item → Keyed → Item
 item_at xs e = get_or xs e.place (item_of no_glyph)
 
@@ -42,7 +42,7 @@ agree_from key (g ∷ gs) front i e =
     let moved = subst (λ (xs : List Item). Agree (λ (e : Keyed). e.key) (λ (e : Keyed). key (item_at xs e)) (keyed_from (λ h. key (item_of h)) (i + 1) gs)) (pushed front (item_of g) (strip gs)) rest in
     (ap key (sym (here front (item_of g) (strip gs) i e)), moved)
 
--- items at the places by key are the items in the order of the key
+-- items at the indices by key are the items in the order of the key
 items_by_key : (key : Item → ℕ) (gs : List Glyph) → map (item_at (strip gs)) (places_by_key (λ g. key (item_of g)) gs) ≡ key_order key (strip gs)
 items_by_key key gs =
     let keyed = keyed_from (λ g. key (item_of g)) 0 gs in

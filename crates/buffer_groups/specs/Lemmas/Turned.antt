@@ -49,7 +49,7 @@ beside_reverse MonotoneGraphemes range gs = sym (map-reverse _ gs)
 beside_reverse MonotoneCharacters range gs = sym (map-reverse _ gs)
 beside_reverse Characters range gs = refl
 
--- a merge after a place, on both sides of it
+-- a merge after an index, on both sides of it
 merged_cut : (merge : Bool) (level : BufferClusterLevel) (start end : ℕ) (gs : List Glyph) → start ≤ end → start ≤ length gs
     → merged_if merge level start end gs ≡ beside_if merge level (stretch 0 (end - start) (clusters (drop start gs))) (take start gs) ++ merged_if merge level 0 (end - start) (drop start gs)
 merged_cut false level start end gs le within = sym (take-append-drop start gs)
@@ -82,7 +82,7 @@ merged_length : (merge : Bool) (level : BufferClusterLevel) (start end : ℕ) (g
 merged_length false level start end gs le = refl
 merged_length true level start end gs le = length_merged_at level start end gs le
 
--- a group was merged and turned round in its place: the glyphs up to its end in reversed order, and those after it
+-- a group was merged and reversed in its place: the glyphs up to its end in reversed order, and those after it
 pub placed_glyphs : (merge : Bool) (level : BufferClusterLevel) (start end : ℕ) (gs mid new : List Glyph) → start ≤ end → end ≤ length gs → mid ≡ merged_if merge level start end gs → new ≡ range_reversed start end mid
     → (reverse (take end new) ≡ take (end - start) (merged_if merge level 0 (end - start) (drop start gs)) ++ beside_if merge level (stretch 0 (end - start) (clusters (drop start gs))) (reverse (take start gs)))
     × (drop end new ≡ drop (end - start) (merged_if merge level 0 (end - start) (drop start gs)))
@@ -136,7 +136,7 @@ merged_stretch Characters start end gs mono le = absurd mono
 merged_stretch MonotoneGraphemes start end gs mono le = in_range start end gs
 merged_stretch MonotoneCharacters start end gs mono le = in_range start end gs
 
--- turned round, they leave the clusters as they are
+-- reversed, they leave the clusters as they are
 pub clusters_part : (level : BufferClusterLevel) (start end : ℕ) (gs mid : List Glyph) → IsMonotone level → start ≤ end → mid ≡ glyphs_merged_at level start end gs → clusters (range_reversed start end mid) ≡ clusters mid
 clusters_part level start end gs mid mono le m =
     let f : Glyph → ℕ = λ g. g.cluster in

@@ -1,3 +1,4 @@
+//! The state of a walk of deletions in place.
 ghost use Rattle.std.specs.Prelude.{◌≡◌, ◌+◌, ◌<◌, ◌≤◌, ◌++◌, ◌||◌, ◌∷◌, [], None, true, false, Bool, List, Some, length, take, drop};
 ghost use Rattle.buffer_glyphs.specs.declared.info.hb_glyph_info_t.{hb_glyph_info_t as Glyph};
 ghost use Rattle.buffer_glyphs.specs.declared.level.BufferClusterLevel.{BufferClusterLevel as Level};
@@ -13,19 +14,19 @@ use buffer_glyphs::level::BufferClusterLevel;
 use buffer_glyphs::position::GlyphPosition;
 use buffer_glyphs::runs::last_cluster;
 
-/// How far a walk of deletions has come. Where clusters are in order the run at the end of the glyphs that stay takes a
-/// cluster only once another glyph stays after it, so that it is written once.
+/// The state of a walk of deletions. Where clusters are in order, the last run of the glyphs that are left takes a new
+/// cluster only once another glyph is left after it, so that it is written once.
 #[derive(Clone, Copy)]
 pub(super) struct Walk {
-    /// How many glyphs stay.
+    /// How many glyphs are left so far.
     pub(super) kept: usize,
-    /// The glyph whose cluster and flags the run at their end is still to take.
+    /// The glyph whose cluster and flags the last run of these is still to take.
     pub(super) due: Option<hb_glyph_info_t>,
-    /// Whether a merge marked a glyph.
+    /// Whether a merge flagged a glyph.
     pub(super) marked: bool,
 }
 
-/// The run at the end of the first `kept` glyphs takes what is due.
+/// Gives the last run of the first `kept` glyphs the cluster and flags that it is still to take.
 #[tactic(auto, using(crate::proofs::Walking::settled_put))]
 pub(super) fn settle(glyphs: &mut [hb_glyph_info_t], kept: usize, due: Option<hb_glyph_info_t>)
     requires { kept ≤ length glyphs.old }
@@ -36,7 +37,7 @@ pub(super) fn settle(glyphs: &mut [hb_glyph_info_t], kept: usize, due: Option<hb
     }
 }
 
-/// The glyph at `at` stays.
+/// Leaves the glyph at `at`: it moves after the glyphs that are left.
 #[tactic(auto, using(crate::proofs::Walking::keep_front, crate::proofs::Walking::keep_ahead))]
 fn keep_glyph(
     glyphs: &mut [hb_glyph_info_t],
@@ -85,7 +86,7 @@ fn move_position(positions: &mut [GlyphPosition], to: usize, from: usize)
     positions[to] = positions[from];
 }
 
-/// The cluster of the last glyph that stays, once it took what is due.
+/// The cluster of the last glyph that is left, once it took the one that it is still to take.
 #[tactic(auto, using(crate::proofs::Walking::last_settled))]
 fn last_kept(glyphs: &[hb_glyph_info_t], kept: usize, due: Option<hb_glyph_info_t>) -> u32
     requires some { 0 < kept }
@@ -98,7 +99,7 @@ fn last_kept(glyphs: &[hb_glyph_info_t], kept: usize, due: Option<hb_glyph_info_
     }
 }
 
-/// The glyph at `at` goes, with others before it that stay.
+/// Deletes glyph `at`, where a glyph before it is left.
 fn delete_behind(glyphs: &mut [hb_glyph_info_t], at: usize, walk: Walk, in_order: bool) -> Walk
     requires some { 0 < walk.kept }
     requires within { at < length glyphs.old }
@@ -128,7 +129,7 @@ fn delete_behind(glyphs: &mut [hb_glyph_info_t], at: usize, walk: Walk, in_order
     Walk { due: None, ..walk }
 }
 
-/// The glyph at `at` goes.
+/// Deletes glyph `at`.
 pub(super) fn delete_glyph(
     glyphs: &mut [hb_glyph_info_t],
     at: usize,
@@ -153,7 +154,7 @@ pub(super) fn delete_glyph(
     delete_behind(glyphs, at, walk, in_order)
 }
 
-/// The glyph at `at` goes where the test picks it, else it stays.
+/// Deletes glyph `at` where `filter` holds.
 pub(super) fn pass_glyph<F: Fn(&hb_glyph_info_t) -> bool>(
     glyphs: &mut [hb_glyph_info_t],
     positions: &mut [GlyphPosition],

@@ -1,3 +1,4 @@
+//! Merges over clusters that decrease, of which the last waits.
 ghost use Rattle.std.specs.Prelude.{◌≡◌, ◌≤◌, ◌<◌, true, length, map};
 ghost use Rattle.buffer_glyphs.specs.Items.{clusters};
 ghost use Rattle.buffer_glyphs.specs.Parts.{stretch};
@@ -9,8 +10,9 @@ use buffer_glyphs::deletion::end_run;
 use buffer_glyphs::info::hb_glyph_info_t;
 use buffer_glyphs::merges::{glyph_in_cluster, least_cluster};
 
-/// The glyphs from `from` up to before `to` are still to go to the cluster. Where clusters fall, merges of ranges that
-/// share clusters give the same glyphs another cluster again and again, and so they are written once the last is known.
+/// The glyphs from `from` up to before `to` are still to be renumbered to the cluster. Where clusters decrease, merges
+/// of ranges that share clusters renumber the same glyphs again and again; so they are written once the last cluster is
+/// known.
 #[derive(Clone, Copy)]
 pub(crate) struct Stretch {
     pub(super) from: usize,
@@ -18,7 +20,7 @@ pub(crate) struct Stretch {
     pub(super) cluster: u32,
 }
 
-/// The glyphs go to the cluster that is due.
+/// Renumbers the glyphs to the cluster that is due.
 #[tactic(auto, using(crate::proofs::Carried::carried_put))]
 pub(super) fn carry_out(glyphs: &mut [hb_glyph_info_t], due: Stretch)
     requires ordered { due.from ≤ due.to }
@@ -37,8 +39,8 @@ fn set_clusters(glyphs: &mut [hb_glyph_info_t], cluster: u32)
     }
 }
 
-/// Merges the glyphs from `start` up to before `end`, after all that is due. What is of their first cluster goes to
-/// their least: it stands before them, and may be just what is due.
+/// Merges the glyphs from `start` up to before `end`, after the postponed renumbering. The glyphs of their first
+/// cluster are renumbered to the least: these are before them, and may be just the postponed ones.
 pub(super) fn merge_falling(
     glyphs: &mut [hb_glyph_info_t],
     due: Stretch,
@@ -74,7 +76,7 @@ pub(super) fn merge_falling(
     }
 }
 
-/// Whether the last cluster is less than the first: then clusters in order fall.
+/// Whether the last cluster is less than the first: then clusters in order decrease.
 #[tactic(auto, using(crate::proofs::Carried::falls_where_lower))]
 pub(super) fn ends_lower(glyphs: &[hb_glyph_info_t]) -> bool
     ensures { result ≡ true → IsOrdered (clusters glyphs.now) → IsFalling (clusters glyphs.now) }

@@ -33,7 +33,7 @@ concat_read : (from to : ℕ) (s : Sides) (b : Bool) → (if b then with_flagged
 concat_read from to s true = refl
 concat_read from to s false = refl
 
--- all from the cursor on up to behind so many more
+-- all from the cursor on up to after so many more
 pub attempt_passed : (count at : ℕ) (s new : Sides) → at ≡ s.read → new ≡ concat_marked (Some at) (Some (at + count + 1)) s → origins_of new ≡ origins_by (Concat (start_in_all (Some at) s) (end_in_all (Some (at + count + 1)) s) ∷ []) s
     → IsPassed (Concat (length s.behind) (length s.behind + (count + 1)) ∷ []) s new
 attempt_passed count at s new here is happened =

@@ -7,7 +7,7 @@ use Rattle.buffer_stages.specs.SyllableBuffers.{IsRewritten}
 use Rattle.buffer_stages.specs.Lemmas.Rewritings.{counted, rewritten_count}
 use Rattle.buffer_stages.specs.Lemmas.Parts.{range_size}
 
--- a stretch of as many items as were there
+-- a range of as many items as were there
 pub rewritten_even : (r : Rewritten) (from to : ℕ) (a b : Sides) → from ≤ to → to ≤ length (all_glyphs a) → length r.items ≡ length (slice_range (items_of a) from to) → IsRewritten r from to a b → length (all_glyphs b) ≡ length (all_glyphs a)
 rewritten_even r from to a b le fits len f =
     let n = counted a in

@@ -1,4 +1,4 @@
--- A part of a buffer whose glyphs came to the front.
+-- A part of a buffer whose glyphs were moved to the front.
 use Rattle.std.proofs.Common.{ℕ, ◌≡◌, ◌≤◌, ◌+◌, ◌-◌, Bool, true, List, [], ◌∷◌, ◌++◌, length, map, take, drop, refl, sym, ap, ◌∙◌, arith, append_assoc}
 use Rattle.std.specs.Prelude.{slice_range}
 use Rattle.std.proofs.lemmas.List.{map-append, length-map, length-append, length-take-le, length-drop, take-append-drop, take-map, drop-map}
@@ -37,7 +37,7 @@ between : {X : Type 0} (from to : ℕ) (xs ys : List X) → from ≤ to → to �
 between from to xs ys le inside len =
     length-append (take from xs ++ ys) (drop to xs) ∙ ap (λ n. n + length (drop to xs)) (length-append (take from xs) ys) ∙ omega (arith, len, le, inside, length-take-le from xs (omega (arith, le, inside)), length-drop to xs)
 
--- a part, of which some came to the front: its moves
+-- a part, of which some were moved to the front: its moves
 pub part_moves : {X : Type 0} (pair : X → X → Bool) (one : X → Bool) (start end n : ℕ) (xs : List X) → start + n ≤ end → end ≤ length xs
     → take start xs ++ gathered_after pair one n (slice_range xs start end) ++ drop end xs ≡ all_moved start (front_moves pair one n (drop n (slice_range xs start end))) xs
 part_moves {X = X} pair one start end n xs le fits =
@@ -56,7 +56,7 @@ part_moves {X = X} pair one start end n xs le fits =
     ∙ ap (λ i. all_moved start (front_moves pair one i zs) (pre ++ (front ++ (zs ++ post)))) b
     ∙ ap (all_moved start (front_moves pair one n zs)) whole
 
--- glyphs of which some came to the front: by the moves of the items
+-- glyphs of which some were moved to the front: by the moves of the items
 fronts_shape : (pair : Item → Item → Bool) (one : Item → Bool) (start end walked : ℕ) (a merged : Sides) (gs : List hb_glyph_info_t) → start + walked ≤ end → end ≤ length (all_glyphs merged)
     → items_of merged ≡ items_of a
     → gs ≡ take start (all_glyphs merged) ++ gathered_after (pair_seen pair) (one_seen one) walked (slice_range (all_glyphs merged) start end) ++ drop end (all_glyphs merged)

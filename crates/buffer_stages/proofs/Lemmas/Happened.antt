@@ -1,4 +1,4 @@
--- What happens to where the glyphs come from, one call after another.
+-- What happens to the origins of the glyphs, one call after another.
 use Rattle.std.proofs.Common.{ℕ, ◌≡◌, ◌≤◌, ◌+◌, ◌==◌, Bool, Some, List, [], ◌∷◌, ◌++◌, length, take, arith, refl, sym, ap, subst, ◌∙◌}
 use Rattle.std.specs.Prelude.{bit_and}
 use Rattle.std.proofs.lemmas.List.{length-append, length-map}

@@ -63,7 +63,7 @@ sides_kept n gs xs ys long e = (
   sym (drop-map item_of n gs) ∙ ap (drop n) e ∙ ap (λ k. drop k (xs ++ ys)) long ∙ drop-append_seam xs ys,
 )
 
--- a stretch of the output merged
+-- a range of the output merged
 pub merge_walked : (from to : ℕ) (s new : Sides) → new ≡ with_output_merged from to s → items_of new ≡ items_of s → origins_of new ≡ origins_by (Merge InOutput from to ∷ []) s → s.is_open ≡ true
     → Walked (strip s.behind) (strip s.ahead) (Merge InOutput from to ∷ []) s new
 merge_walked from to s new e items from_where opened =

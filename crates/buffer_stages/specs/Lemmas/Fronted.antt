@@ -1,4 +1,4 @@
--- Elements that come to the front: by halves, and by moves.
+-- Elements that are moved to the front: by halves, and by moves.
 use Rattle.std.proofs.Common.{ℕ, zero, suc, ◌≡◌, ◌≤◌, ◌<◌, ◌+◌, ◌-◌, ◌&&◌, Bool, true, false, nat_lt, if◌then◌else◌, List, [], ◌∷◌, ◌++◌, get_or, length, map, take, drop, arith, refl, ap, sym, ◌∙◌, append_assoc}
 use Rattle.std.specs.Prelude.{slice_range}
 use Rattle.std.proofs.Math.Seq.{take-append_seam, drop-append_seam}
@@ -32,7 +32,7 @@ gathered_length pair one xs = length-append (fronts pair one xs) (stayed pair on
 
 -- ---- by halves
 
--- no pair stands on both sides
+-- no pair spans the cut
 abbrev pub IsApart : {X : Type 0} → (X → X → Bool) → List X → List X → Type 0
 IsApart pair [] ys = Unit {0}
 IsApart pair (x ∷ []) [] = Unit {0}
@@ -113,7 +113,7 @@ part_of from to xs ys le fits count =
       ap (λ n. drop n (take from xs ++ ys ++ drop to xs)) (sym size) ∙ drop-append_seam (take from xs ++ ys) (drop to xs),
     )
 
--- both halves were gathered, and what came to the front of the second came to that of both
+-- both halves were gathered, and the elements at the front of the second were moved to that of both
 pub halves_gathered : {X : Type 0} (pair : X → X → Bool) (one : X → Bool) (from middle to k : ℕ) (old first second new : List X) → from ≤ middle → middle ≤ to → to ≤ length old
     → IsApart pair (slice_range old from middle) (slice_range old middle to)
     → first ≡ take from old ++ gathered pair one (slice_range old from middle) ++ drop middle old
@@ -165,7 +165,7 @@ halves_gathered {X = X} pair one from middle to k old first second new le last f
     joined : (ws bs cs ds : List X) → (ws ++ bs) ++ (cs ++ ds) ≡ ws ++ ((bs ++ cs) ++ ds)
     joined ws bs cs ds = simp append_assoc
 
--- ---- behind others
+-- ---- after others
 
 pub after_gathered : {X : Type 0} (pair : X → X → Bool) (one : X → Bool) (start begin end k m : ℕ) (old first new : List X) → start ≤ begin → begin ≤ end → end ≤ length old
     → first ≡ take begin old ++ gathered pair one (slice_range old begin end) ++ drop end old → k ≡ length (fronts pair one (slice_range old begin end)) → m ≡ k

@@ -1,4 +1,4 @@
--- A stretch that moved.
+-- A range that moved.
 use Rattle.std.proofs.Common.{ℕ, zero, suc, ◌≡◌, ◌≤◌, ◌+◌, ◌-◌, List, [], ◌∷◌, ◌++◌, Some, slice_get, length, map, take, drop, arith, refl, ap, sym, subst, ◌∙◌, append_assoc}
 use Rattle.std.specs.List.{range_with_len}
 use borrow.Rule.Slice.PartMut.{put_mid}
@@ -95,7 +95,7 @@ moved_length start n k xs le =
     let i = length-append (take start xs ++ (take k (drop (start + n) xs) ++ take n (drop start xs))) (drop (start + (n + k)) xs) in
     omega (arith, b, c, d, f, g, h, i, le)
 
--- what stands behind a stretch that moves stays
+-- what is after a range that moves stays
 pub moved_front : {X : Type 0} (start n k : ℕ) (xs ys : List X) → start + (n + k) ≤ length xs → moved start n k (xs ++ ys) ≡ moved start n k xs ++ ys
 moved_front start n k xs ys le =
     rw (

@@ -1,4 +1,4 @@
--- Merges of stretches that grow, and moves within them.
+-- Merges of ranges that grow, and moves within them.
 use Rattle.std.proofs.Common.{ℕ, ◌≡◌, ◌≤◌, ◌+◌, ◌-◌, ◌==◌, ◌||◌, Bool, true, false, max, if◌then◌else◌, List, [], ◌∷◌, ◌++◌, length, map, take, drop, arith, refl, ap, sym, subst, ◌∙◌, append_assoc}
 use Rattle.std.specs.Prelude.{slice_range}
 use Rattle.std.specs.Int.RustNames.{bit_or}
@@ -200,7 +200,7 @@ inner_alike Unites ms ns o same = outer_alike Unites ms ns o same
 inner_alike Marks ms ns o same = ap (λ n. added_outside 3 n o) (least_alike (numbers ms) (numbers ns) same)
 inner_alike Keeps ms ns o same = refl
 
--- ---- a merge of a stretch within which something moved
+-- ---- a merge of a range within which something moved
 
 or_swapped : (c b d : Bool) → (c || (b || d)) ≡ (b || (c || d))
 or_swapped true true d = refl
@@ -284,7 +284,7 @@ parted b n k d xs =
     sym (take-append-drop b xs) ∙ ap (λ ys. take b xs ++ ys)
     (cut_at b n xs ∙ ap (λ ys. bs ++ ys) (cut_at (b + n) k xs ∙ ap (λ ys. cs ++ ys) (cut_at (b + n + k) d xs)) ∙ ap (λ ys. bs ++ ys) (sym (append_assoc cs ds rest)) ∙ sym (append_assoc bs (cs ++ ds) rest))
 
--- a merge of a stretch, within which something moved, and the move after the merge
+-- a merge of a range, within which something moved, and the move after the merge
 pub merged_moved : (m : Manner) (b n k c : ℕ) (os : List Origin) → b + (n + k) ≤ c → c ≤ length os → merged_as m b c (moved b n k os) ≡ moved b n k (merged_as m b c os)
 merged_moved m b n k c os le fits =
     let d = c - (b + n + k) in
@@ -307,7 +307,7 @@ merged_moved m b n k c os le fits =
     let four = subst (λ y. P b n y c (fs ++ (ms ++ es))) g three in
     subst (λ xs. P b n k c xs) (sym (parted b n k d os)) four
 
--- ---- a merge of a stretch, and then of a longer one
+-- ---- a merge of a range, and then of a longer one
 
 cast_again : (m1 m : ℕ) (o : Origin) (t : Bool) → (o.cluster == m1) ≡ t → ((o.cluster == m1) ≡ false → (o.cluster == m) ≡ false) → cast m 0 (if t then o else record { cluster = m1; flags = 0 }) ≡ cast m 0 o
 cast_again m1 m o true e apart = refl
@@ -423,7 +423,7 @@ parted_twice b n k xs =
     sym (take-append-drop b xs) ∙ ap (λ ys. take b xs ++ ys)
     (cut_at b n xs ∙ ap (λ ys. bs ++ ys) (cut_at (b + n) k xs) ∙ sym (append_assoc bs (take k (drop (b + n) xs)) (drop (b + n + k) xs)))
 
--- a merge of a stretch, and then of one that is as long or longer, is that of the longer
+-- a merge of a range, and then of one that is as long or longer, is that of the longer
 pub merged_again : (m : Manner) (b n k : ℕ) (os : List Origin) → n ≤ k → b + k ≤ length os → merged_as m b (b + k) (merged_as m b (b + n) os) ≡ merged_as m b (b + k) os
 merged_again m b n k os le fits =
     let d = k - n in
@@ -442,7 +442,7 @@ merged_again m b n k os le fits =
     let three = subst (λ x. P b x k (fs ++ ((ms ++ gs) ++ es))) e two in
     subst (λ xs. P b n k xs) (sym (parted_twice b n d os)) three
 
--- ---- moves to one index, each of a stretch as long as those before it or longer
+-- ---- moves to one index, each of a range as long as those before it or longer
 
 merged_length : (m : Manner) (from to : ℕ) (os : List Origin) → length (merged_as m from to os) ≡ length os
 merged_length Unites from to os = length-map os (λ (o : Origin). cast (merged (stretch from to (numbers os)) o.cluster) 0 o)

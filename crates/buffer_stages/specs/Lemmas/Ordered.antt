@@ -17,7 +17,7 @@ use Rattle.buffer_stages.specs.Moves.{FrontMove, IsGrowing, all_moved, are_one_c
 use Rattle.buffer_stages.specs.Lemmas.Moved.{moved_seen, take_both}
 use Rattle.buffer_stages.specs.Lemmas.Nested.{all_moved_seen, reach_grows}
 
--- such a number behind so many of it
+-- such a number after so many of it
 one_after : (c : ℕ) (ns : List ℕ) → list_all (λ n. n == c) ns ≡ true → ns ++ c ∷ [] ≡ c ∷ ns
 one_after c [] e = refl
 one_after c (n ∷ ns) e =
@@ -91,7 +91,7 @@ as_many c (m ∷ ms) (n ∷ ns) a b e =
     let theirs : list_all (λ n. n == c) ns ≡ true = grind (arith, common_steps, b) in
     ap (λ ks. m ∷ ks) (as_many c ms ns ours theirs (omega (arith, e))) ∙ ap (λ k. k ∷ ns) first
 
--- glyphs of one cluster in the place of as many, of which all is told that is told of these
+-- glyphs of one cluster instead of as many, of which the same order is known
 pub clusters_among : (gs hs : List hb_glyph_info_t) → are_one_cluster gs ≡ true → length hs ≡ length gs → ((p : hb_glyph_info_t → Bool) → list_all p gs ≡ true → list_all p hs ≡ true) → clusters hs ≡ clusters gs
 clusters_among gs hs one many told =
     let cluster_of : hb_glyph_info_t → ℕ = λ g. g.cluster in

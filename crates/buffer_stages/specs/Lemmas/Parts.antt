@@ -44,7 +44,7 @@ range_within start end from to xs le last =
     let count : start + to - (start + from) ≡ to - from = omega (arith, le) in
     ap (take (to - from)) inner ∙ take_less (to - from) (end - start - from) (drop (start + from) xs) (omega (arith, le, last)) ∙ ap (λ m. take m (drop (start + from) xs)) (sym count)
 
--- the front of a range, and what is behind a part of it
+-- the front of a range, and what is after a part of it
 front_part : {X : Type 0} (start end from : ℕ) (xs : List X) → start + from ≤ end → take (start + from) xs ≡ take start xs ++ take from (slice_range xs start end)
 front_part start end from xs le = take-add start from xs ∙ ap (λ ys. take start xs ++ ys) (sym (take-take from (end - start) (drop start xs) (omega (arith, le))))
 
@@ -109,7 +109,7 @@ moved_size n xs = both_parts n xs
 
 -- ---- a move
 
--- a move of a stretch is one of its part of the list
+-- a move of a range is one of its part of the list
 pub moved_range : {X : Type 0} (start end n : ℕ) (xs : List X) → start + n ≤ end → end ≤ length xs
     → moved start n (end - start - n) xs ≡ take start xs ++ (drop n (slice_range xs start end) ++ take n (slice_range xs start end)) ++ drop end xs
 moved_range start end n xs le fits =

@@ -17,7 +17,7 @@ use Rattle.buffer_stages.specs.Lemmas.Shifts.{shift_events, shift_none}
 
 -- ---- lists of which a part was put in
 
--- what stands up to the end of the part, and what behind it
+-- what stands up to the end of the part, and what after it
 pub middle : {X : Type 0} (from to : ℕ) (xs ys : List X) → from ≤ to → to ≤ length xs → length ys ≡ to - from
     → (take to (take from xs ++ ys ++ drop to xs) ≡ take from xs ++ ys) × (drop to (take from xs ++ ys ++ drop to xs) ≡ drop to xs)
 middle from to xs ys le inside len =
@@ -28,7 +28,7 @@ middle from to xs ys le inside len =
 pub behind : {X : Type 0} (mid to : ℕ) (xs : List X) → mid ≤ to → drop to xs ≡ drop (to - mid) (drop mid xs)
 behind mid to xs le = let n : to ≡ mid + (to - mid) = omega (arith, le) in ap (λ m. drop m xs) n ∙ sym (drop-drop (to - mid) mid xs)
 
--- what stands in front of the part, and from it on
+-- what is before the part, and from it on
 pub in_front : {X : Type 0} (from to : ℕ) (xs ys : List X) → from ≤ to → to ≤ length xs
     → (take from (take from xs ++ ys ++ drop to xs) ≡ take from xs) × (drop from (take from xs ++ ys ++ drop to xs) ≡ ys ++ drop to xs)
 in_front from to xs ys le inside =
@@ -68,7 +68,7 @@ by_settings es a b e =
     ap (λ (st : Settings). origins_after (asks_of b) st.level es (origins_of b)) e
     ∙ ap (λ (st : Settings). origins_after (record { concat = bit_and st.flags.0 64 == 64; tatweel = bit_and st.flags.0 128 == 128 }) a.level es (origins_of b)) e
 
--- where the glyphs come from after both
+-- the origins of the glyphs after both
 pub origins_then : (es fs : List Event) (a b c : Sides) → settings_of b ≡ settings_of a → origins_of b ≡ origins_by es a → origins_of c ≡ origins_by fs b → origins_of c ≡ origins_by (es ++ fs) a
 origins_then es fs a b c same f g =
     g ∙ by_settings fs a b same ∙ ap (λ os. origins_after (asks_of a) a.level fs os) f ∙ sym (origins_after_both (asks_of a) a.level es fs (origins_of a))
@@ -80,7 +80,7 @@ view_then r s from to mid last a b c xs f g e =
     let ys = take mid (items_of b) ++ s.items ++ drop last (items_of b) in
     g.view ∙ ap (λ (v : View). record v { items = ys }) f.view ∙ ap (λ zs. record (view_of a) { items = zs }) e
 
--- a part, and then the one behind it
+-- a part, and then the one after it
 pub rewritten_beside : (r s : Rewritten) (from mid to : ℕ) (a b c : Sides) → from ≤ mid → mid ≤ length (items_of a) → length r.items ≡ mid - from → mid ≤ to
     → IsRewritten r from mid a b → IsRewritten s mid to b c → IsRewritten (beside r s) from to a c
 rewritten_beside r s from mid to a b c le inside len last f g =
@@ -122,7 +122,7 @@ rewritten_next r rule from to a b c le inside len f g =
     let P : List Item → Type 0 = λ xs. IsRewritten (rule xs) from to b c in
     rewritten_then r rule from to a b c le inside len f (subst P (rewritten_slice r from to a b le inside len f) g)
 
--- a list is what stands in front of a part, the part, and what stands behind it
+-- a list is what is before a part, the part, and what is after it
 pub whole_cut : {X : Type 0} (from to : ℕ) (xs : List X) → from ≤ to → take from xs ++ slice_range xs from to ++ drop to xs ≡ xs
 whole_cut from to xs le =
     let at : to ≡ from + (to - from) = omega (arith, le) in

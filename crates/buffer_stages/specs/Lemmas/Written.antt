@@ -60,7 +60,7 @@ placed_becomes ps s e ready = record {
   };
 }
 
--- what happens to where the glyphs come from, beside what becomes of them, is a stage
+-- what happens to the origins of the glyphs, beside what becomes of them, is a stage
 pub happened_followed : (es : List Event) (v : View) (stage : Stage) (old new : Sides) → view_of new ≡ v → (run_of new).origins ≡ (origins_after (run_of old).asks old.level es (run_of old).origins)
     → settings_of new ≡ settings_of old → IsReady new → stage (view_of old) ≡ Ok (with_events es v) → IsFollowed stage old new
 happened_followed es v stage old new view from settings ready e = record {

@@ -1,4 +1,4 @@
--- A rule, from its match to the way behind it.
+-- A rule, from its match to the way after it.
 use Rattle.std.proofs.Common.{ℕ, ◌≡◌, ◌≤◌, ◌<◌, ◌+◌, ◌-◌, true, false, Bool, List, [], length, take, drop, min, Result, Ok, Err, Option, sym, ap, subst, ◌∙◌, if◌then◌else◌, arith}
 use Rattle.std.proofs.lemmas.List.{length-map, length-take, length-drop}
 use Rattle.buffer_glyphs.specs.declared.cause.ShapeCause.{ShapeCause}
@@ -36,7 +36,7 @@ nests_performs (Passes es) (Err x) before after a b on d = d
 nests_performs (Acts cut es) (Err x) before after a b on d = d
 nests_performs (Refuses cause) (Err x) before after a b on d = d
 
--- where the cursor stands behind the match
+-- where the cursor is after the match
 behind_there : (p : ℕ) (b : Bool) (acted : Bool) (random : ℕ) (u final : Sides) → Nests (if b then Acts (cut_at p (cut_with random u)) [] else Refuses TooLong) (Ok acted) random random u final → cut_with random final ≡ cut_at p (cut_with random u)
 behind_there p true acted random u final h = h.1.cut_is
 behind_there p false acted random u final h = absurd h
@@ -54,7 +54,7 @@ ended_lengths at random u final h =
     let dropped : length (drop p all) ≡ length all - p = length-drop p all in
     (omega (arith, front, taken), omega (arith, rest, dropped))
 
--- what the places of a match are, on the list that they are in
+-- what the indices of a match are, on the list that they are in
 pub match_inside : (a : Applied) (r : Chain) (before end : ℕ) (ps : List ℕ) (s t : Sides) → IsMatched a r before end ps s t → AreRising 0 (length (whole (cut_of t)) + 1) ps
 match_inside a r before end ps s t m = wider (length s.behind) 0 (length (whole (cut_of t))) (length (whole (cut_of t)) + 1) ps (omega arith) (omega arith) m.rising
 
@@ -75,7 +75,7 @@ went_on a r before random end at ps qs s t u final m inside h =
     let fewer = inside.fewer in
     (omega (arith, sides.1, fewer, from, within, long, same.0, same.1), omega (arith, sides.0, kept, ends))
 
--- the records were done, and the cursor went behind the match
+-- the records were done, and the cursor went after the match
 pub rule_acted : (a : Applied) (nest : Option (ℕ → Action)) (r : Chain) (before random end at : ℕ) (ps qs : List ℕ) (y : Result Bool ShapeCause) (s t u final : Sides) → IsMatched a r before end ps s t
     → Walking (each_nested nest r.records (cut_with before t) ps end) (Ok at) qs random t u → StaysInside (length (whole (cut_of t))) (length (whole (cut_of u))) ps qs end at
     → Nests (cut_behind (Walks (cut_with random u) [] at [])) y random random u final → Performs (chain_rule nest a r (cut_with before s)) y before random s final

@@ -27,7 +27,7 @@ then_stays n m k ps qs rs end at to f g =
       ends = λ low le r over. g.ends low (f.from low le r) (f.rising low le r) (f.ends low le r over);
     }
 
--- a lookup that keeps what stands before its place acted there
+-- a lookup that keeps what is before its index acted there
 pub acted_stays : (record_of : SequenceLookupRecord) (ps rs : List ℕ) (p n m end to : ℕ) (s t : Sides) → IsBegun record_of ps p s t → p ≤ m → rs ≡ resized record_of.sequence_index n m ps → to ≡ moved_end p n m end → StaysInside n m ps rs end to
 acted_stays r ps rs p n m end to s t b below er et =
     let is : get_or ps r.sequence_index 0 ≡ p = get_or_from_slice_get ps r.sequence_index p 0 b.place in

@@ -54,7 +54,7 @@ some_nested nest act records r after end ps qs y s new e w =
     let P : Option (ℕ → Action) → Type 0 = λ o. Walking (each_nested o records (cut_with r s) ps end) y qs after s new in
     subst P (sym e) w
 
--- the lookup at a record's place kept what stands before it
+-- the lookup at a record's index kept what is before it
 pub acted_inside : (r : SequenceLookupRecord) (ps rs : List ℕ) (p n m end to : ℕ) (s t u : Sides) → IsBegun r ps p s t → n ≡ length (whole (cut_of t)) → length t.behind ≤ length u.behind → length u.behind ≤ m → rs ≡ resized r.sequence_index n m ps → to ≡ moved_end p n m end
     → StaysInside (length (whole (cut_of s))) m ps rs end to
 acted_inside r ps rs p n m end to s t u b en kept under er et =

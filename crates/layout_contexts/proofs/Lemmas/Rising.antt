@@ -50,7 +50,7 @@ up_to_rise (suc i) low high (p ∷ ps) lt r =
     let P : ℕ → Type 0 = λ n. AreRising low (get_or ps i 0 + 1) (take n (p ∷ ps)) in
     subst P (sym e) (from, omega (arith, one.0), up_to_rise i (p + 1) high ps (omega (arith, lt)) r.2)
 
--- those behind the i-th
+-- those after the i-th
 pub behind_rise : (i low high : ℕ) (ps : List ℕ) → i < length ps → AreRising low high ps → AreRising (get_or ps i 0 + 1) high (drop (i + 1) ps)
 behind_rise i low high [] lt r = absurd (omega (arith, lt))
 behind_rise zero low high (p ∷ ps) lt r = r.2
@@ -85,7 +85,7 @@ following_rise p (suc n) =
     let P : ℕ → Type 0 = λ high. AreRising (p + 1 + 1) high (following (p + 1) n) in
     (omega arith, omega arith, subst P e (following_rise (p + 1) n))
 
--- the place of the lookup stays inside the list
+-- the index of the lookup stays inside the list
 pub resized_rise : (i low before after : ℕ) (ps : List ℕ) → i < length ps → AreRising low (before + 1) ps → get_or ps i 0 ≤ after → AreRising low (after + 1) (resized i before after ps)
 resized_rise i low before after ps lt r le =
     let p = get_or ps i 0 in
@@ -134,7 +134,7 @@ reached_low (ask ∷ asks) at end xs e = by (nearest_from ask at xs) refl (λ p 
         omega (arith, one.0, next)
     by (Err n) f more g = cc
 
--- places counted from further before
+-- indices counted from further before
 pub shifted_rise : (by low high : ℕ) (ps : List ℕ) → AreRising low high ps → AreRising (low + by) (high + by) (map (λ q. q + by) ps)
 shifted_rise by low high [] r = tt
 shifted_rise by low high (p ∷ ps) r =

@@ -92,7 +92,7 @@ record_skipped act r ps end random s t b =
     let Q : Sides → Type 0 = λ u. Walking (Walks (cut_with random s) ps end []) (Ok end) ps random s u in
     subst P (sym (b.1 random act end)) (subst Q (sym b.0) (refl, refl, here random s))
 
--- there was no way to its place
+-- there was no way to its index
 pub record_refused : (act : ℕ → Action) (r : SequenceLookupRecord) (ps rs : List ℕ) (end random after : ℕ) (x : ShapeCause) (s t : Sides) → Begins r ps (Err x) s t → Walking (one_record act r (cut_with random s) ps end) (Err x) rs after s t
 record_refused act r ps rs end random after x s t b = err (one_record act r (cut_with random s) ps end) (λ n. b n random act end)
   where
@@ -141,7 +141,7 @@ by_acting (Acts cut es) i p end random after n m to ps rs t u h en em er et =
     )
 by_acting (Refuses cause) i p end random after n m to ps rs t u h en em er et = absurd h
 
--- its lookup acts, and places and end are settled
+-- its lookup acts, and indices and end are settled
 pub lookup_acted : (act : ℕ → Action) (r : SequenceLookupRecord) (ps rs : List ℕ) (p end to n m random after : ℕ) (s t u : Sides) → IsBegun r ps p s t → Nests (act r.lookup_index (cut_with random t)) (Ok true) random after t u
     → n ≡ length (whole (cut_of t)) → m ≡ length (whole (cut_of u)) → rs ≡ resized r.sequence_index n m ps → to ≡ moved_end p n m end → Walking (one_record act r (cut_with random s) ps end) (Ok to) rs after s u
 lookup_acted act r ps rs p end to n m random after s t u b h en em er et =
@@ -149,7 +149,7 @@ lookup_acted act r ps rs p end to n m random after s t u b h en em er et =
     let P : Walked → Type 0 = λ w. Walking w (Ok to) rs after s u in
     subst P (sym (b.does random act end)) (walk_there _ random after _ (Ok to) rs s t u (b.left random) there)
 
--- ---- places stay inside the list, where the lookup keeps what stands before it
+-- ---- indices stay inside the list, where the lookup keeps what is before it
 
 pub still_inside : (r : SequenceLookupRecord) (ps rs : List ℕ) (p low n m : ℕ) (s t : Sides) → IsBegun r ps p s t → AreRising low (n + 1) ps → p ≤ m → rs ≡ resized r.sequence_index n m ps → AreRising low (m + 1) rs
 still_inside r ps rs p low n m s t b rising le er =
@@ -160,7 +160,7 @@ still_inside r ps rs p low n m s t b rising le er =
 pub end_inside : (p n m end to : ℕ) → end ≤ n → p ≤ m → to ≡ moved_end p n m end → to ≤ m
 end_inside p n m end to le below e = omega (arith, le, below, e)
 
--- ---- behind the match
+-- ---- after the match
 
 ended : (t : Bool) (cut : Cut) (es : List Event) (c : Cut) (y : Result Bool ShapeCause) (before random after : ℕ) (a b final : Sides) → IsLeft cut es random a b → Nests (if t then Acts c [] else Refuses TooLong) y random after b final → Nests (if t then Acts c es else Refuses TooLong) y before after a final
 ended true cut es c (Ok acted) before random after a b final f h = (h.0, let P : List Event → Type 0 = λ fs. IsLeft c fs after a final in subst P (append-nil es) (then_left cut c es [] random after a b final f h.1))
@@ -168,7 +168,7 @@ ended false cut es c (Ok acted) before random after a b final f h = absurd h
 ended true cut es c (Err x) before random after a b final f h = λ n. let e = h n in cc
 ended false cut es c (Err x) before random after a b final f h = h
 
--- the way behind the match comes after the records
+-- the way after the match comes after the records
 pub act_ended : (w : Walked) (at before random after : ℕ) (qs : List ℕ) (y : Result Bool ShapeCause) (a b final : Sides) → Walking w (Ok at) qs random a b → Nests (cut_behind (Walks (cut_with random b) [] at [])) y random after b final → Nests (cut_behind w) y before after a final
 act_ended (Stops cause) at before random after qs y a b final h g = absurd h
 act_ended (Walks cut ps end es) at before random after qs y a b final h g =

@@ -1,4 +1,4 @@
--- What rules of positioning do that fail, or act behind marks.
+-- What rules of positioning do that fail, or act after marks.
 use Rattle.std.proofs.Common.{ℕ, ◌≡◌, ◌<◌, ◌≤◌, ◌+◌, ◌-◌, Bool, true, false, List, [], ◌∷◌, ◌++◌, Option, Some, Ok, length, reverse, arith, refl, sym, ap, subst, slice_get}
 use Rattle.std.specs.Prelude.{bit_and}
 use Rattle.std.specs.Int.RustNames.{bit_or}
@@ -25,7 +25,7 @@ attempt_performed back ahead r s new p =
     let P : ℕ → Type 0 = λ k. IsPassed (Concat (k - back) (k + ahead) ∷ []) s new in
     (refl, refl, subst P (front_count r s) p)
 
--- ---- rules that act behind a mark: the marks come first
+-- ---- rules that act after a mark: the marks come first
 
 pub marked_made : (es : List Event) (n r : ℕ) (ps : Cut → List Position) (s mid new : Sides) → IsPassed es s mid → 0 < n → n ≤ length mid.ahead
     → new ≡ moved_on n (record mid { positions = ps (cut_with r mid) }) → IsMade (placed_past n (ps (cut_with r s)) (cut_with r s)) es r s new
@@ -51,7 +51,7 @@ pub told_same : (near : Bool) (flags : ℕ) → told_of (told_if near flags) ≡
 told_same true flags = and_or 0xFFFF_FFDF flags 8
 told_same false flags = refl
 
--- a rule that acts behind a mark and tells of it
+-- a rule that acts after a mark and tells of it
 pub marked_told : (es : List Event) (n r f : ℕ) (ps : Cut → List Position) (t : Cut → ℕ) (s mid new : Sides) → IsPassed es s mid → 0 < n → n ≤ length mid.ahead → told_of f ≡ t (cut_with r mid)
     → new ≡ moved_on n (record mid { positions = ps (cut_with r mid); scratch_flags = f }) → IsMade (record (placed_past n (ps (cut_with r s)) (cut_with r s)) { told = t (cut_with r s) }) es r s new
 marked_told es n r f ps t s mid new p some le told e =

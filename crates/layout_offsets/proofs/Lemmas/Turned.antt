@@ -1,4 +1,4 @@
--- Old chains turned round.
+-- Old chains reversed.
 use Rattle.std.proofs.Common.{ℕ, zero, suc, refl, length, set, ◌≡◌, ◌<◌, ◌+◌, ◌-◌, Bool, true, false, if◌then◌else◌, ◌==◌, List, Option, Some, None, length, set, arith, refl, ap, ◌∙◌}
 use Rattle.buffer_glyphs.specs.Items.{Position}
 use Rattle.buffer_common.specs.declared.direction.Direction.{Direction}

@@ -1,4 +1,4 @@
--- Runs of marks keep how many they are, and no rule of a shaper puts glyphs in another order without a merge.
+-- Runs of marks keep their length, and no rule of a shaper reorders glyphs without merging them.
 use Rattle.std.proofs.Common.{◌≡◌, List, length, Option, None, Some, refl}
 use Rattle.std.specs.Prelude.{⊤, codes}
 use Rattle.buffer_common.specs.declared.script.Script.{Script}

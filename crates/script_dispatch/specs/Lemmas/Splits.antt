@@ -1,4 +1,4 @@
--- Chains of first parts end, as each shaper splits characters.
+-- Chains of first halves end, as each shaper decomposes characters.
 use Rattle.std.proofs.Common.{ℕ, zero, suc, ◌≡◌, ◌==◌, Bool, true, false, if◌then◌else◌, None, Some, refl}
 use Rattle.std.specs.Prelude.{⊤}
 use Rattle.std.specs.List.{list_any}
@@ -14,13 +14,13 @@ use Rattle.script_dispatch.specs.declared.any_shaper.hb_ot_any_shaper_t.{hb_ot_a
 use Rattle.script_dispatch.specs.declared.any_shaper.hb_ot_any_shaper_t.TheVariants as any
 use Rattle.script_dispatch.specs.Rules.{rules_of}
 
--- the left part of a vowel of Khmer does not split
+-- the left half of a Khmer vowel has no decomposition
 left_ends : (t : Tables) (depth : ℕ) → ends_within (khmer_split t) depth LEFT_PART ≡ true
 unfolding ends_within
 left_ends t zero = refl
 left_ends t (suc depth) = refl
 
--- so a chain that ends within some splits in Unicode ends within one more
+-- a chain that ends within some decompositions in Unicode ends within one more
 khmer_more : (t : Tables) (depth u : ℕ) → ends_within (split_of t) depth u ≡ true → ends_within (khmer_split t) (suc depth) u ≡ true
 unfolding ends_within
 khmer_more t zero u h = by_tests (u == LEFT_PART) (list_any (λ v. u == v) split_vowels)

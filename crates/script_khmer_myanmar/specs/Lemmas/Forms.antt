@@ -1,4 +1,4 @@
--- Forms of a coeng and a Ra stand apart.
+-- Forms of a coeng and a Ro do not overlap.
 use Rattle.std.proofs.Common.{◌≡◌, ◌==◌, ◌&&◌, Bool, true, false, refl, ap}
 use Rattle.std.proofs.lemmas.Bool.{and_parts, eqb-true}
 use Rattle.script_categories.specs.declared.ot_category_t.TheConstants as category

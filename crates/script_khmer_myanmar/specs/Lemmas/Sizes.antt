@@ -1,4 +1,4 @@
--- How many places and how many items there are.
+-- How many indices and how many items there are.
 use Rattle.std.proofs.Common.{ℕ, zero, suc, ◌≡◌, ◌≤◌, ◌==◌, ◌&&◌, Bool, true, false, if◌then◌else◌, List, [], ◌∷◌, length, take, drop, refl, ap, ◌∙◌, arith}
 use Rattle.std.specs.Prelude.{not, replicate}
 use Rattle.std.specs.List.{list_any, position_or_len}
@@ -39,7 +39,7 @@ turned_within p (suc n) (x ∷ xs) le =
 pub groups_turned_size : {X : Type 0} (p : X → X → Bool) (xs : List X) → length (groups_turned p xs) ≡ length xs
 groups_turned_size p xs = turned_within p (length xs) xs (omega arith)
 
--- ---- places
+-- ---- indices
 
 pub after_size : (now before : ℕ) (cs : List ℕ) → length (places_after now before cs) ≡ length cs
 after_size now before [] = refl

@@ -1,4 +1,4 @@
--- The orders of marks keep how many they are.
+-- The orders of marks keep the length of a run.
 use Rattle.std.proofs.Common.{ℕ, suc, ◌≡◌, ◌≤◌, ◌+◌, ◌-◌, ◌==◌, Bool, true, false, if◌then◌else◌, List, [], ◌∷◌, ◌++◌, Option, None, Some, length, map, take, drop, refl, ◌∙◌, arith}
 use Rattle.std.specs.Prelude.{max, nat_lt, option_map}
 use Rattle.std.proofs.lemmas.List.{length-append, length-drop, length-map, length-take-le}

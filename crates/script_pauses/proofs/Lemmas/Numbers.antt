@@ -16,7 +16,7 @@ one_if t = if t then 1 else 0
 abbrev none_if : Bool → ℕ
 none_if t = if t then 0 else 1
 
--- how often a number stands there, and how many are no glyphs
+-- how often a number occurs, and how many are no glyphs
 abbrev times : ℕ → List ℕ → ℕ
 times n ns = sum_by (λ m. one_if (m == n)) ns
 

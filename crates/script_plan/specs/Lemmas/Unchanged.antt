@@ -1,4 +1,4 @@
--- Rules that leave a text as it is.
+-- Rules that leave a text unchanged.
 use Rattle.std.proofs.Common.{ℕ, zero, suc, ◌≡◌, Bool, true, List, [], Option, Some, None, refl, subst}
 use Rattle.std.specs.Prelude.{is_none}
 use Rattle.buffer_glyphs.specs.Items.{Item}
@@ -41,7 +41,7 @@ plain_order = record {
   postprocesses = λ font settings. unchanged_plain;
 }
 
--- ---- chains of first parts
+-- ---- chains of first halves
 
 pub by_more : (e f : ℕ → Bool) → ((a : ℕ) → e a ≡ true → f a ≡ true) → (s : Option (ℕ × ℕ)) → ends_by e s ≡ true → ends_by f s ≡ true
 by_more e f more None h = refl

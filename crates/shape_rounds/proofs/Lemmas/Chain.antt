@@ -1,4 +1,4 @@
--- Arrangements that are brought behind the cursor one after another.
+-- Arrangements that are output one after another.
 use Rattle.std.proofs.Common.{ℕ, subst, ◌≡◌, ◌≤◌, ◌+◌, List, [], ◌∷◌, ◌++◌, length, map, refl, sym, ap, ap₂, ◌∙◌, append_assoc, arith}
 use Rattle.std.proofs.lemmas.List.{append-nil, map-append, length-map, length-append}
 use Rattle.buffer_glyphs.specs.declared.cause.ShapeCause.{ShapeCause}
@@ -71,7 +71,7 @@ beside_assoc a b d =
     ∙ ap (λ es. map (shifted m) b.events ++ es) (sym (all_shifted_twice m n d.events))
     ∙ sym (map-append (shifted m) b.events (map (shifted n) d.events))))
 
--- stretches in turn, and more of them
+-- arrangements in turn, and more of them
 pub in_turn_both : (ps qs : List Arranged) → beside (in_turn ps) (in_turn qs) ≡ in_turn (ps ++ qs)
 in_turn_both [] qs = none_beside (in_turn qs)
 in_turn_both (a ∷ ps) qs = beside_assoc a (in_turn ps) (in_turn qs) ∙ ap (beside a) (in_turn_both ps qs)
@@ -103,7 +103,7 @@ brought_then a b xs ys s t u f g = record {
 pub brought_none : (s : Sides) → Brought (in_turn []) (strip s.ahead) s s
 brought_none s = record { behind = sym (append-nil (strip s.behind)); ahead = refl; happened = refl; frame = refl }
 
--- stretches in turn, and one more
+-- arrangements in turn, and one more
 pub brought_more : (ps : List Arranged) (a : Arranged) (xs ys : List Item) (s t u : Sides) → Brought (in_turn ps) xs s t → Brought a ys t u → Brought (in_turn (ps ++ a ∷ [])) ys s u
 brought_more ps a xs ys s t u f g =
     subst (λ b. Brought b ys s u) (ap (beside (in_turn ps)) (sym (none_behind a)) ∙ in_turn_both ps (a ∷ [])) (brought_then (in_turn ps) a xs ys s t u f g)
@@ -126,7 +126,7 @@ overfills_behind a rest n e s t b f some =
     let count = count_behind a rest s t b in
     ((f some).0, omega (arith, over, limit, count))
 
--- stretches that were brought, others that are too many, and what is to come
+-- arrangements that were output, others that are too many, and the rest
 pub overfills_after : (ps qs more : List Arranged) (rest : List Item) (e : ShapeCause) (s t : Sides) → Brought (in_turn ps) rest s t → Overfills (length (in_turn qs).items) e t → Overfills (length (in_turn (ps ++ (qs ++ more))).items) e s
 overfills_after ps qs more rest e s t b f =
     let one = ap length (items_both ps (qs ++ more)) in

@@ -1,4 +1,4 @@
-//! Look-ups in the tables of a large font: what a glyph has, its class, and whether a set of glyphs has it.
+//! Look-ups in the tables of a large font: a glyph's record, its class, and whether it is in a set of glyphs.
 use super::{COUNT, tell};
 use buffer_rows::{SortedRows, is_rising};
 use layout_common::class_definition::ClassDefinition;
@@ -30,7 +30,7 @@ fn covered_glyphs(alloc: Global) -> Result<Vec<u16>, AllocError> {
     Ok(glyphs)
 }
 
-/// Glyphs in no order, of which each comes up.
+/// Glyphs in no order, each of which occurs.
 fn asked_glyphs(alloc: Global) -> Result<Vec<u16>, AllocError> {
     let mut glyphs = Vec::new(alloc);
     for index in 0..COUNT {
@@ -75,7 +75,7 @@ fn tell_classes(rt: &HostRuntime, classes: &ClassDefinition, glyphs: &[u16]) -> 
     tell(rt, "class", start, found)
 }
 
-/// Asks a million times of each kind.
+/// Performs a million look-ups of each kind.
 pub(crate) fn ask_font(rt: &HostRuntime) -> io::Result<()> {
     let glyphs = asked_glyphs(rt.alloc())?;
     let rows = glyph_rows(rt.alloc())?;

@@ -1,3 +1,5 @@
+//! Worked rows of both lists of a buffer, the output and the input.
+
 use super::rows::{are, glyphs_of, size};
 use crate::parts::part;
 use buffer_glyphs::level::BufferClusterLevel;
@@ -6,7 +8,8 @@ use buffer_lists::moves::put_in_front;
 use buffer_lists::order::KnownOrder;
 use std::alloc::{AllocError, Global};
 
-/// In the row stand where the rest of four glyphs begins, the glyphs that come, those from the place on that is answered.
+/// The row has the index where the rest of four glyphs begins, the inserted glyphs, and those from the returned index
+/// on.
 pub fn puts(alloc: Global, row: &str) -> Result<bool, AllocError> {
     let mut info = glyphs_of(alloc, "1 2 3 4")?;
     let glyphs = glyphs_of(alloc, part(row, 1))?;
@@ -20,12 +23,12 @@ pub fn puts(alloc: Global, row: &str) -> Result<bool, AllocError> {
 
 const LEVEL: BufferClusterLevel = BufferClusterLevel::MonotoneGraphemes;
 
-// Each glyph has all three flags and a bit of another kind.
+// Each glyph has all three flags and another mask bit.
 const LONG: &str =
     "0,6,15 0,8,15 0,3,15 0,12,15 0,5,15 0,30,15 0,9,15 0,3,15 0,21,15 0,7,15 0,15,15 0,6,15 0,40,15 0,5,15";
 
-/// In the row stand where the range ends, the output after the merge, the input from 1 on. The input's range from 2 up to
-/// before 12 has ten glyphs in no order, that up to before 5 has three.
+/// The row has the end of the range, the output after the merge, and the input from 1 on. The input's range from 2 up
+/// to before 12 has ten glyphs in no order, that up to before 5 has three.
 pub fn merges(alloc: Global, row: &str) -> Result<bool, AllocError> {
     let mut info = glyphs_of(alloc, LONG)?;
     let mut out = glyphs_of(alloc, "0,30,15 0,4,15 0,50,15 0,12,15 0,7,15")?;
@@ -38,7 +41,7 @@ pub fn merges(alloc: Global, row: &str) -> Result<bool, AllocError> {
     Ok(!marked && are(&out, part(row, 1)) && are(&info[1..], part(row, 2)))
 }
 
-/// The same of a range of the output.
+/// The merge of a range of the output.
 pub fn merges_output(alloc: Global, row: &str) -> Result<bool, AllocError> {
     let mut info = glyphs_of(alloc, "0,12,15 0,30,15 0,4,15 0,50,15 0,12,15 0,7,15")?;
     let mut out = glyphs_of(alloc, LONG)?;

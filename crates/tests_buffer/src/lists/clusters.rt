@@ -1,3 +1,5 @@
+//! Worked rows of the order of clusters.
+
 use super::rows::{are, glyph, glyphs_of, is_so, level_of, size, stand_in_order};
 use crate::parts::part;
 use buffer_glyphs::deletion::{recast_end, set_cluster};
@@ -5,8 +7,8 @@ use buffer_glyphs::ranges::merge_range;
 use std::alloc::{AllocError, Global};
 use std::test::Fail;
 
-/// In the row stand the level, where the range begins and ends, whether a glyph is marked, the glyphs before, after: whether
-/// a merge, told of the order or not, leaves what is wanted.
+/// The row has the level, the start and the end of the range, whether a glyph is flagged, and the glyphs before and
+/// after: whether a merge, given the order or not, leaves the expected glyphs.
 pub fn merges(alloc: Global, row: &str, tell: bool) -> Result<bool, AllocError> {
     let mut glyphs = glyphs_of(alloc, part(row, 4))?;
     let seen = stand_in_order(&glyphs);
@@ -25,7 +27,7 @@ fn recasts(alloc: Global) -> Result<bool, AllocError> {
     Ok(are(&glyphs, "1,6,0 2,3,2 3,3,10"))
 }
 
-/// Whether a glyph with flags of such a mask is in a cluster then.
+/// Whether setting the cluster of a glyph with a mask leaves the expected glyph.
 fn casts(cluster: u32, mask: u32, wanted: &str) -> bool {
     let mut info = glyph("1,4,9");
     set_cluster(&mut info, cluster, mask);

@@ -1,4 +1,4 @@
-//! Rows of lists: fields apart by semicolons, lists by spaces, and numbers by commas.
+//! Rows of lists: fields are separated by semicolons, lists by spaces, and numbers by commas.
 ghost use Rattle.std.specs.Prelude.{◌≡◌, true};
 ghost use Rattle.buffer_glyphs.specs.Items.{clusters};
 ghost use Rattle.buffer_glyphs.specs.Order.{IsOrdered};
@@ -10,7 +10,7 @@ use buffer_glyphs::position::GlyphPosition;
 use buffer_lists::order::KnownOrder;
 use std::alloc::{AllocError, Global};
 
-/// Whether a field says yes.
+/// Whether a field is `yes`.
 pub fn is_so(row: &str, at: usize) -> bool {
     part(row, at) == "true"
 }
@@ -32,7 +32,7 @@ fn number(list: &str, at: usize) -> u32 {
     number.parse().unwrap_or(0)
 }
 
-/// A glyph by number, cluster and mask, which are 0 where they aren't said.
+/// A glyph by number, cluster and mask, which are 0 where they are missing.
 pub fn glyph(text: &str) -> hb_glyph_info_t {
     hb_glyph_info_t {
         glyph_id: number(text, 0),

@@ -1,3 +1,5 @@
+//! Worked rows of slices of glyphs.
+
 use super::rows::{
     are, glyphs_of, have_advances, is_so, level_of, positions_of, size, stand_in_order,
 };
@@ -12,8 +14,9 @@ use buffer_groups::reversal::reverse_groups;
 use buffer_groups::sorting::sort;
 use std::alloc::{AllocError, Global};
 
-/// In the row stand the level, where the range that is sorted ends, whether the clusters stand in order, whether a glyph is
-/// marked and whether the clusters stand in order after it, the glyphs, and what is wanted: whether a sort by number, told of the order or not, leaves what is wanted.
+/// The row has the level, the end of the range that is sorted, whether the clusters are in order, whether a glyph is
+/// flagged and whether the clusters are in order afterwards, the glyphs, and the expected result: whether a sort by
+/// number, given the order or not, leaves it.
 pub fn sorts(alloc: Global, row: &str, tell: bool) -> Result<bool, AllocError> {
     let mut glyphs = glyphs_of(alloc, part(row, 5))?;
     let seen = stand_in_order(&glyphs);
@@ -27,9 +30,10 @@ pub fn sorts(alloc: Global, row: &str, tell: bool) -> Result<bool, AllocError> {
     Ok(are(&glyphs, part(row, 6)) && sorted.marked == marked && sorted.in_order == in_order)
 }
 
-/// In the row stand the level, whether neighbours of one number, or of one cluster, are a group, whether groups are merged,
-/// whether the clusters stand in order, the glyphs, what is wanted, and the advances after the call of positions that had 10,
-/// 20, 30 and so on: whether a reversal of groups, told of the order or not, leaves what is wanted and marks no glyph.
+/// The row has the level, whether neighbours with one number, or in one cluster, are a group, whether groups are
+/// merged, whether the clusters are in order, the glyphs, the expected result, and the advances, after the call, of
+/// positions that had 10, 20, 30 and so on: whether a reversal of groups, given the order or not, leaves the result and
+/// flags no glyph.
 pub fn turns(alloc: Global, row: &str, tell: bool) -> Result<bool, AllocError> {
     let mut glyphs = glyphs_of(alloc, part(row, 5))?;
     let mut positions = positions_of(alloc, glyphs.len())?;
@@ -55,7 +59,8 @@ pub fn turns(alloc: Global, row: &str, tell: bool) -> Result<bool, AllocError> {
     Ok(are(&glyphs, part(row, 6)) && have_advances(&positions, part(row, 7)) && !marked)
 }
 
-/// In the row stand the glyphs before, after, the advances after: whether a deletion of the glyphs under the number 0, told of the order or not, leaves what is wanted.
+/// The row has the glyphs before and after, and the advances after: whether a deletion of the glyphs with number 0,
+/// given the order or not, leaves the expected result.
 pub fn deletes(alloc: Global, row: &str, tell: bool) -> Result<bool, AllocError> {
     let mut glyphs = glyphs_of(alloc, part(row, 0))?;
     let mut positions = positions_of(alloc, glyphs.len())?;
@@ -72,8 +77,8 @@ pub fn deletes(alloc: Global, row: &str, tell: bool) -> Result<bool, AllocError>
     Ok(are(&glyphs, part(row, 1)) && have_advances(&positions, part(row, 2)) && !marked)
 }
 
-/// In the row stand whether concat is asked for, whether tatweels are, the glyphs before, after: whether a spread of flags
-/// leaves such masks.
+/// The row has whether UNSAFE_TO_CONCAT and SAFE_TO_INSERT_TATWEEL are requested, and the glyphs before and after:
+/// whether a spread of flags leaves such masks.
 pub fn spreads(alloc: Global, row: &str) -> Result<bool, AllocError> {
     let mut glyphs = glyphs_of(alloc, part(row, 2))?;
     let asked = AskedFlags {
@@ -84,7 +89,7 @@ pub fn spreads(alloc: Global, row: &str) -> Result<bool, AllocError> {
     Ok(are(&glyphs, part(row, 3)))
 }
 
-/// Glyphs by syllable and properties, of one cluster up to the second.
+/// Glyphs by syllable and properties, in one cluster up to the second.
 fn run_glyphs() -> [hb_glyph_info_t; 4] {
     [(3, 0, 0), (3, 0x80, 0), (4, 0x81, 5), (4, 1, 5)].map(|(syllable, props, cluster)| {
         hb_glyph_info_t {
@@ -96,7 +101,7 @@ fn run_glyphs() -> [hb_glyph_info_t; 4] {
     })
 }
 
-// Where it begins, the end of its cluster, of its syllable, of its grapheme.
+// The start of a run, and the end of its cluster, of its syllable, and of its grapheme.
 static ENDS: &str = "0;2;2;3
 1;2;2;3
 3;4;4;4

@@ -1,4 +1,4 @@
-//! Merges, marks and requests for flags.
+//! Merges, unsafe-to-break flags, and requests for flags.
 use super::Row;
 use crate::call::Call::*;
 use buffer_common::constants::BufferFlags;

@@ -1,4 +1,4 @@
-//! Calls that would leave more glyphs than there may be.
+//! Calls that would make more glyphs than the limit.
 use super::Row;
 use crate::call::Call::*;
 

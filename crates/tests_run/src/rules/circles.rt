@@ -1,8 +1,8 @@
-//! Circles: syllables of the kinds that a machine of the row gives, in fonts with a circle and without.
+//! Dotted circles: syllables of the kinds that the row's machine finds, in fonts with and without the circle.
 
-/// Level, flags of the buffer, flags of the printer, tables, the font's circle, text, line, of Dives Akuru. A repha that
-/// begins a syllable goes behind its circle. In the last row the first and the last syllable have the same byte, so one
-/// circle serves both.
+/// Level, flags of the buffer, flags of the printer, tables, the font's circle, text, line, of Dives Akuru. A repha
+/// that begins a syllable precedes its circle. In the last row the first and the last syllable have the same byte, so
+/// one circle serves both.
 pub(crate) fn universal() -> &'static str {
     r#"2;0;6;{"universal":[[71936,"B"],[71984,"VAbv"],[71998,"H"],[72001,"R"]],"syllables":{"universal":{"states":2,"next":[[0,"R",1]],"accept":[[1,"number_joiner"]]}}};;11941;2=0
 2;0;6;{"universal":[[71936,"B"],[71984,"VAbv"],[71998,"H"],[72001,"R"]],"syllables":{"universal":{"states":2,"next":[[0,"R",1]],"accept":[[1,"broken"]]}}};;11941;2=0

@@ -1,6 +1,6 @@
-//! Hangul: syllables that compose or come apart by what the font has, tone marks, circles.
+//! Hangul: syllables that are composed or decomposed by what the font has, tone marks, dotted circles.
 
-/// A glyph of a font is one that its row names. Letters that stand for a part of a syllable get 100, 200 or 300 more.
+/// A glyph of a font is one that its row names. Jamo that stay by themselves get 100, 200 or 300 more.
 pub(crate) fn font() -> (&'static str, &'static str) {
     (
         r#"{"cmap":["#,
@@ -8,7 +8,7 @@ pub(crate) fn font() -> (&'static str, &'static str) {
     )
 }
 
-/// Level, flags of the buffer, flags of the printer, tables, glyphs and widths of the font, text, line.
+/// Level, flags of the buffer, flags of the printer, tables, glyphs and advances of the font, text, line.
 pub(crate) fn rows() -> &'static str {
     r#"0;0;6;{};],"h":[;1100;0=0
 1;16;6;{};[4449,1]],"h":[;1176;0=0

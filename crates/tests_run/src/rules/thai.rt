@@ -1,4 +1,4 @@
-//! Thai and Lao: the vowel with two parts, and forms at private characters where the font does not know Thai.
+//! Thai and Lao: the decomposed vowel, and private-use forms where the font has no Thai script.
 
 /// A letter's glyph has the letter's number; each is 500 wide. Marks are drawn without an advance.
 pub(crate) fn font() -> (&'static str, &'static str) {
@@ -8,7 +8,8 @@ pub(crate) fn font() -> (&'static str, &'static str) {
     )
 }
 
-/// Level, flags of the buffer, flags of the printer, tables, private characters and scripts of the font, text, line.
+/// Level, flags of the buffer, flags of the printer, tables, private-use characters and scripts of the font, text,
+/// line.
 pub(crate) fn thai() -> &'static str {
     r#"0;0;4;{};,[63233,2]],"gsub":{"scripts":[["thai",{"features":[]},[]]]};E33;3661=0+0|3634=0+500
 0;0;4;{};,[63235,4],[63237,6]],"gsub":{"scripts":[["thai",{"features":[]},[]]]};E33;3661=0+0|3634=0+500

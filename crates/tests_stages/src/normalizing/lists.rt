@@ -1,4 +1,4 @@
-//! Worked rows of normalising.
+//! Worked rows of normalizing.
 ghost use Rattle.std.specs.Prelude.{◌≡◌, false, IfOk};
 
 use super::rows::RowNormalizer;
@@ -16,9 +16,10 @@ use shell_tables_json::read_tables;
 use std::alloc::Global;
 use std::test::Fail;
 
-// A text with its clusters, what a shaper prefers, a font has and tables say, and some columns of the normalised list.
-// Among them are runs of 32 marks, which is put in order, and of 33, which stays; marks of one class, after which no other
-// reaches the letter; grapheme joiners, which keep two marks apart or do not; and selectors that nothing joins.
+// A text with its clusters, the shaper's preference, the rows of the font and the tables, and some columns of the
+// normalized list. Among them are runs of 32 marks, which is sorted, and of 33, which is unchanged; marks of one class,
+// after which no other one is composed with the letter; grapheme joiners, which keep two marks apart or do not; and
+// selectors that nothing combines with.
 const ROWS: &str =
     r#"{"mode":"ComposedDiacritics","level":0,"tables":{"classes":[[769,230],[803,220]]},"glyphs":[[769,1],[803,2]],"text":[[769,1],[803,0]],"characters":[803,769],"indices":[2,1],"clusters":[0,0]}
 {"mode":"Auto","level":1,"tables":{"classes":[[770,230],[837,240]]},"splits":[[226,97,770]],"pairs":[[97,770,226]],"glyphs":[[97,1],[226,2],[770,3],[837,4]],"text":[[226,0],[837,3]],"characters":[226,837],"indices":[2,4],"clusters":[0,3]}
@@ -188,7 +189,7 @@ fn normalizer<'a>(
     })
 }
 
-/// The text of a row, normalised.
+/// The normalized text of a row.
 fn normalized_row(alloc: Global, by: &RowNormalizer<'_>, row: &Value) -> Result<hb_buffer_t, Fail>
     ensures { IfOk result (λ b. b.is_open ≡ false) }
 {

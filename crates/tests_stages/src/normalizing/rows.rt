@@ -8,7 +8,7 @@ use buffer_properties::NormalizationMode;
 use buffer_unicode_tables::UnicodeTables;
 use shape_rounds::normalizing::Normalizing;
 
-/// A font, tables and a shaper that leaves sorted marks as they are.
+/// A font, tables and a shaper without `reorder_marks`.
 #[derive(Drop)]
 pub struct RowNormalizer<'a> {
     pub tables: &'a UnicodeTables,
@@ -17,9 +17,9 @@ pub struct RowNormalizer<'a> {
     pub glyphs: &'a [(char, u32)],
     /// Characters with a variation selector, and their glyphs.
     pub variants: &'a [(char, char, u32)],
-    /// Characters with their parts.
+    /// Characters with the halves of their decompositions.
     pub splits: &'a [(char, char, char)],
-    /// Pairs of characters, and what they compose to.
+    /// Pairs of characters, and their compositions.
     pub pairs: &'a [(char, char, char)],
     pub invisible: Option<u32>,
     pub unjoined_glyph: Option<u32>,

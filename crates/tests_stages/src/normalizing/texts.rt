@@ -1,4 +1,4 @@
-//! Texts on a buffer that is ready to be normalised.
+//! Texts on a buffer that is ready to be normalized.
 ghost use Rattle.std.specs.Prelude.{◌≡◌, false, IfOk, OnOk};
 ghost use Rattle.buffer_stages.specs.Ready.{IsReady};
 
@@ -58,7 +58,7 @@ pub fn buffer_of(
     Ok(buffer)
 }
 
-/// A text with clusters, normalised.
+/// The normalized text of characters with clusters.
 pub fn normalized<N: Normalizing>(
     alloc: Global,
     by: &N,

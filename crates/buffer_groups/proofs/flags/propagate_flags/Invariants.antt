@@ -4,7 +4,7 @@ use Rattle.buffer_glyphs.specs.Origins.{origins, origins_spread, spread_after}
 use Rattle.buffer_groups.specs.Flags.{asks_of, before_of}
 use Rattle.buffer_groups.proofs.flags.propagate_flags.Given as goal
 
--- what is left, behind what was passed, gives the whole
+-- what is left, after what was passed, gives the whole
 abbrev pub invariant-loop-at : goal.invariant-loop-at
 invariant-loop-at l = record {
   len : length l.glyphs ≡ length l.fn.glyphs;

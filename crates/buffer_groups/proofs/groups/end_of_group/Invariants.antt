@@ -4,7 +4,7 @@ use Rattle.buffer_groups.specs.Groups.{Decides, joined_after, group_length}
 use Rattle.buffer_groups.specs.Lemmas.Neighbours.{no_glyph}
 use Rattle.buffer_groups.proofs.groups.end_of_group.Given as goal
 
--- what is left of the group behind the glyphs that were passed
+-- what is left of the group after the glyphs that were passed
 abbrev pub invariant-loop-end : goal.invariant-loop-end
 invariant-loop-end g l = record {
   passed : l.start < l.end;

@@ -10,7 +10,7 @@ use Rattle.buffer_groups.specs.Turning.{turning_of}
 use Rattle.buffer_groups.specs.Lemmas.Turned.{Rest}
 use Rattle.buffer_groups.proofs.reversal.reverse_groups.Given as goal
 
--- the groups before `start` were turned round, each in its place
+-- the groups before `start` were reversed, each in its place
 abbrev pub invariant-loop-start : goal.invariant-loop-start
 invariant-loop-start g l = record {
   within : l.start ≤ length l.glyphs;

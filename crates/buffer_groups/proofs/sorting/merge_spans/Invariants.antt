@@ -7,7 +7,7 @@ use Rattle.buffer_groups.specs.Due.{MayBeDue, with_due}
 use Rattle.buffer_groups.specs.Sorting.{spans_merged, range_spanned}
 use Rattle.buffer_groups.proofs.sorting.merge_spans.Given as goal
 
--- `reach` is the last of the places that came so far
+-- `reach` is the last of the indices that came so far
 abbrev pub invariant-loop-place : goal.invariant-loop-place
 invariant-loop-place l = record {
   begun : l.begin ≤ l.place;

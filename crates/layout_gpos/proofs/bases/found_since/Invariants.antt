@@ -5,6 +5,6 @@ use Rattle.layout_match.specs.Searches.{search_of}
 use Rattle.layout_gpos.specs.Bases.{asked}
 use Rattle.layout_gpos.proofs.bases.found_since.Given as goal
 
--- those so far are passed over
+-- those so far are skipped
 abbrev pub invariant-loop-at : goal.invariant-loop-at
 invariant-loop-at l = nearest_from (asked l.sought (search_of l.search)) l.at (reverse (strip l.buffer.behind)) ≡ nearest_from (asked l.sought (search_of l.search)) 0 (reverse (strip l.buffer.behind))

@@ -1,4 +1,4 @@
--- The events of masks, and of what tells tiles.
+-- The events of masks, and of the stage that records tiles.
 use Rattle.std.proofs.Common.{ℕ, Bool, true, false, if◌then◌else◌, List}
 use Rattle.std.specs.Prelude.{Option}
 use Rattle.buffer_common.specs.declared.script.Script.{Script}

@@ -24,7 +24,7 @@ use Rattle.script_dispatch.specs.Plain.{OrdersLeavePlain}
 use Rattle.script_dispatch.specs.Lemmas.Plain.Events.{IsPlainly, same_plain, syllables_plain, then_plain, then_plainly, within_plainly}
 use Rattle.script_dispatch.specs.Lemmas.Plain.Texts.{limited_plain}
 
--- ---- circles
+-- ---- dotted circles
 
 circle_events_plain : (at : ℕ) (ys : List Circled) → IsPlain (circle_events at ys)
 circle_events_plain at [] = tt

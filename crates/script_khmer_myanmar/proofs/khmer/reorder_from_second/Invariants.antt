@@ -2,7 +2,7 @@ use Rattle.std.proofs.Common.{◌<◌, ◌-◌}
 use Rattle.script_khmer_myanmar.specs.Runs.{IsWalked}
 use Rattle.script_khmer_myanmar.proofs.khmer.reorder_from_second.Given as goal
 
--- the places before this one were walked
+-- the indices before this one were walked
 abbrev pub invariant-loop-walk : goal.invariant-loop-walk
 invariant-loop-walk l = IsWalked l.masks l.start l.end 1 0 l.walk.place l.walk.count l.initial.buffer l.buffer × (0 < l.walk.place)
 

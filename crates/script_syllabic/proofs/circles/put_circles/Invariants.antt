@@ -2,7 +2,7 @@ use Rattle.buffer_glyphs.specs.Items.{strip}
 use Rattle.script_syllabic.proofs.Underway.{IsUnderway, left_to_do}
 use Rattle.script_syllabic.proofs.circles.put_circles.Given as goal
 
--- circles came in before what is ahead
+-- circles were inserted before the input
 abbrev pub invariant-loop-buffer : goal.invariant-loop-buffer
 invariant-loop-buffer l = IsUnderway l.rule l.last l.fn.buffer l.buffer
 

@@ -2,6 +2,6 @@ use Rattle.buffer_properties.specs.Expanding.{expanded}
 use Rattle.shape_rounds.proofs.Each.{IsUnderway}
 use Rattle.shape_rounds.proofs.expanding.expand_each.Given as goal
 
--- so many are behind the cursor
+-- that many are output
 abbrev pub invariant-loop : goal.invariant-loop
 invariant-loop g l = IsUnderway (expanded (g.N.Normalizing.normalizer l.by) l.reach) l.count l.counter l.initial.buffer l.buffer

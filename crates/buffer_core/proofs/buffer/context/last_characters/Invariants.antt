@@ -4,7 +4,7 @@ use Rattle.std.specs.Str.Iter.{chars_rest}
 use Rattle.std.specs.Iterator.Adapters.{rev_source}
 use Rattle.buffer_core.proofs.buffer.context.last_characters.Given as goal
 
--- what was taken, and then what is left turned round, are all characters from the end
+-- what was taken, and then what is left reversed, are all characters from the end
 abbrev pub invariant-loop-c : goal.invariant-loop-c
 invariant-loop-c l = record {
   can_next : (goal.iterator-loop-c).can_next l.c-iterator;
